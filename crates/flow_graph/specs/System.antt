@@ -1,5 +1,5 @@
 -- A system of constraints.
-use Rattle.std.specs.Prelude.{◌≡◌, ℕ, ◌+◌, ◌<◌, ◌≢◌, ◌^◌, max, List, [], ◌∷◌, length, slice_get, Some, unwrap_or}
+use Rattle.std.specs.Prelude.{◌≡◌, ℕ, ◌+◌, ◌<◌, ◌≤◌, ◌≢◌, ◌^◌, max, List, [], ◌∷◌, length, slice_get, Some, unwrap_or}
 use Rattle.std.specs.Int.{bit_at}
 use Rattle.qual_base.specs.declared.places.Owner.{Owner}
 use Rattle.qual_base.specs.declared.places.Owner.TheVariants.{Nobody, Function}
@@ -75,6 +75,14 @@ IsWithin sites (Const l e v) = (l < 16) × (e < 64) × (v < 2 ^ 24)
 IsWithin sites (Bound v l e) = (l < 16) × (e < 64) × (v < 2 ^ 24)
 IsWithin sites (Enter s u v) = (s < sites) × (u < 2 ^ 24) × (v < 2 ^ 24)
 IsWithin sites (Leave s u v) = (s < sites) × (u < 2 ^ 24) × (v < 2 ^ 24)
+
+-- every constraint is within the limits
+abbrev pub AllWithin : System → Type 0
+AllWithin sys = (n : ℕ) (link : Link) → Has sys n link → IsWithin (length sys.sites) link
+
+-- no constraint names a variable as high as this number
+abbrev pub AllBelow : System → ℕ → Type 0
+AllBelow sys vars = (n : ℕ) (link : Link) → Has sys n link → vars_of_link link ≤ vars
 
 -- one variable has this owner, and all others keep theirs
 pub record SetsOwner (old new : System) (v : ℕ) (owner : Owner) : Type 0 where

@@ -2,7 +2,7 @@
 
 ghost use Rattle.std.specs.Prelude.{◌≡◌, ◌<◌, ◌≤◌, ◌-◌, ◌^◌, ℕ, [], ◌∷◌, ◌++◌, Some, length, slice_get, IfOk, OnErr, OnOk, IsErrOf, ◌↔◌};
 ghost use Rattle.qual_base.specs.declared.places.Owner.TheVariants.{Nobody};
-ghost use Rattle.flow_graph.specs.System.{owner_of, vars_of, IsWithin, SetsOwner};
+ghost use Rattle.flow_graph.specs.System.{owner_of, vars_of, AllBelow, AllWithin, IsWithin, SetsOwner};
 
 use crate::constraint::{Constraint, Link, Site};
 use qual_base::ids::{EdgeId, Numbered, SiteId, VarId};
@@ -39,9 +39,9 @@ impl Model for FlowGraph {
 
     ghost Value = { System };
 
-    ghost view = { λ g. record { constraints = g.constraints.items; sites = g.sites.items; owners = g.owners.items } };
+    ghost use Rattle.flow_graph.specs.Held.{IsHeld, system_of};
 
-    ghost use Rattle.flow_graph.specs.Held.{IsHeld};
+    ghost view = { system_of };
 
     ghost invariant = { IsHeld };
 }
@@ -70,9 +70,10 @@ impl FlowGraph {
     {
         let at = self.sites.len() as u32;
         match self.sites.push(site) {
-            Ok(()) => Ok(SiteId::new(at)),
-            Err(_) => Err(NoMemory),
+            Ok(()) => {}
+            Err(_) => return Err(NoMemory),
         }
+        Ok(SiteId::new(at))
     }
 
     /// Adds a constraint. Constant time but for growth.
@@ -99,14 +100,16 @@ impl FlowGraph {
 
     /// How many constraints there are.
     pub fn len(&self) -> u32
-        ensures { result ≡ length self.now.constraints }
+        ensures length { result ≡ length self.now.constraints }
+        ensures within { AllWithin self.now }
     {
         self.constraints.len() as u32
     }
 
     pub fn constraint(&self, at: EdgeId) -> Constraint
         requires { at < length self.now.constraints }
-        ensures { slice_get self.now.constraints at ≡ Some result }
+        ensures there { slice_get self.now.constraints at ≡ Some result }
+        ensures within { IsWithin (length self.now.sites) result.link }
     {
         self.constraints[at.number() as usize]
     }
@@ -137,7 +140,9 @@ impl FlowGraph {
 
     /// One more than the highest variable number in a constraint or in a `set_owner`, and 0 where there is none.
     pub fn vars(&self) -> u32
-        ensures { result ≡ vars_of self.now }
+        ensures value { result ≡ vars_of self.now }
+        ensures above { AllBelow self.now result }
+        ensures limit { result ≤ 2 ^ 24 }
     {
         self.highest.max(self.owners.len() as u32)
     }
