@@ -1,0 +1,5 @@
+mod Rooms
+mod Bits
+mod Ends
+mod Sound
+mod Exact

@@ -1,0 +1,4 @@
+//! Which constants reach which variables, in one lattice.
+#![tactic(auto)]
+
+pub mod rounds;
