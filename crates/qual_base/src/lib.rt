@@ -1,5 +1,9 @@
 //! What every crate of the tool stands on: numbers with types of their own, tables, and the outside.
 #![tactic(auto)]
 
+pub mod faults;
 pub mod ids;
+pub mod outside;
 pub mod places;
+pub mod table;
+pub mod taking;
