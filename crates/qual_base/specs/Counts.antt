@@ -1,9 +1,13 @@
--- A count of faults, kept within 64 bits.
+-- A count of faults or of calls, kept within 64 bits.
 use Rattle.std.specs.Prelude.{◌≡◌, ℕ, ◌+◌, ◌-◌, ◌^◌, ◌≤◌, min}
 
 -- the greatest count, at which a count stands still
 abbrev pub greatest_count : ℕ
 greatest_count = 2 ^ 64 - 1
+
+-- the count of one more
+abbrev pub one_more : ℕ → ℕ
+one_more count = min (count + 1) greatest_count
 
 -- a count never falls, and stands still once it is the greatest
 pub record GoesOn (before now : ℕ) : Type 0 where
@@ -12,4 +16,4 @@ pub record GoesOn (before now : ℕ) : Type 0 where
 
 -- the count rose, or is the greatest
 abbrev pub Rose : ℕ → ℕ → Type 0
-Rose before now = min (before + 1) greatest_count ≤ now
+Rose before now = one_more before ≤ now

@@ -3,6 +3,7 @@
 
 pub mod faults;
 pub mod ids;
+pub mod memory;
 pub mod outside;
 pub mod places;
 pub mod table;
