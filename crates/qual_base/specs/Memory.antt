@@ -1,5 +1,5 @@
 -- Files and sinks in memory.
-use Rattle.std.specs.Prelude.{ℕ, List, [], ◌∷◌, None, Some, map, drop, Bool, nat_eq, slice_get, string_bytes}
+use Rattle.std.specs.Prelude.{ℕ, List, [], None, Some, map, drop, Bool, nat_eq, slice_get, string_bytes}
 use Rattle.std.specs.List.{list_any}
 use Rattle.std.specs.declared.option.Option.{Option}
 use Rattle.std.specs.declared.alloc.Global.{Global}

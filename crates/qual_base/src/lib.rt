@@ -2,9 +2,14 @@
 #![tactic(auto)]
 
 pub mod faults;
+pub mod host;
 pub mod ids;
 pub mod memory;
 pub mod outside;
 pub mod places;
+pub mod steady;
 pub mod table;
 pub mod taking;
+#[cfg(test)]
+mod tests;
+pub mod words;

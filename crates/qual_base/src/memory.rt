@@ -1,7 +1,7 @@
 //! Files and a sink in memory, whose calls fail where they are told to: for tests of what stands above.
 
 mod files;
-mod lookup;
+pub(crate) mod lookup;
 mod sink;
 
 pub use files::MemFiles;
