@@ -1,0 +1,5 @@
+pub mod Lower
+pub mod Join
+pub mod Links
+pub mod Leads
+pub mod NoCalls
