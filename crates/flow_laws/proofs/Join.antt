@@ -1,11 +1,8 @@
 -- In a lattice each set of elements that has a test has a least element above it.
-use Rattle.std.proofs.Common.{◌≡◌, ℕ, zero, suc, ◌≤◌, ◌<◌, Bool, true, false, refl, sym, ◌∙◌, ap, subst, arith, ◌⊎◌, inl, inr}
-use Rattle.std.proofs.Math.Nat.{eq-or-lt_of_le}
+use Rattle.std.proofs.Common.{◌≡◌, ℕ, zero, suc, ◌≤◌, ◌<◌, Bool, true, false, refl, sym, ◌∙◌, ap, subst, arith, inl, inr}
 use Rattle.lattice_core.specs.Order.{Order, size, leq, IsOrder, IsLattice, IsLeastUpper}
 use Rattle.flow_laws.specs.Least.{IsLeastOver}
-
-last_or : (a k : ℕ) → a < suc k → (a ≡ k) ⊎ (a < k)
-last_or a k low = eq-or-lt_of_le (omega (arith, low))
+use Rattle.flow_laws.proofs.Search.{last_or}
 
 -- an element at or below each of the first k
 below_first : (order : Order) → IsLattice order → (k : ℕ) → k ≤ size order → (b : ℕ) × (b < size order) × ((a : ℕ) → a < k → leq order b a ≡ true)

@@ -1,7 +1,9 @@
 pub mod Lower
+pub mod Search
 pub mod Join
 pub mod Links
 pub mod Leads
 pub mod NoCalls
 pub mod Owners
 pub mod Force
+pub mod Rejected

@@ -2,3 +2,4 @@ pub mod Laws
 pub mod Least
 pub mod Flat
 pub mod Refuting
+pub mod Rejected

@@ -1,5 +1,6 @@
 //! Laws of the systems that have no calls.
 
+ghost use Rattle.flow_laws.specs.Rejected.{FlatRejectedHasABound};
 ghost use Rattle.flow_laws.specs.Flat.{FlatSolutionMeets, FlatIsAccepted, FlatIsPrinted, FlatExceededIsOver, FlatOverIsExceeded};
 
 /// Least elements below the bounds, read in every copy, meet the unfolding.
@@ -25,4 +26,9 @@ pub fn flat_exceeded_is_over()
 /// A bound that is not above the least element of its variable is exceeded.
 pub fn flat_over_is_exceeded()
     ensures { FlatOverIsExceeded }
+{}
+
+/// A system is rejected exactly where some bound is exceeded.
+pub fn flat_rejected_has_a_bound()
+    ensures { FlatRejectedHasABound }
 {}
