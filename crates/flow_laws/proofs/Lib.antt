@@ -7,3 +7,5 @@ pub mod NoCalls
 pub mod Owners
 pub mod Force
 pub mod Rejected
+pub mod Reaching
+pub mod Accept

@@ -3,3 +3,5 @@ pub mod Least
 pub mod Flat
 pub mod Refuting
 pub mod Rejected
+pub mod Sets
+pub mod Accepting
