@@ -1,0 +1,11 @@
+pub mod Lower
+pub mod Search
+pub mod Join
+pub mod Links
+pub mod Leads
+pub mod NoCalls
+pub mod Owners
+pub mod Force
+pub mod Rejected
+pub mod Reaching
+pub mod Accept

@@ -1,0 +1,7 @@
+pub mod Laws
+pub mod Least
+pub mod Flat
+pub mod Refuting
+pub mod Rejected
+pub mod Sets
+pub mod Accepting

@@ -1,0 +1,34 @@
+//! Laws of every system.
+
+ghost use Rattle.flow_laws.specs.Laws.{LowerIsMet, SolutionStands, SafeKeepsBounds};
+ghost use Rattle.flow_laws.specs.Refuting.{LeadsForce, PathsRefute, ExceededIsRefuted};
+
+/// What meets the unfolding at a depth meets it at each lower one.
+pub fn lower_is_met()
+    ensures { LowerIsMet }
+{}
+
+/// Where it can be tested which elements lead to a variable, a least element above them stands.
+pub fn solution_stands()
+    ensures { SolutionStands }
+{}
+
+/// Where no constant leads to a bound that is not above it, the least elements are below the bounds.
+pub fn safe_keeps_bounds()
+    ensures { SafeKeepsBounds }
+{}
+
+/// What leads to a variable is forced on one of its copies.
+pub fn leads_force()
+    ensures { LeadsForce }
+{}
+
+/// A path to a bound that is not above its element shows that the bound is exceeded.
+pub fn paths_refute()
+    ensures { PathsRefute }
+{}
+
+/// A system with an exceeded bound is not accepted.
+pub fn exceeded_is_refuted()
+    ensures { ExceededIsRefuted }
+{}

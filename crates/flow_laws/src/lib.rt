@@ -1,0 +1,6 @@
+//! Laws of constraint systems and their unfolding: functions without a body, each with a law as its contract.
+#![tactic(auto)]
+
+pub mod accepting;
+pub mod flat;
+pub mod laws;
