@@ -1,8 +1,9 @@
 //! Finite lattices of named elements.
 #![tactic(auto)]
 
+pub mod rows;
+
 ghost use Rattle.std.specs.Prelude.{◌≡◌, ℕ, List};
-ghost use Rattle.lattice_core.specs.Order.{IsLattice};
 
 use std::marker::Model;
 
