@@ -1,0 +1,2 @@
+-- Bounds in an order of rows.
+use Rattle.std.proofs.Common.{◌≡◌, ℕ}
