@@ -2,4 +2,6 @@ pub mod Bits
 pub mod Reaching
 pub mod Naming
 pub mod Written
-pub mod Bounds
+pub mod UpperLower
+pub mod Made
+pub mod Joins

@@ -57,14 +57,14 @@ pub lacks_name : (entries : List Entry) (name : List ℕ) → number_of entries 
 lacks_name [] name none i is = cc
 lacks_name (e ∷ es) name none i is = elim (cases_lt i (length (e ∷ es))) [
   | inl within ↦
-    let other : bytes_eq (name_of (get_or (e ∷ es) i e)) name ≡ false = none_passes (λ (entry : Entry). bytes_eq (name_of entry) name) (e ∷ es) none i e within in
-    let there = name_is (e ∷ es) i e within in
-    let same : name_of (get_or (e ∷ es) i e) ≡ name = cc in
-    let eq : bytes_eq (name_of (get_or (e ∷ es) i e)) name ≡ true = (bytes_eq-Decides (name_of (get_or (e ∷ es) i e)) name).1 same in
-    cc
+      let other : bytes_eq (name_of (get_or (e ∷ es) i e)) name ≡ false = none_passes (λ (entry : Entry). bytes_eq (name_of entry) name) (e ∷ es) none i e within in
+      let there = name_is (e ∷ es) i e within in
+      let same : name_of (get_or (e ∷ es) i e) ≡ name = cc in
+      let eq : bytes_eq (name_of (get_or (e ∷ es) i e)) name ≡ true = (bytes_eq-Decides (name_of (get_or (e ∷ es) i e)) name).1 same in
+      cc
   | inr past ↦
-    let none_there : name_at (e ∷ es) i ≡ None = item_past name_of (e ∷ es) i past in
-    cc
+      let none_there : name_at (e ∷ es) i ≡ None = item_past name_of (e ∷ es) i past in
+      cc
 ]
 
 -- in the first k
@@ -93,6 +93,6 @@ distinct_on entries k name (Some n) is some there distinct i j lt within same = 
 distinct_on entries k name None is some there distinct i j lt within same = elim (cases_lt j k) [
   | inl before ↦ distinct i j lt before same
   | inr past ↦
-    let e : k ≡ j = omega arith in
-    lacks_name_before entries k name (sym is) i (omega arith) (rw (← e) at same ∙ there)
+      let e : k ≡ j = omega arith in
+      lacks_name_before entries k name (sym is) i (omega arith) (rw (← e) at same ∙ there)
 ]

@@ -86,10 +86,10 @@ written_more entries pairs k pair low high h is l r a b w =
     elim (Contains-push_cases (take k pairs) (get_or pairs k pair) w.pair there) [
       | inl before ↦ inl (record { pair = w.pair; there = before; low = w.low; high = w.high })
       | inr same ↦
-        let e : w.pair ≡ pair = sym same ∙ sym is in
-        let low_is : Some a ≡ Some low = sym w.low ∙ ap (λ (q : Pair). number_of entries q.low) e ∙ l in
-        let high_is : Some b ≡ Some high = sym w.high ∙ ap (λ (q : Pair). number_of entries q.high) e ∙ r in
-        inr (cc, cc)
+          let e : w.pair ≡ pair = sym same ∙ sym is in
+          let low_is : Some a ≡ Some low = sym w.low ∙ ap (λ (q : Pair). number_of entries q.low) e ∙ l in
+          let high_is : Some b ≡ Some high = sym w.high ∙ ap (λ (q : Pair). number_of entries q.high) e ∙ r in
+          inr (cc, cc)
     ]
 
 written_kept : (entries : List Entry) (pairs : List Pair) (k : ℕ) (pair : Pair) → k < length pairs → (a b : ℕ) →
@@ -110,19 +110,19 @@ linked : (rows : List ℕ) (low high new : ℕ) → low < length rows → bit_at
     (bit_at (get_or (set rows low new) a 0) b ≡ 1) ↔ ((bit_at (get_or rows a 0) b ≡ 1) ⊎ ((a ≡ low) × (b ≡ high)))
 linked rows low high new h same others a b = elim (cases_eq a low) [
   | inl e ↦
-    let at : get_or (set rows low new) a 0 ≡ new = grind (arith, common_steps) in
-    elim (cases_eq b high) [
-      | inl f ↦
-        let bit : bit_at (get_or (set rows low new) a 0) b ≡ 1 = rw (at, f) same in
-        (λ _. inr (e, f), λ _. bit)
-      | inr nf ↦
-        let bit : bit_at (get_or (set rows low new) a 0) b ≡ bit_at (get_or rows a 0) b = rw (at, e) (others b nf) in
-        (λ on. inl (sym bit ∙ on), λ on. elim on [ inl before ↦ bit ∙ before | inr both ↦ absurd (nf both.1) ])
-    ]
+      let at : get_or (set rows low new) a 0 ≡ new = grind (arith, common_steps) in
+      elim (cases_eq b high) [
+        | inl f ↦
+            let bit : bit_at (get_or (set rows low new) a 0) b ≡ 1 = rw (at, f) same in
+            (λ _. inr (e, f), λ _. bit)
+        | inr nf ↦
+            let bit : bit_at (get_or (set rows low new) a 0) b ≡ bit_at (get_or rows a 0) b = rw (at, e) (others b nf) in
+            (λ on. inl (sym bit ∙ on), λ on. elim on [ inl before ↦ bit ∙ before | inr both ↦ absurd (nf both.1) ])
+      ]
   | inr ne ↦
-    let at : get_or (set rows low new) a 0 ≡ get_or rows a 0 = grind (arith, common_steps) in
-    let bit : bit_at (get_or (set rows low new) a 0) b ≡ bit_at (get_or rows a 0) b = rw at refl in
-    (λ on. inl (sym bit ∙ on), λ on. elim on [ inl before ↦ bit ∙ before | inr both ↦ absurd (ne both.0) ])
+      let at : get_or (set rows low new) a 0 ≡ get_or rows a 0 = grind (arith, common_steps) in
+      let bit : bit_at (get_or (set rows low new) a 0) b ≡ bit_at (get_or rows a 0) b = rw at refl in
+      (λ on. inl (sym bit ∙ on), λ on. elim on [ inl before ↦ bit ∙ before | inr both ↦ absurd (ne both.0) ])
 ]
 
 pub linked_more : (entries : List Entry) (pairs : List Pair) (k : ℕ) (pair : Pair) (rows : List ℕ) (low high new : ℕ) → k < length pairs → pair ≡ get_or pairs k pair →
@@ -139,4 +139,5 @@ linked_more entries pairs k pair rows low high new h is l r within same others s
       λ w. here.1 (elim (written_more entries pairs k pair low high h is l r a b w) [
         | inl before ↦ inl ((so_far a b).1 before)
         | inr new_one ↦ inr new_one
-      ]))
+      ]),
+    )

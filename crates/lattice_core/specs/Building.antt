@@ -78,6 +78,17 @@ IsCycle order a b = (leq order a b ≡ true) × (leq order b a ≡ true)
 abbrev pub LacksBound : Order → ℕ → ℕ → Type 0
 LacksBound order a b = ((c : ℕ) → IsLeastUpper order a b c → ⊥) ⊎ ((c : ℕ) → IsGreatestLower order a b c → ⊥)
 
+-- two elements have both bounds
+pub record HasBounds (order : Order) (a b : ℕ) : Type 0 where
+  pub upper : ℕ
+  pub is_upper : IsLeastUpper order a b upper
+  pub lower : ℕ
+  pub is_lower : IsGreatestLower order a b lower
+
+-- so has an element with each behind it
+abbrev pub AreBounded : Order → ℕ → ℕ → Type 0
+AreBounded order a end = (b : ℕ) → a < b → b < end → HasBounds order a b
+
 -- at most 64 entries, with names of their own
 pub record AreNamed (entries : List Entry) : Type 0 where
   pub few : length entries ≤ 64

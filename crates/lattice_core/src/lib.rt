@@ -1,16 +1,16 @@
 //! Finite lattices of named elements.
 #![tactic(auto)]
 
+pub mod bounds;
 pub mod checks;
 pub mod rows;
 pub mod tables;
 
 ghost use Rattle.std.specs.Prelude.{◌≡◌, ℕ, List, IfOk};
 
-pub use tables::Lattice;
-
 use std::alloc::{AllocError, AllocFailed, Global};
 use std::marker::Model;
+pub use tables::Lattice;
 
 /// The bytes of a name.
 #[derive(Drop, Debug)]

@@ -137,6 +137,19 @@ pub fn find_row(rows: &[u64], row: u64) -> Option<u8>
     None
 }
 
+/// The first element with a given row that some element has, in at most 64 steps.
+pub fn row_of(rows: &[u64], row: u64) -> u8
+    requires few { length rows.now ≤ 64 }
+    requires there { (k : ℕ) × (k < length rows.now) × (slice_index rows.now k ≡ row) }
+    ensures within { result < length rows.now }
+    ensures is { slice_index rows.now result ≡ row }
+{
+    match find_row(rows, row) {
+        Some(k) => k,
+        None => unreachable!(),
+    }
+}
+
 /// What is left of a row behind the row of an element of a set.
 fn narrowed(left: u64, set: u64, at: u8, row: u64) -> u64
     requires { at < 64 }

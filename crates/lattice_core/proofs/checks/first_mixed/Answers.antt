@@ -10,5 +10,5 @@ loop-k-preserved c =
     let first = c.index-entries-0.result in
     let same : level_of entry ≡ level_of first = grind (arith, common_steps) in
     below_more _ _ c.loop-k.invariant (
-      level_is c.args.entries.now c.loop-k.k entry c.loop-k-test.true ∙ ap (λ e. Some (level_of e)) (sym c.index-entries-k.is) ∙ ap Some same
-      ∙ ap (λ e. Some (level_of e)) c.index-entries-0.is ∙ sym (level_is c.args.entries.now 0 first (omega arith)))
+    level_is c.args.entries.now c.loop-k.k entry c.loop-k-test.true ∙ ap (λ e. Some (level_of e)) (sym c.index-entries-k.is) ∙ ap Some same
+    ∙ ap (λ e. Some (level_of e)) c.index-entries-0.is ∙ sym (level_is c.args.entries.now 0 first (omega arith)))

@@ -11,13 +11,13 @@ pub returns-in_err-low-clause-unknown : goal.returns-in_err-low-clause-unknown
 returns-in_err-low-clause-unknown c =
     let p = err_from_is_err_and c.from_residual-in_err-low.result c.from_residual-in_err-low.ensures.1 in
     rw (p.1, p.2) (low_unknown c.args.entries.now c.args.pairs.now c.loop-pair.pair-index c.pair-item.result c.in_err-low.field-0.0 c.loop-pair-test.true c.pair-item.is
-        c.loop-pair.invariant.known c.in_err-low.ensures.unknown)
+    c.loop-pair.invariant.known c.in_err-low.ensures.unknown)
 
 pub returns-in_err-high-clause-unknown : goal.returns-in_err-high-clause-unknown
 returns-in_err-high-clause-unknown c =
     let p = err_from_is_err_and c.from_residual-in_err-high.result c.from_residual-in_err-high.ensures.1 in
     rw (p.1, p.2) (high_unknown c.args.entries.now c.args.pairs.now c.loop-pair.pair-index c.pair-item.result c.in_ok-low.low c.in_err-high.field-0.0 c.loop-pair-test.true c.pair-item.is
-        c.loop-pair.invariant.known c.in_ok-low.ensures.number c.in_err-high.ensures.unknown)
+    c.loop-pair.invariant.known c.in_ok-low.ensures.number c.in_err-high.ensures.unknown)
 
 pub loop-pair-preserved : goal.loop-pair-preserved
 loop-pair-preserved c =

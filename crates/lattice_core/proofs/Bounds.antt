@@ -1,2 +1,0 @@
--- Bounds in an order of rows.
-use Rattle.std.proofs.Common.{◌≡◌, ℕ}
