@@ -56,3 +56,10 @@ pub struct Entry {
     pub write: bool,
     pub deref: bool,
 }
+
+/// A line of an order: the element `low` is below `high`.
+#[derive(Drop)]
+pub struct Pair {
+    pub low: Name,
+    pub high: Name,
+}

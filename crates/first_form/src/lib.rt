@@ -1,0 +1,8 @@
+//! Readers of the simplest inputs: a lattice of two elements, and sources of global ints and assignments.
+#![tactic(auto)]
+
+pub mod lattice_form;
+pub mod lexemes;
+pub mod lexing;
+pub mod scope;
+pub mod source_form;
