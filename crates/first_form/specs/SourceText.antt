@@ -6,7 +6,8 @@ use Rattle.first_form.specs.declared.source_form.Item.{Item}
 use Rattle.first_form.specs.declared.source_form.Item.TheVariants.{Object, Function}
 use Rattle.first_form.specs.declared.source_form.Assign.{Assign}
 use Rattle.first_form.specs.declared.source_form.Mark.{Mark}
-use Rattle.first_form.specs.Lexical.{Lexeme, Lexed, IsSpelledBy, text_of, is_letter, is_word_byte}
+use Rattle.first_form.specs.declared.source_form.SourceForm.{SourceForm}
+use Rattle.first_form.specs.Lexical.{Lexeme, Spells, text_of, is_letter, is_word_byte}
 
 -- C99's keywords (6.4.1), and the further words that GNU C keeps
 unfoldable pub reserved : List (List ℕ)
@@ -55,7 +56,7 @@ no_names = record { objects = []; functions = [] }
 abbrev pub declares : Scope → List ℕ → Bool
 declares scope name = list_any (bytes_eq name) scope.objects || list_any (bytes_eq name) scope.functions
 
-module _ (elements : List (List ℕ)) (lexemes : List Lexeme) where
+module _ (lexemes : List Lexeme) where
   -- token n has this text
   abbrev pub Is : ℕ → List ℕ → Type 0
   Is n text = text_of lexemes n ≡ text
@@ -66,11 +67,7 @@ module _ (elements : List (List ℕ)) (lexemes : List Lexeme) where
 
   -- token n is the name of the declared object with this number
   abbrev pub IsObject : Scope → ℕ → ℕ → Type 0
-  IsObject scope n number = slice_get scope.objects number ≡ Some (text_of lexemes n)
-
-  -- the mark's token is a $ word, the name of its element
-  abbrev pub IsMark : Mark → Type 0
-  IsMark mark = (is_dollar_word (text_of lexemes mark.token) ≡ true) × (slice_get elements mark.elem ≡ Some (text_of lexemes mark.token))
+  IsObject scope n number = (is_identifier (text_of lexemes n) ≡ true) × (slice_get scope.objects number ≡ Some (text_of lexemes n))
 
   -- the four tokens from n on are a statement `target = value;`
   pub record IsAssign (scope : Scope) (n : ℕ) (assign : Assign) : Type 0 where
@@ -86,47 +83,49 @@ module _ (elements : List (List ℕ)) (lexemes : List Lexeme) where
   AreAssigns scope n [] = Is n (codes "}")
   AreAssigns scope n (assign ∷ assigns) = IsAssign scope n assign × AreAssigns scope (n + 4) assigns
 
-  -- from token n on: `int name;`
-  pub record IsInt (scope : Scope) (n name : ℕ) : Type 0 where
-    pub «type» : Is n (codes "int")
-    pub place : name ≡ n + 1
+  -- the three tokens from n on are `int name;`
+  pub record IsInt (scope : Scope) (n : ℕ) : Type 0 where
+    pub begins : Is n (codes "int")
     pub new : IsNewName scope (n + 1)
     pub semicolon : Is (n + 2) (codes ";")
 
-  -- from token n on: `void name(void) { statements }`
-  pub record IsFunction (scope : Scope) (n name : ℕ) (assigns : List Assign) : Type 0 where
-    pub result : Is n (codes "void")
-    pub place : name ≡ n + 1
+  -- the six tokens from n on are `void name(void) {`
+  pub record IsHead (scope : Scope) (n : ℕ) : Type 0 where
+    pub begins : Is n (codes "void")
     pub new : IsNewName scope (n + 1)
     pub opens : Is (n + 2) (codes "(")
     pub nothing : Is (n + 3) (codes "void")
     pub closes : Is (n + 4) (codes ")")
-    pub begins : Is (n + 5) (codes "{")
-    pub statements : AreAssigns scope (n + 6) assigns
-
-  -- the tokens from n on begin with this item
-  abbrev pub IsItem : Scope → ℕ → Item → Type 0
-  IsItem scope n (Object None name) = IsInt scope n name
-  IsItem scope n (Object (Some mark) name) = (mark.token ≡ n) × IsMark mark × IsInt scope (n + 1) name
-  IsItem scope n (Function name assigns) = IsFunction scope n name assigns.items
-
-  -- the number of the token after an item
-  abbrev pub end_of : Item → ℕ
-  end_of (Object mark name) = name + 2
-  end_of (Function name assigns) = name + 6 + 4 * length assigns.items
+    pub body : Is (n + 5) (codes "{")
 
   -- what is declared after an item
   abbrev pub declared_with : Scope → Item → Scope
   declared_with scope (Object mark name) = record scope { objects = scope.objects ++ text_of lexemes name ∷ [] }
   declared_with scope (Function name assigns) = record scope { functions = scope.functions ++ text_of lexemes name ∷ [] }
 
+-- the number of the token after an item
+abbrev pub end_of : Item → ℕ
+end_of (Object mark name) = name + 2
+end_of (Function name assigns) = name + 6 + 4 * length assigns.items
+
+module _ (elements : List (List ℕ)) (lexemes : List Lexeme) where
+  -- the mark's token is a $ word, the name of its element
+  abbrev pub IsMark : Mark → Type 0
+  IsMark mark = (is_dollar_word (text_of lexemes mark.token) ≡ true) × (slice_get elements mark.elem ≡ Some (text_of lexemes mark.token))
+
+  -- the tokens from n on begin with this item
+  abbrev pub IsItem : Scope → ℕ → Item → Type 0
+  IsItem scope n (Object None name) = IsInt lexemes scope n × (name ≡ n + 1)
+  IsItem scope n (Object (Some mark) name) = (mark.token ≡ n) × IsMark mark × IsInt lexemes scope (n + 1) × (name ≡ n + 2)
+  IsItem scope n (Function name assigns) = IsHead lexemes scope n × (name ≡ n + 1) × AreAssigns lexemes scope (n + 6) assigns.items
+
   -- the tokens from n on are these items
   abbrev pub AreItems : Scope → ℕ → List Item → Type 0
   AreItems scope n [] = n ≡ length lexemes
-  AreItems scope n (item ∷ items) = IsItem scope n item × AreItems (declared_with scope item) (end_of item) items
+  AreItems scope n (item ∷ items) = IsItem scope n item × AreItems (declared_with lexemes scope item) (end_of item) items
 
 -- The bytes are a source of these items, where the elements of the lattice have these names.
-pub record IsSourceForm (elements : List (List ℕ)) (bytes : List ℕ) (source : Lexed) (items : List Item) : Type 0 where
-  pub same : source.bytes ≡ bytes
-  pub spelled : IsSpelledBy bytes source.lexemes
-  pub read : AreItems elements source.lexemes no_names 0 items
+pub record IsSourceForm (elements : List (List ℕ)) (bytes : List ℕ) (source : SourceForm) : Type 0 where
+  pub text : source.lexemes.bytes ≡ bytes
+  pub spelled : Spells 0 bytes source.lexemes.lexemes
+  pub read : AreItems elements source.lexemes.lexemes no_names 0 source.items.items

@@ -4,5 +4,7 @@
 pub mod lattice_form;
 pub mod lexemes;
 pub mod lexing;
+pub mod names;
+pub mod reading;
 pub mod scope;
 pub mod source_form;

@@ -71,7 +71,8 @@ impl<'a> Names<'a> {
     }
 }
 
-fn is_among(names: &[&[u8]], name: &[u8]) -> bool
+/// Whether a text stands in a list.
+pub(crate) fn is_among(names: &[&[u8]], name: &[u8]) -> bool
     ensures { result ≡ list_any (bytes_eq name.now) (map (λ known. known.now) names.now) }
 {
     for known in names {
