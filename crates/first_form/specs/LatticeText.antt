@@ -6,6 +6,8 @@ use Rattle.lattice_core.specs.declared.Sign.TheVariants.{Pos, Neg, Eq}
 use Rattle.lattice_core.specs.declared.Level.TheVariants.{Value}
 use Rattle.lattice_core.specs.declared.Entry.{Entry}
 use Rattle.lattice_core.specs.declared.Pair.{Pair}
+use Rattle.first_form.specs.declared.lattice_form.WrittenBlock.{WrittenBlock}
+use Rattle.first_form.specs.declared.lattice_form.LatticeForm.{LatticeForm}
 use Rattle.first_form.specs.Lexical.{Lexeme, Spells, texts, is_letter, is_word_byte}
 
 -- two elements as they are written, and whether the first is below the second
@@ -41,14 +43,18 @@ lattice_texts block =
     ∷ block.second ∷ codes "[" ∷ codes "level" ∷ codes "=" ∷ codes "value" ∷ codes "," ∷ codes "sign" ∷ codes "=" ∷ sign_text block.second_sign ∷ codes "]"
     ∷ low_name block ∷ codes "<" ∷ high_name block ∷ codes "}" ∷ []
 
+-- the words and signs are those of this block, whose elements have two names
+pub record IsBlock (words : List (List ℕ)) (block : Block) : Type 0 where
+  pub written : words ≡ lattice_texts block
+  pub first_named : is_element_name block.first ≡ true
+  pub second_named : is_element_name block.second ≡ true
+  pub differ : block.first ≢ block.second
+
 -- the bytes are a lattice text of this block
 pub record IsLatticeForm (bytes : List ℕ) (block : Block) : Type 0 where
   pub lexemes : List Lexeme
   pub spelled : Spells 0 bytes lexemes
-  pub words : texts lexemes ≡ lattice_texts block
-  pub first_named : is_element_name block.first ≡ true
-  pub second_named : is_element_name block.second ≡ true
-  pub differ : block.first ≢ block.second
+  pub block_is : IsBlock (texts lexemes) block
 
 abbrev pub entry_of : List ℕ → Sign → Entry
 entry_of name sign = record { name = name; level = Value; sign = sign; write = false; deref = false }
@@ -59,3 +65,11 @@ entries_of block = entry_of block.first block.first_sign ∷ entry_of block.seco
 
 abbrev pub pair_of : Block → Pair
 pair_of block = record { low = low_name block; high = high_name block }
+
+-- the block, as the reader takes it
+abbrev pub block_of : WrittenBlock → Block
+block_of w = record { first = w.first.now; first_sign = w.first_sign; second = w.second.now; second_sign = w.second_sign; rising = w.rising }
+
+-- a form has the entries and the pair of this block
+abbrev pub IsFormOf : Block → LatticeForm → Type 0
+IsFormOf block form = (form.entries.items ≡ entries_of block) × (form.pair ≡ pair_of block)

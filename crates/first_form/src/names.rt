@@ -30,7 +30,7 @@ fn is_reserved(text: &[u8]) -> bool
     is_among(RESERVED.as_slice(), text)
 }
 
-fn are_word_chars(text: &[u8]) -> bool
+pub(crate) fn are_word_chars(text: &[u8]) -> bool
     ensures { result ≡ list_all is_word_byte text.now }
 {
     text.iter().all(|byte| is_word_char(*byte))
