@@ -10,7 +10,8 @@ use crate::lexemes::Lexemes;
 use crate::lexing::lex;
 use crate::names::are_word_chars;
 use lattice_core::{Entry, Level, Name, Pair, Sign};
-use std::alloc::{AllocError, Global};
+use qual_base::faults::NoMemory;
+use std::alloc::Global;
 
 /// A block of two elements and one order line, as it stands in its text.
 #[derive(Drop)]
@@ -147,13 +148,13 @@ fn block_in(lexemes: &Lexemes) -> Option<WrittenBlock<'_>>
     if is_block(lexemes, &block) { Some(block) } else { None }
 }
 
-fn named(alloc: Global, bytes: &[u8]) -> Result<Name, AllocError>
+fn named(alloc: Global, bytes: &[u8]) -> Result<Name, NoMemory>
     ensures { IfOk result (λ name. name ≡ bytes.now) }
 {
     Ok(Name::new(Vec::from_slice(alloc, bytes)?))
 }
 
-fn entry(alloc: Global, name: &[u8], sign: Sign) -> Result<Entry, AllocError>
+fn entry(alloc: Global, name: &[u8], sign: Sign) -> Result<Entry, NoMemory>
     ensures { IfOk result (λ entry. entry ≡ entry_of name.now sign) }
 {
     let name = named(alloc, name)?;
@@ -161,7 +162,7 @@ fn entry(alloc: Global, name: &[u8], sign: Sign) -> Result<Entry, AllocError>
 }
 
 /// The entries and the order line of a block.
-fn form(alloc: Global, block: &WrittenBlock) -> Result<LatticeForm, AllocError>
+fn form(alloc: Global, block: &WrittenBlock) -> Result<LatticeForm, NoMemory>
     ensures { IfOk result (λ form. IsFormOf (block_of block.now) form) }
 {
     let (low, high) = if block.rising { (block.first, block.second) } else { (block.second, block.first) };
@@ -176,7 +177,7 @@ fn form(alloc: Global, block: &WrittenBlock) -> Result<LatticeForm, AllocError>
 ///
 /// The form is one block of two elements with level and sign, and one order line that names both. The bytes are those of
 /// a file of less than 2^32 bytes. Time and memory are linear in them.
-pub fn read_lattice(alloc: Global, bytes: &[u8]) -> Result<Option<LatticeForm>, AllocError>
+pub fn read_lattice(alloc: Global, bytes: &[u8]) -> Result<Option<LatticeForm>, NoMemory>
     requires { length bytes.now < 2 ^ 32 }
     ensures { IfOk result (λ found. MatchOption found
         ((block : Block) → IsLatticeForm bytes.now block → ⊥)

@@ -7,7 +7,8 @@ ghost use Rattle.first_form.specs.Pieces.{IsPiece};
 ghost use Rattle.first_form.specs.Extents.{lexemes_at, AreWithin};
 
 use crate::lexemes::{Extent, Lexemes};
-use std::alloc::{AllocError, Global};
+use qual_base::faults::NoMemory;
+use std::alloc::Global;
 
 fn is_gap_byte(byte: u8) -> bool
     ensures { result ≡ is_gap byte }
@@ -60,7 +61,7 @@ fn piece_in_front(first: u8, rest: &[u8]) -> Piece
 }
 
 /// The extents of the lexemes, or none where a byte belongs to no lexeme.
-fn extents(alloc: Global, bytes: &[u8]) -> Result<Option<Vec<Extent>>, AllocError>
+fn extents(alloc: Global, bytes: &[u8]) -> Result<Option<Vec<Extent>>, NoMemory>
     requires { length bytes.now < 2 ^ 32 }
     ensures within { IfOk result (λ found. MatchOption found ⊤ (λ extents. AreWithin (length bytes.now) extents.items × (length extents.items ≤ length bytes.now))) }
     ensures spelled { IfOk result (λ found. MatchOption found
@@ -85,7 +86,7 @@ fn extents(alloc: Global, bytes: &[u8]) -> Result<Option<Vec<Extent>>, AllocErro
 /// The lexemes of a text, or none where the text is not made of lexemes and gaps.
 ///
 /// Time and memory are linear in the text.
-pub fn lex(alloc: Global, bytes: &[u8]) -> Result<Option<Lexemes>, AllocError>
+pub fn lex(alloc: Global, bytes: &[u8]) -> Result<Option<Lexemes>, NoMemory>
     requires { length bytes.now < 2 ^ 32 }
     ensures { IfOk result (λ found. MatchOption found
         ((lexemes : List Lexeme) → Spells 0 bytes.now lexemes → ⊥)

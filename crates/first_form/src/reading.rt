@@ -14,7 +14,8 @@ use crate::names::{is_dollar_word, is_identifier, is_name};
 use crate::scope::{place_of, Names};
 use crate::source_form::{Assign, Item, Mark, SourceForm};
 use qual_base::ids::{Elem, Numbered, TokenId, VarId};
-use std::alloc::{AllocError, Global};
+use qual_base::faults::NoMemory;
+use std::alloc::Global;
 
 /// Whether token `at` has this text.
 fn has_text(lexemes: &Lexemes, at: usize, text: &[u8]) -> bool
@@ -109,7 +110,7 @@ fn assign_at(lexemes: &Lexemes, names: &Names, at: usize) -> Option<Assign>
 }
 
 /// The statements from a token on, up to the closing brace.
-fn assigns_at(alloc: Global, lexemes: &Lexemes, names: &Names, start: usize) -> Result<Option<Vec<Assign>>, AllocError>
+fn assigns_at(alloc: Global, lexemes: &Lexemes, names: &Names, start: usize) -> Result<Option<Vec<Assign>>, NoMemory>
     requires early { start ≤ length lexemes.now.lexemes }
     requires few { length names.now.objects ≤ start }
     ensures { IfOk result (λ found. MatchOption found
@@ -142,7 +143,7 @@ fn marked_at(elements: &[&[u8]], lexemes: &Lexemes, names: &Names, at: usize) ->
 }
 
 /// The statements of the function at a token.
-fn function_at(alloc: Global, lexemes: &Lexemes, names: &Names, at: usize) -> Result<Option<Vec<Assign>>, AllocError>
+fn function_at(alloc: Global, lexemes: &Lexemes, names: &Names, at: usize) -> Result<Option<Vec<Assign>>, NoMemory>
     requires early { at ≤ length lexemes.now.lexemes }
     requires few { length names.now.objects ≤ at }
     ensures { IfOk result (λ found. MatchOption found
@@ -154,7 +155,7 @@ fn function_at(alloc: Global, lexemes: &Lexemes, names: &Names, at: usize) -> Re
 }
 
 /// The item at a token.
-fn item_at(alloc: Global, elements: &[&[u8]], lexemes: &Lexemes, names: &Names, at: usize) -> Result<Option<Item>, AllocError>
+fn item_at(alloc: Global, elements: &[&[u8]], lexemes: &Lexemes, names: &Names, at: usize) -> Result<Option<Item>, NoMemory>
     requires elements { length elements.now ≤ 64 }
     requires early { at ≤ length lexemes.now.lexemes }
     requires few { length names.now.objects ≤ at }
@@ -194,7 +195,7 @@ fn end(item: &Item) -> usize
 }
 
 /// Adds the name of an item.
-fn declare<'a>(names: &mut Names<'a>, lexemes: &'a Lexemes, item: &Item) -> Result<(), AllocError>
+fn declare<'a>(names: &mut Names<'a>, lexemes: &'a Lexemes, item: &Item) -> Result<(), NoMemory>
     ensures { OnOk result (names.new ≡ declared_with lexemes.now.lexemes names.old item.now) }
 {
     match item {
@@ -204,7 +205,7 @@ fn declare<'a>(names: &mut Names<'a>, lexemes: &'a Lexemes, item: &Item) -> Resu
 }
 
 /// The items that make up all the tokens.
-fn items(alloc: Global, elements: &[&[u8]], lexemes: &Lexemes) -> Result<Option<Vec<Item>>, AllocError>
+fn items(alloc: Global, elements: &[&[u8]], lexemes: &Lexemes) -> Result<Option<Vec<Item>>, NoMemory>
     requires { length elements.now ≤ 64 }
     ensures { IfOk result (λ found. MatchOption found
         ((items : List Item) → AreItems (map (λ name. name.now) elements.now) lexemes.now.lexemes no_names 0 items → ⊥)
@@ -230,7 +231,7 @@ fn items(alloc: Global, elements: &[&[u8]], lexemes: &Lexemes) -> Result<Option<
 ///
 /// `elements` are the names of the lattice's elements in order; the bytes are those of a file of less than 2^32 bytes.
 /// The time is that of the text times the number of declared names.
-pub fn read_source(alloc: Global, elements: &[&[u8]], bytes: &[u8]) -> Result<Option<SourceForm>, AllocError>
+pub fn read_source(alloc: Global, elements: &[&[u8]], bytes: &[u8]) -> Result<Option<SourceForm>, NoMemory>
     requires elements { length elements.now ≤ 64 }
     requires size { length bytes.now < 2 ^ 32 }
     ensures { IfOk result (λ found. MatchOption found

@@ -4,7 +4,8 @@ ghost use Rattle.std.specs.Prelude.{◌≡◌, ◌<◌, ◌≤◌, ◌^◌, ◌+
 ghost use Rattle.std.specs.List.{list_any};
 ghost use Rattle.std.specs.Str.{bytes_eq};
 
-use std::alloc::{AllocError, Global};
+use qual_base::faults::NoMemory;
+use std::alloc::Global;
 use std::marker::Model;
 
 /// The names of the objects and functions that are declared so far.
@@ -53,7 +54,7 @@ impl<'a> Names<'a> {
     }
 
     /// Adds an object.
-    pub fn add_object(&mut self, name: &'a [u8]) -> Result<(), AllocError>
+    pub fn add_object(&mut self, name: &'a [u8]) -> Result<(), NoMemory>
         ensures added { OnOk result (self.new ≡ record self.old { objects = self.old.objects ++ name.now ∷ [] }) }
         ensures unchanged { OnErr result (self.new ≡ self.old) }
     {
@@ -62,7 +63,7 @@ impl<'a> Names<'a> {
     }
 
     /// Adds a function.
-    pub fn add_function(&mut self, name: &'a [u8]) -> Result<(), AllocError>
+    pub fn add_function(&mut self, name: &'a [u8]) -> Result<(), NoMemory>
         ensures added { OnOk result (self.new ≡ record self.old { functions = self.old.functions ++ name.now ∷ [] }) }
         ensures unchanged { OnErr result (self.new ≡ self.old) }
     {
