@@ -1,0 +1,4 @@
+pub mod ExtentLemmas
+pub mod LexingLemmas
+pub mod ReadingLemmas
+pub mod LatticeLemmas
