@@ -1,10 +1,9 @@
 -- Sets that agree with each constraint have all that leads to a variable.
-use Rattle.std.proofs.Common.{◌≡◌, ℕ, ◌<◌, List, length, slice_get, Some, eq-eqb, if◌then◌else◌, ◌==◌, refl, sym, ◌∙◌, subst, ◌⊎◌, inl, inr}
+use Rattle.std.proofs.Common.{ℕ, List, length, eq-eqb, refl, subst, inl, inr}
 use Rattle.std.proofs.lemmas.Option.{slice_get_within}
-use Rattle.flow_graph.specs.declared.constraint.Constraint.{Constraint}
 use Rattle.flow_graph.specs.declared.constraint.Link.{Link}
 use Rattle.flow_graph.specs.declared.constraint.Link.TheVariants.{Le, Const}
-use Rattle.flow_graph.specs.System.{System, Has, Stands, IsInLattice}
+use Rattle.flow_graph.specs.System.{System, Has, Stands}
 use Rattle.flow_graph.specs.Paths.{Returning, Calling, Lead, start, flows, returns, grouped, anew, calls, calls_on, flows_on, grouped_on}
 use Rattle.flow_laws.specs.Flat.{IsFlat}
 use Rattle.lattice_solver.specs.Sets.{HasElement, Holds, brings, AgreeUpTo}

@@ -1,5 +1,5 @@
 -- Less room is left where a set grows.
-use Rattle.std.proofs.Common.{◌≡◌, ℕ, zero, suc, ◌+◌, ◌-◌, ◌<◌, ◌≤◌, ◌^◌, List, [], ◌∷◌, length, get_or, arith, set}
+use Rattle.std.proofs.Common.{ℕ, zero, suc, ◌<◌, ◌^◌, List, [], ◌∷◌, length, get_or, arith, set}
 use Rattle.lattice_solver.specs.Sets.{room}
 
 pub room-set : (sets : List ℕ) (i y : ℕ) → i < length sets → get_or sets i 0 < y → y < 2 ^ 64 → room (set sets i y) < room sets

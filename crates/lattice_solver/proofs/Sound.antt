@@ -1,5 +1,5 @@
 -- What a constraint brings leads there.
-use Rattle.std.proofs.Common.{◌≡◌, ◌≢◌, ◌^◌, ℕ, Bool, true, false, List, slice_get, slice_index, Some, if◌then◌else◌, ◌==◌, bit_or, refl, sym, ◌∙◌, ap, subst, arith, ◌⊎◌, inl, inr}
+use Rattle.std.proofs.Common.{◌≡◌, ◌≢◌, ◌^◌, ℕ, List, slice_get, slice_index, Some, if◌then◌else◌, ◌==◌, bit_or, refl, sym, ◌∙◌, ap, subst, arith, inl, inr}
 use Rattle.std.specs.Int.{bit_at}
 use Rattle.std.proofs.lemmas.Nat.Bits.{bit_at-zero, bit_at-pow_other}
 use Rattle.std.proofs.lemmas.Bool.{cases_eq}
@@ -10,7 +10,7 @@ use Rattle.flow_graph.specs.declared.constraint.Link.TheVariants.{Le, Const, Bou
 use Rattle.flow_graph.specs.System.{System, Stands}
 use Rattle.flow_graph.specs.Paths.{Lead, start, flows, flows_on}
 use Rattle.flow_graph.specs.PathRules.{link_ends}
-use Rattle.lattice_solver.specs.Sets.{HasElement, AllLead, brings}
+use Rattle.lattice_solver.specs.Sets.{AllLead, brings}
 use Rattle.lattice_solver.proofs.Bits.{in_union}
 
 -- nothing is in the empty set
@@ -42,7 +42,7 @@ module _ (sys : System) (lattice : ℕ) (sets : List ℕ) (lead : AllLead sys la
       let st : Stands sys lattice n (Const named d v) = record { constraint = c; there = there; link_is = is; carried = both.0 } in
       let same : e ≡ d = only_in d e both.1 in
       inl (start v n (let Named : ℕ → Type 0 = λ l. Stands sys lattice n (Const l e v) in
-          let Has : ℕ → Type 0 = λ k. Stands sys lattice n (Const named k v) in subst Named both.0 (subst Has (sym same) st)))
+      let Has : ℕ → Type 0 = λ k. Stands sys lattice n (Const named k v) in subst Named both.0 (subst Has (sym same) st)))
   brought_leads n c (Bound v named d) e there is has = absurd (none_in e has)
   brought_leads n c (Enter s u v) e there is has = absurd (none_in e has)
   brought_leads n c (Leave s u v) e there is has = absurd (none_in e has)
@@ -54,7 +54,7 @@ module _ (sys : System) (lattice : ℕ) (sets : List ℕ) (lead : AllLead sys la
     | inl same ↦
         let At : ℕ → Type 0 = λ w. Lead sys lattice e w in
         subst At (sym same) (elim (in_union (slice_index sets (link_ends c.link)) (brings sets lattice c.link c.lattices) e
-            (let Has : ℕ → Type 0 = λ set. bit_at set e ≡ 1 in subst Has (ap (slice_index raised) same ∙ here) has)) [
+        (let Has : ℕ → Type 0 = λ set. bit_at set e ≡ 1 in subst Has (ap (slice_index raised) same ∙ here) has)) [
           | inl before ↦ lead (link_ends c.link) e before
           | inr new ↦ brought_leads n c c.link e there refl new
         ])

@@ -1,5 +1,4 @@
 use Rattle.std.proofs.Common.{arith}
-use Rattle.std.proofs.lemmas.Grind.{common_steps}
 use Rattle.lattice_solver.proofs.Rooms.{room-set}
 use Rattle.lattice_solver.proofs.rounds.raise.Goals as goal
 

@@ -1,4 +1,4 @@
-use Rattle.std.proofs.Common.{◌≡◌, ℕ, length, sym, ◌∙◌, subst}
+use Rattle.std.proofs.Common.{◌≡◌, ℕ, length, sym, subst}
 use Rattle.std.proofs.lemmas.Bool.{OnFalse_at}
 use Rattle.flow_graph.specs.System.{AllBelow}
 use Rattle.lattice_solver.specs.Sets.{AgreeUpTo}
@@ -11,6 +11,7 @@ turn-requires-clause-below c = let Below : ℕ → Type 0 = λ k. AllBelow c.arg
 pub returns-then-not-turn : goal.returns-then-not-turn
 returns-then-not-turn c v e =
     let same : c.turn.new.sets ≡ c.loop-lattice.sets = OnFalse_at c.if-not-turn.true c.turn.ensures.same in
-    let agree : AgreeUpTo c.args.graph.now c.args.lattice c.loop-lattice.sets (length c.args.graph.now.constraints) = OnFalse_at c.if-not-turn.true c.turn.ensures.agree in
-    (c.turn.ensures.sound c.loop-lattice.invariant.sound v e,
-      λ lead. rw same (lead_in c.args.graph.now c.args.lattice c.loop-lattice.sets c.requires.flat agree e v lead))
+    let agree : AgreeUpTo c.args.graph.now c.args.lattice c.loop-lattice.sets (length c.args.graph.now.constraints) = OnFalse_at c.if-not-turn.true c.turn.ensures.agree in (
+      c.turn.ensures.sound c.loop-lattice.invariant.sound v e,
+      λ lead. rw same (lead_in c.args.graph.now c.args.lattice c.loop-lattice.sets c.requires.flat agree e v lead),
+    )

@@ -1,4 +1,4 @@
-use Rattle.std.proofs.Common.{◌≡◌, ◌<◌, length}
+use Rattle.std.proofs.Common.{◌≡◌, length}
 use Rattle.lattice_solver.specs.Sets.{AllLead, room}
 use Rattle.lattice_solver.proofs.rounds.saturate.Given as goal
 

@@ -1,4 +1,4 @@
-use Rattle.std.proofs.Common.{◌≡◌, ℕ, sym, subst}
+use Rattle.std.proofs.Common.{ℕ, sym, subst}
 use Rattle.flow_graph.specs.System.{AllBelow}
 use Rattle.lattice_solver.proofs.rounds.turn.Goals as goal
 
