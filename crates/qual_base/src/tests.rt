@@ -1,6 +1,6 @@
 //! What no clause says: that calls succeed where there is memory, and worked values.
 
-use crate::faults::Failed;
+use crate::faults::{Failed, NoMemory};
 use crate::host::{HostFiles, HostSink};
 use crate::ids::{Elem, LatticeNo, Numbered, VarId};
 use crate::memory::{MemFiles, MemSink};
@@ -19,12 +19,20 @@ fn file_of(alloc: Global, name: &str, length: usize) -> Result<Vec<(String, Vec<
     Ok(vec![in alloc; (String::from_str(alloc, name)?, bytes)]?)
 }
 
+/// The letters a, b and c with the numbers 0, 1 and 2.
+fn letters(alloc: Global) -> Result<Table<VarId, u8>, NoMemory> {
+    let mut table = Table::new(alloc);
+    table.push(b'a')?;
+    table.push(b'b')?;
+    table.push(b'c')?;
+    Ok(table)
+}
+
 #[test]
 fn a_table_numbers_its_items_in_order(rt: HostRuntime) -> Result<(), Fail> {
-    let mut table: Table<VarId, u8> = Table::new(rt.alloc());
-    for (number, item) in [(0, b'a'), (1, b'b'), (2, b'c')] {
-        assert_eq!(rt; table.push(item), Ok(VarId::new(number)));
-    }
+    let Ok(table) = letters(rt.alloc()) else {
+        return Err(Fail::from(AllocError));
+    };
     assert_eq!(rt; table.len(), 3);
     assert_eq!(rt; table.as_slice(), b"abc".as_slice());
     assert_eq!(rt; table.get(VarId::new(1)).copied(), Some(b'b'));
@@ -36,7 +44,7 @@ fn a_table_numbers_its_items_in_order(rt: HostRuntime) -> Result<(), Fail> {
 fn a_file_is_taken_whole_or_its_cause_is_answered(rt: HostRuntime) -> Result<(), Fail> {
     // the length of the file, the limit, the number of the call that fails, the length that is taken
     let rows = [
-        (0, 0, 0, Ok(0)),
+        (0, 0u32, 0, Ok(0)),
         (3, 3, 0, Ok(3)),
         (3, 2, 0, Err(TakeFault::TooLarge)),
         (65_536, 65_536, 0, Ok(65_536)),
@@ -52,7 +60,7 @@ fn a_file_is_taken_whole_or_its_cause_is_answered(rt: HostRuntime) -> Result<(),
         let files = file_of(rt.alloc(), "a", length)?;
         let fail = vec![in rt.alloc(); call]?;
         let mut files = MemFiles::new(rt.alloc(), files, fail);
-        let taken = take_all(rt.alloc(), &mut files, "a", limit);
+        let taken = take_all(rt.alloc(), &mut files, "a", limit as usize);
         assert_eq!(rt;
             taken.map(|bytes| bytes.len()),
             want,
