@@ -9,3 +9,8 @@ pub mod Force
 pub mod Rejected
 pub mod Reaching
 pub mod Accept
+pub mod Clear
+pub mod Places
+pub mod Steps
+pub mod Runs
+pub mod MainPath

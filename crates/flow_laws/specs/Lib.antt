@@ -5,3 +5,4 @@ pub mod Refuting
 pub mod Rejected
 pub mod Sets
 pub mod Accepting
+pub mod Holding

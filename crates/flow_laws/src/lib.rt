@@ -3,4 +3,5 @@
 
 pub mod accepting;
 pub mod flat;
+pub mod holding;
 pub mod laws;
