@@ -14,3 +14,5 @@ pub mod Places
 pub mod Steps
 pub mod Runs
 pub mod MainPath
+pub mod Testing
+pub mod Inside

@@ -6,3 +6,4 @@ pub mod Rejected
 pub mod Sets
 pub mod Accepting
 pub mod Holding
+pub mod PathLaws

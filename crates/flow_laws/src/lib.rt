@@ -5,3 +5,4 @@ pub mod accepting;
 pub mod flat;
 pub mod holding;
 pub mod laws;
+pub mod paths;
