@@ -8,7 +8,7 @@ use Rattle.flow_graph.specs.System.{System, Stands}
 use Rattle.flow_graph.specs.CallStrings.{IsCopy}
 use Rattle.flow_graph.specs.Paths.{Returning, start, flows, returns, grouped, anew, Calling, calls, calls_on, flows_on, grouped_on, Lead}
 use Rattle.flow_laws.specs.Least.{IsLeastOver, NamesElementsIn}
-use Rattle.flow_laws.specs.Laws.{SolutionStands, SafeKeepsBounds, NamesInEach}
+use Rattle.flow_laws.specs.Laws.{SolutionStands, SafeKeepsBounds, NamesInEach, JoinsAreSolution}
 use Rattle.flow_laws.proofs.Links.{has_of}
 use Rattle.flow_laws.proofs.Join.{least_over}
 
@@ -55,4 +55,11 @@ names_in_each sys orders lattice order names there = record {
       let named = names.const n lattice e v (has_of sys lattice n (Const lattice e v) st) in subst (λ o. e < size o) (order_is (sym named.1 ∙ there)) named.2;
   bound = λ n v b st.
       let named = names.bound n lattice b v (has_of sys lattice n (Bound v lattice b) st) in subst (λ o. b < size o) (order_is (sym named.1 ∙ there)) named.2;
+}
+
+pub joins_are_solution : JoinsAreSolution
+joins_are_solution sys lattice order sets solution names exact joins v = record {
+  element = (joins v).element;
+  upper = λ e lead. (joins v).upper e (lead_element sys lattice order names e v lead) ((exact v e).1 lead);
+  least = λ d element above. (joins v).least d element (λ e is in_set. above e ((exact v e).0 in_set));
 }

@@ -44,10 +44,12 @@ HoldsLeads = (sys : System) (orders : List Order) (proof : PathProof) → IsWell
 
 -- And that bound is exceeded.
 abbrev pub HoldsRefutes : Type 0
-HoldsRefutes = (sys : System) (orders : List Order) (proof : PathProof) → IsWellOwned sys → NamesElements sys orders → InEach orders (λ lattice order. IsOrder order) →
+HoldsRefutes = (sys : System) (orders : List Order) (proof : PathProof) → IsWellOwned sys → NamesElements sys orders →
+    InEach orders (λ lattice order. IsOrder order) →
     Holds sys orders proof → EndsInExceeded sys orders proof.main.items
 
 -- A program of which a path proof holds is not accepted.
 abbrev pub HoldsRejects : Type 0
-HoldsRejects = (sys : System) (orders : List Order) (proof : PathProof) → IsWellOwned sys → NamesElements sys orders → InEach orders (λ lattice order. IsOrder order) →
+HoldsRejects = (sys : System) (orders : List Order) (proof : PathProof) → IsWellOwned sys → NamesElements sys orders →
+    InEach orders (λ lattice order. IsOrder order) →
     Holds sys orders proof → IsAccepted sys orders → ⊥

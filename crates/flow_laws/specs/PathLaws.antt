@@ -1,6 +1,6 @@
 -- Laws of paths.
 use Rattle.std.specs.Prelude.{◌≡◌, ℕ, ◌<◌, Bool, true, List, ◌↔◌}
-use Rattle.flow_graph.specs.System.{System, vars_of}
+use Rattle.flow_graph.specs.System.{System, AllBelow}
 use Rattle.flow_graph.specs.Paths.{Matches, Match, Returning, Calling, Lead}
 use Rattle.flow_laws.specs.Sets.{Reaches}
 
@@ -19,9 +19,9 @@ CallingGoesOn = (sys : System) (lattice e f x v : ℕ) → Calling sys lattice e
 abbrev pub ReachesLeads : Type 0
 ReachesLeads = (sys : System) (lattice e v : ℕ) (sites : List ℕ) → Reaches sys lattice e v sites → Lead sys lattice e v
 
--- Nothing leads to a variable that no constraint has.
+-- Nothing leads to a variable above all that constraints name.
 abbrev pub LeadsInside : Type 0
-LeadsInside = (sys : System) (lattice e v : ℕ) → Lead sys lattice e v → v < vars_of sys
+LeadsInside = (sys : System) (lattice e v vars : ℕ) → AllBelow sys vars → Lead sys lattice e v → v < vars
 
 -- Where tests say what leads to which variables with no call open, and between which variables matched paths lead, there
 -- is a test of what reaches which copies.

@@ -22,7 +22,7 @@ pub fn reaches_leads()
     ensures { ReachesLeads }
 {}
 
-/// Nothing leads to a variable that no constraint has.
+/// Nothing leads to a variable above all that constraints name.
 pub fn leads_inside()
     ensures { LeadsInside }
 {}
