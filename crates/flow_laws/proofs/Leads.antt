@@ -1,14 +1,15 @@
 -- What leads to a variable begins at a constant; least elements over all that does.
-use Rattle.std.proofs.Common.{ℕ, ◌<◌, [], refl, arith, inl, inr}
+use Rattle.std.proofs.Common.{◌≡◌, ℕ, ◌<◌, [], refl, sym, ◌∙◌, subst, Some, arith, inl, inr}
 use Rattle.qual_base.specs.declared.places.Owner.{Owner}
 use Rattle.qual_base.specs.declared.places.Owner.TheVariants.{Nobody, Function}
 use Rattle.lattice_core.specs.Order.{Order, size}
-use Rattle.flow_graph.specs.declared.constraint.Link.TheVariants.{Const}
+use Rattle.flow_graph.specs.declared.constraint.Link.TheVariants.{Const, Bound}
 use Rattle.flow_graph.specs.System.{System, Stands}
 use Rattle.flow_graph.specs.CallStrings.{IsCopy}
 use Rattle.flow_graph.specs.Paths.{Returning, start, flows, returns, grouped, anew, Calling, calls, calls_on, flows_on, grouped_on, Lead}
 use Rattle.flow_laws.specs.Least.{IsLeastOver, NamesElementsIn}
-use Rattle.flow_laws.specs.Laws.{SolutionStands, SafeKeepsBounds}
+use Rattle.flow_laws.specs.Laws.{SolutionStands, SafeKeepsBounds, NamesInEach, JoinsAreSolution}
+use Rattle.flow_laws.proofs.Links.{has_of}
 use Rattle.flow_laws.proofs.Join.{least_over}
 
 -- the owner's copy with the empty call string
@@ -44,3 +45,21 @@ solution_stands sys lattice order comes lat names is =
 
 pub safe_keeps_bounds : SafeKeepsBounds
 safe_keeps_bounds sys lattice order solution names least safe n v b st = (least v).least b (names.bound n v b st) (λ e l. safe n v b e st l)
+
+order_is : {x y : Order} → Some x ≡ Some y → x ≡ y
+order_is e = cc
+
+pub names_in_each : NamesInEach
+names_in_each sys orders lattice order names there = record {
+  const = λ n e v st.
+      let named = names.const n lattice e v (has_of sys lattice n (Const lattice e v) st) in subst (λ o. e < size o) (order_is (sym named.1 ∙ there)) named.2;
+  bound = λ n v b st.
+      let named = names.bound n lattice b v (has_of sys lattice n (Bound v lattice b) st) in subst (λ o. b < size o) (order_is (sym named.1 ∙ there)) named.2;
+}
+
+pub joins_are_solution : JoinsAreSolution
+joins_are_solution sys lattice order sets solution names exact joins v = record {
+  element = (joins v).element;
+  upper = λ e lead. (joins v).upper e (lead_element sys lattice order names e v lead) ((exact v e).1 lead);
+  least = λ d element above. (joins v).least d element (λ e is in_set. above e ((exact v e).0 in_set));
+}

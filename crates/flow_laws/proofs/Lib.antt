@@ -9,3 +9,10 @@ pub mod Force
 pub mod Rejected
 pub mod Reaching
 pub mod Accept
+pub mod Clear
+pub mod Places
+pub mod Steps
+pub mod Runs
+pub mod MainPath
+pub mod Testing
+pub mod Inside

@@ -10,7 +10,7 @@ use Rattle.flow_graph.specs.System.{System, Stands}
 use Rattle.flow_graph.specs.Unfolding.{IsAccepted, IsAcceptedIn, IsExceeded}
 use Rattle.flow_laws.specs.Least.{KeepsBounds}
 use Rattle.flow_laws.specs.Rejected.{HasExceeded, InEach, FlatRejectedHasABound}
-use Rattle.flow_laws.proofs.Links.{some_is, bound_var, bound_elem, bound_lattice}
+use Rattle.flow_laws.proofs.Links.{link_at, bound_var, bound_elem, bound_lattice}
 use Rattle.flow_laws.proofs.Search.{search_below}
 use Rattle.flow_laws.proofs.Force.{exceeded_is_refuted}
 use Rattle.flow_laws.proofs.NoCalls.{flat_is_accepted, flat_over_is_exceeded}
@@ -22,27 +22,24 @@ module _ (sys : System) (lattice : ℕ) (order : Order) (solution : ℕ → ℕ)
   abbrev OverAt : ℕ → Type 0
   OverAt n = (v : ℕ) × (b : ℕ) × Stands sys lattice n (Bound v lattice b) × (leq order (solution v) b ≡ false)
 
-  link_at : (n : ℕ) (c : Constraint) (link : Link) → slice_get sys.constraints n ≡ Some c → Stands sys lattice n link → c.link ≡ link
-  link_at n c link is st = ap (λ (c : Constraint). c.link) (some_is (sym is ∙ st.there)) ∙ st.link_is
-
   bound_tells : (n : ℕ) → KeepsAt n ⊎ OverAt n
   bound_tells n = by_constraint (slice_get sys.constraints n) refl
     where
       -- a bound in the lattice
       by_order : (c : Constraint) (v b : ℕ) → slice_get sys.constraints n ≡ Some c → c.link ≡ Bound v lattice b → (t : Bool) → leq order (solution v) b ≡ t → KeepsAt n ⊎ OverAt n
       by_order c v b is link_is true fits = inl (λ x d st.
-          let same : Bound v lattice b ≡ Bound x lattice d = sym link_is ∙ link_at n c (Bound x lattice d) is st in
+          let same : Bound v lattice b ≡ Bound x lattice d = sym link_is ∙ link_at sys lattice n c (Bound x lattice d) is st in
           rw (← bound_var same, ← bound_elem same) fits)
       by_order c v b is link_is false over = inr (v, b, record { constraint = c; there = is; link_is = link_is; carried = refl }, over)
 
       by_link : (c : Constraint) → slice_get sys.constraints n ≡ Some c → (link : Link) → c.link ≡ link → KeepsAt n ⊎ OverAt n
-      by_link c is (Le u v) link_is = inl (λ x d st. let wrong : Le u v ≡ Bound x lattice d = sym link_is ∙ link_at n c (Bound x lattice d) is st in absurd cc)
-      by_link c is (Const l e v) link_is = inl (λ x d st. let wrong : Const l e v ≡ Bound x lattice d = sym link_is ∙ link_at n c (Bound x lattice d) is st in absurd cc)
-      by_link c is (Enter s u v) link_is = inl (λ x d st. let wrong : Enter s u v ≡ Bound x lattice d = sym link_is ∙ link_at n c (Bound x lattice d) is st in absurd cc)
-      by_link c is (Leave s u v) link_is = inl (λ x d st. let wrong : Leave s u v ≡ Bound x lattice d = sym link_is ∙ link_at n c (Bound x lattice d) is st in absurd cc)
+      by_link c is (Le u v) link_is = inl (λ x d st. let wrong : Le u v ≡ Bound x lattice d = sym link_is ∙ link_at sys lattice n c (Bound x lattice d) is st in absurd cc)
+      by_link c is (Const l e v) link_is = inl (λ x d st. let wrong : Const l e v ≡ Bound x lattice d = sym link_is ∙ link_at sys lattice n c (Bound x lattice d) is st in absurd cc)
+      by_link c is (Enter s u v) link_is = inl (λ x d st. let wrong : Enter s u v ≡ Bound x lattice d = sym link_is ∙ link_at sys lattice n c (Bound x lattice d) is st in absurd cc)
+      by_link c is (Leave s u v) link_is = inl (λ x d st. let wrong : Leave s u v ≡ Bound x lattice d = sym link_is ∙ link_at sys lattice n c (Bound x lattice d) is st in absurd cc)
       by_link c is (Bound v l b) link_is = elim (eqb_tells l lattice) [
         | inl same ↦ by_order c v b is (link_is ∙ ap (λ l. Bound v l b) same.1) (leq order (solution v) b) refl
-        | inr other ↦ inl (λ x d st. absurd (other.1 (bound_lattice (sym link_is ∙ link_at n c (Bound x lattice d) is st))))
+        | inr other ↦ inl (λ x d st. absurd (other.1 (bound_lattice (sym link_is ∙ link_at sys lattice n c (Bound x lattice d) is st))))
       ]
 
       by_constraint : (o : Option Constraint) → slice_get sys.constraints n ≡ o → KeepsAt n ⊎ OverAt n

@@ -35,4 +35,5 @@ FlatExceededIsOver = (sys : System) (lattice : ℕ) (order : Order) (solution : 
 -- A bound is exceeded where the least element over all that leads to its variable is not at or below it.
 abbrev pub FlatOverIsExceeded : Type 0
 FlatOverIsExceeded = (sys : System) (lattice : ℕ) (order : Order) → IsFlat sys → IsOrder order →
-    (n v b r : ℕ) → Stands sys lattice n (Bound v lattice b) → IsLeastOver order (λ e. Lead sys lattice e v) r → leq order r b ≡ false → IsExceeded sys lattice order n
+    (n v b r : ℕ) → Stands sys lattice n (Bound v lattice b) → IsLeastOver order (λ e. Lead sys lattice e v) r → leq order r b ≡ false →
+    IsExceeded sys lattice order n

@@ -1,5 +1,5 @@
 -- Least elements above sets, and what leads to the bounds of a system.
-use Rattle.std.specs.Prelude.{◌≡◌, ℕ, ◌<◌, true}
+use Rattle.std.specs.Prelude.{◌≡◌, ℕ, ◌<◌, true, List, slice_get, unwrap_or}
 use Rattle.lattice_core.specs.Order.{Order, size, leq}
 use Rattle.flow_graph.specs.declared.constraint.Link.TheVariants.{Const, Bound}
 use Rattle.flow_graph.specs.System.{System, Stands}
@@ -27,3 +27,7 @@ IsSolution sys lattice order solution = (v : ℕ) → IsLeastOver order (λ e. L
 -- each variable's element is at or below the variable's bounds
 abbrev pub KeepsBounds : System → ℕ → Order → (ℕ → ℕ) → Type 0
 KeepsBounds sys lattice order solution = (n v b : ℕ) → Stands sys lattice n (Bound v lattice b) → leq order (solution v) b ≡ true
+
+-- the element of a variable in a list, or another past its end
+abbrev pub element_of : List ℕ → ℕ → ℕ → ℕ
+element_of elements other v = unwrap_or (slice_get elements v) other

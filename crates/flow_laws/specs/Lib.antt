@@ -5,3 +5,5 @@ pub mod Refuting
 pub mod Rejected
 pub mod Sets
 pub mod Accepting
+pub mod Holding
+pub mod PathLaws

@@ -16,7 +16,8 @@ pub record Forces (sys : System) (lattice : ℕ) (order : Order) (e v : ℕ) : T
 
 -- In a well owned system each element that leads to a variable is forced on one of its copies.
 abbrev pub LeadsForce : Type 0
-LeadsForce = (sys : System) (lattice : ℕ) (order : Order) → IsWellOwned sys → IsOrder order → (e v : ℕ) → Lead sys lattice e v → Forces sys lattice order e v
+LeadsForce = (sys : System) (lattice : ℕ) (order : Order) → IsWellOwned sys → IsOrder order → (e v : ℕ) → Lead sys lattice e v →
+    Forces sys lattice order e v
 
 -- A path from a constant to a bound that is not at or above it shows that the bound is exceeded.
 abbrev pub PathsRefute : Type 0

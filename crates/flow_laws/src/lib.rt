@@ -3,4 +3,6 @@
 
 pub mod accepting;
 pub mod flat;
+pub mod holding;
 pub mod laws;
+pub mod paths;
