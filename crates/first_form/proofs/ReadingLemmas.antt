@@ -9,7 +9,7 @@ use Rattle.first_form.specs.declared.source_form.Item.TheVariants.{Object, Funct
 use Rattle.first_form.specs.declared.source_form.Assign.{Assign}
 use Rattle.first_form.specs.declared.source_form.Mark.{Mark}
 use Rattle.first_form.specs.Lexical.{Lexeme, text_of}
-use Rattle.first_form.specs.SourceText.{Scope, no_names, is_identifier, is_dollar_word, is_name, IsNewName, IsObject, IsAssign, AreAssigns, IsInt, IsHead, IsMark, IsItem, AreItems, declared_with, end_of}
+use Rattle.first_form.specs.SourceText.{Scope, no_names, is_identifier, is_dollar_word, is_name, IsNewName, IsObject, IsAssign, AreAssigns, IsInt, IsHead, IsMark, IsItem, AreItems, declared_with, end_of, name_of, declares}
 
 -- a text that stands in no place of a list is not at one
 pub absent : (xs : List (List ℕ)) (n : ℕ) (x y : List ℕ) → list_any (bytes_eq x) xs ≡ false → x ≡ y → slice_get xs n ≡ Some y → ⊥
@@ -105,6 +105,12 @@ pub item_end : (elements : List (List ℕ)) (ls : List Lexeme) (scope : Scope) (
 item_end elements ls scope n (Object None name) h = let p = int_end ls scope n h.0 in let e = h.1 in (omega arith, omega arith)
 item_end elements ls scope n (Object (Some mark) name) h = let p = int_end ls scope (n + 1) h.2 in let e = h.3 in (omega arith, omega arith)
 item_end elements ls scope n (Function name assigns) h = let p = assigns_end ls scope (n + 6) assigns.items h.2 in let e = h.1 in (omega arith, omega arith)
+
+-- the name of an item is new
+pub item_new : (elements : List (List ℕ)) (ls : List Lexeme) (scope : Scope) (n : ℕ) (item : Item) → IsItem elements ls scope n item → declares scope (text_of ls (name_of item)) ≡ false
+item_new elements ls scope n (Object None name) h = let e : name ≡ n + 1 = h.1 in rw e h.0.new.1
+item_new elements ls scope n (Object (Some mark) name) h = let e : name ≡ n + 1 + 1 = (let p = h.3 in omega arith) in rw e h.2.new.1
+item_new elements ls scope n (Function name assigns) h = let e : name ≡ n + 1 = h.1 in rw e h.0.new.1
 
 assigns_same : (ls : List Lexeme) (scope : Scope) (n : ℕ) (xs bs : List Assign) → AreAssigns ls scope n xs → AreAssigns ls scope n bs → length xs ≡ length bs
 assigns_same ls scope n [] [] a b = refl

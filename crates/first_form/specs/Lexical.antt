@@ -57,3 +57,7 @@ texts lexemes = map (λ lexeme. lexeme.text) lexemes
 -- the text of lexeme n, empty where there is none
 abbrev pub text_of : List Lexeme → ℕ → List ℕ
 text_of lexemes n = unwrap_or (slice_get (texts lexemes) n) []
+
+-- the offset of lexeme n, 0 where there is none
+abbrev pub start_of : List Lexeme → ℕ → ℕ
+start_of lexemes n = unwrap_or (slice_get (map (λ lexeme. lexeme.at) lexemes) n) 0

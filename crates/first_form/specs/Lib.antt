@@ -1,4 +1,5 @@
 pub mod Lexical
+pub mod Places
 pub mod LatticeText
 pub mod SourceText
 pub mod Extents

@@ -103,6 +103,11 @@ module _ (lexemes : List Lexeme) where
   declared_with scope (Object mark name) = record scope { objects = scope.objects ++ text_of lexemes name ∷ [] }
   declared_with scope (Function name assigns) = record scope { functions = scope.functions ++ text_of lexemes name ∷ [] }
 
+-- the token of an item's name
+abbrev pub name_of : Item → ℕ
+name_of (Object mark name) = name
+name_of (Function name assigns) = name
+
 -- the number of the token after an item
 abbrev pub end_of : Item → ℕ
 end_of (Object mark name) = name + 2

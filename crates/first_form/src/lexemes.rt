@@ -2,6 +2,7 @@
 
 ghost use Rattle.std.specs.Prelude.{◌≡◌, ◌<◌, ◌≤◌, ◌^◌, length, List, ℕ};
 
+use crate::places::{place_in, Place};
 use qual_base::ids::{Numbered, TokenId};
 use std::marker::Model;
 
@@ -35,8 +36,9 @@ impl Model for Lexemes {
 
 impl Lexemes {
     ghost use Rattle.std.specs.Prelude.{◌≡◌, ◌<◌, ◌≤◌, ◌^◌, length};
-    ghost use Rattle.first_form.specs.Lexical.{Lexed, text_of};
+    ghost use Rattle.first_form.specs.Lexical.{Lexed, text_of, start_of};
     ghost use Rattle.first_form.specs.Extents.{lexemes_at, AreWithin};
+    ghost use Rattle.first_form.specs.Places.{line_at, column_at};
 
     /// The lexemes that lie at these extents.
     pub(crate) fn new(bytes: Vec<u8>, extents: Vec<Extent>) -> Self
@@ -53,6 +55,35 @@ impl Lexemes {
         ensures few { result < 2 ^ 32 }
     {
         self.extents.len()
+    }
+
+    /// The offset of a lexeme's first byte.
+    pub fn start(&self, at: TokenId) -> u32
+        requires { at < length self.now.lexemes }
+        ensures { result ≡ start_of self.now.lexemes at }
+    {
+        let extent = self.extents[at.number() as usize];
+        extent.start
+    }
+
+    /// The bytes of a lexeme.
+    pub fn text(&self, at: TokenId) -> &[u8]
+        requires { at < length self.now.lexemes }
+        ensures { result.now ≡ text_of self.now.lexemes at }
+    {
+        self.text_or_empty(at.number() as usize)
+    }
+
+    /// The line and the column of a lexeme's first byte.
+    ///
+    /// It counts the line feeds before the lexeme, so it takes time linear in the offset.
+    pub fn place(&self, at: TokenId) -> Place
+        requires { at < length self.now.lexemes }
+        ensures line { result.line ≡ line_at self.now.bytes (start_of self.now.lexemes at) }
+        ensures column { result.column ≡ column_at self.now.bytes (start_of self.now.lexemes at) }
+    {
+        let start = self.start(at);
+        place_in(self.bytes.as_slice(), start as usize)
     }
 
     /// The bytes of lexeme `at`, none where there is no such lexeme.

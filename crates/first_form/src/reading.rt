@@ -1,8 +1,8 @@
 //! Reading the items of a source.
 
-ghost use Rattle.std.specs.Prelude.{◌≡◌, ◌<◌, ◌≤◌, ◌+◌, ◌^◌, ◌↔◌, IsTrue, length, List, ℕ, IfOk, OnOk, MatchOption, map};
+ghost use Rattle.std.specs.Prelude.{◌≡◌, ◌<◌, ◌≤◌, ◌+◌, ◌^◌, ◌↔◌, IsTrue, length, List, ℕ, IfOk, OnOk, MatchOption, map, false};
 ghost use Rattle.first_form.specs.Lexical.{text_of};
-ghost use Rattle.first_form.specs.SourceText.{no_names, IsNewName, IsObject, IsAssign, AreAssigns, IsInt, IsHead, IsMark, IsItem, AreItems, IsSourceForm, declared_with, end_of};
+ghost use Rattle.first_form.specs.SourceText.{no_names, IsNewName, IsObject, IsAssign, AreAssigns, IsInt, IsHead, IsMark, IsItem, AreItems, IsSourceForm, declared_with, end_of, declares, name_of};
 ghost use Rattle.first_form.specs.declared.source_form.Mark.{Mark};
 ghost use Rattle.first_form.specs.declared.source_form.Assign.{Assign};
 ghost use Rattle.first_form.specs.declared.source_form.Item.{Item};
@@ -196,6 +196,7 @@ fn end(item: &Item) -> usize
 
 /// Adds the name of an item.
 fn declare<'a>(names: &mut Names<'a>, lexemes: &'a Lexemes, item: &Item) -> Result<(), NoMemory>
+    requires { declares names.old (text_of lexemes.now.lexemes (name_of item.now)) ≡ false }
     ensures { OnOk result (names.new ≡ declared_with lexemes.now.lexemes names.old item.now) }
 {
     match item {

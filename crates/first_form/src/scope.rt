@@ -4,17 +4,18 @@ ghost use Rattle.std.specs.Prelude.{◌≡◌, ◌<◌, ◌≤◌, ◌^◌, ◌+
 ghost use Rattle.std.specs.List.{list_any};
 ghost use Rattle.std.specs.Str.{bytes_eq};
 
+use indexmap::IndexSet;
 use qual_base::faults::NoMemory;
 use std::alloc::Global;
 use std::marker::Model;
 
 /// The names of the objects and functions that are declared so far.
 ///
-/// A look-up takes time in the number of names.
+/// A look-up and an addition take time linear in the name, however many names there are.
 #[derive(Drop)]
 pub struct Names<'a> {
-    objects: Vec<&'a [u8]>,
-    functions: Vec<&'a [u8]>,
+    objects: IndexSet<&'a [u8]>,
+    functions: IndexSet<&'a [u8]>,
 }
 
 impl<'a> Model for Names<'a> {
@@ -23,7 +24,7 @@ impl<'a> Model for Names<'a> {
 
     ghost Value = { Scope };
 
-    ghost view = { λ a. record { objects = map (λ name. name.now) a.objects.items; functions = map (λ name. name.now) a.functions.items } };
+    ghost view = { λ a. record { objects = map (λ name. name.now) a.objects.keys; functions = map (λ name. name.now) a.functions.keys } };
 }
 
 impl<'a> Names<'a> {
@@ -36,38 +37,40 @@ impl<'a> Names<'a> {
     pub fn new(alloc: Global) -> Self
         ensures { result ≡ no_names }
     {
-        Names { objects: Vec::new(alloc), functions: Vec::new(alloc) }
+        Names { objects: IndexSet::new(alloc), functions: IndexSet::new(alloc) }
     }
 
     /// Whether an object or a function has this name.
     pub fn declares(&self, name: &[u8]) -> bool
         ensures { result ≡ declares self.now name.now }
     {
-        is_among(self.objects.as_slice(), name) || is_among(self.functions.as_slice(), name)
+        self.objects.contains(name) || self.functions.contains(name)
     }
 
     /// The number of an object that has this name, or none: how many objects were declared before it.
     pub fn object(&self, name: &[u8]) -> Option<usize>
         ensures { MatchOption result (list_any (bytes_eq name.now) self.now.objects ≡ false) (λ number. slice_get self.now.objects number ≡ Some name.now) }
     {
-        place_of(self.objects.as_slice(), name)
+        self.objects.get_index_of(name)
     }
 
-    /// Adds an object.
+    /// Adds an object of a new name. For want of memory the names stay as they were.
     pub fn add_object(&mut self, name: &'a [u8]) -> Result<(), NoMemory>
+        requires { declares self.old name.now ≡ false }
         ensures added { OnOk result (self.new ≡ record self.old { objects = self.old.objects ++ name.now ∷ [] }) }
         ensures unchanged { OnErr result (self.new ≡ self.old) }
     {
-        self.objects.push(name)?;
+        self.objects.insert(name)?;
         Ok(())
     }
 
-    /// Adds a function.
+    /// Adds a function of a new name. For want of memory the names stay as they were.
     pub fn add_function(&mut self, name: &'a [u8]) -> Result<(), NoMemory>
+        requires { declares self.old name.now ≡ false }
         ensures added { OnOk result (self.new ≡ record self.old { functions = self.old.functions ++ name.now ∷ [] }) }
         ensures unchanged { OnErr result (self.new ≡ self.old) }
     {
-        self.functions.push(name)?;
+        self.functions.insert(name)?;
         Ok(())
     }
 }
