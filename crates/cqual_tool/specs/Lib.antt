@@ -1,4 +1,5 @@
 pub mod Words
 pub mod Sending
 pub mod Texts
+pub mod Scenes
 pub mod Program

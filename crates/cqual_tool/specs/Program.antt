@@ -1,5 +1,5 @@
 -- The system of constraints of a source in the first form: which constraints each item gives, in order.
-use Rattle.std.specs.Prelude.{◌≡◌, ℕ, ◌+◌, List, [], ◌∷◌, ◌++◌, map, Option, Some, None, slice_get}
+use Rattle.std.specs.Prelude.{◌≡◌, ℕ, ◌+◌, ◌<◌, ◌≤◌, ◌^◌, All, length, List, [], ◌∷◌, ◌++◌, map, Option, Some, None, slice_get}
 use Rattle.std.specs.List.{flat_map}
 use Rattle.qual_base.specs.declared.places.Span.{Span}
 use Rattle.lattice_core.specs.declared.Sign.{Sign}
@@ -70,3 +70,27 @@ object_token (Function name assigns) = []
 
 abbrev pub object_tokens : List Item → List ℕ
 object_tokens items = flat_map object_token items
+
+-- the objects that an assignment names have variable numbers
+abbrev pub IsNumbered : Assign → Type 0
+IsNumbered assign = (assign.into < 2 ^ 24) × (assign.from < 2 ^ 24)
+
+-- the elements that an item names are of so many entries, and its objects have variable numbers
+abbrev pub IsNumberedItem : ℕ → ℕ → Item → Type 0
+IsNumberedItem entries objects (Object None name) = objects < 2 ^ 24
+IsNumberedItem entries objects (Object (Some mark) name) = (objects < 2 ^ 24) × (mark.elem < entries)
+IsNumberedItem entries objects (Function name assigns) = All IsNumbered assigns.items
+
+abbrev pub AreNumbered : ℕ → ℕ → List Item → Type 0
+AreNumbered entries objects [] = Unit {0}
+AreNumbered entries objects (item ∷ items) = IsNumberedItem entries objects item × AreNumbered entries (objects_with objects item) items
+
+-- the graph has these constraints more, behind those that it had, and nothing else has changed
+pub record Adds (old new : System) (more : List Constraint) : Type 0 where
+  pub constraints : new.constraints ≡ old.constraints ++ more
+  pub sites : new.sites ≡ old.sites
+  pub owners : new.owners ≡ old.owners
+
+-- with so many constraints more the graph would be past its limit
+abbrev pub OverLimit : System → ℕ → Type 0
+OverLimit old more = 67108864 < length old.constraints + more

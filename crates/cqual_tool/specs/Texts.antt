@@ -3,6 +3,7 @@ use Rattle.std.specs.Prelude.{◌≡◌, ℕ, ◌+◌, List, [], ◌∷◌, ◌+
 use Rattle.std.specs.List.{flat_map}
 use Rattle.std.specs.Fmt.{decimal}
 use Rattle.lattice_core.specs.declared.Entry.{Entry}
+use Rattle.lattice_core.specs.Entries.{name_at}
 use Rattle.flow_graph.specs.declared.constraint.Link.{Link}
 use Rattle.flow_graph.specs.declared.constraint.Link.TheVariants.{Le, Const, Bound, Enter, Leave}
 use Rattle.flow_graph.specs.declared.constraint.Constraint.{Constraint}
@@ -37,12 +38,9 @@ token_of scene var = slice_index scene.objects var
 abbrev pub var_text : Scene → ℕ → List ℕ
 var_text scene var = text_of scene.lexed.lexemes (token_of scene var) ++ codes "@" ++ place_text scene (token_of scene var) ++ codes ".in"
 
-abbrev pub name_of_entry : Option Entry → List ℕ
-name_of_entry (Some entry) = entry.name
-name_of_entry None = []
-
+-- the name of an element
 abbrev pub elem_text : Scene → ℕ → List ℕ
-elem_text scene elem = name_of_entry (slice_get scene.entries elem)
+elem_text scene elem = unwrap_or (name_at scene.entries elem) []
 
 -- what a constraint says, behind its number and place
 abbrev pub link_text : Scene → Link → List ℕ

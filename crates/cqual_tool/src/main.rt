@@ -2,8 +2,10 @@
 #![tactic(auto)]
 
 mod answer;
+mod generating;
 mod sending;
 mod status;
+mod texts;
 mod words;
 
 fn main(_rt: HostRuntime) {
