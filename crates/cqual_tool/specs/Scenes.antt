@@ -1,5 +1,7 @@
 -- What the lines name, as the code holds it.
-use Rattle.std.specs.Prelude.{ℕ, ◌<◌, length, slice_index}
+use Rattle.std.specs.Prelude.{◌≡◌, ℕ, ◌<◌, length, slice_index, slice_get, Some}
+use Rattle.flow_graph.specs.declared.constraint.Constraint.{Constraint}
+use Rattle.flow_graph.specs.System.{System}
 use Rattle.flow_graph.specs.declared.constraint.Link.{Link}
 use Rattle.flow_graph.specs.declared.constraint.Link.TheVariants.{Le, Const, Bound, Enter, Leave}
 use Rattle.lattice_core.specs.Order.{size}
@@ -28,3 +30,11 @@ HasLink lent (Const l e v) = HasElem lent e × HasVar lent v
 HasLink lent (Bound v l e) = HasVar lent v × HasElem lent e
 HasLink lent (Enter s u v) = HasVar lent u × HasVar lent v
 HasLink lent (Leave s u v) = HasVar lent u × HasVar lent v
+
+-- each object is a variable of the scene
+abbrev pub HasObjects : Lent → Type 0
+HasObjects lent = (var : ℕ) → var < length lent.objects.now → HasVar lent var
+
+-- each constraint names variables and elements of the scene, and begins at a token of it
+abbrev pub IsShown : Lent → System → Type 0
+IsShown lent sys = (n : ℕ) (c : Constraint) → slice_get sys.constraints n ≡ Some c → HasLink lent c.link × HasToken lent c.span.from
