@@ -3,3 +3,4 @@ pub mod Sending
 pub mod Texts
 pub mod Scenes
 pub mod Program
+pub mod FlatPaths
