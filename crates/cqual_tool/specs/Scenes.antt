@@ -1,10 +1,11 @@
 -- What the lines name, as the code holds it.
-use Rattle.std.specs.Prelude.{◌≡◌, ℕ, ◌<◌, length, slice_index, slice_get, Some}
+use Rattle.std.specs.Prelude.{◌≡◌, ℕ, ◌<◌, length, slice_index, slice_get, Some, false}
 use Rattle.flow_graph.specs.declared.constraint.Constraint.{Constraint}
-use Rattle.flow_graph.specs.System.{System}
+use Rattle.flow_graph.specs.System.{System, Stands}
+use Rattle.flow_graph.specs.Paths.{Lead}
 use Rattle.flow_graph.specs.declared.constraint.Link.{Link}
 use Rattle.flow_graph.specs.declared.constraint.Link.TheVariants.{Le, Const, Bound, Enter, Leave}
-use Rattle.lattice_core.specs.Order.{size}
+use Rattle.lattice_core.specs.Order.{Order, size, leq}
 use Rattle.cqual_tool.specs.declared.texts.Scene.{Scene as Lent}
 use Rattle.cqual_tool.specs.Texts.{Scene}
 
@@ -38,3 +39,12 @@ HasObjects lent = (var : ℕ) → var < length lent.objects.now → HasVar lent 
 -- each constraint names variables and elements of the scene, and begins at a token of it
 abbrev pub IsShown : Lent → System → Type 0
 IsShown lent sys = (n : ℕ) (c : Constraint) → slice_get sys.constraints n ≡ Some c → HasLink lent c.link × HasToken lent c.span.from
+
+-- a constraint is a bound of the one lattice to whose variable a constant of the element leads, and the element is not at or
+-- below the bound
+pub record IsOverBound (sys : System) (order : Order) (bound elem : ℕ) : Type 0 where
+  pub var : ℕ
+  pub limit : ℕ
+  pub stands : Stands sys 0 bound (Bound var 0 limit)
+  pub leads : Lead sys 0 elem var
+  pub over : leq order elem limit ≡ false

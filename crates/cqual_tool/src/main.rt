@@ -3,6 +3,8 @@
 
 mod answer;
 mod generating;
+mod reports;
+mod search;
 mod sending;
 mod status;
 mod texts;

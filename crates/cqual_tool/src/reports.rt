@@ -1,0 +1,129 @@
+//! The two reports of a program.
+
+ghost use Rattle.std.specs.Prelude.{◌≡◌, ◌<◌, ◌++◌, ℕ, List, IfOk, OnOk, length, false, Some, slice_get};
+ghost use Rattle.lattice_core.specs.Order.{leq};
+ghost use Rattle.flow_graph.specs.declared.constraint.Link.TheVariants.{Bound};
+ghost use Rattle.flow_graph.specs.System.{Stands};
+ghost use Rattle.flow_graph.specs.Paths.{Lead};
+ghost use Rattle.flow_graph.specs.Unfolding.{IsExceeded};
+ghost use Rattle.flow_laws.specs.Flat.{IsFlat};
+ghost use Rattle.flow_laws.specs.Least.{NamesElementsIn};
+ghost use Rattle.lattice_solver.specs.Solution.{IsSolved, IsKept, Exceeds};
+ghost use Rattle.cqual_tool.specs.Texts.{steps_text};
+ghost use Rattle.cqual_tool.specs.Scenes.{scene_of, HasElem, IsShown, IsOverBound, HasObjects};
+ghost use Rattle.cqual_tool.specs.Reports.{Lines, Errors, IsError, IsAcceptedReport, IsRejectedReport};
+ghost use Rattle.cqual_tool.specs.FlatPaths.{takes};
+
+use crate::search::shortest;
+use crate::texts::{Scene, put, put_error, put_step, put_value};
+use flow_graph::constraint::{Constraint, Link};
+use flow_graph::graph::FlowGraph;
+use flow_laws::laws::exceeded_is_refuted;
+use lattice_solver::solver::Solver;
+use qual_base::ids::{EdgeId, Elem, LatticeNo, Numbered, VarId};
+use std::alloc::{AllocError, Global};
+
+/// The line of each object whose least element is not the bottom.
+fn put_values(out: &mut Vec<u8>, scene: &Scene<'_>, graph: &FlowGraph, solver: &Solver) -> Result<(), AllocError>
+    requires objects { HasObjects scene.now }
+    requires lattice { solver.now.lattice ≡ 0 }
+    requires kept { IsKept graph.now solver.now scene.now.lattice.now.order }
+    ensures { OnOk result ((lines : List ℕ) × (out.new.items ≡ out.old.items ++ lines) × Lines (scene_of scene.now) graph.now scene.now.lattice.now.order (length scene.now.objects.now) lines) }
+{
+    let bottom = scene.lattice.bottom();
+    for n in 0..scene.objects.len() as u32 {
+        let var = VarId::new(n);
+        let elem = solver.value(scene.lattice, var);
+        if elem != bottom {
+            put_value(out, scene, var, elem)?;
+        }
+    }
+    Ok(())
+}
+
+/// The accepted report. Linear in the objects but for their places.
+pub fn accepted(alloc: Global, scene: &Scene<'_>, graph: &FlowGraph, solver: &Solver) -> Result<Vec<u8>, AllocError>
+    requires objects { HasObjects scene.now }
+    requires lattice { solver.now.lattice ≡ 0 }
+    requires kept { IsKept graph.now solver.now scene.now.lattice.now.order }
+    ensures { IfOk result (λ text. IsAcceptedReport (scene_of scene.now) graph.now scene.now.lattice.now.order text.items) }
+{
+    let mut text = Vec::new(alloc);
+    put(&mut text, b"accepted\n")?;
+    put_values(&mut text, scene, graph, solver)?;
+    Ok(text)
+}
+
+/// The lines of a path's steps.
+fn put_path(out: &mut Vec<u8>, scene: &Scene<'_>, graph: &FlowGraph, path: &[EdgeId]) -> Result<(), AllocError>
+    requires shown { IsShown scene.now graph.now }
+    requires within { (i : ℕ) (n : ℕ) → slice_get path.now i ≡ Some n → n < length graph.now.constraints }
+    ensures { OnOk result (out.new.items ≡ out.old.items ++ steps_text (scene_of scene.now) graph.now (takes path.now)) }
+{
+    for edge in path {
+        let constraint = graph.constraint(*edge);
+        put_step(out, scene, *edge, &constraint)?;
+    }
+    Ok(())
+}
+
+/// The element and the place of a bound.
+fn bound_of(constraint: &Constraint) -> Elem
+    requires { (v : ℕ) × (lattice : ℕ) × (limit : ℕ) × (constraint.now.link ≡ Bound v lattice limit) }
+    ensures { (v : ℕ) × (lattice : ℕ) × (constraint.now.link ≡ Bound v lattice result) }
+{
+    match constraint.link {
+        Link::Bound(_, _, elem) => elem,
+        _ => unreachable!(),
+    }
+}
+
+/// The error of a bound that an element exceeds: a line with both, and a shortest path from a constant of the element.
+fn put_exceeded(alloc: Global, out: &mut Vec<u8>, scene: &Scene<'_>, graph: &FlowGraph, elem: Elem, bound: EdgeId) -> Result<(), AllocError>
+    requires flat { IsFlat graph.now }
+    requires shown { IsShown scene.now graph.now }
+    requires elem { HasElem scene.now elem }
+    requires over { IsOverBound graph.now scene.now.lattice.now.order bound elem }
+    ensures { OnOk result ((error : List ℕ) × (out.new.items ≡ out.old.items ++ error) × IsError (scene_of scene.now) graph.now scene.now.lattice.now.order bound error) }
+{
+    let path = shortest(alloc, graph, LatticeNo::new(0), elem, bound)?;
+    let constraint = graph.constraint(bound);
+    put_error(out, scene, elem, bound_of(&constraint), constraint.span.from)?;
+    put(out, b"path\n")?;
+    put_path(out, scene, graph, &path)
+}
+
+/// The errors of all exceeded bounds, in the order of the constraints.
+fn put_errors(alloc: Global, out: &mut Vec<u8>, scene: &Scene<'_>, graph: &FlowGraph, solver: &Solver) -> Result<(), AllocError>
+    requires flat { IsFlat graph.now }
+    requires shown { IsShown scene.now graph.now }
+    requires lattice { solver.now.lattice ≡ 0 }
+    requires solved { IsSolved graph.now solver.now }
+    requires named { NamesElementsIn graph.now 0 scene.now.lattice.now.order }
+    ensures { OnOk result ((errors : List ℕ) × (out.new.items ≡ out.old.items ++ errors) × Errors (scene_of scene.now) graph.now scene.now.lattice.now.order (length graph.now.constraints) errors) }
+{
+    for n in 0..graph.len() {
+        let bound = EdgeId::new(n);
+        if let Some(elem) = solver.exceeded(graph, scene.lattice, bound) {
+            put_exceeded(alloc, out, scene, graph, elem, bound)?;
+        }
+    }
+    Ok(())
+}
+
+/// The rejected report. Its time is that of a search for each exceeded bound, and of the places of the lines.
+pub fn rejected(alloc: Global, scene: &Scene<'_>, graph: &FlowGraph, solver: &Solver) -> Result<Vec<u8>, AllocError>
+    requires flat { IsFlat graph.now }
+    requires shown { IsShown scene.now graph.now }
+    requires lattice { solver.now.lattice ≡ 0 }
+    requires solved { IsSolved graph.now solver.now }
+    requires named { NamesElementsIn graph.now 0 scene.now.lattice.now.order }
+    requires exceeded { (n : ℕ) × IsExceeded graph.now 0 scene.now.lattice.now.order n }
+    ensures { IfOk result (λ text. IsRejectedReport (scene_of scene.now) graph.now scene.now.lattice.now.order text.items) }
+{
+    exceeded_is_refuted();
+    let mut text = Vec::new(alloc);
+    put(&mut text, b"rejected\n")?;
+    put_errors(alloc, &mut text, scene, graph, solver)?;
+    Ok(text)
+}
