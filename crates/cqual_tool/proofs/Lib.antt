@@ -1,3 +1,6 @@
 mod Pieces
 mod Items
+mod Appended
 mod FlatHolds
+mod FlatWithin
+mod ReportLemmas

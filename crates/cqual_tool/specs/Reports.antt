@@ -13,12 +13,15 @@ use Rattle.cqual_tool.specs.Texts.{Scene, line, value_line, error_line, subs_tex
 abbrev pub IsBottom : Order → ℕ → Type 0
 IsBottom order bottom = (bottom < size order) × ((a : ℕ) → a < size order → leq order bottom a ≡ true)
 
--- The lines of the objects below a number, in order: each object's least element over all copies, the bottom left out.
+-- The line of an object: its least element over all copies, or nothing where that is the bottom.
+pub data IsLine (scene : Scene) (sys : System) (order : Order) (var : ℕ) : List ℕ → Type 0 where
+  AtBottom : (bottom : ℕ) → IsBottom order bottom → Printed sys 0 order var bottom → IsLine scene sys order var []
+  Above : (elem : ℕ) → (IsBottom order elem → ⊥) → Printed sys 0 order var elem → IsLine scene sys order var (value_line scene var elem)
+
+-- the lines of the objects below a number, in order
 pub data Lines (scene : Scene) (sys : System) (order : Order) : ℕ → List ℕ → Type 0 where
   NoObject : Lines scene sys order 0 []
-  AtBottom : (var bottom : ℕ) (text : List ℕ) → Lines scene sys order var text → IsBottom order bottom → Printed sys 0 order var bottom → Lines scene sys order (var + 1) text
-  Above : (var elem : ℕ) (text : List ℕ) → Lines scene sys order var text → (IsBottom order elem → ⊥) → Printed sys 0 order var elem →
-      Lines scene sys order (var + 1) (text ++ value_line scene var elem)
+  NextLine : (var : ℕ) (text line : List ℕ) → Lines scene sys order var text → IsLine scene sys order var line → Lines scene sys order (var + 1) (text ++ line)
 
 -- The accepted report: the program has an assignment at every call depth, and each object its least element.
 pub record IsAcceptedReport (scene : Scene) (sys : System) (order : Order) (text : List ℕ) : Type 0 where
@@ -52,12 +55,15 @@ pub record IsError (scene : Scene) (sys : System) (order : Order) (number : ℕ)
   pub bound : Stands sys 0 number (Bound at 0 limit)
   pub spelled : text ≡ error_line scene elem limit bound.constraint.span.from ++ subs_text scene sys 1 subs ++ line (codes "path") ++ steps_text scene sys main
 
--- The errors of the exceeded bounds among the constraints below a number, in order, each once.
+-- what is written of a constraint: its error where it is an exceeded bound, else nothing
+pub data IsErrorOf (scene : Scene) (sys : System) (order : Order) (number : ℕ) : List ℕ → Type 0 where
+  NotExceeded : (IsExceeded sys 0 order number → ⊥) → IsErrorOf scene sys order number []
+  Exceeded : (error : List ℕ) → IsExceeded sys 0 order number → IsError scene sys order number error → IsErrorOf scene sys order number error
+
+-- the errors of the constraints below a number, in order
 pub data Errors (scene : Scene) (sys : System) (order : Order) : ℕ → List ℕ → Type 0 where
   NoConstraint : Errors scene sys order 0 []
-  NotExceeded : (number : ℕ) (text : List ℕ) → Errors scene sys order number text → (IsExceeded sys 0 order number → ⊥) → Errors scene sys order (number + 1) text
-  Exceeded : (number : ℕ) (text error : List ℕ) → Errors scene sys order number text → IsExceeded sys 0 order number → IsError scene sys order number error →
-      Errors scene sys order (number + 1) (text ++ error)
+  NextError : (number : ℕ) (text error : List ℕ) → Errors scene sys order number text → IsErrorOf scene sys order number error → Errors scene sys order (number + 1) (text ++ error)
 
 -- The rejected report: the program has no assignment at some call depth, and each exceeded bound has its error.
 pub record IsRejectedReport (scene : Scene) (sys : System) (order : Order) (text : List ℕ) : Type 0 where

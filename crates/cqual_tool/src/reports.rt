@@ -1,6 +1,6 @@
 //! The two reports of a program.
 
-ghost use Rattle.std.specs.Prelude.{◌≡◌, ◌<◌, ◌++◌, ℕ, List, IfOk, OnOk, length, false, Some, slice_get};
+ghost use Rattle.std.specs.Prelude.{◌≡◌, ◌<◌, ◌++◌, ◌≤◌, ◌^◌, ℕ, List, IfOk, OnOk, length, All};
 ghost use Rattle.lattice_core.specs.Order.{leq};
 ghost use Rattle.flow_graph.specs.declared.constraint.Link.TheVariants.{Bound};
 ghost use Rattle.flow_graph.specs.System.{Stands};
@@ -10,8 +10,8 @@ ghost use Rattle.flow_laws.specs.Flat.{IsFlat};
 ghost use Rattle.flow_laws.specs.Least.{NamesElementsIn};
 ghost use Rattle.lattice_solver.specs.Solution.{IsSolved, IsKept, Exceeds};
 ghost use Rattle.cqual_tool.specs.Texts.{steps_text};
-ghost use Rattle.cqual_tool.specs.Scenes.{scene_of, HasElem, IsShown, IsOverBound, HasObjects};
-ghost use Rattle.cqual_tool.specs.Reports.{Lines, Errors, IsError, IsAcceptedReport, IsRejectedReport};
+ghost use Rattle.cqual_tool.specs.Scenes.{scene_of, HasVar, HasElem, IsShown, IsOverBound, HasObjects};
+ghost use Rattle.cqual_tool.specs.Reports.{IsLine, Lines, IsError, IsErrorOf, Errors, IsAcceptedReport, IsRejectedReport};
 ghost use Rattle.cqual_tool.specs.FlatPaths.{takes};
 
 use crate::search::shortest;
@@ -23,26 +23,38 @@ use lattice_solver::solver::Solver;
 use qual_base::ids::{EdgeId, Elem, LatticeNo, Numbered, VarId};
 use std::alloc::{AllocError, Global};
 
+/// The line of an object, unless its least element is the bottom.
+fn put_line(out: &mut Vec<u8>, scene: &Scene<'_>, graph: &FlowGraph, solver: &Solver, var: VarId) -> Result<(), AllocError>
+    requires var { HasVar scene.now var }
+    requires lattice { solver.now.lattice ≡ 0 }
+    requires kept { IsKept graph.now solver.now scene.now.lattice.now.order }
+    ensures { OnOk result ((line : List ℕ) × (out.new.items ≡ out.old.items ++ line) × IsLine (scene_of scene.now) graph.now scene.now.lattice.now.order var line) }
+{
+    scene.lattice.law();
+    let elem = solver.value(scene.lattice, var);
+    if elem == scene.lattice.bottom() {
+        return Ok(());
+    }
+    put_value(out, scene, var, elem)
+}
+
 /// The line of each object whose least element is not the bottom.
-fn put_values(out: &mut Vec<u8>, scene: &Scene<'_>, graph: &FlowGraph, solver: &Solver) -> Result<(), AllocError>
+fn put_lines(out: &mut Vec<u8>, scene: &Scene<'_>, graph: &FlowGraph, solver: &Solver) -> Result<(), AllocError>
+    requires few { length scene.now.objects.now ≤ 2 ^ 24 }
     requires objects { HasObjects scene.now }
     requires lattice { solver.now.lattice ≡ 0 }
     requires kept { IsKept graph.now solver.now scene.now.lattice.now.order }
     ensures { OnOk result ((lines : List ℕ) × (out.new.items ≡ out.old.items ++ lines) × Lines (scene_of scene.now) graph.now scene.now.lattice.now.order (length scene.now.objects.now) lines) }
 {
-    let bottom = scene.lattice.bottom();
     for n in 0..scene.objects.len() as u32 {
-        let var = VarId::new(n);
-        let elem = solver.value(scene.lattice, var);
-        if elem != bottom {
-            put_value(out, scene, var, elem)?;
-        }
+        put_line(out, scene, graph, solver, VarId::new(n))?;
     }
     Ok(())
 }
 
 /// The accepted report. Linear in the objects but for their places.
 pub fn accepted(alloc: Global, scene: &Scene<'_>, graph: &FlowGraph, solver: &Solver) -> Result<Vec<u8>, AllocError>
+    requires few { length scene.now.objects.now ≤ 2 ^ 24 }
     requires objects { HasObjects scene.now }
     requires lattice { solver.now.lattice ≡ 0 }
     requires kept { IsKept graph.now solver.now scene.now.lattice.now.order }
@@ -50,14 +62,14 @@ pub fn accepted(alloc: Global, scene: &Scene<'_>, graph: &FlowGraph, solver: &So
 {
     let mut text = Vec::new(alloc);
     put(&mut text, b"accepted\n")?;
-    put_values(&mut text, scene, graph, solver)?;
+    put_lines(&mut text, scene, graph, solver)?;
     Ok(text)
 }
 
 /// The lines of a path's steps.
 fn put_path(out: &mut Vec<u8>, scene: &Scene<'_>, graph: &FlowGraph, path: &[EdgeId]) -> Result<(), AllocError>
     requires shown { IsShown scene.now graph.now }
-    requires within { (i : ℕ) (n : ℕ) → slice_get path.now i ≡ Some n → n < length graph.now.constraints }
+    requires within { All (λ n. n < length graph.now.constraints) path.now }
     ensures { OnOk result (out.new.items ≡ out.old.items ++ steps_text (scene_of scene.now) graph.now (takes path.now)) }
 {
     for edge in path {
@@ -93,6 +105,22 @@ fn put_exceeded(alloc: Global, out: &mut Vec<u8>, scene: &Scene<'_>, graph: &Flo
     put_path(out, scene, graph, &path)
 }
 
+/// The error of a constraint, if it is an exceeded bound.
+fn put_error_of(alloc: Global, out: &mut Vec<u8>, scene: &Scene<'_>, graph: &FlowGraph, solver: &Solver, number: EdgeId) -> Result<(), AllocError>
+    requires flat { IsFlat graph.now }
+    requires shown { IsShown scene.now graph.now }
+    requires lattice { solver.now.lattice ≡ 0 }
+    requires solved { IsSolved graph.now solver.now }
+    requires named { NamesElementsIn graph.now 0 scene.now.lattice.now.order }
+    requires number { number < length graph.now.constraints }
+    ensures { OnOk result ((error : List ℕ) × (out.new.items ≡ out.old.items ++ error) × IsErrorOf (scene_of scene.now) graph.now scene.now.lattice.now.order number error) }
+{
+    match solver.exceeded(graph, scene.lattice, number) {
+        Some(elem) => put_exceeded(alloc, out, scene, graph, elem, number),
+        None => Ok(()),
+    }
+}
+
 /// The errors of all exceeded bounds, in the order of the constraints.
 fn put_errors(alloc: Global, out: &mut Vec<u8>, scene: &Scene<'_>, graph: &FlowGraph, solver: &Solver) -> Result<(), AllocError>
     requires flat { IsFlat graph.now }
@@ -103,10 +131,7 @@ fn put_errors(alloc: Global, out: &mut Vec<u8>, scene: &Scene<'_>, graph: &FlowG
     ensures { OnOk result ((errors : List ℕ) × (out.new.items ≡ out.old.items ++ errors) × Errors (scene_of scene.now) graph.now scene.now.lattice.now.order (length graph.now.constraints) errors) }
 {
     for n in 0..graph.len() {
-        let bound = EdgeId::new(n);
-        if let Some(elem) = solver.exceeded(graph, scene.lattice, bound) {
-            put_exceeded(alloc, out, scene, graph, elem, bound)?;
-        }
+        put_error_of(alloc, out, scene, graph, solver, EdgeId::new(n))?;
     }
     Ok(())
 }

@@ -3,6 +3,7 @@ use Rattle.std.specs.Prelude.{◌≡◌, ◌<◌, ℕ, List, length, slice_index
 use Rattle.std.specs.Int.{bit_at}
 use Rattle.lattice_core.specs.Order.{Order, size, leq, IsJoinOf}
 use Rattle.flow_graph.specs.System.{System, AllBelow, Stands}
+use Rattle.flow_graph.specs.Paths.{Lead}
 use Rattle.flow_graph.specs.Unfolding.{IsAcceptedIn, IsExceeded, Printed}
 use Rattle.lattice_solver.specs.Sets.{AllLead, AreExact, HasElement}
 use Rattle.flow_graph.specs.declared.constraint.Link.{Link}
@@ -26,7 +27,9 @@ pub record Exceeds (sys : System) (solution : Solution) (order : Order) (n e : �
   pub var : ℕ
   pub limit : ℕ
   pub bound : Stands sys solution.lattice n (Bound var solution.lattice limit)
+  pub element : e < size order
   pub reached : HasElement solution.sets var e
+  pub leads : Lead sys solution.lattice e var
   pub over : leq order e limit ≡ false
 
 -- No bound is exceeded: the system is accepted in the lattice, and the least element over the set of a variable is the one
