@@ -1,3 +1,4 @@
 mod Pieces
 mod Items
 mod FlatHolds
+mod SourceFacts
