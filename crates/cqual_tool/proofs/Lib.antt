@@ -4,3 +4,4 @@ mod Appended
 mod FlatHolds
 mod FlatWithin
 mod ReportLemmas
+mod SourceFacts
