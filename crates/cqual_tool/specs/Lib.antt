@@ -5,3 +5,4 @@ pub mod Scenes
 pub mod Program
 pub mod FlatPaths
 pub mod Reports
+pub mod Outcome

@@ -7,6 +7,8 @@ use Rattle.flow_graph.specs.declared.proof.PathStep.TheVariants.{Take}
 use Rattle.flow_graph.specs.System.{System, Stands}
 use Rattle.flow_graph.specs.Unfolding.{IsAccepted, IsExceeded, Printed}
 use Rattle.flow_graph.specs.PathProofs.{first_fault, first_of, last_of, span_of}
+use Rattle.cqual_tool.specs.declared.status.Status.{Status}
+use Rattle.cqual_tool.specs.declared.status.Status.TheVariants.{Accepted, Rejected}
 use Rattle.cqual_tool.specs.Texts.{Scene, line, value_line, error_line, subs_text, steps_text}
 
 -- an element at or below each
@@ -71,3 +73,8 @@ pub record IsRejectedReport (scene : Scene) (sys : System) (order : Order) (text
   pub errors : List ℕ
   pub listed : Errors scene sys order (length sys.constraints) errors
   pub spelled : text ≡ line (codes "rejected") ++ errors
+
+-- the status of a program, with its report
+pub data IsJudged (scene : Scene) (sys : System) (order : Order) : Status → List ℕ → Type 0 where
+  JudgedAccepted : (text : List ℕ) → IsAcceptedReport scene sys order text → IsJudged scene sys order Accepted text
+  JudgedRejected : (text : List ℕ) → IsRejectedReport scene sys order text → IsJudged scene sys order Rejected text
