@@ -58,11 +58,11 @@ identifier_or_brace text is e = let h : is_identifier (codes "}") ≡ true = rw 
 pub taken_more : (ls : List Lexeme) (scope : Scope) (start at : ℕ) (assigns : List Assign) (assign : Assign) → AreTaken ls scope start at assigns → IsAssign ls scope at assign
     → AreTaken ls scope start (at + 4) (assigns ++ assign ∷ [])
 taken_more ls scope start at assigns assign t h = record {
-    inside = (let p = present ls (at + 3) 59 [] h.semicolon in omega arith);
-    later = omega (arith, t.later);
-    sound = λ more m. rw append_assoc (t.sound (assign ∷ more) (h, m));
-    only = λ all m. let old = t.only all m in rest old.0 old.1;
-  }
+  inside = (let p = present ls (at + 3) 59 [] h.semicolon in omega arith);
+  later = omega (arith, t.later);
+  sound = λ more m. rw append_assoc (t.sound (assign ∷ more) (h, m));
+  only = λ all m. let old = t.only all m in rest old.0 old.1;
+}
   where
     rest : (more : List Assign) → AreAssigns ls scope at more → (after : List Assign) × AreAssigns ls scope (at + 4) after
     rest [] m = absurd (identifier_or_brace (text_of ls at) h.into.0 m)

@@ -14,6 +14,7 @@ loop-n-preserved c =
 
 pub returns : goal.returns
 returns c =
-    let l : length (map (λ (text : Bor (List ℕ)). text.now) c.args.expected.now) ≡ length c.args.expected.now = length-map _ _ in
-    ( λ h. same_texts _ _ (let e = h in let n = c.len.ensures.count in grind (arith, nat_tests)) (λ k lt. c.loop-n.invariant k (omega (arith, lt, l, c.loop-n-test.false)))
-    , λ e. (let m = ap length e in let n = c.len.ensures.count in let p = length-map c.args.lexemes.now.lexemes (λ lexeme. lexeme.text) in grind (arith, nat_tests)))
+    let l : length (map (λ (text : Bor (List ℕ)). text.now) c.args.expected.now) ≡ length c.args.expected.now = length-map _ _ in (
+      λ h. same_texts _ _ (let e = h in let n = c.len.ensures.count in grind (arith, nat_tests)) (λ k lt. c.loop-n.invariant k (omega (arith, lt, l, c.loop-n-test.false))),
+      λ e. (let m = ap length e in let n = c.len.ensures.count in let p = length-map c.args.lexemes.now.lexemes (λ lexeme. lexeme.text) in grind (arith, nat_tests)),
+    )
