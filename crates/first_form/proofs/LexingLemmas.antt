@@ -1,5 +1,5 @@
 -- How far a text has been taken apart.
-use Rattle.std.proofs.Common.{◌≡◌, ℕ, zero, suc, ◌+◌, ◌-◌, ◌<◌, ◌≤◌, Bool, true, false, cond, ◌&&◌, ◌||◌, ◌⊎◌, inl, inr, List, [], ◌∷◌, ◌++◌, length, map, take, drop, get_or, nat_eq, nat_le, refl, sym, ◌∙◌, ap, subst, arith, append_assoc, drop-cons, length-append, length-drop}
+use Rattle.std.proofs.Common.{◌≡◌, ℕ, suc, ◌+◌, ◌-◌, ◌<◌, ◌≤◌, Bool, true, false, cond, ◌&&◌, ◌⊎◌, inl, inr, List, [], ◌∷◌, ◌++◌, length, take, drop, get_or, refl, sym, ◌∙◌, ap, subst, arith, append_assoc, drop-cons, length-append, length-drop}
 use Rattle.std.specs.List.{list_all, prefix_len}
 use Rattle.std.proofs.lemmas.List.{append-nil, take-append-drop, map-append, length-take-le, drop-drop, take_rest}
 use Rattle.std.proofs.lemmas.List.Sums.{prefix_len-le-length}
@@ -7,7 +7,7 @@ use Rattle.std.proofs.lemmas.Bool.Decides.{nat_tests}
 use Rattle.std.proofs.Math.Seq.{take-append_seam, drop-append_seam, drop-length}
 use Rattle.std.proofs.Math.Numerals.{one-add}
 use Rattle.first_form.specs.declared.lexemes.Extent.{Extent}
-use Rattle.first_form.specs.Lexical.{Lexeme, is_gap, is_sign, is_word_byte, is_letter, begins_word, lengthens, Spells, Nothing, Gap, Sign, Word, IsSpelledBy}
+use Rattle.first_form.specs.Lexical.{Lexeme, is_gap, is_sign, is_word_byte, begins_word, lengthens, Spells, Nothing, Gap, Sign, Word, IsSpelledBy}
 use Rattle.first_form.specs.Extents.{lexeme_at, lexemes_at, AreWithin}
 use Rattle.first_form.proofs.ExtentLemmas.{within_push}
 

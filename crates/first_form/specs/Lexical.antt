@@ -1,5 +1,5 @@
 -- The lexemes of a text: its words and signs, with gaps between them.
-use Rattle.std.specs.Prelude.{◌≡◌, ℕ, suc, ◌+◌, Bool, true, false, ◌&&◌, ◌||◌, List, [], ◌∷◌, ◌++◌, length, map, nat_eq, nat_le, Option, unwrap_or, option_map, slice_get}
+use Rattle.std.specs.Prelude.{◌≡◌, ℕ, suc, ◌+◌, Bool, true, false, ◌&&◌, ◌||◌, List, [], ◌∷◌, ◌++◌, length, map, nat_eq, nat_le, unwrap_or, slice_get}
 use Rattle.std.specs.List.{list_all}
 
 -- a word or a sign, and the offset of its first byte

@@ -1,7 +1,6 @@
-use Rattle.std.proofs.Common.{rules, ◌≡◌, ◌<◌, ◌+◌, length, List, ℕ, map, arith, refl, sym, ◌∙◌, ap, below_more, get_or, Bor, true, false, nat_eq, []}
+use Rattle.std.proofs.Common.{◌≡◌, length, List, ℕ, map, arith, sym, ◌∙◌, ap, below_more, Bor}
 use Rattle.std.proofs.lemmas.Bool.Decides.{nat_tests}
 use Rattle.std.proofs.lemmas.List.{length-map}
-use Rattle.first_form.specs.Lexical.{texts, text_of}
 use Rattle.first_form.proofs.LatticeLemmas.{same_texts, text_in, now_at, equal_texts, other_texts}
 use Rattle.first_form.proofs.lattice_form.texts_are.Goals as goal
 
