@@ -1,7 +1,7 @@
 -- Reading lexemes by their extents.
-use Rattle.std.proofs.Common.{◌≡◌, ℕ, zero, suc, ◌+◌, ◌-◌, ◌<◌, ◌≤◌, List, [], ◌∷◌, ◌++◌, length, map, take, drop, get_or, refl, sym, ◌∙◌, ap, subst, arith}
+use Rattle.std.proofs.Common.{◌≡◌, ℕ, zero, suc, ◌-◌, ◌<◌, ◌≤◌, List, [], ◌∷◌, ◌++◌, length, take, drop, get_or, refl, sym, ◌∙◌, ap, subst, arith}
 use Rattle.first_form.specs.declared.lexemes.Extent.{Extent}
-use Rattle.first_form.specs.Lexical.{Lexeme, text_of, start_of}
+use Rattle.first_form.specs.Lexical.{text_of, start_of}
 use Rattle.first_form.specs.Extents.{lexeme_at, lexemes_at, AreWithin}
 
 pub within_at : (count : ℕ) (extents : List Extent) (at : ℕ) (d : Extent) → at < length extents → AreWithin count extents

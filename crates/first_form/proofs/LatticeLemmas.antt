@@ -1,11 +1,11 @@
 -- What the words of a lattice text determine.
-use Rattle.std.proofs.Common.{◌≡◌, ◌≢◌, ℕ, zero, suc, ◌+◌, ◌<◌, ◌≤◌, Bool, true, false, not, cond, List, [], ◌∷◌, length, map, get_or, slice_get, unwrap_or, Bor, refl, sym, ◌∙◌, ap, subst, arith, codes}
+use Rattle.std.proofs.Common.{◌≡◌, ◌≢◌, ℕ, zero, suc, ◌<◌, Bool, true, false, not, cond, List, [], ◌∷◌, length, map, get_or, slice_get, unwrap_or, Bor, refl, sym, ◌∙◌, ap, arith}
 use Rattle.std.specs.Str.{bytes_eq}
 use Rattle.std.proofs.lemmas.Slice.Eq.{bytes_eq-Decides}
 use Rattle.lattice_core.specs.declared.Sign.{Sign}
 use Rattle.lattice_core.specs.declared.Sign.TheVariants.{Pos, Neg, Eq}
 use Rattle.first_form.specs.Lexical.{Lexeme, texts, text_of}
-use Rattle.first_form.specs.LatticeText.{Block, sign_text, is_element_name, low_name, high_name, lattice_texts, IsBlock}
+use Rattle.first_form.specs.LatticeText.{Block, sign_text, low_name, lattice_texts, IsBlock}
 
 -- ---- a list of texts
 

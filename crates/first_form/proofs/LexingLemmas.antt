@@ -1,5 +1,5 @@
 -- How far a text has been taken apart.
-use Rattle.std.proofs.Common.{◌≡◌, ℕ, zero, suc, ◌+◌, ◌-◌, ◌<◌, ◌≤◌, Bool, true, false, cond, ◌&&◌, ◌||◌, ◌⊎◌, inl, inr, List, [], ◌∷◌, ◌++◌, length, map, take, drop, get_or, nat_eq, nat_le, refl, sym, ◌∙◌, ap, subst, arith, append_assoc, drop-cons, length-append, length-drop}
+use Rattle.std.proofs.Common.{◌≡◌, ℕ, suc, ◌+◌, ◌-◌, ◌<◌, ◌≤◌, Bool, true, false, cond, ◌&&◌, ◌⊎◌, inl, inr, List, [], ◌∷◌, ◌++◌, length, take, drop, get_or, refl, sym, ◌∙◌, ap, subst, arith, append_assoc, drop-cons, length-append, length-drop}
 use Rattle.std.specs.List.{list_all, prefix_len}
 use Rattle.std.proofs.lemmas.List.{append-nil, take-append-drop, map-append, length-take-le, drop-drop, take_rest}
 use Rattle.std.proofs.lemmas.List.Sums.{prefix_len-le-length}
@@ -7,7 +7,7 @@ use Rattle.std.proofs.lemmas.Bool.Decides.{nat_tests}
 use Rattle.std.proofs.Math.Seq.{take-append_seam, drop-append_seam, drop-length}
 use Rattle.std.proofs.Math.Numerals.{one-add}
 use Rattle.first_form.specs.declared.lexemes.Extent.{Extent}
-use Rattle.first_form.specs.Lexical.{Lexeme, is_gap, is_sign, is_word_byte, is_letter, begins_word, lengthens, Spells, Nothing, Gap, Sign, Word, IsSpelledBy}
+use Rattle.first_form.specs.Lexical.{Lexeme, is_gap, is_sign, is_word_byte, begins_word, lengthens, Spells, Nothing, Gap, Sign, Word, IsSpelledBy}
 use Rattle.first_form.specs.Extents.{lexeme_at, lexemes_at, AreWithin}
 use Rattle.first_form.proofs.ExtentLemmas.{within_push}
 
@@ -27,7 +27,7 @@ words_all [] = refl
 words_all (c ∷ cs) = by_test (is_word_byte c) refl (words_all cs)
   where
     by_test : (b : Bool) → is_word_byte c ≡ b → list_all is_word_byte (take (prefix_len is_word_byte cs) cs) ≡ true
-      → list_all is_word_byte (take (cond b (1 + prefix_len is_word_byte cs) 0) (c ∷ cs)) ≡ true
+        → list_all is_word_byte (take (cond b (1 + prefix_len is_word_byte cs) 0) (c ∷ cs)) ≡ true
     by_test true is rest = rw (one-add, is) rest
     by_test false is rest = refl
 
@@ -36,7 +36,7 @@ words_end [] = refl
 words_end (c ∷ cs) = by_test (is_word_byte c) refl (words_end cs)
   where
     by_test : (b : Bool) → is_word_byte c ≡ b → lengthens (drop (prefix_len is_word_byte cs) cs) ≡ false
-      → lengthens (drop (cond b (1 + prefix_len is_word_byte cs) 0) (c ∷ cs)) ≡ false
+        → lengthens (drop (cond b (1 + prefix_len is_word_byte cs) 0) (c ∷ cs)) ≡ false
     by_test true is rest = rw one-add rest
     by_test false is rest = is
 
@@ -69,7 +69,7 @@ sign_only at b bs ls (Word _ _ _ _ _ g _ _ s) h = absurd (sign_no_word b h g)
 
 word_only : (at b : ℕ) (bs : List ℕ) (ls : List Lexeme) → Spells at (b ∷ bs) ls → begins_word b ≡ true
     → (rest : List Lexeme) × (ls ≡ record { at = at; text = b ∷ take (prefix_len is_word_byte bs) bs } ∷ rest)
-      × Spells (suc at + prefix_len is_word_byte bs) (drop (prefix_len is_word_byte bs) bs) rest
+    × Spells (suc at + prefix_len is_word_byte bs) (drop (prefix_len is_word_byte bs) bs) rest
 word_only at b bs ls (Gap _ _ _ _ g s) h = absurd (gap_no_word b g h)
 word_only at b bs ls (Sign _ _ _ _ g s) h = absurd (sign_no_word b g h)
 word_only at b bs ls (Word _ _ more bytes rest g all last s) h =
@@ -121,9 +121,9 @@ taken_gap bytes at extents t lt g = record {
   within = t.within;
   sound = λ more s. t.sound more (rw (front bytes at lt) (Gap at (get_or bytes at 0) (drop (suc at) bytes) more g s));
   only = λ ls s.
-    let old = t.only ls s in
-    let P : List ℕ → Type 0 = λ rest. Spells at rest old.0 in
-    (old.0, old.1, gap_only at (get_or bytes at 0) (drop (suc at) bytes) old.0 (subst P (front bytes at lt) old.2) g);
+      let old = t.only ls s in
+      let P : List ℕ → Type 0 = λ rest. Spells at rest old.0 in
+      (old.0, old.1, gap_only at (get_or bytes at 0) (drop (suc at) bytes) old.0 (subst P (front bytes at lt) old.2) g);
 }
 
 -- a lexeme of so many bytes, the only one that can stand at an offset
@@ -131,9 +131,9 @@ pub record IsFront (bytes : List ℕ) (at count : ℕ) : Type 0 where
   pub some : 0 < count
   pub inside : at + count ≤ length bytes
   pub sound : (rest : List Lexeme) → Spells (at + count) (drop (at + count) bytes) rest
-    → Spells at (drop at bytes) (record { at = at; text = take count (drop at bytes) } ∷ rest)
+      → Spells at (drop at bytes) (record { at = at; text = take count (drop at bytes) } ∷ rest)
   pub only : (ls : List Lexeme) → Spells at (drop at bytes) ls
-    → (rest : List Lexeme) × (ls ≡ record { at = at; text = take count (drop at bytes) } ∷ rest) × Spells (at + count) (drop (at + count) bytes) rest
+      → (rest : List Lexeme) × (ls ≡ record { at = at; text = take count (drop at bytes) } ∷ rest) × Spells (at + count) (drop (at + count) bytes) rest
 
 pub taken_lexeme : (bytes : List ℕ) (at count : ℕ) (extents : List Extent) → IsTaken bytes at extents → IsFront bytes at count
     → IsTaken bytes (at + count) (extents ++ record { start = at; end = at + count } ∷ [])
@@ -148,9 +148,9 @@ taken_lexeme bytes at count extents t f =
       within = within_push (length bytes) extents extent t.within (omega arith) f.inside;
       sound = λ more s. rw (whole, append_assoc) (t.sound (lexeme ∷ more) (f.sound more s));
       only = λ ls s.
-        let old = t.only ls s in
-        let new = f.only old.0 old.2 in
-        (new.0, old.1 ∙ ap (λ m. lexemes_at bytes extents ++ m) new.1 ∙ sym (append_assoc (lexemes_at bytes extents) (lexeme ∷ []) new.0) ∙ ap (λ m. m ++ new.0) (sym whole), new.2);
+          let old = t.only ls s in
+          let new = f.only old.0 old.2 in
+          (new.0, old.1 ∙ ap (λ m. lexemes_at bytes extents ++ m) new.1 ∙ sym (append_assoc (lexemes_at bytes extents) (lexeme ∷ []) new.0) ∙ ap (λ m. m ++ new.0) (sym whole), new.2);
     }
 
 pub sign_front : (bytes : List ℕ) (at : ℕ) → at < length bytes → is_sign (get_or bytes at 0) ≡ true → IsFront bytes at 1
@@ -161,9 +161,9 @@ sign_front bytes at lt g =
       inside = omega arith;
       sound = λ rest s. rw (front bytes at lt) (Sign at (get_or bytes at 0) (drop (suc at) bytes) rest g (rw one at s));
       only = λ ls s.
-        let P : List ℕ → Type 0 = λ rest. Spells at rest ls in
-        let o = sign_only at (get_or bytes at 0) (drop (suc at) bytes) ls (subst P (front bytes at lt) s) g in
-        (o.0, rw (front bytes at lt) o.1, rw one o.2);
+          let P : List ℕ → Type 0 = λ rest. Spells at rest ls in
+          let o = sign_only at (get_or bytes at 0) (drop (suc at) bytes) ls (subst P (front bytes at lt) s) g in
+          (o.0, rw (front bytes at lt) o.1, rw one o.2);
     }
 
 pub word_front : (bytes : List ℕ) (at : ℕ) → at < length bytes → begins_word (get_or bytes at 0) ≡ true → IsFront bytes at (1 + prefix_len is_word_byte (drop (suc at) bytes))
@@ -177,15 +177,15 @@ word_front bytes at lt g =
       some = omega arith;
       inside = (let le = prefix_len-le-length is_word_byte rest in let l = length-drop (suc at) bytes in omega (arith, le, l));
       sound = λ more s.
-        let P : ℕ → Type 0 = λ n. Spells n (drop n bytes) more in
-        let Q : List ℕ → Type 0 = λ bs. Spells (suc at + k) bs more in
-        rw (front bytes at lt, one-add) (word_spelled at b rest more g (subst Q (sym dd) (subst P eq s)));
+          let P : ℕ → Type 0 = λ n. Spells n (drop n bytes) more in
+          let Q : List ℕ → Type 0 = λ bs. Spells (suc at + k) bs more in
+          rw (front bytes at lt, one-add) (word_spelled at b rest more g (subst Q (sym dd) (subst P eq s)));
       only = λ ls s.
-        let R : List ℕ → Type 0 = λ bs. Spells at bs ls in
-        let o = word_only at b rest ls (subst R (front bytes at lt) s) g in
-        let P : ℕ → Type 0 = λ n. Spells n (drop n bytes) o.0 in
-        let Q : List ℕ → Type 0 = λ bs. Spells (suc at + k) bs o.0 in
-        (o.0, rw (front bytes at lt, one-add) o.1, subst P (sym eq) (subst Q dd o.2));
+          let R : List ℕ → Type 0 = λ bs. Spells at bs ls in
+          let o = word_only at b rest ls (subst R (front bytes at lt) s) g in
+          let P : ℕ → Type 0 = λ n. Spells n (drop n bytes) o.0 in
+          let Q : List ℕ → Type 0 = λ bs. Spells (suc at + k) bs o.0 in
+          (o.0, rw (front bytes at lt, one-add) o.1, subst P (sym eq) (subst Q dd o.2));
     }
 
 pub piece_front : (bytes : List ℕ) (at count : ℕ) → at < length bytes
@@ -219,7 +219,7 @@ taken_all bytes at extents t le =
     record {
       spelled = (let s = t.sound [] (rw empty (Nothing at)) in rw append-nil at s);
       only = λ ls s.
-        let old = t.only ls s in
-        let P : List ℕ → Type 0 = λ rest. Spells at rest old.0 in
-        old.1 ∙ ap (λ m. lexemes_at bytes extents ++ m) (end_only at old.0 (subst P empty old.2)) ∙ append-nil (lexemes_at bytes extents);
+          let old = t.only ls s in
+          let P : List ℕ → Type 0 = λ rest. Spells at rest old.0 in
+          old.1 ∙ ap (λ m. lexemes_at bytes extents ++ m) (end_only at old.0 (subst P empty old.2)) ∙ append-nil (lexemes_at bytes extents);
     }

@@ -1,5 +1,5 @@
 -- How far the items of a source are read.
-use Rattle.std.proofs.Common.{◌≡◌, ◌≢◌, ℕ, zero, suc, ◌+◌, ◌*◌, ◌-◌, ◌<◌, ◌≤◌, ◌^◌, Bool, true, false, ◌||◌, ◌⊎◌, inl, inr, List, [], ◌∷◌, ◌++◌, length, map, Option, Some, None, MatchOption, slice_get, unwrap_or, refl, sym, ◌∙◌, ap, subst, arith, append_assoc, length-append, codes}
+use Rattle.std.proofs.Common.{◌≡◌, ℕ, zero, suc, ◌+◌, ◌*◌, ◌<◌, ◌≤◌, Bool, true, false, ◌||◌, List, [], ◌∷◌, ◌++◌, length, Option, Some, None, MatchOption, slice_get, refl, sym, ◌∙◌, ap, subst, arith, append_assoc, length-append, codes}
 use Rattle.std.specs.List.{list_any}
 use Rattle.std.specs.Str.{bytes_eq}
 use Rattle.std.proofs.lemmas.List.{append-nil}
@@ -9,7 +9,7 @@ use Rattle.first_form.specs.declared.source_form.Item.TheVariants.{Object, Funct
 use Rattle.first_form.specs.declared.source_form.Assign.{Assign}
 use Rattle.first_form.specs.declared.source_form.Mark.{Mark}
 use Rattle.first_form.specs.Lexical.{Lexeme, text_of}
-use Rattle.first_form.specs.SourceText.{Scope, no_names, is_identifier, is_dollar_word, is_name, IsNewName, IsObject, IsAssign, AreAssigns, IsInt, IsHead, IsMark, IsItem, AreItems, declared_with, end_of, name_of, declares}
+use Rattle.first_form.specs.SourceText.{Scope, no_names, is_identifier, is_dollar_word, IsAssign, AreAssigns, IsInt, IsHead, IsMark, IsItem, AreItems, declared_with, end_of, name_of, declares}
 
 -- a text that stands in no place of a list is not at one
 pub absent : (xs : List (List ℕ)) (n : ℕ) (x y : List ℕ) → list_any (bytes_eq x) xs ≡ false → x ≡ y → slice_get xs n ≡ Some y → ⊥
@@ -58,11 +58,11 @@ identifier_or_brace text is e = let h : is_identifier (codes "}") ≡ true = rw 
 pub taken_more : (ls : List Lexeme) (scope : Scope) (start at : ℕ) (assigns : List Assign) (assign : Assign) → AreTaken ls scope start at assigns → IsAssign ls scope at assign
     → AreTaken ls scope start (at + 4) (assigns ++ assign ∷ [])
 taken_more ls scope start at assigns assign t h = record {
-    inside = (let p = present ls (at + 3) 59 [] h.semicolon in omega arith);
-    later = omega (arith, t.later);
-    sound = λ more m. rw append_assoc (t.sound (assign ∷ more) (h, m));
-    only = λ all m. let old = t.only all m in rest old.0 old.1;
-  }
+  inside = (let p = present ls (at + 3) 59 [] h.semicolon in omega arith);
+  later = omega (arith, t.later);
+  sound = λ more m. rw append_assoc (t.sound (assign ∷ more) (h, m));
+  only = λ all m. let old = t.only all m in rest old.0 old.1;
+}
   where
     rest : (more : List Assign) → AreAssigns ls scope at more → (after : List Assign) × AreAssigns ls scope (at + 4) after
     rest [] m = absurd (identifier_or_brace (text_of ls at) h.into.0 m)

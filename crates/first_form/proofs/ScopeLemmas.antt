@@ -1,5 +1,5 @@
 -- Sets of names, and the lists that clauses see of them.
-use Rattle.std.proofs.Common.{◌≡◌, ℕ, ◌<◌, Bool, true, false, ◌||◌, not, List, [], ◌∷◌, ◌++◌, length, map, get_or, slice_get, Option, None, Some, is_some, option_map, MatchOption, Bor, refl, sym, ◌∙◌, ap, subst, if◌then◌else◌, position}
+use Rattle.std.proofs.Common.{◌≡◌, ℕ, Bool, true, false, ◌||◌, List, [], ◌∷◌, ◌++◌, map, get_or, slice_get, Option, None, Some, is_some, option_map, MatchOption, Bor, refl, sym, ◌∙◌, ap, if◌then◌else◌, position}
 use Rattle.std.specs.List.{list_any}
 use Rattle.std.specs.Str.{bytes_eq}
 use Rattle.std.proofs.lemmas.List.{map-append}

@@ -1,7 +1,7 @@
 -- Where lexemes lie in their text.
-use Rattle.std.specs.Prelude.{ℕ, ◌-◌, ◌<◌, ◌≤◌, List, [], ◌∷◌, length, map, take, drop}
+use Rattle.std.specs.Prelude.{ℕ, ◌-◌, ◌≤◌, List, [], ◌∷◌, map, take, drop}
 use Rattle.first_form.specs.declared.lexemes.Extent.{Extent}
-use Rattle.first_form.specs.Lexical.{Lexeme, Lexed}
+use Rattle.first_form.specs.Lexical.{Lexeme}
 
 abbrev pub lexeme_at : List ℕ → Extent → Lexeme
 lexeme_at bytes extent = record { at = extent.start; text = take (extent.end - extent.start) (drop extent.start bytes) }

@@ -1,5 +1,5 @@
 -- The lexemes of a text: its words and signs, with gaps between them.
-use Rattle.std.specs.Prelude.{◌≡◌, ℕ, suc, ◌+◌, Bool, true, false, ◌&&◌, ◌||◌, List, [], ◌∷◌, ◌++◌, length, map, nat_eq, nat_le, Option, unwrap_or, option_map, slice_get}
+use Rattle.std.specs.Prelude.{◌≡◌, ℕ, suc, ◌+◌, Bool, true, false, ◌&&◌, ◌||◌, List, [], ◌∷◌, ◌++◌, length, map, nat_eq, nat_le, unwrap_or, slice_get}
 use Rattle.std.specs.List.{list_all}
 
 -- a word or a sign, and the offset of its first byte
@@ -42,9 +42,9 @@ pub data Spells : ℕ → List ℕ → List Lexeme → Type 0 where
   Nothing : (at : ℕ) → Spells at [] []
   Gap : (at b : ℕ) (bytes : List ℕ) (lexemes : List Lexeme) → is_gap b ≡ true → Spells (suc at) bytes lexemes → Spells at (b ∷ bytes) lexemes
   Sign : (at b : ℕ) (bytes : List ℕ) (lexemes : List Lexeme) → is_sign b ≡ true → Spells (suc at) bytes lexemes
-    → Spells at (b ∷ bytes) (record { at = at; text = b ∷ [] } ∷ lexemes)
+      → Spells at (b ∷ bytes) (record { at = at; text = b ∷ [] } ∷ lexemes)
   Word : (at b : ℕ) (more bytes : List ℕ) (lexemes : List Lexeme) → begins_word b ≡ true → list_all is_word_byte more ≡ true → lengthens bytes ≡ false
-    → Spells (suc at + length more) bytes lexemes → Spells at (b ∷ more ++ bytes) (record { at = at; text = b ∷ more } ∷ lexemes)
+      → Spells (suc at + length more) bytes lexemes → Spells at (b ∷ more ++ bytes) (record { at = at; text = b ∷ more } ∷ lexemes)
 
 -- the bytes spell these lexemes, and no others
 pub record IsSpelledBy (bytes : List ℕ) (lexemes : List Lexeme) : Type 0 where

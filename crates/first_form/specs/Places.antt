@@ -1,5 +1,5 @@
 -- Lines and columns.
-use Rattle.std.specs.Prelude.{ℕ, ◌+◌, Bool, not, List, take, count_by, nat_eq, reverse}
+use Rattle.std.specs.Prelude.{ℕ, ◌+◌, not, List, take, count_by, nat_eq, reverse}
 use Rattle.std.specs.List.{prefix_len}
 
 -- the line of an offset: 1, and one more for each line feed before it

@@ -63,7 +63,9 @@ fn is_element_name(text: &[u8]) -> bool
     ensures { result ≡ is_element_name text.now }
 {
     match text {
-        [dollar, letter, more @ ..] => *dollar == b'$' && is_letter_byte(*letter) && are_word_chars(more),
+        [dollar, letter, more @ ..] => *dollar == b'$'
+            && is_letter_byte(*letter)
+            && are_word_chars(more),
         _ => false,
     }
 }
@@ -80,6 +82,7 @@ fn texts_are(lexemes: &Lexemes, expected: &[&[u8]]) -> bool
     lexemes.len() == expected.len()
 }
 
+/// A word, lent for as long as the texts beside which it stands in an array.
 fn word<'a>(text: &'a [u8]) -> &'a [u8]
     ensures { result.now ≡ text.now }
 {
@@ -109,8 +112,33 @@ fn block_texts<'a>(block: &WrittenBlock<'a>) -> [&'a [u8]; 27]
     let below = word(b"<");
     let close = word(b"}");
     [
-        partial, order, open, first, start, level, equals, value, comma, sign, equals, first_sign, end, second, start, level, equals,
-        value, comma, sign, equals, second_sign, end, low, below, high, close,
+        partial,
+        order,
+        open,
+        first,
+        start,
+        level,
+        equals,
+        value,
+        comma,
+        sign,
+        equals,
+        first_sign,
+        end,
+        second,
+        start,
+        level,
+        equals,
+        value,
+        comma,
+        sign,
+        equals,
+        second_sign,
+        end,
+        low,
+        below,
+        high,
+        close,
     ]
 }
 
@@ -135,7 +163,13 @@ fn candidate(lexemes: &Lexemes) -> Option<WrittenBlock<'_>>
     let second = lexemes.text_or_empty(13);
     let second_sign = sign_of(lexemes.text_or_empty(21))?;
     let rising = lexemes.text_or_empty(23) == first;
-    Some(WrittenBlock { first, first_sign, second, second_sign, rising })
+    Some(WrittenBlock {
+        first,
+        first_sign,
+        second,
+        second_sign,
+        rising,
+    })
 }
 
 /// The block of these lexemes.
@@ -145,7 +179,11 @@ fn block_in(lexemes: &Lexemes) -> Option<WrittenBlock<'_>>
         (λ found. IsBlock (texts lexemes.now.lexemes) (block_of found)) }
 {
     let block = candidate(lexemes)?;
-    if is_block(lexemes, &block) { Some(block) } else { None }
+    if is_block(lexemes, &block) {
+        Some(block)
+    } else {
+        None
+    }
 }
 
 fn named(alloc: Global, bytes: &[u8]) -> Result<Name, NoMemory>
@@ -158,15 +196,28 @@ fn entry(alloc: Global, name: &[u8], sign: Sign) -> Result<Entry, NoMemory>
     ensures { IfOk result (λ entry. entry ≡ entry_of name.now sign) }
 {
     let name = named(alloc, name)?;
-    Ok(Entry { name, level: Level::Value, sign, write: false, deref: false })
+    Ok(Entry {
+        name,
+        level: Level::Value,
+        sign,
+        write: false,
+        deref: false,
+    })
 }
 
 /// The entries and the order line of a block.
 fn form(alloc: Global, block: &WrittenBlock) -> Result<LatticeForm, NoMemory>
     ensures { IfOk result (λ form. IsFormOf (block_of block.now) form) }
 {
-    let (low, high) = if block.rising { (block.first, block.second) } else { (block.second, block.first) };
-    let pair = Pair { low: named(alloc, low)?, high: named(alloc, high)? };
+    let (low, high) = if block.rising {
+        (block.first, block.second)
+    } else {
+        (block.second, block.first)
+    };
+    let pair = Pair {
+        low: named(alloc, low)?,
+        high: named(alloc, high)?,
+    };
     let mut entries = Vec::new(alloc);
     entries.push(entry(alloc, block.first, block.first_sign)?)?;
     entries.push(entry(alloc, block.second, block.second_sign)?)?;

@@ -2,7 +2,7 @@
 
 ghost use Rattle.std.specs.Prelude.{◌≡◌, ◌<◌, ◌≤◌, ◌^◌, length, List, ℕ};
 
-use crate::places::{place_in, Place};
+use crate::places::{Place, place_in};
 use qual_base::ids::{Numbered, TokenId};
 use std::marker::Model;
 

@@ -19,7 +19,10 @@ fn is_gap_byte(byte: u8) -> bool
 fn is_sign_byte(byte: u8) -> bool
     ensures { result ≡ is_sign byte }
 {
-    matches!(byte, b';' | b'(' | b')' | b'{' | b'}' | b'[' | b']' | b'=' | b',' | b'<')
+    matches!(
+        byte,
+        b';' | b'(' | b')' | b'{' | b'}' | b'[' | b']' | b'=' | b',' | b'<'
+    )
 }
 
 /// Whether the byte is a letter, a digit or `_`.
@@ -74,7 +77,10 @@ fn extents(alloc: Global, bytes: &[u8]) -> Result<Option<Vec<Extent>>, NoMemory>
         match piece_in_front(bytes[at], &bytes[at + 1..]) {
             Piece::Gap => at += 1,
             Piece::Lexeme(count) => {
-                extents.push(Extent { start: at as u32, end: (at + count) as u32 })?;
+                extents.push(Extent {
+                    start: at as u32,
+                    end: (at + count) as u32,
+                })?;
                 at += count;
             }
             Piece::Other => return Ok(None),

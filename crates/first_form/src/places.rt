@@ -23,7 +23,11 @@ fn last_line_len(bytes: &[u8]) -> usize
     ensures count { result ≡ prefix_len (λ b. not (nat_eq b 10)) (reverse bytes.now) }
     ensures few { result ≤ length bytes.now }
 {
-    bytes.iter().rev().take_while(|byte| **byte != b'\n').count()
+    bytes
+        .iter()
+        .rev()
+        .take_while(|byte| **byte != b'\n')
+        .count()
 }
 
 /// The place of an offset, in time linear in the offset.

@@ -11,10 +11,10 @@ ghost use Rattle.first_form.specs.declared.source_form.SourceForm.{SourceForm};
 use crate::lexemes::Lexemes;
 use crate::lexing::lex;
 use crate::names::{is_dollar_word, is_identifier, is_name};
-use crate::scope::{place_of, Names};
+use crate::scope::{Names, place_of};
 use crate::source_form::{Assign, Item, Mark, SourceForm};
-use qual_base::ids::{Elem, Numbered, TokenId, VarId};
 use qual_base::faults::NoMemory;
+use qual_base::ids::{Elem, Numbered, TokenId, VarId};
 use std::alloc::Global;
 
 /// Whether token `at` has this text.
@@ -39,7 +39,11 @@ fn object_named(lexemes: &Lexemes, names: &Names, at: usize) -> Option<usize>
         (λ number. IsObject lexemes.now.lexemes names.now at number) }
 {
     let text = lexemes.text_or_empty(at);
-    if is_identifier(text) { names.object(text) } else { None }
+    if is_identifier(text) {
+        names.object(text)
+    } else {
+        None
+    }
 }
 
 /// Whether `int name;` stands at a token.
@@ -47,7 +51,9 @@ fn is_int(lexemes: &Lexemes, names: &Names, at: usize) -> bool
     requires { at ≤ 2 ^ 32 }
     ensures { IsTrue result ↔ IsInt lexemes.now.lexemes names.now at }
 {
-    has_text(lexemes, at, b"int") && is_new_name(lexemes, names, at + 1) && has_text(lexemes, at + 2, b";")
+    has_text(lexemes, at, b"int")
+        && is_new_name(lexemes, names, at + 1)
+        && has_text(lexemes, at + 2, b";")
 }
 
 /// Whether `void name(void) {` stands at a token.
@@ -110,7 +116,12 @@ fn assign_at(lexemes: &Lexemes, names: &Names, at: usize) -> Option<Assign>
 }
 
 /// The statements from a token on, up to the closing brace.
-fn assigns_at(alloc: Global, lexemes: &Lexemes, names: &Names, start: usize) -> Result<Option<Vec<Assign>>, NoMemory>
+fn assigns_at(
+    alloc: Global,
+    lexemes: &Lexemes,
+    names: &Names,
+    start: usize,
+) -> Result<Option<Vec<Assign>>, NoMemory>
     requires early { start ≤ length lexemes.now.lexemes }
     requires few { length names.now.objects ≤ start }
     ensures { IfOk result (λ found. MatchOption found
@@ -139,11 +150,20 @@ fn marked_at(elements: &[&[u8]], lexemes: &Lexemes, names: &Names, at: usize) ->
         (λ mark. (mark.token ≡ at) × IsMark (map (λ name. name.now) elements.now) lexemes.now.lexemes mark × IsInt lexemes.now.lexemes names.now (at + 1)) }
 {
     let _count = lexemes.len();
-    if is_int(lexemes, names, at + 1) { mark_at(elements, lexemes, at) } else { None }
+    if is_int(lexemes, names, at + 1) {
+        mark_at(elements, lexemes, at)
+    } else {
+        None
+    }
 }
 
 /// The statements of the function at a token.
-fn function_at(alloc: Global, lexemes: &Lexemes, names: &Names, at: usize) -> Result<Option<Vec<Assign>>, NoMemory>
+fn function_at(
+    alloc: Global,
+    lexemes: &Lexemes,
+    names: &Names,
+    at: usize,
+) -> Result<Option<Vec<Assign>>, NoMemory>
     requires early { at ≤ length lexemes.now.lexemes }
     requires few { length names.now.objects ≤ at }
     ensures { IfOk result (λ found. MatchOption found
@@ -151,11 +171,21 @@ fn function_at(alloc: Global, lexemes: &Lexemes, names: &Names, at: usize) -> Re
         (λ assigns. IsHead lexemes.now.lexemes names.now at × AreAssigns lexemes.now.lexemes names.now (at + 6) assigns.items)) }
 {
     let _count = lexemes.len();
-    if is_head(lexemes, names, at) { assigns_at(alloc, lexemes, names, at + 6) } else { Ok(None) }
+    if is_head(lexemes, names, at) {
+        assigns_at(alloc, lexemes, names, at + 6)
+    } else {
+        Ok(None)
+    }
 }
 
 /// The item at a token.
-fn item_at(alloc: Global, elements: &[&[u8]], lexemes: &Lexemes, names: &Names, at: usize) -> Result<Option<Item>, NoMemory>
+fn item_at(
+    alloc: Global,
+    elements: &[&[u8]],
+    lexemes: &Lexemes,
+    names: &Names,
+    at: usize,
+) -> Result<Option<Item>, NoMemory>
     requires elements { length elements.now ≤ 64 }
     requires early { at ≤ length lexemes.now.lexemes }
     requires few { length names.now.objects ≤ at }
@@ -171,7 +201,10 @@ fn item_at(alloc: Global, elements: &[&[u8]], lexemes: &Lexemes, names: &Names, 
     match marked_at(elements, lexemes, names, at) {
         Some(mark) => {
             let name = TokenId::new((at + 2) as u32);
-            Ok(Some(Item::Object { mark: Some(mark), name }))
+            Ok(Some(Item::Object {
+                mark: Some(mark),
+                name,
+            }))
         }
         None => match function_at(alloc, lexemes, names, at)? {
             Some(assigns) => {
@@ -200,13 +233,21 @@ fn declare<'a>(names: &mut Names<'a>, lexemes: &'a Lexemes, item: &Item) -> Resu
     ensures { OnOk result (names.new ≡ declared_with lexemes.now.lexemes names.old item.now) }
 {
     match item {
-        Item::Object { name, .. } => names.add_object(lexemes.text_or_empty(name.number() as usize)),
-        Item::Function { name, .. } => names.add_function(lexemes.text_or_empty(name.number() as usize)),
+        Item::Object { name, .. } => names.add_object(lexemes.text_or_empty(
+            name.number() as usize,
+        )),
+        Item::Function { name, .. } => names.add_function(lexemes.text_or_empty(
+            name.number() as usize,
+        )),
     }
 }
 
 /// The items that make up all the tokens.
-fn items(alloc: Global, elements: &[&[u8]], lexemes: &Lexemes) -> Result<Option<Vec<Item>>, NoMemory>
+fn items(
+    alloc: Global,
+    elements: &[&[u8]],
+    lexemes: &Lexemes,
+) -> Result<Option<Vec<Item>>, NoMemory>
     requires { length elements.now ≤ 64 }
     ensures { IfOk result (λ found. MatchOption found
         ((items : List Item) → AreItems (map (λ name. name.now) elements.now) lexemes.now.lexemes no_names 0 items → ⊥)
@@ -231,8 +272,12 @@ fn items(alloc: Global, elements: &[&[u8]], lexemes: &Lexemes) -> Result<Option<
 /// The source that the bytes are, or none where they have another form.
 ///
 /// `elements` are the names of the lattice's elements in order; the bytes are those of a file of less than 2^32 bytes.
-/// The time is that of the text times the number of declared names.
-pub fn read_source(alloc: Global, elements: &[&[u8]], bytes: &[u8]) -> Result<Option<SourceForm>, NoMemory>
+/// Time and memory are linear in the text.
+pub fn read_source(
+    alloc: Global,
+    elements: &[&[u8]],
+    bytes: &[u8],
+) -> Result<Option<SourceForm>, NoMemory>
     requires elements { length elements.now ≤ 64 }
     requires size { length bytes.now < 2 ^ 32 }
     ensures { IfOk result (λ found. MatchOption found

@@ -37,7 +37,10 @@ impl<'a> Names<'a> {
     pub fn new(alloc: Global) -> Self
         ensures { result ≡ no_names }
     {
-        Names { objects: IndexSet::new(alloc), functions: IndexSet::new(alloc) }
+        Names {
+            objects: IndexSet::new(alloc),
+            functions: IndexSet::new(alloc),
+        }
     }
 
     /// Whether an object or a function has this name.

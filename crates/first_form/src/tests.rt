@@ -15,8 +15,14 @@ fn sources_are_read(rt: HostRuntime) -> Result<(), Fail> {
         (b"", true),
         (b" \t\r\n", true),
         (b"$tainted int a; int c; void f(void) { c = a; }", true),
-        (b"$tainted int a; $untainted int b; void f(void) { b = a; }", true),
-        (b"int a;int _b9;void f(void){a=_b9;_b9=a;}int c;void g(void){c=a;}", true),
+        (
+            b"$tainted int a; $untainted int b; void f(void) { b = a; }",
+            true,
+        ),
+        (
+            b"int a;int _b9;void f(void){a=_b9;_b9=a;}int c;void g(void){c=a;}",
+            true,
+        ),
         (b"void f(void){}", true),
         (b"int a;void f(void){a\n=\ta;}", true),
         (b"$tainted\nint\na\n;", true),
@@ -45,6 +51,7 @@ fn sources_are_read(rt: HostRuntime) -> Result<(), Fail> {
         (b"int a; ;", false),
     ];
     for (source, fits) in cases {
+        assert!(rt; source.len() < 100);
         let read = read_source(rt.alloc(), ELEMENTS.as_slice(), source).map_err(|_| "memory")?;
         assert_eq!(rt; read.is_some(), fits, "{source:?}");
     }
@@ -60,7 +67,10 @@ fn items_of_a_source(rt: HostRuntime) -> Result<(), Fail> {
     match &source.items[1] {
         Item::Object { mark, name } => {
             let mark = mark.ok_or("mark")?;
-            assert_eq!(rt; (mark.token.number(), mark.elem.number(), name.number()), (3, 1, 5));
+            assert_eq!(rt;
+                (mark.token.number(), mark.elem.number(), name.number()),
+                (3, 1, 5)
+            );
         }
         Item::Function { .. } => return Err("an object".into()),
     }
@@ -78,8 +88,16 @@ fn items_of_a_source(rt: HostRuntime) -> Result<(), Fail> {
 
 #[test]
 fn places_of_lexemes(rt: HostRuntime) -> Result<(), Fail> {
-    let lexemes = lex(rt.alloc(), b"a \t$b;\r\n;\n\n  c_1".as_slice()).map_err(|_| "memory")?.ok_or("form")?;
-    let places: [(&[u8], u64, u64); 5] = [(b"a", 1, 1), (b"$b", 1, 4), (b";", 1, 6), (b";", 2, 1), (b"c_1", 4, 3)];
+    let lexemes = lex(rt.alloc(), b"a \t$b;\r\n;\n\n  c_1".as_slice())
+        .map_err(|_| "memory")?
+        .ok_or("form")?;
+    let places: [(&[u8], u64, u64); 5] = [
+        (b"a", 1, 1),
+        (b"$b", 1, 4),
+        (b";", 1, 6),
+        (b";", 2, 1),
+        (b"c_1", 4, 3),
+    ];
     assert_eq!(rt; lexemes.len(), 5);
     for n in 0..5u32 {
         let token = TokenId::new(n);
@@ -94,22 +112,62 @@ fn places_of_lexemes(rt: HostRuntime) -> Result<(), Fail> {
 #[test]
 fn lattices_are_read(rt: HostRuntime) -> Result<(), Fail> {
     let cases: [(&[u8], bool); 14] = [
-        (b"partial order {\n  $u [level = value, sign = neg]\n  $t [level = value, sign = pos]\n  $u < $t\n}\n", true),
-        (b"partial order{$u[level=value,sign=neg]$t[level=value,sign=eq]$t<$u}", true),
+        (
+            b"partial order {\n  $u [level = value, sign = neg]\n  $t [level = value, sign = pos]\n  $u < $t\n}\n",
+            true,
+        ),
+        (
+            b"partial order{$u[level=value,sign=neg]$t[level=value,sign=eq]$t<$u}",
+            true,
+        ),
         (b"", false),
-        (b"partialorder{$u[level=value,sign=neg]$t[level=value,sign=pos]$u<$t}", false),
-        (b"partial order{$u[level=value,sign=neg]$u[level=value,sign=pos]$u<$u}", false),
-        (b"partial order{$u[level=value,sign=neg]$t[level=value,sign=pos]$u<$u}", false),
-        (b"partial order{$u[level=value,sign=neg]$t[level=value,sign=pos]$u<$v}", false),
-        (b"partial order{$u[level=value,sign=neg]$t[level=value,sign=pos]$u<$t $u<$t}", false),
-        (b"partial order{$u[level=value,sign=neg]$t[level=value,sign=pos]}", false),
-        (b"partial order{$u[level=ref,sign=neg]$t[level=value,sign=pos]$u<$t}", false),
-        (b"partial order{$u[sign=neg,level=value]$t[level=value,sign=pos]$u<$t}", false),
-        (b"partial order{$1[level=value,sign=neg]$t[level=value,sign=pos]$1<$t}", false),
-        (b"partial order{const[level=value,sign=neg]$t[level=value,sign=pos]const<$t}", false),
-        (b"partial order{$u[level=value,sign=up]$t[level=value,sign=pos]$u<$t}", false),
+        (
+            b"partialorder{$u[level=value,sign=neg]$t[level=value,sign=pos]$u<$t}",
+            false,
+        ),
+        (
+            b"partial order{$u[level=value,sign=neg]$u[level=value,sign=pos]$u<$u}",
+            false,
+        ),
+        (
+            b"partial order{$u[level=value,sign=neg]$t[level=value,sign=pos]$u<$u}",
+            false,
+        ),
+        (
+            b"partial order{$u[level=value,sign=neg]$t[level=value,sign=pos]$u<$v}",
+            false,
+        ),
+        (
+            b"partial order{$u[level=value,sign=neg]$t[level=value,sign=pos]$u<$t $u<$t}",
+            false,
+        ),
+        (
+            b"partial order{$u[level=value,sign=neg]$t[level=value,sign=pos]}",
+            false,
+        ),
+        (
+            b"partial order{$u[level=ref,sign=neg]$t[level=value,sign=pos]$u<$t}",
+            false,
+        ),
+        (
+            b"partial order{$u[sign=neg,level=value]$t[level=value,sign=pos]$u<$t}",
+            false,
+        ),
+        (
+            b"partial order{$1[level=value,sign=neg]$t[level=value,sign=pos]$1<$t}",
+            false,
+        ),
+        (
+            b"partial order{const[level=value,sign=neg]$t[level=value,sign=pos]const<$t}",
+            false,
+        ),
+        (
+            b"partial order{$u[level=value,sign=up]$t[level=value,sign=pos]$u<$t}",
+            false,
+        ),
     ];
     for (text, fits) in cases {
+        assert!(rt; text.len() < 100);
         let read = read_lattice(rt.alloc(), text).map_err(|_| "memory")?;
         assert_eq!(rt; read.is_some(), fits, "{text:?}");
     }
@@ -118,8 +176,11 @@ fn lattices_are_read(rt: HostRuntime) -> Result<(), Fail> {
 
 #[test]
 fn entries_of_a_lattice(rt: HostRuntime) -> Result<(), Fail> {
-    let text = b"partial order { $u [level = value, sign = neg] $t [level = value, sign = pos] $t < $u }";
-    let form = read_lattice(rt.alloc(), text.as_slice()).map_err(|_| "memory")?.ok_or("form")?;
+    let text =
+        b"partial order { $u [level = value, sign = neg] $t [level = value, sign = pos] $t < $u }";
+    let form = read_lattice(rt.alloc(), text.as_slice())
+        .map_err(|_| "memory")?
+        .ok_or("form")?;
     assert_eq!(rt; form.entries.len(), 2);
     assert_eq!(rt; form.entries[0].name.bytes(), b"$u".as_slice());
     assert_eq!(rt; form.entries[0].sign, Sign::Neg);

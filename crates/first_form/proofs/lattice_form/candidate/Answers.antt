@@ -1,4 +1,4 @@
-use Rattle.std.proofs.Common.{rules, ◌≡◌, sym, ◌∙◌}
+use Rattle.std.proofs.Common.{sym, ◌∙◌}
 use Rattle.first_form.proofs.LatticeLemmas.{only_block}
 use Rattle.first_form.proofs.lattice_form.candidate.Goals as goal
 

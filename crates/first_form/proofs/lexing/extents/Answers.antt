@@ -1,5 +1,5 @@
-use Rattle.std.proofs.Common.{rules, ◌≡◌, ◌<◌, ◌≤◌, ◌^◌, length, List, ℕ, suc, ◌+◌, sym, ◌∙◌, ap, arith, Fits, w8, w32, w64}
-use Rattle.first_form.proofs.LexingLemmas.{taken_gap, taken_lexeme, slice_front, no_front, taken_all, IsFront}
+use Rattle.std.proofs.Common.{◌≡◌, suc, ◌+◌, arith}
+use Rattle.first_form.proofs.LexingLemmas.{taken_gap, taken_lexeme, slice_front, no_front, taken_all}
 use Rattle.first_form.proofs.lexing.extents.Goals as goal
 
 pub loop-at-preserved-in-Gap : goal.loop-at-preserved-in-Gap

@@ -1,4 +1,4 @@
-use Rattle.std.proofs.Common.{ℕ, length, ◌-◌}
+use Rattle.std.proofs.Common.{length, ◌-◌}
 use Rattle.first_form.proofs.LexingLemmas.{IsTaken}
 use Rattle.first_form.proofs.lexing.extents.Given as goal
 

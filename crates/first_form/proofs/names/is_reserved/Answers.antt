@@ -1,7 +1,7 @@
-use Rattle.std.proofs.Common.{rules, ◌≡◌, ◌∙◌, ap, refl, map, List, ℕ, Bor}
+use Rattle.std.proofs.Common.{◌≡◌, ◌∙◌, ap, map, List, ℕ, Bor}
 use Rattle.std.specs.List.{list_any}
 use Rattle.std.specs.Str.{bytes_eq}
-use Rattle.first_form.specs.SourceText.{reserved, is_reserved}
+use Rattle.first_form.specs.SourceText.{reserved}
 use Rattle.first_form.proofs.names.is_reserved.Goals as goal
 
 pub returns : goal.returns

@@ -1,6 +1,5 @@
-use Rattle.std.proofs.Common.{rules, ◌≡◌, ◌<◌, ◌≤◌, ◌+◌, length, List, ℕ, arith, refl, true, false}
-use Rattle.first_form.specs.Lexical.{text_of}
-use Rattle.first_form.proofs.ReadingLemmas.{AreTaken, taken_none, taken_more, none_taken, all_taken}
+use Rattle.std.proofs.Common.{◌≡◌, arith, refl, true, false}
+use Rattle.first_form.proofs.ReadingLemmas.{taken_more, none_taken, all_taken}
 use Rattle.first_form.proofs.reading.assigns_at.Goals as goal
 
 pub returns-in-None : goal.returns-in-None

@@ -1,4 +1,4 @@
-use Rattle.std.proofs.Common.{ℕ, length, ◌-◌}
+use Rattle.std.proofs.Common.{length, ◌-◌}
 use Rattle.first_form.proofs.ReadingLemmas.{AreTaken}
 use Rattle.first_form.proofs.reading.assigns_at.Given as goal
 

@@ -1,7 +1,6 @@
-use Rattle.std.proofs.Common.{rules, ◌≡◌, ◌<◌, ◌≤◌, ◌+◌, length, List, ℕ, map, arith, refl, sym, ◌∙◌, MatchOption, Option}
-use Rattle.first_form.specs.declared.source_form.Item.{Item}
-use Rattle.first_form.specs.SourceText.{end_of, AreItems, IsItem, declared_with}
-use Rattle.first_form.proofs.ReadingLemmas.{AreRead, read_none, read_more, none_read, all_read, item_end, item_new}
+use Rattle.std.proofs.Common.{map, arith}
+use Rattle.first_form.specs.SourceText.{IsItem}
+use Rattle.first_form.proofs.ReadingLemmas.{read_more, none_read, all_read, item_end, item_new}
 use Rattle.std.proofs.lemmas.Option.{MatchOption-at_some, MatchOption-at_none}
 use Rattle.first_form.proofs.reading.items.Goals as goal
 

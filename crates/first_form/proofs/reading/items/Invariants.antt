@@ -1,4 +1,4 @@
-use Rattle.std.proofs.Common.{ℕ, length, map, ◌-◌}
+use Rattle.std.proofs.Common.{length, map, ◌-◌}
 use Rattle.first_form.proofs.ReadingLemmas.{AreRead}
 use Rattle.first_form.proofs.reading.items.Given as goal
 

@@ -1,4 +1,4 @@
-use Rattle.std.proofs.Common.{rules, ◌≡◌, ◌∙◌, sym, ap}
+use Rattle.std.proofs.Common.{◌∙◌, sym, ap}
 use Rattle.first_form.specs.Lexical.{text_of}
 use Rattle.first_form.proofs.ReadingLemmas.{absent}
 use Rattle.first_form.proofs.reading.mark_at.Goals as goal

@@ -1,4 +1,4 @@
-use Rattle.std.proofs.Common.{rules, ◌≡◌, ◌∙◌, sym, ap}
+use Rattle.std.proofs.Common.{◌∙◌, sym}
 use Rattle.first_form.proofs.ReadingLemmas.{named}
 use Rattle.first_form.proofs.reading.object_named.Goals as goal
 

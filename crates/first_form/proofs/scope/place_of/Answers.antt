@@ -1,4 +1,4 @@
-use Rattle.std.proofs.Common.{rules, ◌≡◌, ◌<◌, List, ℕ, map, slice_get, Some, Bool, true, sym, ◌∙◌, ap, option_map, length, get_or, Bor}
+use Rattle.std.proofs.Common.{◌≡◌, ◌<◌, List, ℕ, map, slice_get, Some, true, sym, ◌∙◌, ap, option_map, length, get_or, Bor}
 use Rattle.std.specs.Str.{bytes_eq}
 use Rattle.std.proofs.lemmas.Option.{slice_get-map, slice_get-get_or}
 use Rattle.std.proofs.lemmas.Slice.Eq.{bytes_eq-Decides}

@@ -1,4 +1,4 @@
-use Rattle.std.proofs.Common.{rules, ◌≡◌, ◌<◌, ◌≤◌, length, List, ℕ, sym, ◌∙◌, ap, arith, subst}
+use Rattle.std.proofs.Common.{sym, ◌∙◌, ap, arith}
 use Rattle.first_form.specs.Lexical.{Lexed, text_of}
 use Rattle.first_form.proofs.ExtentLemmas.{within_as, text_as, no_text}
 use Rattle.first_form.proofs.lexemes.Lexemes.text_or_empty.Goals as goal

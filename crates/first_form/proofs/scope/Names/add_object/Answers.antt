@@ -1,6 +1,4 @@
-use Rattle.std.proofs.Common.{◌≡◌, ◌∙◌, ◌++◌, ◌∷◌, [], ap, sym, subst, map, false, List, ℕ}
-use Rattle.std.specs.List.{list_any}
-use Rattle.std.specs.Str.{bytes_eq}
+use Rattle.std.proofs.Common.{◌≡◌, ◌++◌, ◌∷◌, [], ap, sym, subst, map, false, List, ℕ}
 use Rattle.first_form.specs.SourceText.{Scope, declares}
 use Rattle.first_form.proofs.ScopeLemmas.{inserted, or_left}
 use Rattle.first_form.proofs.scope.Names.add_object.Goals as goal
