@@ -3,7 +3,10 @@
 ghost use Rattle.std.specs.Prelude.{◌≡◌, ◌<◌, ◌≤◌, ℕ, List, IfOk, IfSome, IsErrOf, MatchOption, length, map, codes};
 ghost use Rattle.qual_base.specs.Counts.{GoesOn, Rose};
 ghost use Rattle.qual_base.specs.Outside.{content_of, Records};
-ghost use Rattle.cqual_tool.specs.Outcome.{LatticeReads, OfSource, OfFiles, RecordsAll, Starts, names_of, lattice_limit, source_limit};
+ghost use Rattle.cqual_tool.specs.declared.status.Status.TheVariants as Statuses;
+ghost use Rattle.cqual_tool.specs.Texts.{not_yet_line, malformed_line};
+ghost use Rattle.cqual_tool.specs.Words.{names_in};
+ghost use Rattle.cqual_tool.specs.Outcome.{LatticeIsOther, LatticeReads, OfSource, OfFiles, RecordsAll, Starts, names_of, lattice_limit, source_limit};
 
 use crate::analysis::analyse;
 use crate::answer::{Answer, malformed, not_yet};
@@ -81,7 +84,7 @@ fn of_source(alloc: Global, file: &str, lattice: &Lattice, bytes: &[u8]) -> Resu
     let names = names(alloc, lattice)?;
     match read_source(alloc, &names, bytes)? {
         Some(source) => analyse(alloc, file, lattice, &source),
-        None => Ok(not_yet(alloc, file)?),
+        None => other_form(alloc, file),
     }
 }
 
@@ -98,9 +101,44 @@ fn take_source<F: Files>(alloc: Global, file: &str, lattice: &Lattice, files: &m
     }
 }
 
+/// The answer for a file of another form.
+fn other_form(alloc: Global, file: &str) -> Result<Answer, NoMemory>
+    ensures { IfOk result (λ answer. (answer.status ≡ Statuses.NotYet) × (answer.text.items ≡ not_yet_line file.now)) }
+{
+    Ok(not_yet(alloc, file)?)
+}
+
 /// The answer for a file that has more bytes than its limit.
 fn too_large(alloc: Global, file: &str) -> Result<Answer, NoMemory>
-    ensures { IfOk result (λ answer. (answer.status ≡ Rattle.cqual_tool.specs.declared.status.Status.TheVariants.Malformed) × (answer.text.items ≡ Rattle.cqual_tool.specs.Texts.malformed_line file.now (codes "F2"))) }
+    ensures { IfOk result (λ answer. (answer.status ≡ Statuses.Malformed) × (answer.text.items ≡ malformed_line file.now (codes "F2"))) }
 {
     Ok(malformed(alloc, file, "F2")?)
+}
+
+/// The lattice that the bytes are, if they have the form.
+fn lattice_in(alloc: Global, bytes: &[u8]) -> Result<Option<Lattice>, NoMemory>
+    requires { length bytes.now ≤ lattice_limit }
+    ensures { IfOk result (λ found. MatchOption found (LatticeIsOther bytes.now) (LatticeReads bytes.now)) }
+{
+    match read_lattice(alloc, bytes)? {
+        Some(form) => Ok(Some(build(alloc, form)?)),
+        None => Ok(None),
+    }
+}
+
+/// The answer for two files that are named, in the order in which they are read.
+pub fn answer<F: Files>(alloc: Global, named: Named<'_>, files: &mut F) -> Result<Answer, Stop>
+    ensures outcome { IfOk result (λ answer. IfSome (F.contents files.old) (λ all.
+        OfFiles (names_in named) (content_of all named.lattice.now) (content_of all named.source.now) answer.status answer.text.items)) }
+    ensures read_fault { IsErrOf result Stop.ReadFault → Rose (F.faults files.old) (F.faults files.new) }
+    ensures count { GoesOn (F.faults files.old) (F.faults files.new) }
+    ensures started { (names : List (List ℕ)) × RecordsAll (F.started files.old) (F.started files.new) names × Starts (names_in named) (F.contents files.old) names }
+{
+    match taken(alloc, files, named.lattice, LATTICE_LIMIT)? {
+        Some(bytes) => match lattice_in(alloc, &bytes)? {
+            Some(lattice) => take_source(alloc, named.source, &lattice, files),
+            None => Ok(other_form(alloc, named.lattice)?),
+        },
+        None => Ok(too_large(alloc, named.lattice)?),
+    }
 }

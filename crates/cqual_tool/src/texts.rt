@@ -12,6 +12,7 @@ use qual_base::ids::{EdgeId, Elem, Numbered, TokenId, VarId};
 use std::alloc::AllocError;
 
 /// What the lines name: the source's file name and lexemes, the lattice, and the token of each object's name.
+#[derive(Clone, Copy)]
 pub struct Scene<'a> {
     pub file: &'a str,
     pub lexemes: &'a Lexemes,

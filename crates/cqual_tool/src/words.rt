@@ -2,7 +2,7 @@
 
 ghost use Rattle.std.specs.Prelude.{◌≡◌, ℕ, List, map, Option, string_bytes};
 ghost use Rattle.std.specs.Option.{option_map};
-ghost use Rattle.cqual_tool.specs.Words.{meaning_of};
+ghost use Rattle.cqual_tool.specs.Words.{meaning_of, names_in};
 
 /// The files that the words name.
 #[derive(Clone, Copy, Debug)]
@@ -23,7 +23,7 @@ fn is_file_name(word: &str) -> bool
 
 /// What the words after the program's name mean: `--lattice L SOURCE`, in this order alone.
 pub fn meaning(words: &[String]) -> Option<Named<'_>>
-    ensures { option_map (λ named. record { lattice = named.lattice.now; source = named.source.now }) result ≡ meaning_of (map string_bytes words.now) }
+    ensures { option_map names_in result ≡ meaning_of (map string_bytes words.now) }
 {
     match words {
         [option, lattice, source]
