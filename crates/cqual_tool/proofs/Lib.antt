@@ -1,2 +1,5 @@
 mod Pieces
 mod Items
+mod Unreached
+mod Searching
+mod Reaching

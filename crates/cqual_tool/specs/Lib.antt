@@ -4,3 +4,4 @@ pub mod Texts
 pub mod Scenes
 pub mod Program
 pub mod FlatPaths
+pub mod Search

@@ -3,6 +3,7 @@
 
 mod answer;
 mod generating;
+mod search;
 mod sending;
 mod status;
 mod texts;
