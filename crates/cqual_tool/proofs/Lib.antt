@@ -3,3 +3,4 @@ mod Items
 mod Unreached
 mod Searching
 mod Reaching
+mod Tracing

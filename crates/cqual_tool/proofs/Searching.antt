@@ -1,12 +1,13 @@
 -- How a step of a search keeps its table sound, and when it has nothing more to reach.
 use Rattle.std.proofs.Common.{◌≡◌, ℕ, ◌+◌, ◌<◌, ◌≤◌, ◌⊎◌, inl, inr, max, List, length, Option, Some, None, IsSome, slice_get, refl, sym, ◌∙◌, ap, subst, arith}
 use Rattle.std.specs.Int.{bit_at}
+use Rattle.std.proofs.lemmas.Bool.{cases_eq}
 use Rattle.flow_graph.specs.declared.constraint.Link.{Link}
 use Rattle.flow_graph.specs.declared.constraint.Link.TheVariants.{Le, Const}
 use Rattle.flow_graph.specs.declared.constraint.Constraint.{Constraint}
 use Rattle.flow_graph.specs.System.{System, Stands, vars_of_link}
 use Rattle.cqual_tool.specs.declared.search.Reached.{Reached}
-use Rattle.cqual_tool.specs.Search.{entry, ComesFrom, AreSound, AreWithin, GoesOn, IsClosedAt, IsNear, IsReached, Leads, LeadsNowhere}
+use Rattle.cqual_tool.specs.Search.{entry, ComesFrom, AreSound, AreWithin, GoesOn, IsClosedAt, IsClosedUpTo, IsNear, IsReached, Leads, LeadsNowhere}
 
 some_is : {x y : Constraint} → Some x ≡ Some y → x ≡ y
 some_is e = cc
@@ -93,3 +94,15 @@ module _ (sys : System) (lattice elem : ℕ) (table : List (Option Reached)) (ro
     constant = λ v st. absurd (none.constant v (link_of (Const lattice elem v) st));
     flow = λ u v st is. absurd (none.flow u v (link_of (Le u v) st) (carried_of u v st) (near_of within u is));
   }
+
+-- one more constraint that is done with
+pub closed_up : (sys : System) (lattice elem : ℕ) (table start : List (Option Reached)) (round n : ℕ) → table ≡ start → AreWithin start round →
+    (AreWithin table round → IsClosedAt sys lattice elem table n) → IsClosedUpTo sys lattice elem start n → IsClosedUpTo sys lattice elem start (n + 1)
+closed_up sys lattice elem table start round n same within here before k low = elim (cases_eq k n) [
+  | inl is ↦
+      let At : ℕ → Type 0 = λ m. IsClosedAt sys lattice elem start m in
+      let Within : List (Option Reached) → Type 0 = λ t. AreWithin t round in
+      let Of : List (Option Reached) → Type 0 = λ t. IsClosedAt sys lattice elem t n in
+      subst At (sym is) (subst Of same (here (subst Within (sym same) within)))
+  | inr ne ↦ before k (omega (arith, low, ne))
+]

@@ -1,5 +1,5 @@
 -- Fewer variables are left where one is reached.
-use Rattle.std.proofs.Common.{◌≡◌, ℕ, zero, suc, ◌<◌, ◌≤◌, List, [], ◌∷◌, ◌++◌, length, Option, Some, None, slice_get, slice_set, unwrap_or, slice_index_or, false, refl, arith}
+use Rattle.std.proofs.Common.{◌≡◌, ℕ, zero, suc, ◌<◌, ◌≤◌, List, [], ◌∷◌, ◌++◌, length, Option, Some, None, slice_get, slice_set, unwrap_or, slice_index_or, false, refl, sym, ◌∙◌, arith}
 use Rattle.std.specs.Option.{is_some}
 use Rattle.cqual_tool.specs.declared.search.Reached.{Reached}
 use Rattle.cqual_tool.specs.Search.{entry, unreached}
@@ -30,3 +30,6 @@ none_of [] i d within not = absurd (omega (arith, within))
 none_of (None ∷ xs) zero d within not = refl
 none_of (Some x ∷ xs) zero d within not = absurd cc
 none_of (x ∷ xs) (suc i) d within not = none_of xs i d (omega (arith, within)) not
+
+pub not_some : {o : Option Reached} {r : Reached} → o ≡ None → o ≡ Some r → ⊥
+not_some {r = r} none some = let both : None ≡ Some r = sym none ∙ some in cc

@@ -192,12 +192,13 @@ fn turn(table: &mut [Option<Reached>], graph: &FlowGraph, lattice: LatticeNo, el
 ///
 /// As many rounds as the longest of the shortest paths has constraints, each linear in the constraints.
 fn spread(table: &mut [Option<Reached>], graph: &FlowGraph, lattice: LatticeNo, elem: Elem)
+    requires flat { IsFlat graph.now }
     requires lattice { lattice < 16 }
     requires below { AllBelow graph.now (length table.old) }
     requires few { length table.old ≤ 2 ^ 24 }
     requires none { (v : ℕ) → entry table.old v ≡ None }
     ensures sound { AreSound graph.now lattice elem table.new }
-    ensures closed { IsClosedUpTo graph.now lattice elem table.new (length graph.now.constraints) }
+    ensures all { (v : ℕ) → Lead graph.now lattice elem v → IsReached table.new v }
 {
     let mut round = 0;
     while turn(table, graph, lattice, elem, round) {
