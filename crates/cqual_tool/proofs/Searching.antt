@@ -1,5 +1,5 @@
 -- How a step of a search keeps its table sound, and when it has nothing more to reach.
-use Rattle.std.proofs.Common.{◌≡◌, ℕ, ◌+◌, ◌<◌, ◌≤◌, ◌⊎◌, inl, inr, max, List, length, Option, Some, None, IsSome, slice_get, refl, sym, ◌∙◌, ap, subst, arith}
+use Rattle.std.proofs.Common.{◌≡◌, ℕ, ◌+◌, ◌<◌, ◌≤◌, ◌⊎◌, inl, inr, max, Bool, true, false, List, length, Option, Some, None, IsSome, slice_get, refl, sym, ◌∙◌, ap, subst, arith}
 use Rattle.std.specs.Int.{bit_at}
 use Rattle.std.proofs.lemmas.Bool.{cases_eq}
 use Rattle.flow_graph.specs.declared.constraint.Link.{Link}
@@ -106,3 +106,6 @@ closed_up sys lattice elem table start round n same within here before k low = e
       subst At (sym is) (subst Of same (here (subst Within (sym same) within)))
   | inr ne ↦ before k (omega (arith, low, ne))
 ]
+
+pub not_both : {b : Bool} → b ≡ true → b ≡ false → ⊥
+not_both is not = let both : true ≡ false = sym is ∙ not in cc

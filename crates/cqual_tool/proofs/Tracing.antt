@@ -1,7 +1,9 @@
 -- A path that is followed back from a bound.
-use Rattle.std.proofs.Common.{◌≡◌, ℕ, ◌<◌, List, [], ◌∷◌, ◌++◌, reverse, Option, Some, None, refl, sym, ◌∙◌, ap, subst, arith}
+use Rattle.std.proofs.Common.{◌≡◌, ℕ, ◌<◌, List, [], ◌∷◌, ◌++◌, reverse, Option, Some, None, slice_get, refl, sym, ◌∙◌, ap, subst, arith}
 use Rattle.std.proofs.lemmas.List.{reverse-append}
 use Rattle.flow_graph.specs.declared.constraint.Link.TheVariants.{Le, Const, Bound}
+use Rattle.flow_graph.specs.declared.constraint.Constraint.{Constraint}
+use Rattle.flow_graph.specs.PathRules.{link_ends}
 use Rattle.flow_graph.specs.System.{System, Stands}
 use Rattle.cqual_tool.specs.FlatPaths.{Flows, Here, Flow, IsFlatPath}
 use Rattle.cqual_tool.specs.declared.search.Reached.{Reached}
@@ -21,17 +23,25 @@ pub record Traced (sys : System) (lattice bound : ℕ) (table : List (Option Rea
 more_back : (steps : List ℕ) (n : ℕ) → reverse (steps ++ n ∷ []) ≡ n ∷ reverse steps
 more_back steps n = reverse-append steps (n ∷ [])
 
-pub trace_start : (sys : System) (lattice bound : ℕ) (table : List (Option Reached)) (reached : Reached) (at limit : ℕ) → Stands sys lattice bound (Bound at lattice limit) →
-    entry table at ≡ Some reached → Traced sys lattice bound table (bound ∷ []) reached
-trace_start sys lattice bound table reached at limit st there = record {
+some_is : {x y : Constraint} → Some x ≡ Some y → x ≡ y
+some_is e = cc
+
+-- the bound alone, where its variable was reached
+pub trace_first : (sys : System) (lattice bound : ℕ) (table seen : List (Option Reached)) (steps : List ℕ) (reached : Reached) (c : Constraint) (end at limit : ℕ) →
+    seen ≡ table → steps ≡ bound ∷ [] → slice_get sys.constraints bound ≡ Some c → end ≡ link_ends c.link → Stands sys lattice bound (Bound at lattice limit) →
+    entry seen end ≡ Some reached → Traced sys lattice bound table steps reached
+trace_first sys lattice bound table seen steps reached c end at limit same steps_are there end_is st has = record {
   var = at;
-  there = there;
+  there =
+      let ends : end ≡ at = end_is ∙ ap link_ends (ap (λ (k : Constraint). k.link) (some_is (sym there ∙ st.there)) ∙ st.link_is) in
+      let Of : List (Option Reached) → Type 0 = λ t. entry t at ≡ Some reached in
+      let At : ℕ → Type 0 = λ v. entry seen v ≡ Some reached in subst Of same (subst At ends has);
   flows = [];
   at = at;
   along = Here at;
   limit = limit;
   finish = st;
-  steps_are = refl;
+  steps_are = ap reverse steps_are;
 }
 
 module _ (sys : System) (lattice elem bound : ℕ) (table : List (Option Reached)) (sound : AreSound sys lattice elem table) (steps : List ℕ) (reached : Reached)

@@ -9,5 +9,4 @@ mod status;
 mod texts;
 mod words;
 
-fn main(_rt: HostRuntime) {
-}
+fn main(_rt: HostRuntime) {}

@@ -87,7 +87,13 @@ fn is_near(table: &[Option<Reached>], at: VarId, round: u32) -> bool
 }
 
 /// Where a constraint leads to in a round.
-fn leads_to(table: &[Option<Reached>], constraint: &Constraint, lattice: LatticeNo, elem: Elem, round: u32) -> Option<Arrival>
+fn leads_to(
+    table: &[Option<Reached>],
+    constraint: &Constraint,
+    lattice: LatticeNo,
+    elem: Elem,
+    round: u32,
+) -> Option<Arrival>
     requires lattice { lattice < 16 }
     requires inside { vars_of_link constraint.now.link ≤ length table.now }
     ensures { MatchOption result (LeadsNowhere lattice elem table.now round constraint.now) (λ to. Leads lattice elem table.now round constraint.now to.at to.from) }
@@ -138,7 +144,14 @@ fn fresh(alloc: Global, past: VarId) -> Result<Vec<Option<Reached>>, AllocError>
 }
 
 /// Notes where a constraint leads to in a round, and says whether a variable was reached by it. Constant time.
-fn step(table: &mut [Option<Reached>], graph: &FlowGraph, at: EdgeId, lattice: LatticeNo, elem: Elem, round: u32) -> bool
+fn step(
+    table: &mut [Option<Reached>],
+    graph: &FlowGraph,
+    at: EdgeId,
+    lattice: LatticeNo,
+    elem: Elem,
+    round: u32,
+) -> bool
     requires lattice { lattice < 16 }
     requires round { round ≤ 2 ^ 24 }
     requires at { at < length graph.now.constraints }
@@ -167,7 +180,13 @@ fn step(table: &mut [Option<Reached>], graph: &FlowGraph, at: EdgeId, lattice: L
 
 /// A round over all constraints, which goes on from the variables that were reached before it. Says whether a variable
 /// was reached. Linear in the constraints.
-fn turn(table: &mut [Option<Reached>], graph: &FlowGraph, lattice: LatticeNo, elem: Elem, round: u32) -> bool
+fn turn(
+    table: &mut [Option<Reached>],
+    graph: &FlowGraph,
+    lattice: LatticeNo,
+    elem: Elem,
+    round: u32,
+) -> bool
     requires lattice { lattice < 16 }
     requires round { round ≤ 2 ^ 24 }
     requires below { AllBelow graph.now (length table.old) }
@@ -220,7 +239,12 @@ fn bounded(link: Link) -> VarId
 }
 
 /// How each variable is reached from the constants of an element.
-fn reach(alloc: Global, graph: &FlowGraph, lattice: LatticeNo, elem: Elem) -> Result<Vec<Option<Reached>>, AllocError>
+fn reach(
+    alloc: Global,
+    graph: &FlowGraph,
+    lattice: LatticeNo,
+    elem: Elem,
+) -> Result<Vec<Option<Reached>>, AllocError>
     requires flat { IsFlat graph.now }
     requires lattice { lattice < 16 }
     ensures sound { IfOk result (λ table. AreSound graph.now lattice elem table.items) }
@@ -236,7 +260,13 @@ fn reach(alloc: Global, graph: &FlowGraph, lattice: LatticeNo, elem: Elem) -> Re
 ///
 /// Reaches variables in rounds over all constraints, as many as the longest of the shortest paths has steps: quadratic
 /// where flows are one long chain, and linear where all paths are short. 20 bytes for each variable.
-pub fn shortest(alloc: Global, graph: &FlowGraph, lattice: LatticeNo, elem: Elem, bound: EdgeId) -> Result<Vec<EdgeId>, AllocError>
+pub fn shortest(
+    alloc: Global,
+    graph: &FlowGraph,
+    lattice: LatticeNo,
+    elem: Elem,
+    bound: EdgeId,
+) -> Result<Vec<EdgeId>, AllocError>
     requires flat { IsFlat graph.now }
     requires lattice { lattice < 16 }
     requires bound { bound < length graph.now.constraints }
