@@ -16,6 +16,9 @@ use flow_graph::graph::FlowGraph;
 use qual_base::ids::{EdgeId, Elem, LatticeNo, Numbered, VarId};
 use std::alloc::{AllocError, Global};
 
+#[cfg(test)]
+mod tests;
+
 /// How a variable was first reached: by a constant at it, or by a flow from another variable.
 ///
 /// The distance is the number of constraints on the way, and at least 1.
@@ -269,8 +272,7 @@ pub fn shortest(
 ) -> Result<Vec<EdgeId>, AllocError>
     requires flat { IsFlat graph.now }
     requires lattice { lattice < 16 }
-    requires bound { bound < length graph.now.constraints }
-    requires leads { (v : ℕ) × (limit : ℕ) × Stands graph.now lattice bound (Bound v lattice limit) × Lead graph.now lattice elem v }
+    requires lead { (v : ℕ) × (limit : ℕ) × Stands graph.now lattice bound (Bound v lattice limit) × Lead graph.now lattice elem v }
     ensures { IfOk result (λ steps. IsFlatPath graph.now lattice elem bound steps.items) }
 {
     let table = reach(alloc, graph, lattice, elem)?;

@@ -3,16 +3,20 @@ use Rattle.cqual_tool.specs.declared.search.Reached.{Reached}
 use Rattle.cqual_tool.specs.FlatPaths.{IsFlatPath}
 use Rattle.cqual_tool.specs.Search.{entry}
 use Rattle.cqual_tool.proofs.Tracing.{Traced, trace_first, trace_on, trace_end}
+use Rattle.std.proofs.lemmas.Option.{slice_get_within}
 use Rattle.cqual_tool.proofs.search.shortest.Goals as goal
+
+pub constraint-requires : goal.constraint-requires
+constraint-requires c = slice_get_within c.args.graph.now.constraints c.args.bound c.requires.lead.2.constraint c.requires.lead.2.there
 
 pub loop-reached-init : goal.loop-reached-init
 loop-reached-init c = record {
   sound = c.in_ok-table.ensures.sound;
   traced =
       trace_first c.args.graph.now c.args.lattice c.args.bound c.in_ok-table.table.items c.deref.result.now c.push.new.self.items c.entry_of-reached.result
-      c.constraint.result c.bounded.result c.requires.leads.0 c.requires.leads.1 c.deref.ensures.value
+      c.constraint.result c.bounded.result c.requires.lead.0 c.requires.lead.1 c.deref.ensures.value
       (c.in_ok-push.ensures.items ∙ ap (λ xs. xs ++ c.args.bound ∷ []) c.new-steps.ensures.items)
-      c.constraint.ensures.there c.bounded.ensures c.requires.leads.2 c.entry_of-reached.ensures;
+      c.constraint.ensures.there c.bounded.ensures c.requires.lead.2 c.entry_of-reached.ensures;
 }
 
 pub loop-reached-preserved : goal.loop-reached-preserved
