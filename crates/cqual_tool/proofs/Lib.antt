@@ -4,3 +4,4 @@ mod Unreached
 mod Searching
 mod Reaching
 mod Tracing
+mod FlatGraphs
