@@ -1,5 +1,5 @@
 -- Fewer variables are left where one is reached.
-use Rattle.std.proofs.Common.{◌≡◌, ℕ, zero, suc, ◌<◌, ◌≤◌, List, [], ◌∷◌, ◌++◌, length, Option, Some, None, slice_get, slice_set, unwrap_or, slice_index_or, false, refl, sym, ◌∙◌, arith}
+use Rattle.std.proofs.Common.{◌≡◌, ℕ, zero, suc, ◌<◌, ◌≤◌, List, [], ◌∷◌, ◌++◌, length, Option, Some, None, slice_set, slice_index_or, false, refl, sym, ◌∙◌, arith}
 use Rattle.std.specs.Option.{is_some}
 use Rattle.cqual_tool.specs.declared.search.Reached.{Reached}
 use Rattle.cqual_tool.specs.Search.{entry, unreached}

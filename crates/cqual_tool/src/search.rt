@@ -228,8 +228,8 @@ fn spread(table: &mut [Option<Reached>], graph: &FlowGraph, lattice: LatticeNo, 
     }
 }
 
-/// The variable of a bound.
-fn bounded(link: Link) -> VarId
+/// The variable where a constraint ends.
+fn end_of(link: Link) -> VarId
     ensures { result ≡ link_ends link }
 {
     match link {
@@ -278,7 +278,7 @@ pub fn shortest(
     let table = reach(alloc, graph, lattice, elem)?;
     let mut steps = Vec::new(alloc);
     steps.push(bound)?;
-    let mut reached = entry_of(&table, bounded(graph.constraint(bound).link));
+    let mut reached = entry_of(&table, end_of(graph.constraint(bound).link));
     while let Some(from) = reached.from {
         steps.push(reached.edge)?;
         reached = entry_of(&table, from);

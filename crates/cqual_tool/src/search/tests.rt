@@ -122,7 +122,13 @@ fn path_to(alloc: Global, graph: &FlowGraph, bound: EdgeId) -> Option<Vec<EdgeId
 fn is_path(alloc: Global, smalls: &[Small], bound: u32, numbers: &[u32]) -> Option<bool> {
     let graph = graph_of(alloc, smalls)?;
     let path = path_to(alloc, &graph, EdgeId::new(bound))?;
-    Some(path.len() == numbers.len() && path.iter().zip(numbers).all(|(edge, number)| edge.number() == *number))
+    Some(
+        path.len() == numbers.len()
+            && path
+                .iter()
+                .zip(numbers)
+                .all(|(edge, number)| edge.number() == *number),
+    )
 }
 
 #[test]
@@ -130,10 +136,34 @@ fn paths_are_the_shortest(rt: HostRuntime) -> Result<(), Fail> {
     use Small::{Flow, Limit, One, Zero};
     let cases: [(&[Small], u32, &[u32]); 6] = [
         (&[Zero(0), Limit(1), Flow(0, 1)], 1, &[0, 2, 1]),
-        (&[Zero(0), Flow(0, 1), Flow(1, 2), Flow(2, 3), Flow(0, 4), Flow(4, 3), Limit(3)], 6, &[0, 4, 5, 6]),
-        (&[Zero(0), Flow(0, 1), Flow(1, 2), Flow(0, 2), Limit(2)], 4, &[0, 3, 4]),
-        (&[Limit(3), Flow(2, 3), Flow(1, 2), Flow(0, 1), Zero(0)], 0, &[4, 3, 2, 1, 0]),
-        (&[Zero(0), Flow(0, 1), Zero(1), Limit(1), Limit(0)], 3, &[2, 3]),
+        (
+            &[
+                Zero(0),
+                Flow(0, 1),
+                Flow(1, 2),
+                Flow(2, 3),
+                Flow(0, 4),
+                Flow(4, 3),
+                Limit(3),
+            ],
+            6,
+            &[0, 4, 5, 6],
+        ),
+        (
+            &[Zero(0), Flow(0, 1), Flow(1, 2), Flow(0, 2), Limit(2)],
+            4,
+            &[0, 3, 4],
+        ),
+        (
+            &[Limit(3), Flow(2, 3), Flow(1, 2), Flow(0, 1), Zero(0)],
+            0,
+            &[4, 3, 2, 1, 0],
+        ),
+        (
+            &[Zero(0), Flow(0, 1), Zero(1), Limit(1), Limit(0)],
+            3,
+            &[2, 3],
+        ),
         (&[One(1), Zero(0), Flow(0, 1), Limit(1)], 3, &[1, 2, 3]),
     ];
     for (smalls, bound, path) in cases {

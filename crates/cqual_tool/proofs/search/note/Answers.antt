@@ -1,8 +1,4 @@
-use Rattle.std.proofs.Common.{◌≡◌, ℕ, ◌<◌, List, length, Option, None, slice_get, slice_index_or, unwrap_or, false, arith, sym, ◌∙◌}
-use Rattle.std.specs.Option.{is_some}
-use Rattle.std.proofs.lemmas.Option.{unwrap_or-slice_get}
-use Rattle.cqual_tool.specs.declared.search.Reached.{Reached}
-use Rattle.cqual_tool.specs.Search.{entry}
+use Rattle.std.proofs.Common.{arith, sym, ◌∙◌}
 use Rattle.cqual_tool.proofs.Unreached.{unreached-set, none_of}
 use Rattle.cqual_tool.proofs.search.note.Goals as goal
 

@@ -14,9 +14,9 @@ loop-reached-init c = record {
   sound = c.in_ok-table.ensures.sound;
   traced =
       trace_first c.args.graph.now c.args.lattice c.args.bound c.in_ok-table.table.items c.deref.result.now c.push.new.self.items c.entry_of-reached.result
-      c.constraint.result c.bounded.result c.requires.lead.0 c.requires.lead.1 c.deref.ensures.value
+      c.constraint.result c.end_of.result c.requires.lead.0 c.requires.lead.1 c.deref.ensures.value
       (c.in_ok-push.ensures.items ∙ ap (λ xs. xs ++ c.args.bound ∷ []) c.new-steps.ensures.items)
-      c.constraint.ensures.there c.bounded.ensures c.requires.lead.2 c.entry_of-reached.ensures;
+      c.constraint.ensures.there c.end_of.ensures c.requires.lead.2 c.entry_of-reached.ensures;
 }
 
 pub loop-reached-preserved : goal.loop-reached-preserved
