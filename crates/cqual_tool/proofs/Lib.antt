@@ -5,3 +5,9 @@ mod FlatHolds
 mod FlatWithin
 mod ReportLemmas
 mod SourceFacts
+mod Unreached
+mod Searching
+mod Reaching
+mod Tracing
+mod FlatGraphs
+mod Outcomes
