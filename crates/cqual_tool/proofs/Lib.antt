@@ -5,3 +5,4 @@ mod FlatHolds
 mod FlatWithin
 mod ReportLemmas
 mod SourceFacts
+mod LatticeFacts
