@@ -6,3 +6,9 @@ mod FlatWithin
 mod ReportLemmas
 mod SourceFacts
 mod LatticeFacts
+mod Unreached
+mod Searching
+mod Reaching
+mod Tracing
+mod FlatGraphs
+mod Outcomes

@@ -6,3 +6,4 @@ pub mod Program
 pub mod FlatPaths
 pub mod Reports
 pub mod Outcome
+pub mod Search

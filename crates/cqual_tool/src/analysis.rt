@@ -5,6 +5,7 @@ ghost use Rattle.first_form.specs.SourceText.{IsSourceForm};
 ghost use Rattle.flow_laws.specs.Flat.{IsFlat};
 ghost use Rattle.flow_laws.specs.Least.{NamesElementsIn};
 ghost use Rattle.cqual_tool.specs.Scenes.{scene_of, IsShown, HasObjects};
+ghost use Rattle.cqual_tool.specs.Program;
 ghost use Rattle.cqual_tool.specs.Reports.{IsJudged};
 ghost use Rattle.cqual_tool.specs.Outcome.{OfProgram, SourceReads};
 
@@ -23,7 +24,7 @@ use std::alloc::{AllocError, Global};
 
 /// The tokens of the objects' names, in order.
 fn object_tokens(alloc: Global, items: &[Item]) -> Result<Vec<TokenId>, AllocError>
-    ensures { IfOk result (λ tokens. tokens.items ≡ Rattle.cqual_tool.specs.Program.object_tokens items.now) }
+    ensures { IfOk result (λ tokens. tokens.items ≡ Program.object_tokens items.now) }
 {
     let mut tokens = Vec::new(alloc);
     for item in items {
