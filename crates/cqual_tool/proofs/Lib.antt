@@ -5,6 +5,7 @@ mod FlatHolds
 mod FlatWithin
 mod ReportLemmas
 mod SourceFacts
+mod LatticeFacts
 mod Unreached
 mod Searching
 mod Reaching

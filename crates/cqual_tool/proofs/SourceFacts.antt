@@ -2,6 +2,7 @@
 use Rattle.std.proofs.Common.{◌≡◌, ℕ, suc, ◌+◌, ◌<◌, ◌≤◌, List, [], ◌∷◌, length, map, slice_get, Some, None, refl, sym, ap, subst, arith, length-append}
 use Rattle.std.specs.Prelude.{All, slice_index}
 use Rattle.std.specs.declared.option.Option.{Option}
+use Rattle.std.proofs.lemmas.List.{length-map}
 use Rattle.std.proofs.lemmas.List.Elements.{All-nil, All-cons, All-append, All-map}
 use Rattle.std.proofs.lemmas.Option.{slice_get_within, get_or_from_slice_get}
 use Rattle.qual_base.specs.declared.places.Span.{Span}
@@ -24,6 +25,7 @@ use Rattle.first_form.specs.SourceText.{Scope, no_names, AreAssigns, IsItem, Are
 use Rattle.first_form.proofs.ReadingLemmas.{present, item_end}
 use Rattle.cqual_tool.specs.declared.texts.Scene.{Scene as Lent}
 use Rattle.cqual_tool.specs.Program.{constraint_of, span_from, by_sign, sign_at, annotations, of_assign, of_item, objects_with, constraints_of, system_of, object_tokens, IsNumbered, IsNumberedItem, AreNumbered}
+use Rattle.cqual_tool.specs.Outcome.{names_of}
 use Rattle.cqual_tool.specs.Scenes.{HasLink, HasObjects, IsShown}
 
 -- there are no more lexemes than bytes
@@ -45,6 +47,23 @@ counted ls scope (Function name assigns) = refl
 one_more : (objects : ℕ) (item : Item) → objects_with objects item ≤ objects + 1
 one_more objects (Object mark name) = omega arith
 one_more objects (Function name assigns) = omega arith
+
+-- the variables of an item and of those behind it
+tokens_with : (objects : ℕ) (item : Item) (items : List Item) → objects + length (object_tokens (item ∷ items)) ≡ objects_with objects item + length (object_tokens items)
+tokens_with objects (Object mark name) items = omega arith
+tokens_with objects (Function name assigns) items = refl
+
+-- there are no more objects than lexemes
+few_from : (elements : List (List ℕ)) (ls : List Lexeme) (scope : Scope) (n : ℕ) (items : List Item) → AreItems elements ls scope n items → length scope.objects ≤ n →
+    length scope.objects + length (object_tokens items) ≤ length ls
+few_from elements ls scope n [] h le = omega (arith, le, h)
+few_from elements ls scope n (item ∷ items) h le =
+    let end = item_end elements ls scope n item h.0 in
+    let count = counted ls scope item in
+    let more = one_more (length scope.objects) item in
+    let whole = tokens_with (length scope.objects) item items in
+    let rest = few_from elements ls (declared_with ls scope item) (end_of item) items h.1 (omega (arith, end.0, count, more, le)) in
+    omega (arith, rest, count, whole)
 
 assigns_numbered : (ls : List Lexeme) (scope : Scope) (n : ℕ) (assigns : List Assign) → AreAssigns ls scope n assigns → length scope.objects < 16777216 → All IsNumbered assigns
 assigns_numbered ls scope n [] h few = All-nil IsNumbered
@@ -71,11 +90,20 @@ numbered_from elements ls scope n (item ∷ items) h le few =
     (item_numbered elements ls scope n item h.0 (omega (arith, end.0, end.1, le, few)), subst Numbered count rest)
 
 -- A source of at most 2^24 bytes has numbers for its objects and elements.
-pub numbered : (elements : List (List ℕ)) (bytes : List ℕ) (source : SourceForm) → IsSourceForm elements bytes source → length bytes ≤ 16777216 →
-    AreNumbered (length elements) 0 source.items.items
-numbered elements bytes source is few =
+pub numbered : (entries : List Entry) (bytes : List ℕ) (source : SourceForm) → IsSourceForm (names_of entries) bytes source → length bytes ≤ 16777216 →
+    AreNumbered (length entries) 0 source.items.items
+numbered entries bytes source is few =
     let lexemes = few_lexemes 0 bytes source.lexemes.lexemes is.spelled in
-    numbered_from elements source.lexemes.lexemes no_names 0 source.items.items is.read (omega arith) (omega arith)
+    let Numbered : ℕ → Type 0 = λ elements. AreNumbered elements 0 source.items.items in
+    subst Numbered (length-map entries (λ (entry : Entry). entry.name)) (numbered_from (names_of entries) source.lexemes.lexemes no_names 0 source.items.items is.read (omega arith) (omega arith))
+
+-- It has at most 2^24 objects.
+pub few_objects : (entries : List Entry) (bytes : List ℕ) (source : SourceForm) → IsSourceForm (names_of entries) bytes source → length bytes ≤ 16777216 →
+    length (object_tokens source.items.items) ≤ 16777216
+few_objects entries bytes source is few =
+    let lexemes = few_lexemes 0 bytes source.lexemes.lexemes is.spelled in
+    let objects = few_from (names_of entries) source.lexemes.lexemes no_names 0 source.items.items is.read (omega arith) in
+    omega (arith, lexemes, objects, few)
 
 -- ---- the constraints of items
 
@@ -161,11 +189,6 @@ module _ (elements : List (List ℕ)) (ls : List Lexeme) (vars elems tokens : �
       annotated Plain (sign_at entries mark.elem) mark.elem (length scope.objects) (span_from mark.token mark.token) ((named, var), from) ((var, named), from)
   item_plain entries scope n (Function name assigns) h few = assigns_plain scope (n + 6) assigns.items h.2 few
 
-  -- the variables of an item and of those behind it
-  tokens_with : (objects : ℕ) (item : Item) (items : List Item) → objects + length (object_tokens (item ∷ items)) ≡ objects_with objects item + length (object_tokens items)
-  tokens_with objects (Object mark name) items = omega arith
-  tokens_with objects (Function name assigns) items = refl
-
   plain_from : (entries : List Entry) (scope : Scope) (n : ℕ) (items : List Item) → AreItems elements ls scope n items → length scope.objects + length (object_tokens items) ≤ vars →
       All Plain (constraints_of entries (length scope.objects) items)
   plain_from entries scope n [] h few = All-nil Plain
@@ -186,13 +209,14 @@ tokens_there elements ls scope n (Object mark name ∷ items) h =
 tokens_there elements ls scope n (Function name assigns ∷ items) h = tokens_there elements ls (declared_with ls scope (Function name assigns)) (end_of (Function name assigns)) items h.1
 
 -- The constants and bounds of a source name elements.
-pub named : (elements : List (List ℕ)) (bytes : List ℕ) (source : SourceForm) (entries : List Entry) (order : Order) → IsSourceForm elements bytes source →
-    length entries ≡ length elements → size order ≡ length entries → NamesElementsIn (system_of entries source.items.items) 0 order
-named elements bytes source entries order is same sized =
+pub named : (entries : List Entry) (bytes : List ℕ) (source : SourceForm) (order : Order) → IsSourceForm (names_of entries) bytes source → size order ≡ length entries →
+    NamesElementsIn (system_of entries source.items.items) 0 order
+named entries bytes source order is sized =
     let items = source.items.items in
     let ls = source.lexemes.lexemes in
     let vars : ℕ = length (object_tokens items) in
-    let all = plain_from elements ls vars (size order) (length ls) (omega (arith, same, sized)) (omega arith) entries no_names 0 items is.read (omega arith) in
+    let same = length-map entries (λ (entry : Entry). entry.name) in
+    let all = plain_from (names_of entries) ls vars (size order) (length ls) (omega (arith, same, sized)) (omega arith) entries no_names 0 items is.read (omega arith) in
     let link : (n : ℕ) (l : Link) → Stands (system_of entries items) 0 n l → IsNamed vars (size order) l =
     λ n l st. subst (IsNamed vars (size order)) st.link_is (at_number (IsPlain vars (size order) (length ls)) (constraints_of entries 0 items) n st.constraint all st.there).0 in
     record { const = λ n e v st. (link n (Const 0 e v) st).0; bound = λ n v b st. (link n (Bound v 0 b) st).1 }
@@ -219,19 +243,19 @@ module _ (lent : Lent) where
       (within, omega (arith, token, count))
 
   -- The constraints of a source name variables and elements of its scene, and begin at tokens of it.
-  pub shown : (elements : List (List ℕ)) (bytes : List ℕ) (source : SourceForm) → IsSourceForm elements bytes source →
-      lent.lexemes.now ≡ source.lexemes → lent.objects.now ≡ object_tokens source.items.items →
-      length lent.lattice.now.entries ≡ length elements → size lent.lattice.now.order ≡ length lent.lattice.now.entries →
+  pub shown : (bytes : List ℕ) (source : SourceForm) → IsSourceForm (names_of lent.lattice.now.entries) bytes source →
+      lent.lexemes.now ≡ source.lexemes → lent.objects.now ≡ object_tokens source.items.items → size lent.lattice.now.order ≡ length lent.lattice.now.entries →
       IsShown lent (system_of lent.lattice.now.entries source.items.items)
-  shown elements bytes source is lexemes objects same sized n c there =
+  shown bytes source is lexemes objects sized n c there =
       let items = source.items.items in
       let ls = source.lexemes.lexemes in
       let entries = lent.lattice.now.entries in
       let vars : ℕ = length lent.objects.now in
       let elems : ℕ = size lent.lattice.now.order in
       let tokens : ℕ = length lent.lexemes.now.lexemes in
+      let same = length-map entries (λ (entry : Entry). entry.name) in
       let count : tokens ≡ length ls = ap (λ l. length l.lexemes) lexemes in
       let var_count : vars ≡ length (object_tokens items) = ap length objects in
-      let all = plain_from elements ls vars elems tokens (omega (arith, same, sized)) (omega (arith, count)) entries no_names 0 items is.read (omega (arith, var_count)) in
+      let all = plain_from (names_of entries) ls vars elems tokens (omega (arith, same, sized)) (omega (arith, count)) entries no_names 0 items is.read (omega (arith, var_count)) in
       let plain = at_number (IsPlain vars elems tokens) (constraints_of entries 0 items) n c all there in
-      (link_shown (has_objects elements bytes source is lexemes objects) c.link plain.0, plain.1)
+      (link_shown (has_objects (names_of entries) bytes source is lexemes objects) c.link plain.0, plain.1)
