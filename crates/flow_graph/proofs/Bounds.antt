@@ -1,9 +1,9 @@
 -- What holds of each constraint holds of each in a longer list.
-use Rattle.std.proofs.Common.{◌≡◌, ℕ, zero, suc, ◌+◌, ◌<◌, ◌≤◌, List, [], ◌∷◌, ◌++◌, length, max, slice_get, Some, None, refl, sym, ◌∙◌, ap, subst, arith, ◌⊎◌, inl, inr}
+use Rattle.std.proofs.Common.{◌≡◌, ℕ, zero, suc, ◌≤◌, List, [], ◌∷◌, ◌++◌, length, slice_get, Some, sym, ◌∙◌, ap, subst, arith, ◌⊎◌, inl, inr}
 use Rattle.flow_graph.specs.declared.constraint.Constraint.{Constraint}
 use Rattle.flow_graph.specs.declared.constraint.Link.{Link}
 use Rattle.flow_graph.specs.declared.constraint.Link.TheVariants.{Le, Const, Bound, Enter, Leave}
-use Rattle.flow_graph.specs.System.{System, Has, IsWithin, AllWithin, AllBelow, highest, vars_of_link, vars_of}
+use Rattle.flow_graph.specs.System.{System, IsWithin, AllWithin, AllBelow, highest, vars_of_link, vars_of}
 
 -- an item of a longer list is one of the list, or the new one
 pub item_of_pushed : {A : Type 0} (xs : List A) (y : A) (n : ℕ) (x : A) → slice_get (xs ++ y ∷ []) n ≡ Some x → (slice_get xs n ≡ Some x) ⊎ (y ≡ x)
@@ -23,7 +23,7 @@ within_more few many h (Leave s u v) w = (omega (arith, h, w.0), w.1, w.2)
 pub all_within-sites : (one other : System) → one.constraints ≡ other.constraints → length one.sites ≤ length other.sites → AllWithin one → AllWithin other
 all_within-sites one other same h all n link has =
     within_more (length one.sites) (length other.sites) h link
-        (all n link (record { constraint = has.constraint; there = ap (λ cs. slice_get cs n) same ∙ has.there; link_is = has.link_is }))
+    (all n link (record { constraint = has.constraint; there = ap (λ cs. slice_get cs n) same ∙ has.there; link_is = has.link_is }))
 
 -- so does one more constraint that is within them
 pub all_within-push : (one other : System) (c : Constraint) → other.constraints ≡ one.constraints ++ c ∷ [] → one.sites ≡ other.sites →
@@ -47,5 +47,5 @@ below-highest (d ∷ cs) (suc n) c is = let deeper : vars_of_link c.link ≤ hig
 pub all_below : (sys : System) → AllBelow sys (vars_of sys)
 all_below sys n link has =
     let low : vars_of_link link ≤ highest sys.constraints =
-        let Low : Link → Type 0 = λ k. vars_of_link k ≤ highest sys.constraints in subst Low has.link_is (below-highest sys.constraints n has.constraint has.there) in
+    let Low : Link → Type 0 = λ k. vars_of_link k ≤ highest sys.constraints in subst Low has.link_is (below-highest sys.constraints n has.constraint has.there) in
     omega (arith, low)
