@@ -12,7 +12,8 @@ ghost use Rattle.match_summary.specs.Closing.{GoesOn, Grows, HasEnds, IsClosed, 
 use crate::reason::Reason;
 use crate::summary::Summaries;
 use flow_graph::constraint::Link;
-use flow_graph::graph::{FlowGraph, NoMemory};
+use flow_graph::graph::FlowGraph;
+use qual_base::faults::NoMemory;
 use qual_base::ids::{EdgeId, FuncId, LatticeNo, Numbered, SiteId, VarId};
 use qual_base::places::Owner;
 use std::alloc::Global;

@@ -5,7 +5,7 @@ ghost use Rattle.std.specs.List.{Contains};
 ghost use Rattle.match_summary.specs.Summary.{HasPair, Leads};
 
 use crate::reason::{Reason, Summary};
-use flow_graph::graph::NoMemory;
+use qual_base::faults::NoMemory;
 use qual_base::ids::VarId;
 use std::alloc::Global;
 use std::marker::Model;
