@@ -1,6 +1,7 @@
 //! Which variables of a function matched paths join: the closure of the constraints under calls whose returns match.
 #![tactic(auto)]
 
+pub mod inside;
 pub mod reason;
 pub mod rounds;
 pub mod summary;

@@ -1,21 +1,20 @@
 //! The closure by rounds over all constraints.
 
-ghost use Rattle.std.specs.Prelude.{◌≡◌, ℕ, ◌<◌, ◌⊎◌, ◌↔◌, [], ◌∷◌, ◌++◌, length, IsTrue, IfOk, OnOk, IfSome, IfNone, false};
+ghost use Rattle.std.specs.Prelude.{◌≡◌, ℕ, ◌<◌, ◌⊎◌, ◌↔◌, [], ◌∷◌, ◌++◌, length, IsTrue, IfOk, OnOk, false};
 ghost use Rattle.std.specs.List.{Contains};
-ghost use Rattle.flow_graph.specs.System.{owner_of, Stands};
+ghost use Rattle.flow_graph.specs.System.{Stands};
 ghost use Rattle.flow_graph.specs.declared.constraint.Link.TheVariants.{Enter, Leave};
-ghost use Rattle.qual_base.specs.declared.places.Owner.TheVariants.{Nobody, Function};
 ghost use Rattle.match_summary.specs.Reason.{before_of};
 ghost use Rattle.match_summary.specs.Summary.{AreOfOne, EndsAt, HasPair, IsInnerEnd, Leads, Summarises};
 ghost use Rattle.match_summary.specs.Closing.{GoesOn, Grows, HasEnds, IsClosed, IsFollowed, IsGood, IsLeft};
 
+use crate::inside::{are_of_one, joins};
 use crate::reason::Reason;
 use crate::summary::Summaries;
 use flow_graph::constraint::Link;
 use flow_graph::graph::FlowGraph;
 use qual_base::faults::NoMemory;
-use qual_base::ids::{EdgeId, FuncId, LatticeNo, Numbered, SiteId, VarId};
-use qual_base::places::Owner;
+use qual_base::ids::{EdgeId, LatticeNo, Numbered, SiteId, VarId};
 use std::alloc::Global;
 
 /// An `Enter`: its number, its site, and the variables that it leads from and to.
@@ -249,13 +248,6 @@ fn follow_group(
     follow(graph, ends, known, back.to, &why)
 }
 
-/// Whether the variables belong to one function, and are one or a matched path is known to lead from one to the other.
-fn joins(graph: &FlowGraph, known: &Summaries, from: VarId, to: VarId) -> bool
-    ensures { IsTrue result ↔ (Leads known.now from to × AreOfOne graph.now from to) }
-{
-    known.leads(from, to) && are_of_one(graph, from, to)
-}
-
 /// Adds what comes by one part, from each inner end that leads to where the part begins.
 fn follow(
     graph: &FlowGraph,
@@ -301,26 +293,4 @@ fn goes_on(graph: &FlowGraph, known: &Summaries, from: VarId, to: VarId, why: &R
     ensures { IsTrue result ↔ (Leads known.now from (before_of why.now) × AreOfOne graph.now from to) }
 {
     known.leads(from, why.before()) && are_of_one(graph, from, to)
-}
-
-/// Whether two variables belong to one function.
-fn are_of_one(graph: &FlowGraph, one: VarId, other: VarId) -> bool
-    ensures { IsTrue result ↔ AreOfOne graph.now one other }
-{
-    match function_of(graph, one) {
-        Some(f) => function_of(graph, other) == Some(f),
-        None => false,
-    }
-}
-
-/// The function that a variable belongs to.
-fn function_of(graph: &FlowGraph, at: VarId) -> Option<FuncId>
-    ensures some { IfSome result (λ f. owner_of graph.now at ≡ Function f) }
-    ensures none { IfNone result (owner_of graph.now at ≡ Nobody) }
-{
-    let owner = graph.owner(at);
-    match owner {
-        Owner::Function(f) => Some(f),
-        Owner::Nobody => None,
-    }
 }
