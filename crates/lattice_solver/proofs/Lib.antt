@@ -1,7 +1,8 @@
-mod Rooms
-mod Empty
+mod Agreeing
 mod Bits
-mod Ends
-mod Sound
+mod Carried
 mod Exact
-mod Exceeding
+mod Groups
+mod Links
+mod Moving
+mod Rooms
