@@ -2,7 +2,10 @@ mod Agreeing
 mod Bits
 mod Carried
 mod Exact
+mod Exceeding
 mod Groups
+mod Leading
 mod Links
 mod Moving
+mod Pairs
 mod Rooms

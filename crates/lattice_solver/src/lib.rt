@@ -3,3 +3,4 @@
 
 pub mod phases;
 pub mod rounds;
+pub mod solver;

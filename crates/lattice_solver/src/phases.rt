@@ -45,6 +45,15 @@ impl Phases {
         Ok(Phases { first, second })
     }
 
+    /// Makes all sets empty. Linear in the variables.
+    pub fn clear(&mut self)
+        ensures empty { (p : Phase) (v : ℕ) → set_of self.new p v ≡ 0 }
+        ensures size { size_of self.new ≡ size_of self.old }
+    {
+        empty(&mut self.first);
+        empty(&mut self.second);
+    }
+
     /// How many variables there are.
     pub fn size(&self) -> u32
         ensures number { result ≡ size_of self.now }
@@ -95,6 +104,16 @@ fn zeros(alloc: Global, count: u32) -> Result<Vec<u64>, NoMemory>
     match vec![in alloc; 0u64; count as usize] {
         Ok(sets) => Ok(sets),
         Err(_) => Err(NoMemory),
+    }
+}
+
+/// Makes each set empty.
+fn empty(sets: &mut [u64])
+    ensures empty { (v : ℕ) → slice_index sets.new v ≡ 0 }
+    ensures length { length sets.new ≡ length sets.old }
+{
+    for set in sets.iter_mut() {
+        *set = 0;
     }
 }
 
