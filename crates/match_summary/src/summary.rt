@@ -4,6 +4,7 @@ ghost use Rattle.std.specs.Prelude.{◌≡◌, ℕ, ◌+◌, ◌<◌, ◌^◌, �
 ghost use Rattle.std.specs.List.{Contains};
 ghost use Rattle.match_summary.specs.Summary.{HasPair, Leads};
 
+use crate::places::Places;
 use crate::reason::{Reason, Summary};
 use qual_base::faults::NoMemory;
 use qual_base::ids::VarId;
@@ -14,6 +15,7 @@ use std::marker::Model;
 #[derive(Drop)]
 pub struct Summaries {
     rows: Vec<Summary>,
+    places: Places,
 }
 
 impl Model for Summaries {
@@ -23,6 +25,11 @@ impl Model for Summaries {
     ghost Value = { List Summary };
 
     ghost view = { λ s. s.rows.items };
+
+    ghost use Rattle.match_summary.specs.Placed.{ArePlaced};
+    ghost use Rattle.match_summary.specs.Places.{place_in};
+
+    ghost invariant = { λ s. ArePlaced s.rows.items (place_in s.places.map) };
 }
 
 impl Summaries {
@@ -32,6 +39,7 @@ impl Summaries {
     {
         Summaries {
             rows: Vec::new(alloc),
+            places: Places::new(alloc),
         }
     }
 
@@ -47,36 +55,42 @@ impl Summaries {
         ensures ok { OnOk result (self.new ≡ self.old ++ record { from = from; to = to; why = why } ∷ []) }
         ensures err { OnErr result (self.new ≡ self.old) }
     {
+        let at = self.rows.len();
         match self.rows.push(Summary { from, to, why }) {
+            Ok(()) => {}
+            Err(_) => return Err(NoMemory),
+        }
+        match self.places.insert(from, to, at) {
             Ok(()) => Ok(()),
-            Err(_) => Err(NoMemory),
+            Err(NoMemory) => {
+                self.rows.truncate(at);
+                Err(NoMemory)
+            }
         }
     }
 
-    /// The last part of a matched path from one variable to another. Any variables are taken. Takes no memory, and time
-    /// in the number of summaries.
+    /// The last part of a matched path from one variable to another. Any variables are taken. Takes no memory, and
+    /// constant time.
     pub fn why(&self, from: VarId, to: VarId) -> Option<Reason>
         ensures reason { IfSome result (λ why. Contains self.now (record { from = from; to = to; why = why })) }
         ensures there { IsSome result ↔ HasPair self.now from to }
     {
-        for row in &self.rows {
-            if row.from == from && row.to == to {
-                return Some(row.why);
-            }
+        match self.places.get(from, to) {
+            Some(at) => Some(self.rows[at].why),
+            None => None,
         }
-        None
     }
 
     /// Whether a matched path of one or more parts is known to lead from one variable to another. Any variables are taken.
-    /// Takes no memory, and time in the number of summaries.
+    /// Takes no memory, and constant time.
     pub fn holds(&self, from: VarId, to: VarId) -> bool
         ensures { IsTrue result ↔ HasPair self.now from to }
     {
         self.why(from, to).is_some()
     }
 
-    /// Whether the variables are one, or a matched path is known to lead from one to the other. Takes no memory, and time
-    /// in the number of summaries.
+    /// Whether the variables are one, or a matched path is known to lead from one to the other. Takes no memory, and
+    /// constant time.
     pub fn leads(&self, from: VarId, to: VarId) -> bool
         ensures { IsTrue result ↔ Leads self.now from to }
     {
