@@ -4,3 +4,7 @@
 pub mod phases;
 pub mod rounds;
 pub mod solver;
+#[cfg(test)]
+mod systems;
+#[cfg(test)]
+mod tests;
