@@ -69,7 +69,7 @@ module _ (sys : System) (lattice : ℕ) where
   abbrev WayIn : ℕ → ℕ → ℕ → List ℕ → ℕ → Type 0
   WayIn e v s sites n = (u : ℕ) × (a : ℕ) × (g : ℕ) × Stands sys lattice n (Enter s u a) × Reaches sys lattice e u sites × Matches sys lattice g a v
 
-  module _ (e v s : ℕ) (sites : List ℕ) (reach : (u : ℕ) → Decided (Reaches sys lattice e u sites)) (inside : (a : ℕ) → Decided (Inside a v)) where
+  module _ (e v s : ℕ) (sites : List ℕ) (reach : (u : ℕ) → Decided (Reaches sys lattice e u sites)) (inside : (n u a : ℕ) → Stands sys lattice n (Enter s u a) → Decided (Inside a v)) where
     by_parts : (n : ℕ) (c : Constraint) (u a : ℕ) → slice_get sys.constraints n ≡ Some c → c.link ≡ Enter s u a → bit_at c.lattices lattice ≡ 1 →
         Decided (Reaches sys lattice e u sites) → Decided (Inside a v) → Decided (WayIn e v s sites n)
     by_parts n c u a is link_is carried (inl r) (inl m) = inl (u, a, m.0, record { constraint = c; there = is; link_is = link_is; carried = carried }, r, m.1)
@@ -85,7 +85,7 @@ module _ (sys : System) (lattice : ℕ) where
 
     by_mask : (n : ℕ) (c : Constraint) (u a : ℕ) → slice_get sys.constraints n ≡ Some c → c.link ≡ Enter s u a → Decided (WayIn e v s sites n)
     by_mask n c u a is link_is = elim (eqb_tells (bit_at c.lattices lattice) 1) [
-      | inl carried ↦ by_parts n c u a is link_is carried.1 (reach u) (inside a)
+      | inl carried ↦ by_parts n c u a is link_is carried.1 (reach u) (inside n u a (record { constraint = c; there = is; link_is = link_is; carried = carried.1 }))
       | inr other ↦ inr (λ way. other.1 (ap (λ c. bit_at c.lattices lattice) (some_is (sym is ∙ way.3.there)) ∙ way.3.carried))
     ]
 
@@ -115,11 +115,11 @@ module _ (sys : System) (lattice : ℕ) where
       | inl all ↦ inr (λ found. all found.0 (slice_get_within sys.constraints found.0 found.1.3.constraint found.1.3.there) found.1)
     ]
 
-  reaches_tells : ((e v : ℕ) → Decided (Returning sys lattice e v)) → ((a v : ℕ) → Decided (Inside a v)) → (e v : ℕ) (sites : List ℕ) → Decided (Reaches sys lattice e v sites)
+  reaches_tells : ((e v : ℕ) → Decided (Returning sys lattice e v)) → ((n s u a v : ℕ) → Stands sys lattice n (Enter s u a) → Decided (Inside a v)) → (e v : ℕ) (sites : List ℕ) → Decided (Reaches sys lattice e v sites)
   reaches_tells returned inside e v [] = returned e v
   reaches_tells returned inside e v (s ∷ sites) = elim (returned e v) [
     | inl p ↦ inl (inl p)
-    | inr no_return ↦ elim (some_way e v s sites (λ u. reaches_tells returned inside e u sites) (λ a. inside a v)) [
+    | inr no_return ↦ elim (some_way e v s sites (λ u. reaches_tells returned inside e u sites) (λ n u a st. inside n s u a v st)) [
       | inl way ↦ inl (inr (way.1.0, way.1.1, way.1.2, way.0, way.1.3, way.1.4, way.1.5))
       | inr none ↦ inr (λ r. elim r [ inl p ↦ no_return p | inr way ↦ none (way.3, (way.0, way.1, way.2, way.4, way.5, way.6)) ])
     ]
@@ -129,6 +129,6 @@ pub reached_is_tested : ReachedIsTested
 reached_is_tested sys lattice returned matched returned_is matched_is =
     let one : (e v : ℕ) (sites : List ℕ) → Decided (Reaches sys lattice e v sites) = reaches_tells sys lattice
     (λ e v. by_test (Returning sys lattice e v) (returned e v) (returned_is e v))
-    (λ a v. inside_tells sys lattice a v (by_test (Match sys lattice a v) (matched a v) (matched_is a v))) in
+    (λ n s u a v st. inside_tells sys lattice a v (by_test (Match sys lattice a v) (matched a v) (matched_is n s u a v st))) in
     let test : (e v : ℕ) (sites : List ℕ) → (b : Bool) × ((b ≡ true) ↔ Reaches sys lattice e v sites) = λ e v sites. test_of (Reaches sys lattice e v sites) (one e v sites) in
     (λ e v sites. (test e v sites).0, λ e v sites. (test e v sites).1)

@@ -1,6 +1,7 @@
 -- Laws of paths.
 use Rattle.std.specs.Prelude.{◌≡◌, ℕ, ◌<◌, Bool, true, List, ◌↔◌}
-use Rattle.flow_graph.specs.System.{System, AllBelow}
+use Rattle.flow_graph.specs.declared.constraint.Link.TheVariants.{Enter}
+use Rattle.flow_graph.specs.System.{System, AllBelow, Stands}
 use Rattle.flow_graph.specs.Paths.{Matches, Match, Returning, Calling, Lead}
 use Rattle.flow_laws.specs.Sets.{Reaches}
 
@@ -23,9 +24,9 @@ ReachesLeads = (sys : System) (lattice e v : ℕ) (sites : List ℕ) → Reaches
 abbrev pub LeadsInside : Type 0
 LeadsInside = (sys : System) (lattice e v vars : ℕ) → AllBelow sys vars → Lead sys lattice e v → v < vars
 
--- Where tests say what leads to which variables with no call open, and between which variables matched paths lead, there
--- is a test of what reaches which copies.
+-- Where tests say what leads to which variables with no call open, and where matched paths lead from the variables that
+-- calls enter, there is a test of what reaches which copies.
 abbrev pub ReachedIsTested : Type 0
 ReachedIsTested = (sys : System) (lattice : ℕ) (returned matched : ℕ → ℕ → Bool) → ((e v : ℕ) → (returned e v ≡ true) ↔ Returning sys lattice e v) →
-    ((u v : ℕ) → (matched u v ≡ true) ↔ Match sys lattice u v) →
+    ((n s w u v : ℕ) → Stands sys lattice n (Enter s w u) → (matched u v ≡ true) ↔ Match sys lattice u v) →
     (reached : ℕ → ℕ → List ℕ → Bool) × ((e v : ℕ) (sites : List ℕ) → (reached e v sites ≡ true) ↔ Reaches sys lattice e v sites)

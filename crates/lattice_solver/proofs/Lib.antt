@@ -1,7 +1,11 @@
-mod Rooms
-mod Empty
+mod Agreeing
 mod Bits
-mod Ends
-mod Sound
+mod Carried
 mod Exact
 mod Exceeding
+mod Groups
+mod Leading
+mod Links
+mod Moving
+mod Pairs
+mod Rooms

@@ -1,2 +1,5 @@
+pub mod Phases
+pub mod PhaseSets
 pub mod Sets
 pub mod Solution
+pub mod Stable

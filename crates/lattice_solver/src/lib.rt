@@ -1,7 +1,10 @@
 //! Which constants reach which variables, in one lattice: least elements and exceeded bounds.
-//!
-//! This form is for graphs without call sites.
 #![tactic(auto)]
 
+pub mod phases;
 pub mod rounds;
 pub mod solver;
+#[cfg(test)]
+mod systems;
+#[cfg(test)]
+mod tests;

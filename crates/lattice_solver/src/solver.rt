@@ -1,33 +1,40 @@
 //! A solver for one lattice.
 
-ghost use Rattle.std.specs.Prelude.{◌≡◌, ◌<◌, ◌↔◌, ℕ, IsSome, IsTrue, IfOk, IfSome, MatchOption, length, slice_index};
+ghost use Rattle.std.specs.Prelude.{◌≡◌, ◌<◌, ◌↔◌, ℕ, IsSome, IsTrue, IfOk, IfSome, MatchOption, length};
 ghost use Rattle.std.specs.Int.{bit_at};
 ghost use Rattle.lattice_core.specs.Order.{size, IsJoinOf, IsLattice};
 ghost use Rattle.flow_graph.specs.declared.constraint.Link.TheVariants.{Bound};
+ghost use Rattle.flow_graph.specs.System.{IsWellOwned};
 ghost use Rattle.flow_graph.specs.Unfolding.{IsExceeded};
-ghost use Rattle.flow_laws.specs.Flat.{IsFlat, FlatIsAccepted, FlatIsPrinted, FlatExceededIsOver, FlatOverIsExceeded};
+ghost use Rattle.flow_graph.specs.Paths.{Lead};
+ghost use Rattle.flow_laws.specs.Accepting.{CopiesStand, ExceededIsOver, KeptIsAccepted, OverIsExceeded, SolutionIsPrinted};
 ghost use Rattle.flow_laws.specs.Laws.{SolutionStands};
 ghost use Rattle.flow_laws.specs.Least.{NamesElementsIn};
-ghost use Rattle.lattice_solver.specs.Solution.{Fits, IsSolved, IsKept, Exceeds, IsNoBound, AllUnder, IsOver};
+ghost use Rattle.flow_laws.specs.PathLaws.{ReachedIsTested};
+ghost use Rattle.match_summary.specs.Summary.{Summarises};
+ghost use Rattle.lattice_solver.specs.Solution.{AllUnder, Exceeds, Fits, HasElement, IsKept, IsNoBound, IsOver, IsSolved, reached_at};
 
+use crate::phases::{Phase, Phases};
 use crate::rounds::saturate;
 use flow_graph::constraint::{Constraint, Link};
 use flow_graph::graph::FlowGraph;
-use flow_laws::flat::{
-    flat_exceeded_is_over, flat_is_accepted, flat_is_printed, flat_over_is_exceeded,
+use flow_laws::accepting::{
+    copies_stand, exceeded_is_over, kept_is_accepted, over_is_exceeded, solution_is_printed,
 };
 use flow_laws::laws::solution_stands;
+use flow_laws::paths::reached_is_tested;
 use lattice_core::Lattice;
+use match_summary::summary::Summaries;
 use qual_base::faults::NoMemory;
 use qual_base::ids::{EdgeId, Elem, ElemSet, LatticeNo, Numbered, VarId};
 use std::alloc::Global;
 use std::marker::Model;
 
-/// The set of the constants that reach each variable, in one lattice. Clauses see it as a `Solution`.
+/// The sets of the constants that reach each variable in each phase, in one lattice. Clauses see it as a `Solution`.
 #[derive(Drop)]
 pub struct Solver {
     lattice: LatticeNo,
-    sets: Vec<u64>,
+    phases: Phases,
 }
 
 impl Model for Solver {
@@ -35,45 +42,48 @@ impl Model for Solver {
 
     ghost Value = { Solution };
 
-    ghost view = { λ s. record { lattice = s.lattice; sets = s.sets.items } };
+    ghost view = { λ s. record { lattice = s.lattice; phases = s.phases } };
 }
 
 impl Solver {
-    /// A solver with an empty set for each variable: 8 bytes each, and all the memory that it takes.
-    pub fn new(alloc: Global, graph: &FlowGraph, lattice: LatticeNo) -> Result<Solver, NoMemory>
+    /// A solver with empty sets for each variable: 16 bytes each, and all the memory that it takes.
+    pub fn new(
+        alloc: Global,
+        graph: &FlowGraph,
+        summaries: &Summaries,
+        lattice: LatticeNo,
+    ) -> Result<Solver, NoMemory>
         ensures lattice { IfOk result (λ solver. solver.lattice ≡ lattice) }
         ensures fits { IfOk result (Fits graph.now) }
     {
-        match vec![in alloc; 0u64; graph.vars() as usize] {
-            Ok(sets) => Ok(Solver { lattice, sets }),
-            Err(_) => Err(NoMemory),
-        }
+        let _ = summaries;
+        let phases = Phases::new(alloc, graph.vars())?;
+        Ok(Solver { lattice, phases })
     }
 
     /// Finds all constants that reach each variable. Takes no memory; `rounds::saturate` says its time.
-    pub fn run(&mut self, graph: &FlowGraph)
-        requires flat { IsFlat graph.now }
+    pub fn run(&mut self, graph: &FlowGraph, summaries: &Summaries)
         requires lattice { self.old.lattice < 16 }
         requires fits { Fits graph.now self.old }
+        requires summaries { Summarises graph.now self.old.lattice summaries.now }
         ensures solved { IsSolved graph.now self.new }
+        ensures reached { (v e : ℕ) → HasElement self.new v e ↔ Lead graph.now self.old.lattice e v }
         ensures lattice { self.new.lattice ≡ self.old.lattice }
     {
-        saturate(&mut self.sets, graph, self.lattice);
+        self.phases.clear();
+        saturate(&mut self.phases, graph, summaries, self.lattice);
     }
 
     /// The elements of the constants that lead to a variable; empty for a variable past all. Constant time.
     pub fn reached(&self, at: VarId) -> ElemSet
-        ensures { result ≡ slice_index self.now.sets at }
+        ensures { result ≡ reached_at self.now at }
     {
-        match self.sets.get(at.number() as usize) {
-            Some(set) => ElemSet::new(*set),
-            None => ElemSet::new(0),
-        }
+        ElemSet::new(self.phases.set(Phase::First, at) | self.phases.set(Phase::Second, at))
     }
 
     /// The least element at or above each that reaches a variable, in at most 128 steps.
     pub fn value(&self, lattice: &Lattice, at: VarId) -> Elem
-        ensures { IsJoinOf lattice.now.order (slice_index self.now.sets at) result }
+        ensures { IsJoinOf lattice.now.order (reached_at self.now at) result }
     {
         lattice.join_of(self.reached(at))
     }
@@ -81,7 +91,7 @@ impl Solver {
     /// An element that exceeds a bound: it reaches the bound's variable and is not at or below the bound. None where the
     /// constraint is no exceeded bound of this lattice. At most 64 steps.
     pub fn exceeded(&self, graph: &FlowGraph, lattice: &Lattice, bound: EdgeId) -> Option<Elem>
-        requires flat { IsFlat graph.now }
+        requires owned { IsWellOwned graph.now }
         requires solved { IsSolved graph.now self.now }
         requires named { NamesElementsIn graph.now self.now.lattice lattice.now.order }
         requires bound { bound < length graph.now.constraints }
@@ -99,7 +109,7 @@ impl Solver {
     /// The first exceeded bound. None where the system is accepted in this lattice; then the value of each variable is
     /// the element that is printed. Linear in the constraints.
     pub fn first_exceeded(&self, graph: &FlowGraph, lattice: &Lattice) -> Option<EdgeId>
-        requires flat { IsFlat graph.now }
+        requires owned { IsWellOwned graph.now }
         requires solved { IsSolved graph.now self.now }
         requires named { NamesElementsIn graph.now self.now.lattice lattice.now.order }
         ensures { MatchOption result (IsKept graph.now self.now lattice.now.order) (λ n. IsExceeded graph.now self.now.lattice lattice.now.order n) }
@@ -158,15 +168,19 @@ fn has_element(set: ElemSet, elem: Elem) -> bool
 fn laws(lattice: &Lattice)
     ensures lattice { IsLattice lattice.now.order }
     ensures solution { SolutionStands }
-    ensures accepted { FlatIsAccepted }
-    ensures printed { FlatIsPrinted }
-    ensures over { FlatExceededIsOver }
-    ensures exceeded { FlatOverIsExceeded }
+    ensures tested { ReachedIsTested }
+    ensures copies { CopiesStand }
+    ensures accepted { KeptIsAccepted }
+    ensures printed { SolutionIsPrinted }
+    ensures over { ExceededIsOver }
+    ensures exceeded { OverIsExceeded }
 {
     lattice.law();
     solution_stands();
-    flat_is_accepted();
-    flat_is_printed();
-    flat_exceeded_is_over();
-    flat_over_is_exceeded();
+    reached_is_tested();
+    copies_stand();
+    kept_is_accepted();
+    solution_is_printed();
+    exceeded_is_over();
+    over_is_exceeded();
 }

@@ -21,7 +21,7 @@ first_over-requires c = c.requires.named.bound c.args.bound c.in-Some.limit.at c
 
 pub returns-in-Some-clause-exceeded : goal.returns-in-Some-clause-exceeded
 returns-in-Some-clause-exceeded c =
-    found_exceeds c.args.graph.now c.args.self.now c.args.lattice.now.order c.requires.flat c.requires.solved c.requires.named c.laws.ensures.lattice c.laws.ensures.solution
+    found_exceeds c.args.graph.now c.args.self.now c.args.lattice.now.order c.requires.owned c.requires.solved c.requires.named c.laws.ensures.lattice c.laws.ensures.solution c.laws.ensures.tested c.laws.ensures.copies
     c.laws.ensures.exceeded c.laws.ensures.over c.args.bound c.in-Some.limit.at c.in-Some.limit.elem (bound_stands c.before) c.first_over.result
     (let Found : ℕ → Type 0 = λ set. MatchOption c.first_over.result (AllUnder c.args.lattice.now.order set c.in-Some.limit.elem) (IsOver c.args.lattice.now.order set c.in-Some.limit.elem) in
     subst Found c.reached.ensures c.first_over.ensures)

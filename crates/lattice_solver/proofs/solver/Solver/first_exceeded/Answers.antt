@@ -12,7 +12,7 @@ loop-n-preserved c = below_more _ _ c.loop-n.invariant (λ exceeded.
 
 pub returns : goal.returns
 returns c =
-    kept c.args.graph.now c.args.self.now c.args.lattice.now.order c.requires.flat c.requires.solved c.requires.named c.laws.ensures.lattice c.laws.ensures.solution
+    kept c.args.graph.now c.args.self.now c.args.lattice.now.order c.requires.owned c.requires.solved c.requires.named c.laws.ensures.lattice c.laws.ensures.solution c.laws.ensures.tested c.laws.ensures.copies
     c.laws.ensures.exceeded c.laws.ensures.accepted c.laws.ensures.printed
     (λ n exceeded.
     let within : n < length c.args.graph.now.constraints = slice_get_within c.args.graph.now.constraints n exceeded.bound.constraint exceeded.bound.there in

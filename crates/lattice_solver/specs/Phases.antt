@@ -1,0 +1,42 @@
+-- What leads to each variable in each phase.
+use Rattle.std.specs.Prelude.{◌≡◌, ℕ, ◌+◌, ◌<◌, Bool, length, slice_index}
+use Rattle.std.specs.Bool.{OnTrue, OnFalse}
+use Rattle.std.specs.Int.{bit_at}
+use Rattle.flow_graph.specs.System.{System}
+use Rattle.flow_graph.specs.Paths.{Returning, Calling}
+use Rattle.lattice_solver.specs.declared.phases.Phase.{Phase}
+use Rattle.lattice_solver.specs.declared.phases.Phase.TheVariants.{First, Second}
+use Rattle.lattice_solver.specs.PhaseSets.{PhaseSets}
+use Rattle.lattice_solver.specs.Sets.{room}
+
+abbrev pub set_of : PhaseSets → Phase → ℕ → ℕ
+set_of sets First v = slice_index sets.first v
+set_of sets Second v = slice_index sets.second v
+
+abbrev pub size_of : PhaseSets → ℕ
+size_of sets = length sets.first
+
+abbrev pub HasIn : PhaseSets → Phase → ℕ → ℕ → Type 0
+HasIn sets p v e = bit_at (set_of sets p v) e ≡ 1
+
+-- a path from a constant of the element ends at the variable in the phase
+abbrev pub LeadsIn : System → ℕ → Phase → ℕ → ℕ → Type 0
+LeadsIn sys lattice First e v = Returning sys lattice e v
+LeadsIn sys lattice Second e v = Calling sys lattice e v
+
+-- each element of a set leads to its variable in its phase
+abbrev pub AllLeadIn : System → ℕ → PhaseSets → Type 0
+AllLeadIn sys lattice sets = (p : Phase) (v e : ℕ) → HasIn sets p v e → LeadsIn sys lattice p e v
+
+-- one set has all of another
+abbrev pub Includes : PhaseSets → Phase → ℕ → Phase → ℕ → Type 0
+Includes sets p u q v = (e : ℕ) → HasIn sets p u e → HasIn sets q v e
+
+abbrev pub room_of : PhaseSets → ℕ
+room_of sets = room sets.first + room sets.second
+
+-- sets after a step that says whether it has made one grow
+pub record Moves (old new : PhaseSets) (grew : Bool) : Type 0 where
+  pub less : OnTrue grew (room_of new < room_of old)
+  pub same : OnFalse grew (new ≡ old)
+  pub size : size_of new ≡ size_of old

@@ -1,0 +1,4 @@
+mod Followed
+mod Growth
+mod Matched
+mod Placing

@@ -1,0 +1,5 @@
+pub mod Closing
+pub mod Placed
+pub mod Places
+pub mod Reason
+pub mod Summary

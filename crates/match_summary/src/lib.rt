@@ -1,0 +1,8 @@
+//! Which variables of a function matched paths join: the closure of the constraints under calls whose returns match.
+#![tactic(auto)]
+
+pub mod inside;
+mod places;
+pub mod reason;
+pub mod rounds;
+pub mod summary;
