@@ -39,6 +39,7 @@ pub record Exceeds (sys : System) (solution : Solution) (order : Order) (n e : �
   pub var : ℕ
   pub limit : ℕ
   pub bound : Stands sys solution.lattice n (Bound var solution.lattice limit)
+  pub element : e < size order
   pub reached : HasElement solution var e
   pub over : leq order e limit ≡ false
 
