@@ -1,0 +1,3 @@
+pub mod PlaceLemmas
+pub mod ShareLemmas
+pub mod BlockLemmas

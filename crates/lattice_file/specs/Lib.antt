@@ -1,0 +1,4 @@
+pub mod Blocks
+pub mod Sharing
+pub mod Places
+pub mod Faults
