@@ -1,8 +1,8 @@
 -- Blocks and their lattices, one by one.
-use Rattle.std.proofs.Common.{◌≡◌, ◌≢◌, ℕ, ◌<◌, ◌≤◌, ◌+◌, zero, suc, List, [], ◌∷◌, ◌++◌, length, take, Some, slice_get, refl, sym, ◌∙◌, ap, arith, append_assoc, length-append}
+use Rattle.std.proofs.Common.{◌≡◌, ℕ, ◌<◌, ◌≤◌, ◌+◌, suc, List, [], ◌∷◌, ◌++◌, length, take, Some, slice_get, refl, sym, ◌∙◌, ap, arith, append_assoc, length-append}
 use Rattle.lattice_core.specs.View.{LatticeView}
-use Rattle.lattice_core.specs.Building.{AreBuilt, Refuses}
-use Rattle.lattice_file.specs.Blocks.{BlockView, AreAllBuilt, IsFirstRefused}
+use Rattle.lattice_core.specs.Building.{AreBuilt}
+use Rattle.lattice_file.specs.Blocks.{BlockView, AreAllBuilt}
 use Rattle.lattice_file.specs.Faults.{IsBlockFault, IsBuildFault}
 use Rattle.lattice_file.specs.declared.reading.LatticeFileFault.{LatticeFileFault}
 use Rattle.lattice_file.specs.declared.reading.LatticeFileFault.TheVariants.{Block, Grammar, TooManyLattices, SharedName, NoMemory}

@@ -1,8 +1,6 @@
 -- Names that stand in more than one lattice, lattice by lattice.
-use Rattle.std.proofs.Common.{◌≡◌, ℕ, ◌<◌, ◌≤◌, ◌+◌, zero, suc, List, [], ◌∷◌, length, map, Some, None, slice_get, refl, sym, ◌∙◌, ap, arith, inl, inr, ◌⊎◌, Bool, true, false, MatchBool}
-use Rattle.std.specs.declared.option.Option.{Option}
+use Rattle.std.proofs.Common.{◌≡◌, ℕ, ◌<◌, ◌+◌, zero, suc, List, [], ◌∷◌, length, map, Some, None, slice_get, sym, ◌∙◌, ap, arith, inl, inr, Bool, true, false, MatchBool}
 use Rattle.std.proofs.lemmas.Bool.{cases_lt}
-use Rattle.lattice_core.specs.declared.Entry.{Entry}
 use Rattle.lattice_core.specs.View.{LatticeView}
 use Rattle.lattice_core.specs.Entries.{name_of, name_at, number_of}
 use Rattle.lattice_file.specs.Sharing.{IsNamedBefore, IsShared, AreApart}

@@ -1,5 +1,5 @@
 -- Names that stand in more than one lattice.
-use Rattle.std.specs.Prelude.{◌≡◌, ℕ, ◌<◌, List, length, Some, slice_get}
+use Rattle.std.specs.Prelude.{◌≡◌, ℕ, ◌<◌, List, Some, slice_get}
 use Rattle.lattice_core.specs.View.{LatticeView}
 use Rattle.lattice_core.specs.Entries.{name_at, number_of}
 

@@ -1,6 +1,8 @@
 //! The blocks of a lattice file, lexeme by lexeme.
 
-ghost use Rattle.std.specs.Prelude.{◌≡◌, ◌≤◌, ◌<◌, length, IfOk, IfErr};
+ghost use Rattle.std.specs.Prelude.{◌≡◌, ◌≤◌, ◌<◌, [], length, IfOk, IfErr, IfSome, IsTrue};
+ghost use Rattle.std.specs.Bool.{OnTrue};
+ghost use Rattle.lattice_file.specs.Going.{Ends, LeadsByWord, LeadsBySign, LeadsByText};
 ghost use Rattle.lattice_core.specs.Building.{AreBuilt, Refuses};
 
 use crate::lexemes::shared_front;
@@ -85,7 +87,10 @@ pub struct Reader {
 }
 
 impl Reader {
-    pub fn new(alloc: Global) -> Reader {
+    pub fn new(alloc: Global) -> Reader
+        ensures stage { result.stage ≡ Stage.Outside }
+        ensures blocks { result.blocks.items ≡ [] }
+    {
         Reader {
             alloc,
             stage: Stage::Outside,
@@ -98,7 +103,9 @@ impl Reader {
     }
 
     /// The blocks, if the file may end here.
-    pub fn finish(self) -> Option<Vec<Block>> {
+    pub fn finish(self) -> Option<Vec<Block>>
+        ensures { IfSome result (λ blocks. Ends self blocks.items) }
+    {
         match self.stage {
             Stage::Outside => Some(self.blocks),
             _ => None,
@@ -106,12 +113,17 @@ impl Reader {
     }
 
     /// Whether a colour text may come next.
-    pub fn wants_text(&self) -> bool {
+    pub fn wants_text(&self) -> bool
+        ensures { IsTrue result → self.now.stage ≡ Stage.Value Attribute.Color }
+    {
         self.stage == Stage::Value(Attribute::Color)
     }
 
     /// Takes a colour text.
-    pub fn take_text(&mut self) {
+    pub fn take_text(&mut self)
+        requires { self.old.stage ≡ Stage.Value Attribute.Color }
+        ensures { LeadsByText self.old self.new }
+    {
         self.given.color = true;
         self.stage = Stage::Attributed;
     }
@@ -131,42 +143,72 @@ impl Reader {
     }
 
     /// Takes a word, and says whether it may come next.
-    pub fn take_word(&mut self, word: &[u8]) -> Result<bool, AllocError> {
+    pub fn take_word(&mut self, word: &[u8]) -> Result<bool, AllocError>
+        ensures { IfOk result (λ taken. OnTrue taken (LeadsByWord self.old self.new word.now)) }
+    {
         match self.stage {
-            Stage::Outside => Ok(self.take_fixed(word, b"partial", Stage::Order)),
-            Stage::Order => Ok(self.take_fixed(word, b"order", Stage::Open)),
+            Stage::Outside => Ok(self.begin_order(word)),
+            Stage::Order => Ok(self.end_order(word)),
             Stage::Items => self.begin_item(word),
             Stage::High => self.end_line(word),
             Stage::Attribute => Ok(self.begin_attribute(word)),
-            Stage::Value(attribute) => Ok(self.end_attribute(attribute, word)),
+            Stage::Value(attribute) => Ok(self.end_value(attribute, word)),
             _ => Ok(false),
         }
     }
 
     /// Takes a sign, and says whether it may come next.
-    pub fn take_sign(&mut self, sign: u8) -> Result<bool, AllocError> {
+    pub fn take_sign(&mut self, sign: u8) -> Result<bool, AllocError>
+        ensures { IfOk result (λ taken. OnTrue taken (LeadsBySign self.old self.new sign)) }
+    {
         match (self.stage, sign) {
-            (Stage::Open, b'{') => self.stage = Stage::Items,
-            (Stage::Items, b'}') if !self.entries.is_empty() => self.end_block()?,
-            (Stage::Named, b'[') => self.begin_entry(),
-            (Stage::Named, b'<') => self.stage = Stage::High,
-            (Stage::Equals(attribute), b'=') => self.stage = Stage::Value(attribute),
-            (Stage::Attributed, b',') if !self.given.is_full() => self.stage = Stage::Attribute,
-            (Stage::Attributed, b']') => self.end_entry()?,
-            _ => return Ok(false),
+            (Stage::Open, b'{') => Ok(self.open_block()),
+            (Stage::Items, b'}') if !self.entries.is_empty() => self.end_block(),
+            (Stage::Named, b'[') => Ok(self.begin_entry()),
+            (Stage::Named, b'<') => Ok(self.begin_high()),
+            (Stage::Equals(attribute), b'=') => Ok(self.begin_value(attribute)),
+            (Stage::Attributed, b',') if !self.given.is_full() => Ok(self.begin_next()),
+            (Stage::Attributed, b']') => self.end_entry(),
+            _ => Ok(false),
         }
-        Ok(true)
     }
 
-    fn take_fixed(&mut self, word: &[u8], wanted: &[u8], then: Stage) -> bool {
-        if word != wanted {
+    fn begin_order(&mut self, word: &[u8]) -> bool
+        requires { self.old.stage ≡ Stage.Outside }
+        ensures { OnTrue result (LeadsByWord self.old self.new word.now) }
+    {
+        if word != b"partial".as_slice() {
             return false;
         }
-        self.stage = then;
+        self.stage = Stage::Order;
         true
     }
 
-    fn begin_item(&mut self, word: &[u8]) -> Result<bool, AllocError> {
+    fn end_order(&mut self, word: &[u8]) -> bool
+        requires { self.old.stage ≡ Stage.Order }
+        ensures { OnTrue result (LeadsByWord self.old self.new word.now) }
+    {
+        if word != b"order".as_slice() {
+            return false;
+        }
+        self.stage = Stage::Open;
+        true
+    }
+
+    fn open_block(&mut self) -> bool
+        requires { self.old.stage ≡ Stage.Open }
+        ensures { OnTrue result (LeadsBySign self.old self.new 123) }
+    {
+        self.entries = Vec::new(self.alloc);
+        self.pairs = Vec::new(self.alloc);
+        self.stage = Stage::Items;
+        true
+    }
+
+    fn begin_item(&mut self, word: &[u8]) -> Result<bool, AllocError>
+        requires { self.old.stage ≡ Stage.Items }
+        ensures { IfOk result (λ taken. OnTrue taken (LeadsByWord self.old self.new word.now)) }
+    {
         if !is_name(word) {
             return Ok(false);
         }
@@ -175,7 +217,18 @@ impl Reader {
         Ok(true)
     }
 
-    fn end_line(&mut self, word: &[u8]) -> Result<bool, AllocError> {
+    fn begin_high(&mut self) -> bool
+        requires { self.old.stage ≡ Stage.Named }
+        ensures { OnTrue result (LeadsBySign self.old self.new 60) }
+    {
+        self.stage = Stage::High;
+        true
+    }
+
+    fn end_line(&mut self, word: &[u8]) -> Result<bool, AllocError>
+        requires { self.old.stage ≡ Stage.High }
+        ensures { IfOk result (λ taken. OnTrue taken (LeadsByWord self.old self.new word.now)) }
+    {
         if !is_name(word) {
             return Ok(false);
         }
@@ -186,12 +239,19 @@ impl Reader {
         Ok(true)
     }
 
-    fn begin_entry(&mut self) {
+    fn begin_entry(&mut self) -> bool
+        requires { self.old.stage ≡ Stage.Named }
+        ensures { OnTrue result (LeadsBySign self.old self.new 91) }
+    {
         self.given = Given::none();
         self.stage = Stage::Attribute;
+        true
     }
 
-    fn begin_attribute(&mut self, word: &[u8]) -> bool {
+    fn begin_attribute(&mut self, word: &[u8]) -> bool
+        requires { self.old.stage ≡ Stage.Attribute }
+        ensures { OnTrue result (LeadsByWord self.old self.new word.now) }
+    {
         match self.given.named(word) {
             Some(attribute) => {
                 self.stage = Stage::Equals(attribute);
@@ -201,15 +261,40 @@ impl Reader {
         }
     }
 
-    fn end_attribute(&mut self, attribute: Attribute, word: &[u8]) -> bool {
-        if !self.given.give(attribute, word) {
-            return false;
-        }
-        self.stage = Stage::Attributed;
+    fn begin_value(&mut self, attribute: Attribute) -> bool
+        requires { self.old.stage ≡ Stage.Equals attribute }
+        ensures { OnTrue result (LeadsBySign self.old self.new 61) }
+    {
+        self.stage = Stage::Value(attribute);
         true
     }
 
-    fn end_entry(&mut self) -> Result<(), AllocError> {
+    fn end_value(&mut self, attribute: Attribute, word: &[u8]) -> bool
+        requires { self.old.stage ≡ Stage.Value attribute }
+        ensures { OnTrue result (LeadsByWord self.old self.new word.now) }
+    {
+        match self.given.give(attribute, word) {
+            Some(given) => {
+                self.given = given;
+                self.stage = Stage::Attributed;
+                true
+            }
+            None => false,
+        }
+    }
+
+    fn begin_next(&mut self) -> bool
+        requires { self.old.stage ≡ Stage.Attributed }
+        ensures { OnTrue result (LeadsBySign self.old self.new 44) }
+    {
+        self.stage = Stage::Attribute;
+        true
+    }
+
+    fn end_entry(&mut self) -> Result<bool, AllocError>
+        requires { self.old.stage ≡ Stage.Attributed }
+        ensures { IfOk result (λ taken. OnTrue taken (LeadsBySign self.old self.new 93)) }
+    {
         let entry = Entry {
             name: self.name.copy(self.alloc)?,
             level: self.given.level.unwrap_or(Level::Value),
@@ -219,16 +304,18 @@ impl Reader {
         };
         self.entries.push(entry)?;
         self.stage = Stage::Items;
-        Ok(())
+        Ok(true)
     }
 
-    fn end_block(&mut self) -> Result<(), AllocError>
-        requires { 0 < length self.old.entries.items }
+    fn end_block(&mut self) -> Result<bool, AllocError>
+        requires stage { self.old.stage ≡ Stage.Items }
+        requires filled { 0 < length self.old.entries.items }
+        ensures { IfOk result (λ taken. OnTrue taken (LeadsBySign self.old self.new 125)) }
     {
         let entries = std::mem::replace(&mut self.entries, Vec::new(self.alloc));
         let pairs = std::mem::replace(&mut self.pairs, Vec::new(self.alloc));
         self.blocks.push(Block::new(entries, pairs))?;
         self.stage = Stage::Outside;
-        Ok(())
+        Ok(true)
     }
 }

@@ -1,10 +1,11 @@
 //! Reading a lattice file: its blocks, then the lattice of each.
 
-ghost use Rattle.std.specs.Prelude.{◌≡◌, ◌≤◌, ◌<◌, ◌^◌, ◌-◌, length, IfOk, IfErr};
+ghost use Rattle.std.specs.Prelude.{◌≡◌, ◌≤◌, ◌<◌, ◌^◌, ◌-◌, length, drop, IfOk, IfErr};
 ghost use Rattle.lattice_core.specs.Building.{AreBuilt};
 ghost use Rattle.lattice_file.specs.Blocks.{AreAllBuilt};
-ghost use Rattle.lattice_file.specs.Faults.{IsBlockFault, IsBuildFault};
-ghost use Rattle.lattice_file.specs.Sharing.{AreApart};
+ghost use Rattle.lattice_file.specs.Faults.{IsBlockFault, IsBuildFault, Reads, IsFileFault};
+ghost use Rattle.lattice_file.specs.Going.{LeadsBehind};
+ghost use Rattle.lattice_file.specs.Text.{IsLatticeText};
 ghost use Rattle.lattice_file.specs.Places.{IsPlaced};
 
 use crate::blocks::{Block, Reader};
@@ -74,6 +75,7 @@ fn take_lexeme(reader: &mut Reader, bytes: &[u8], at: usize) -> Result<usize, Te
     requires { at < length bytes.now }
     ensures later { IfOk result (λ end. at < end) }
     ensures within { IfOk result (λ end. end ≤ length bytes.now) }
+    ensures leads { IfOk result (λ end. LeadsBehind reader.old reader.new (drop at bytes.now) (drop end bytes.now)) }
     ensures place { IfErr result (IsPlaced (length bytes.now)) }
 {
     if is_word_byte(bytes[at]) {
@@ -106,17 +108,24 @@ fn take_lexeme(reader: &mut Reader, bytes: &[u8], at: usize) -> Result<usize, Te
 
 /// The blocks of a text, in one pass over it.
 fn read_blocks(alloc: Global, bytes: &[u8]) -> Result<Vec<Block>, TextFault>
+    ensures text { IfOk result (λ blocks. IsLatticeText blocks.items bytes.now) }
     ensures place { IfErr result (IsPlaced (length bytes.now)) }
 {
     let mut reader = Reader::new(alloc);
     let mut at = 0;
-    while at < bytes.len() {
-        at = skip_gap(bytes, at).map_err(|place| TextFault::At(place))?;
-        if at < bytes.len() {
-            at = take_lexeme(&mut reader, bytes, at)?;
+    loop {
+        let start = match skip_gap(bytes, at) {
+            Ok(start) => start,
+            Err(place) => return Err(TextFault::At(place)),
+        };
+        if start == bytes.len() {
+            return match reader.finish() {
+                Some(blocks) => Ok(blocks),
+                None => Err(TextFault::At(start)),
+            };
         }
+        at = take_lexeme(&mut reader, bytes, start)?;
     }
-    reader.finish().ok_or(TextFault::At(bytes.len()))
 }
 
 /// The lattice of a block that follows so many others.
@@ -150,7 +159,8 @@ fn build_all(alloc: Global, blocks: Vec<Block>) -> Result<Lattices, LatticeFileF
 /// that an earlier block has.
 pub fn read_lattices(alloc: Global, bytes: &[u8]) -> Result<Lattices, LatticeFileFault>
     requires { length bytes.now < 2 ^ 32 - 1 }
-    ensures apart { IfOk result (λ lattices. AreApart lattices (length lattices)) }
+    ensures read { IfOk result (Reads bytes.now) }
+    ensures refused { IfErr result (IsFileFault bytes.now) }
 {
     let blocks = match read_blocks(alloc, bytes) {
         Ok(blocks) => blocks,

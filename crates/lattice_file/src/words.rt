@@ -1,6 +1,8 @@
 //! The words of a lattice file, and how far a word can be one of them.
 
-ghost use Rattle.std.specs.Prelude.{◌≤◌, length};
+ghost use Rattle.std.specs.Prelude.{◌≡◌, ◌≤◌, true, false, length, codes, IfSome};
+ghost use Rattle.lattice_file.specs.Text.{no_attribute, has_attribute, attribute_word, Gives, IsLevel, IsSign, is_letter, is_name_byte, begins_with_dollar, is_element_name};
+ghost use Rattle.std.specs.List.{list_all};
 
 use crate::lexemes::shared_front;
 use lattice_core::{Level, Sign};
@@ -27,7 +29,9 @@ pub struct Given {
 
 impl Given {
     /// No attribute.
-    pub fn none() -> Given {
+    pub fn none() -> Given
+        ensures { result ≡ no_attribute }
+    {
         Given {
             level: None,
             sign: None,
@@ -38,7 +42,9 @@ impl Given {
     }
 
     /// Whether an attribute is given.
-    pub fn has(&self, attribute: Attribute) -> bool {
+    pub fn has(&self, attribute: Attribute) -> bool
+        ensures { result ≡ has_attribute self.now attribute }
+    {
         match attribute {
             Attribute::Level => self.level.is_some(),
             Attribute::Sign => self.sign.is_some(),
@@ -73,7 +79,10 @@ impl Given {
     }
 
     /// The attribute of a name, if it is not given yet.
-    pub fn named(&self, word: &[u8]) -> Option<Attribute> {
+    pub fn named(&self, word: &[u8]) -> Option<Attribute>
+        ensures word { IfSome result (λ attribute. word.now ≡ attribute_word attribute) }
+        ensures new { IfSome result (λ attribute. has_attribute self.now attribute ≡ false) }
+    {
         let attribute = match word {
             b"level" => Attribute::Level,
             b"sign" => Attribute::Sign,
@@ -89,19 +98,49 @@ impl Given {
         }
     }
 
-    /// Gives an attribute the value of a word, and says whether it has such a value.
-    pub fn give(&mut self, attribute: Attribute, word: &[u8]) -> bool {
-        match (attribute, word) {
-            (Attribute::Level, b"ref") => self.level = Some(Level::Ref),
-            (Attribute::Level, b"value") => self.level = Some(Level::Value),
-            (Attribute::Sign, b"pos") => self.sign = Some(Sign::Pos),
-            (Attribute::Sign, b"neg") => self.sign = Some(Sign::Neg),
-            (Attribute::Sign, b"eq") => self.sign = Some(Sign::Eq),
-            (Attribute::Write, b"yes") => self.write = true,
-            (Attribute::Deref, b"yes") => self.deref = true,
-            _ => return false,
+    /// The attributes with a word as the value of one, if it has such a value.
+    pub fn give(self, attribute: Attribute, word: &[u8]) -> Option<Given>
+        ensures { IfSome result (Gives attribute word.now self) }
+    {
+        let mut given = self;
+        match attribute {
+            Attribute::Level => given.level = Some(level_of(word)?),
+            Attribute::Sign => given.sign = Some(sign_of(word)?),
+            Attribute::Color => return None,
+            Attribute::Write => given.write = yes(word)?,
+            Attribute::Deref => given.deref = yes(word)?,
         }
-        true
+        Some(given)
+    }
+}
+
+fn level_of(word: &[u8]) -> Option<Level>
+    ensures { IfSome result (IsLevel word.now) }
+{
+    match word {
+        b"ref" => Some(Level::Ref),
+        b"value" => Some(Level::Value),
+        _ => None,
+    }
+}
+
+fn sign_of(word: &[u8]) -> Option<Sign>
+    ensures { IfSome result (IsSign word.now) }
+{
+    match word {
+        b"pos" => Some(Sign::Pos),
+        b"neg" => Some(Sign::Neg),
+        b"eq" => Some(Sign::Eq),
+        _ => None,
+    }
+}
+
+fn yes(word: &[u8]) -> Option<bool>
+    ensures { IfSome result (λ value. (word.now ≡ codes "yes") × (value ≡ true)) }
+{
+    match word {
+        b"yes" => Some(true),
+        _ => None,
     }
 }
 
@@ -132,13 +171,44 @@ impl Attribute {
     }
 }
 
-/// Whether a word is the name of an element.
-pub fn is_name(word: &[u8]) -> bool {
+fn is_letter_byte(byte: u8) -> bool
+    ensures { result ≡ is_letter byte }
+{
+    matches!(byte, b'a'..=b'z' | b'A'..=b'Z')
+}
+
+fn is_byte_of_names(byte: u8) -> bool
+    ensures { result ≡ is_name_byte byte }
+{
+    matches!(byte, b'a'..=b'z' | b'A'..=b'Z' | b'0'..=b'9' | b'_')
+}
+
+fn are_bytes_of_names(bytes: &[u8]) -> bool
+    ensures { result ≡ list_all is_name_byte bytes.now }
+{
+    bytes.iter().all(|byte| is_byte_of_names(*byte))
+}
+
+/// Whether a word is `$`, a letter, then letters, digits and `_`.
+fn is_dollar_name(word: &[u8]) -> bool
+    ensures { result ≡ begins_with_dollar word.now }
+{
     match word {
-        b"const" | b"volatile" | b"restrict" => true,
-        [b'$', b'A'..=b'Z' | b'a'..=b'z', rest @ ..] => !rest.contains(&b'$'),
+        [dollar, letter, more @ ..] => *dollar == b'$'
+            && is_letter_byte(*letter)
+            && are_bytes_of_names(more),
         _ => false,
     }
+}
+
+/// Whether a word is the name of an element.
+pub fn is_name(word: &[u8]) -> bool
+    ensures { result ≡ is_element_name word.now }
+{
+    is_dollar_name(word)
+        || word == b"const".as_slice()
+        || word == b"volatile".as_slice()
+        || word == b"restrict".as_slice()
 }
 
 /// How far a word can be the name of an element.

@@ -1,8 +1,6 @@
 use Rattle.std.proofs.Common.{◌≡◌, ◌<◌, ◌≤◌, length, arith, Some, slice_get}
-use Rattle.std.proofs.lemmas.Grind.{common_steps}
 use Rattle.lattice_core.specs.Entries.{name_at}
 use Rattle.lattice_core.specs.Order.{size}
-use Rattle.lattice_file.specs.Sharing.{IsNamedBefore}
 use Rattle.lattice_file.proofs.ShareLemmas.{shared_on, shared_within, apart_at, named_at}
 use Rattle.lattice_file.proofs.sharing.shared_in.Goals as goal
 
