@@ -3,7 +3,8 @@ use Rattle.std.proofs.Common.{◌≡◌, ◌≢◌, ℕ, ◌<◌, ◌≤◌, ◌
 use Rattle.std.specs.Int.{bit_at}
 use Rattle.std.proofs.lemmas.Bool.{cases_lt, cases_eq}
 use Rattle.std.proofs.lemmas.Nat.Bits.{bit_at_ones, bit_at_ones_above}
-use Rattle.lattice_core.specs.Order.{Order, order_of, size, leq, IsOrder, IsLattice, IsJoinOf}
+use Rattle.lattice_core.specs.Order.{Order, size, leq, IsOrder, IsLattice, IsJoinOf}
+use Rattle.lattice_core.specs.Rows.{order_of}
 use Rattle.lattice_core.proofs.UpperLower.{leq_bit, bit_leq, same_row}
 
 -- an element at or below each of the first k

@@ -6,7 +6,8 @@ use Rattle.std.proofs.lemmas.List.{get_or_past}
 use Rattle.std.proofs.lemmas.Nat.Bits.{bit_at-zero}
 use Rattle.lattice_core.specs.declared.Entry.{Entry}
 use Rattle.lattice_core.specs.declared.Pair.{Pair}
-use Rattle.lattice_core.specs.Order.{Order, order_of, size, leq, IsOrder, IsLeastUpper, IsGreatestLower, IsLattice}
+use Rattle.lattice_core.specs.Order.{Order, size, leq, IsOrder, IsLeastUpper, IsGreatestLower, IsLattice}
+use Rattle.lattice_core.specs.Rows.{order_of}
 use Rattle.lattice_core.specs.Rows.{Leads, Here, On}
 use Rattle.lattice_core.specs.Tables.{IsConverse}
 use Rattle.lattice_core.specs.Building.{IsWritten, IsBelow, Same, Through, IsClosureOf, IsCycle, HasNoPair, HasBounds, AreBounded, LacksBound, IsFirstPair, AreFit, first_unknown, RefusesCycle, RefusesBounds}

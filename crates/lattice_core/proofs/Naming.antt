@@ -34,9 +34,9 @@ item_in_front f (x ∷ xs) (suc k) (suc i) h = item_in_front f xs k i (omega ari
 pub has_name : (entries : List Entry) (name : List ℕ) (i : ℕ) → number_of entries name ≡ Some i → (i < length entries) × (name_at entries i ≡ Some name)
 has_name [] name i h = absurd cc
 has_name (e ∷ es) name i h =
-    let found = position-Some (λ (entry : Entry). bytes_eq (name_of entry) name) (e ∷ es) i e h in
-    let same : name_of (get_or (e ∷ es) i e) ≡ name = (bytes_eq-Decides (name_of (get_or (e ∷ es) i e)) name).0 found.1 in
-    (found.0, name_is (e ∷ es) i e found.0 ∙ ap Some same)
+    let found = position-Some (λ (entry : Entry). bytes_eq name (name_of entry)) (e ∷ es) i e h in
+    let same : name ≡ name_of (get_or (e ∷ es) i e) = (bytes_eq-Decides name (name_of (get_or (e ∷ es) i e))).0 found.1 in
+    (found.0, name_is (e ∷ es) i e found.0 ∙ ap Some (sym same))
 
 untrue : (b : Bool) (n : ℕ) → cond b (Some n) None ≡ None → b ≡ false
 untrue true n h = absurd cc
@@ -57,10 +57,10 @@ pub lacks_name : (entries : List Entry) (name : List ℕ) → number_of entries 
 lacks_name [] name none i is = cc
 lacks_name (e ∷ es) name none i is = elim (cases_lt i (length (e ∷ es))) [
   | inl within ↦
-      let other : bytes_eq (name_of (get_or (e ∷ es) i e)) name ≡ false = none_passes (λ (entry : Entry). bytes_eq (name_of entry) name) (e ∷ es) none i e within in
+      let other : bytes_eq name (name_of (get_or (e ∷ es) i e)) ≡ false = none_passes (λ (entry : Entry). bytes_eq name (name_of entry)) (e ∷ es) none i e within in
       let there = name_is (e ∷ es) i e within in
-      let same : name_of (get_or (e ∷ es) i e) ≡ name = cc in
-      let eq : bytes_eq (name_of (get_or (e ∷ es) i e)) name ≡ true = (bytes_eq-Decides (name_of (get_or (e ∷ es) i e)) name).1 same in
+      let same : name ≡ name_of (get_or (e ∷ es) i e) = cc in
+      let eq : bytes_eq name (name_of (get_or (e ∷ es) i e)) ≡ true = (bytes_eq-Decides name (name_of (get_or (e ∷ es) i e))).1 same in
       cc
   | inr past ↦
       let none_there : name_at (e ∷ es) i ≡ None = item_past name_of (e ∷ es) i past in

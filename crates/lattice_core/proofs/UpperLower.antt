@@ -4,7 +4,8 @@ use Rattle.std.specs.Int.{bit_at}
 use Rattle.std.specs.declared.option.Option.{Option}
 use Rattle.std.proofs.lemmas.Bool.{cases_lt}
 use Rattle.std.proofs.lemmas.Nat.Bits.{bit_at-lt, same_from_bits}
-use Rattle.lattice_core.specs.Order.{Order, order_of, size, leq, IsOrder, IsLeastUpper, IsGreatestLower, IsLattice}
+use Rattle.lattice_core.specs.Order.{Order, size, leq, IsOrder, IsLeastUpper, IsGreatestLower, IsLattice}
+use Rattle.lattice_core.specs.Rows.{order_of}
 use Rattle.lattice_core.specs.Tables.{IsConverse}
 use Rattle.lattice_core.specs.Building.{LacksBound, HasBounds, AreBounded}
 use Rattle.lattice_core.proofs.Bits.{and_both, and_of_both}

@@ -3,6 +3,7 @@
 
 pub mod bounds;
 pub mod checks;
+pub mod collection;
 pub mod rows;
 pub mod tables;
 
@@ -10,6 +11,7 @@ ghost use Rattle.std.specs.Prelude.{◌≡◌, ℕ, List, IfOk};
 
 use std::alloc::{AllocError, AllocFailed, Global};
 use std::marker::Model;
+pub use collection::Lattices;
 pub use tables::Lattice;
 
 /// The bytes of a name.
