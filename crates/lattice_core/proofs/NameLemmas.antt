@@ -1,7 +1,7 @@
 -- The names of lattices, taken one by one.
-use Rattle.std.proofs.Common.{◌≡◌, ℕ, ◌<◌, ◌≤◌, ◌+◌, zero, suc, Bool, true, false, cond, List, [], ◌∷◌, ◌++◌, length, take, drop, get_or, Some, None, refl, sym, ◌∙◌, ap, arith, append_assoc, add-one, append-nil}
+use Rattle.std.proofs.Common.{◌≡◌, ℕ, ◌<◌, ◌+◌, zero, suc, Bool, true, false, List, [], ◌∷◌, ◌++◌, length, take, drop, get_or, Some, None, refl, sym, ◌∙◌, ap, arith, append_assoc, add-one, append-nil}
 use Rattle.std.specs.Prelude.{option_map, if◌then◌else◌}
-use Rattle.std.specs.List.{position_from, position}
+use Rattle.std.specs.List.{position_from}
 use Rattle.std.specs.Option.{option_or}
 use Rattle.std.specs.declared.option.Option.{Option}
 use Rattle.std.specs.Str.{bytes_eq}
@@ -74,7 +74,7 @@ word_on lattice entries i entry old now new h is before added word =
     let pair : List (List ℕ × (ℕ × ℕ)) = (entry.name, (lattice, i)) ∷ [] in
     added word ∙ means_more now (old ++ entry_words lattice 0 (take i entries)) pair before word
     ∙ ap (λ (all : List (List ℕ × (ℕ × ℕ))). meaning_of all word)
-      (append_assoc old (entry_words lattice 0 (take i entries)) pair ∙ ap (λ (rest : List (List ℕ × (ℕ × ℕ))). old ++ rest) (sym (entry_words_on lattice entries i entry h is)))
+    (append_assoc old (entry_words lattice 0 (take i entries)) pair ∙ ap (λ (rest : List (List ℕ × (ℕ × ℕ))). old ++ rest) (sym (entry_words_on lattice entries i entry h is)))
 
 -- one lattice more
 pub words_from_more : (n : ℕ) (lattices : List LatticeView) (i : ℕ) (lattice : LatticeView) → i < length lattices → lattice ≡ get_or lattices i lattice →
@@ -104,7 +104,7 @@ meaning_from m [] i lattice word h is = absurd (omega arith)
 meaning_from m (l ∷ ls) zero lattice word h is =
     meaning_of-append (entry_words m 0 l.entries) (words_from (suc m) ls) word
     ∙ ap (λ (first : Option (ℕ × ℕ)). option_or first (meaning_of (words_from (suc m) ls) word))
-      (lattice_means m l.entries word ∙ ap (λ (v : LatticeView). option_map (λ (k : ℕ). (m, k)) (number_of v.entries word)) (sym is))
+    (lattice_means m l.entries word ∙ ap (λ (v : LatticeView). option_map (λ (k : ℕ). (m, k)) (number_of v.entries word)) (sym is))
 meaning_from m (l ∷ ls) (suc i) lattice word h is = meaning_from m ls i lattice word (omega arith) is
 
 pub found_at : (lattices : List LatticeView) (i : ℕ) (lattice : LatticeView) (word : List ℕ) (elem : ℕ) → i < length lattices → lattice ≡ get_or lattices i lattice →

@@ -1,11 +1,11 @@
 //! The lattices of a file.
 
-ghost use Rattle.std.specs.Prelude.{◌≡◌, ◌<◌, ◌++◌, ◌∷◌, [], length, Some, slice_get, OnOk, OnErr, IfOk};
+ghost use Rattle.std.specs.Prelude.{◌≡◌, ◌<◌, ◌≤◌, ◌++◌, ◌∷◌, [], length, Some, slice_get, OnOk, OnErr, IfOk};
 ghost use Rattle.qual_base.specs.Words.{meaning_of, MeansTheSame};
 ghost use Rattle.lattice_core.specs.Names.{words_of};
 
-use crate::checks::find_name;
 use crate::Lattice;
+use crate::checks::find_name;
 use qual_base::faults::NoMemory;
 use qual_base::ids::{Elem, LatticeNo};
 use qual_base::words::QualWords;
@@ -51,7 +51,8 @@ impl Lattices {
 
     /// How many lattices there are, at most 16.
     pub fn len(&self) -> u8
-        ensures { result ≡ length self.now }
+        ensures count { result ≡ length self.now }
+        ensures few { length self.now ≤ 16 }
     {
         self.items.len() as u8
     }

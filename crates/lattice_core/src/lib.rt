@@ -1,17 +1,19 @@
 //! Finite lattices of named elements.
 #![tactic(auto)]
 
-pub mod bounds;
-pub mod checks;
-pub mod collection;
-pub mod rows;
-pub mod tables;
+mod bounds;
+mod checks;
+mod collection;
+mod rows;
+mod tables;
+#[cfg(test)]
+mod tests;
 
 ghost use Rattle.std.specs.Prelude.{◌≡◌, ℕ, List, IfOk};
 
+pub use collection::Lattices;
 use std::alloc::{AllocError, AllocFailed, Global};
 use std::marker::Model;
-pub use collection::Lattices;
 pub use tables::Lattice;
 
 /// The bytes of a name.

@@ -1,4 +1,4 @@
-use Rattle.std.proofs.Common.{◌++◌, ◌∙◌}
+use Rattle.std.proofs.Common.{◌++◌}
 use Rattle.lattice_core.specs.Names.{entry_words}
 use Rattle.qual_base.specs.Words.{MeansTheSame}
 use Rattle.lattice_core.proofs.NameLemmas.{lattice_on}
