@@ -1,9 +1,9 @@
 -- What holds of each constraint holds of each in a longer list.
-use Rattle.std.proofs.Common.{◌≡◌, ℕ, zero, suc, ◌+◌, ◌<◌, ◌≤◌, List, [], ◌∷◌, ◌++◌, length, max, slice_get, Some, None, refl, sym, ◌∙◌, ap, subst, arith, ◌⊎◌, inl, inr}
+use Rattle.std.proofs.Common.{◌≡◌, ℕ, zero, suc, ◌≤◌, List, [], ◌∷◌, ◌++◌, length, slice_get, Some, sym, ◌∙◌, ap, subst, arith, ◌⊎◌, inl, inr}
 use Rattle.flow_graph.specs.declared.constraint.Constraint.{Constraint}
 use Rattle.flow_graph.specs.declared.constraint.Link.{Link}
 use Rattle.flow_graph.specs.declared.constraint.Link.TheVariants.{Le, Const, Bound, Enter, Leave}
-use Rattle.flow_graph.specs.System.{System, Has, IsWithin, AllWithin, AllBelow, highest, vars_of_link, vars_of}
+use Rattle.flow_graph.specs.System.{System, IsWithin, AllWithin, AllBelow, highest, vars_of_link, vars_of}
 
 -- an item of a longer list is one of the list, or the new one
 pub item_of_pushed : {A : Type 0} (xs : List A) (y : A) (n : ℕ) (x : A) → slice_get (xs ++ y ∷ []) n ≡ Some x → (slice_get xs n ≡ Some x) ⊎ (y ≡ x)

@@ -1,7 +1,7 @@
 -- What is true of a graph's fields stays true where they hold the same, or one more site.
-use Rattle.std.proofs.Common.{◌≡◌, ℕ, ◌<◌, ◌≤◌, ◌^◌, length, refl, sym, ◌∙◌, ap, arith, subst}
+use Rattle.std.proofs.Common.{◌≡◌, ◌<◌, ◌≤◌, ◌^◌, length, sym, ◌∙◌, ap, arith}
 use Rattle.flow_graph.specs.declared.graph.FlowGraph.TheInside.{Inside}
-use Rattle.flow_graph.specs.System.{highest, AllWithin}
+use Rattle.flow_graph.specs.System.{highest}
 use Rattle.flow_graph.specs.Held.{IsHeld, system_of}
 use Rattle.flow_graph.proofs.Bounds.{all_within-sites}
 

@@ -1,3 +1,4 @@
 mod Highest
 mod Bounds
 mod Keeping
+mod Owners

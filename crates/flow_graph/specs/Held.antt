@@ -1,5 +1,5 @@
 -- What is true of the fields of every graph.
-use Rattle.std.specs.Prelude.{◌≡◌, ℕ, ◌≤◌, ◌<◌, ◌^◌, length}
+use Rattle.std.specs.Prelude.{◌≡◌, ◌≤◌, ◌<◌, ◌^◌, length}
 use Rattle.flow_graph.specs.declared.graph.FlowGraph.TheInside.{Inside}
 use Rattle.flow_graph.specs.System.{System, AllWithin, highest}
 

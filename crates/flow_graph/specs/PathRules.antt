@@ -1,12 +1,11 @@
 -- The rules of path proofs, each a test of where a step stands.
-use Rattle.std.specs.Prelude.{◌≡◌, ℕ, Bool, true, false, not, ◌&&◌, ◌||◌, ◌==◌, Option, Some, None, if◌then◌else◌}
+use Rattle.std.specs.Prelude.{ℕ, Bool, true, false, not, ◌&&◌, ◌||◌, ◌==◌, Option, Some, None, if◌then◌else◌}
 use Rattle.std.specs.Int.{bit_at}
 use Rattle.qual_base.specs.declared.places.Owner.{Owner}
-use Rattle.qual_base.specs.declared.places.Owner.TheVariants.{Nobody, Function}
+use Rattle.qual_base.specs.declared.places.Owner.TheVariants.{Function}
 use Rattle.lattice_core.specs.Order.{Order, leq}
 use Rattle.flow_graph.specs.declared.constraint.Link.{Link}
 use Rattle.flow_graph.specs.declared.constraint.Link.TheVariants.{Le, Const, Bound, Enter, Leave}
-use Rattle.flow_graph.specs.declared.constraint.Constraint.{Constraint}
 use Rattle.flow_graph.specs.declared.proof.Why.{Why}
 use Rattle.flow_graph.specs.declared.proof.Why.TheVariants.{B1, B2, B3, B4, B5, B6, B7}
 use Rattle.flow_graph.specs.declared.place.Seen.{Seen}

@@ -1,25 +1,25 @@
 //! The list of constraints, the call sites, and who owns each variable.
 
-ghost use Rattle.std.specs.Prelude.{◌≡◌, ◌<◌, ◌≤◌, ◌-◌, ◌^◌, ℕ, [], ◌∷◌, ◌++◌, Some, length, slice_get, IfOk, OnErr, OnOk, IsErrOf, ◌↔◌};
+ghost use Rattle.std.specs.Prelude.{◌≡◌, ◌<◌, ◌≤◌, ◌-◌, ◌^◌, ℕ, [], ◌∷◌, ◌++◌, Some, max, length, slice_get, slice_index_or, IfOk, OnErr, OnOk, IsErrOf, ◌↔◌};
 ghost use Rattle.qual_base.specs.declared.places.Owner.TheVariants.{Nobody};
 ghost use Rattle.flow_graph.specs.System.{owner_of, vars_of, AllBelow, AllWithin, IsWithin, SetsOwner};
 
 use crate::constraint::{Constraint, Link, Site};
+use qual_base::faults::NoMemory;
 use qual_base::ids::{EdgeId, Numbered, SiteId, VarId};
 use qual_base::places::Owner;
 use std::alloc::Global;
 use std::marker::Model;
+use thiserror::Error;
 
 /// Want of memory, or as many constraints as a graph may hold.
-#[derive(Clone, Copy, PartialEq, Eq, Debug)]
+#[derive(Clone, Copy, PartialEq, Eq, Debug, Error)]
 pub enum GraphFault {
+    #[error("too many constraints")]
     TooMany,
+    #[error("no memory")]
     NoMemory,
 }
-
-/// Want of memory.
-#[derive(Clone, Copy, PartialEq, Eq, Debug)]
-pub struct NoMemory;
 
 /// The number of constraints that a graph may hold.
 pub const MOST_CONSTRAINTS: u32 = 67_108_864;
@@ -74,6 +74,19 @@ impl FlowGraph {
             Err(_) => return Err(NoMemory),
         }
         Ok(SiteId::new(at))
+    }
+
+    /// Sets the owner of a variable. Constant time but for growth: the table of owners has as many places as the highest
+    /// variable whose owner was set.
+    pub fn set_owner(&mut self, at: VarId, owner: Owner) -> Result<(), NoMemory>
+        requires { at < 2 ^ 24 }
+        ensures ok { OnOk result (SetsOwner self.old self.new at owner) }
+        ensures err { OnErr result (self.new ≡ self.old) }
+    {
+        let at = at.number() as usize;
+        make_room(&mut self.owners, at + 1)?;
+        self.owners[at] = owner;
+        Ok(())
     }
 
     /// Adds a constraint. Constant time but for growth.
@@ -145,6 +158,21 @@ impl FlowGraph {
         ensures limit { result ≤ 2 ^ 24 }
     {
         self.highest.max(self.owners.len() as u32)
+    }
+}
+
+/// Gives at least so many variables a place in the table of owners. The new ones belong to nobody.
+fn make_room(owners: &mut Vec<Owner>, count: usize) -> Result<(), NoMemory>
+    ensures room { OnOk result (length owners.new.items ≡ max (length owners.old.items) count) }
+    ensures same { (v : ℕ) → slice_index_or owners.new.items v Nobody ≡ slice_index_or owners.old.items v Nobody }
+    ensures err { OnErr result (owners.new.items ≡ owners.old.items) }
+{
+    if count <= owners.len() {
+        return Ok(());
+    }
+    match owners.resize(count, Owner::Nobody) {
+        Ok(()) => Ok(()),
+        Err(_) => Err(NoMemory),
     }
 }
 

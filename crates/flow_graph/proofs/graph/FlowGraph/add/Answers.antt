@@ -1,6 +1,6 @@
-use Rattle.std.proofs.Common.{◌≡◌, ◌≤◌, ◌^◌, length, refl, sym, ◌∙◌, ap, subst, arith, max}
+use Rattle.std.proofs.Common.{length, refl, sym, subst, arith}
 use Rattle.std.proofs.lemmas.Grind.{common_steps}
-use Rattle.flow_graph.specs.System.{System, IsWithin, highest, vars_of_link}
+use Rattle.flow_graph.specs.System.{System, IsWithin}
 use Rattle.flow_graph.specs.Held.{system_of}
 use Rattle.flow_graph.proofs.Highest.{highest-append}
 use Rattle.flow_graph.proofs.Bounds.{all_within-push}

@@ -1,4 +1,4 @@
-use Rattle.std.proofs.Common.{◌≡◌, subst, sym}
+use Rattle.std.proofs.Common.{subst}
 use Rattle.flow_graph.specs.System.{AllWithin}
 use Rattle.flow_graph.proofs.graph.FlowGraph.len.Goals as goal
 

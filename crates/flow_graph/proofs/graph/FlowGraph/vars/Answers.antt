@@ -1,6 +1,6 @@
-use Rattle.std.proofs.Common.{◌≡◌, ◌≤◌, ℕ, subst, sym, ◌∙◌, ap, arith, max}
+use Rattle.std.proofs.Common.{◌≡◌, ℕ, subst, arith}
 use Rattle.std.proofs.lemmas.Grind.{common_steps}
-use Rattle.flow_graph.specs.System.{System, AllBelow, vars_of}
+use Rattle.flow_graph.specs.System.{AllBelow, vars_of}
 use Rattle.flow_graph.proofs.Bounds.{all_below}
 use Rattle.flow_graph.proofs.graph.FlowGraph.vars.Goals as goal
 

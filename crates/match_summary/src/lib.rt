@@ -1,0 +1,6 @@
+//! Which variables of a function matched paths join: the closure of the constraints under calls whose returns match.
+#![tactic(auto)]
+
+pub mod reason;
+pub mod rounds;
+pub mod summary;
