@@ -1,0 +1,5 @@
+mod Walk
+mod Splits
+mod Numbers
+mod Reading
+mod WholeReports
