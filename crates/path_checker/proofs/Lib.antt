@@ -3,3 +3,4 @@ mod Splits
 mod Numbers
 mod Reading
 mod WholeReports
+mod Placed

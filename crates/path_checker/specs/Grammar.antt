@@ -1,6 +1,8 @@
 -- The lines of whole reports.
-use Rattle.std.specs.Prelude.{◌≡◌, ℕ, ◌+◌, ◌<◌, List, [], ◌∷◌}
+use Rattle.std.specs.Prelude.{◌≡◌, ℕ, suc, ◌+◌, ◌<◌, ◌≤◌, List, [], ◌∷◌, ◌++◌, length, take, slice_get, Some}
 use Rattle.path_checker.specs.declared.lines.Line.{Line}
+use Rattle.path_checker.specs.declared.report.ReportFault.{ReportFault}
+use Rattle.path_checker.specs.declared.report.ReportFault.TheVariants.{Grammar, NoSuchConstraint, NoMemory}
 use Rattle.path_checker.specs.declared.lines.Line.TheVariants.{Rejected, Error, Sub, Path, Take, Through}
 
 -- a step as it is written: by the number of a constraint, or of a sub-path
@@ -48,3 +50,29 @@ pub record IsReport (edges : ℕ) (lines : List Line) : Type 0 where
   pub others : List WrittenError
   pub lines_are : lines ≡ Rejected ∷ error_lines (first ∷ others)
   pub named : ErrorsAreNamed edges (first ∷ others)
+
+-- lines that others, put behind them, make a report
+abbrev pub BeginsReport : ℕ → List Line → Type 0
+BeginsReport edges lines = (behind : List Line) × IsReport edges (lines ++ behind)
+
+-- Line n is the first that does not fit: the lines before it begin a report, and no report begins with it too, whatever
+-- the constraints are.
+pub record IsMisfit (edges : ℕ) (lines : List Line) (n : ℕ) : Type 0 where
+  pub before : ℕ
+  pub number : n ≡ before + 1
+  pub begins : BeginsReport edges (take before lines)
+  pub misfit : before < length lines → (others : ℕ) → BeginsReport others (take (suc before) lines) → ⊥
+
+-- Line n is the first that names no constraint: the lines before it begin a report.
+pub record NamesNothing (edges : ℕ) (lines : List Line) (n : ℕ) : Type 0 where
+  pub before : ℕ
+  pub number : n ≡ before + 1
+  pub begins : BeginsReport edges (take before lines)
+  pub constraint : ℕ
+  pub line_is : slice_get lines before ≡ Some (Take constraint)
+  pub past : edges ≤ constraint
+
+abbrev pub IsPlaced : ℕ → List Line → ReportFault → Type 0
+IsPlaced edges lines (Grammar n) = IsMisfit edges lines n
+IsPlaced edges lines (NoSuchConstraint n) = NamesNothing edges lines n
+IsPlaced edges lines NoMemory = Unit {0}

@@ -2,7 +2,7 @@
 
 ghost use Rattle.std.specs.Prelude.{◌≡◌, ◌+◌, ◌-◌, ◌<◌, ◌^◌, ◌⊎◌, ◌↔◌, ◌∷◌, ◌++◌, [], false, None, Some, length, map, MatchResult, IfOk, IfErr, OnOk, OnErr};
 ghost use Rattle.path_checker.specs.Report.{next, is_unknown, may_end, shape_of, report_fault, proofs_in};
-ghost use Rattle.path_checker.specs.Grammar.{IsReport};
+ghost use Rattle.path_checker.specs.Grammar.{IsReport, IsPlaced};
 ghost use Rattle.path_checker.specs.Lines.{lines_of};
 
 use crate::lines::{Line, line_kind, split_at_first};
@@ -275,6 +275,7 @@ pub fn read_report(alloc: Global, bytes: &[u8], edges: u32) -> Result<Vec<PathPr
     ensures proofs { IfOk result (λ proofs. map shape_of proofs.items ≡ proofs_in (lines_of bytes.now)) }
     ensures reads { OnOk result (IsReport edges (lines_of bytes.now)) }
     ensures each { IsReport edges (lines_of bytes.now) → OnErr result (result ≡ Err ReportFault.NoMemory) }
+    ensures place { IfErr result (IsPlaced edges (lines_of bytes.now)) }
     ensures fault { IfErr result (λ e. (e ≡ ReportFault.NoMemory) ⊎ (report_fault edges (lines_of bytes.now) ≡ Some e)) }
 {
     read_lines(alloc, bytes, edges)
