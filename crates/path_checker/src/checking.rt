@@ -1,11 +1,11 @@
 //! Whether a path proof holds, one step at a time.
 
-ghost use Rattle.std.specs.Prelude.{◌≡◌, ◌==◌, ◌↔◌, [], ◌∷◌, None, Some, Option, IsOk, IfErr, OnOk, map, option_map, option_copied, slice_get, unwrap_or};
+ghost use Rattle.std.specs.Prelude.{◌≡◌, ◌↔◌, [], ◌∷◌, Some, IsOk, IfErr, OnOk, map, slice_get};
 ghost use Rattle.lattice_core.specs.Order.{leq};
 ghost use Rattle.flow_graph.specs.System.{IsWellOwned};
 ghost use Rattle.flow_graph.specs.Unfolding.{NamesElements, IsAccepted};
 ghost use Rattle.flow_graph.specs.PathRules.{begins, ends, is_kept, rule_at};
-ghost use Rattle.flow_graph.specs.PathProofs.{edge_or, edge_at, span_of, look, line_of, first_of, last_of, of_step, through, ends_with_nobody, stays_in_call, first_failing, home_of, subs_fault, start_of, end_fault, main_fault, steps_of, no_order, fault_of, Holds};
+ghost use Rattle.flow_graph.specs.PathProofs.{edge_or, edge_at, look, line_of, first_of, last_of, of_step, through, ends_with_nobody, stays_in_call, first_failing, home_of, subs_fault, start_of, end_fault, main_fault, steps_of, fault_of, Holds};
 ghost use Rattle.path_checker.specs.Orders.{orders_of, order_at, AreOrders};
 ghost use Rattle.path_checker.specs.Start.{start_fault};
 

@@ -4,8 +4,10 @@
 pub mod checking;
 pub mod lines;
 pub mod report;
-pub mod rules;
+mod rules;
 #[cfg(test)]
 mod tests;
 
+pub use checking::check;
 pub use flow_graph::proof::{BadStep, PathProof, PathStep, SubPath, Why};
+pub use report::{ReportFault, read_report};

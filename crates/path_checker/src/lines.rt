@@ -1,6 +1,6 @@
 //! The lines of a report, one by one.
 
-ghost use Rattle.std.specs.Prelude.{◌≡◌, ◌+◌, ◌<◌, ◌-◌, ◌^◌, ◌==◌, [], ◌∷◌, length, MatchOption, OnSome, option_map, option_copied, codes, IfSome};
+ghost use Rattle.std.specs.Prelude.{◌≡◌, ◌+◌, ◌==◌, [], ◌∷◌, length, MatchOption, option_map, codes, IfSome};
 ghost use Rattle.std.specs.List.{slice_split};
 ghost use Rattle.path_checker.specs.Lines.{behind, capped, number_behind, number_of, line_kind, step_kind, first_word, by_header};
 

@@ -1,6 +1,6 @@
 //! Reading the text of a report.
 
-ghost use Rattle.std.specs.Prelude.{◌≡◌, ◌+◌, ◌-◌, ◌<◌, ◌^◌, ◌⊎◌, ◌↔◌, ◌∷◌, ◌++◌, [], false, None, Some, length, map, MatchResult, IfOk, IfErr, OnOk, OnErr};
+ghost use Rattle.std.specs.Prelude.{◌≡◌, ◌+◌, ◌-◌, ◌<◌, ◌^◌, ◌⊎◌, ◌∷◌, ◌++◌, [], false, None, Some, length, map, IfOk, IfErr, OnOk, OnErr};
 ghost use Rattle.path_checker.specs.Report.{next, is_unknown, may_end, shape_of, report_fault, proofs_in};
 ghost use Rattle.path_checker.specs.Grammar.{IsReport, IsPlaced};
 ghost use Rattle.path_checker.specs.Lines.{lines_of};
