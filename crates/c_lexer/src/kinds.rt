@@ -181,3 +181,11 @@ pub enum TokenKind {
     /// After the last byte of the unit.
     End,
 }
+
+/// What a word is that is no name.
+#[derive(Clone, Copy, PartialEq, Eq, Debug)]
+pub(crate) enum Word {
+    Keyword(Keyword),
+    /// `__func__` and the like, which are read as a string literal.
+    Text,
+}

@@ -1,4 +1,7 @@
 //! The tokens of a C source with their places (C99, 6.4).
 #![tactic(auto)]
 
+mod fronts;
 pub mod kinds;
+mod signs;
+mod words;
