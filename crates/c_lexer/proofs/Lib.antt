@@ -1,2 +1,5 @@
 pub mod FrontLemmas
 pub mod WalkLemmas
+pub mod QuoteLemmas
+pub mod SignLemmas
+pub mod TokenLemmas

@@ -54,6 +54,10 @@ abbrev pub is_quoted : ℕ → List ℕ → Bool
 is_quoted quote [] = false
 is_quoted quote (c ∷ cs) = c == quote && is_quoted_tail quote cs
 
+-- a prefix of one byte: `L`, `u` or `U`
+abbrev pub is_wide : ℕ → Bool
+is_wide c = c == 76 || c == 117 || c == 85
+
 -- bytes between two quotes behind one of some prefixes
 abbrev pub is_prefixed : List (List ℕ) → ℕ → List ℕ → Bool
 is_prefixed prefixes quote bytes = list_any (λ prefix. starts_with nat_eq bytes prefix && is_quoted quote (drop (length prefix) bytes)) prefixes

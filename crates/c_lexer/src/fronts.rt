@@ -1,8 +1,8 @@
 //! How long the longest token of each kind is that stands in front of some bytes.
 
-ghost use Rattle.std.specs.Prelude.{true, not, ◌&&◌, ◌≡◌, ◌≢◌, ◌==◌, ◌<◌, ◌≤◌, ◌+◌, ◌^◌, ◌∷◌, [], ℕ, List, length, drop, MatchOption, OnSome, IfSome};
+ghost use Rattle.std.specs.Prelude.{true, false, not, ◌&&◌, ◌≡◌, ◌≢◌, ◌==◌, ◌<◌, ◌≤◌, ◌+◌, ◌^◌, ◌∷◌, [], ℕ, List, length, drop, MatchOption, OnSome, IfSome};
 ghost use Rattle.std.specs.List.{prefix_len};
-ghost use Rattle.c_lexer.specs.Spelling.{is_digit, is_letter, is_word_byte, is_exponent, goes_on, is_word, is_number, is_number_tail, is_digits, is_quoted, is_quoted_tail, is_char, is_text, is_dollar, begins_with, IsLongestOf, HasNone};
+ghost use Rattle.c_lexer.specs.Spelling.{is_digit, is_letter, is_word_byte, is_exponent, goes_on, is_word, is_number, is_number_tail, is_digits, is_quoted, is_quoted_tail, is_char, is_text, is_wide, is_dollar, begins_with, IsLongestOf, HasNone};
 
 pub(crate) fn is_letter_byte(byte: u8) -> bool
     ensures { result ≡ is_letter byte }
@@ -132,4 +132,84 @@ fn quoted_tail_len(quote: u8, bytes: &[u8]) -> Option<usize>
         escaped = opens_escape(escaped, *byte);
     }
     None
+}
+
+fn begins_with_byte(byte: u8, bytes: &[u8]) -> bool
+    ensures { result ≡ begins_with (λ c. c == byte) bytes.now }
+{
+    match bytes {
+        [first, ..] => *first == byte,
+        [] => false,
+    }
+}
+
+/// The length of the bytes between two quotes in front.
+pub(crate) fn quoted_len(quote: u8, bytes: &[u8]) -> Option<usize>
+    requires plain { quote ≢ 92 }
+    requires inline { quote ≢ 10 }
+    ensures { MatchOption result (HasNone (is_quoted quote) bytes.now) (λ n. IsLongestOf (is_quoted quote) bytes.now n) }
+{
+    if !begins_with_byte(quote, bytes) {
+        return None;
+    }
+    match quoted_tail_len(quote, &bytes[1..]) {
+        Some(n) => Some(1 + n),
+        None => None,
+    }
+}
+
+/// Whether a prefix of one byte may stand in front.
+fn begins_with_wide(bytes: &[u8]) -> bool
+    ensures { result ≡ begins_with is_wide bytes.now }
+{
+    match bytes {
+        [first, ..] => matches!(*first, b'L' | b'u' | b'U'),
+        [] => false,
+    }
+}
+
+fn begins_with_u8(bytes: &[u8]) -> bool
+    ensures { result ≡ (begins_with (λ c. c == 117) bytes.now && begins_with (λ c. c == 56) (drop 1 bytes.now)) }
+{
+    bytes.len() > 1 && bytes[0] == b'u' && bytes[1] == b'8'
+}
+
+/// The length of the character constant in front.
+pub(crate) fn char_len(bytes: &[u8]) -> Option<usize>
+    ensures { MatchOption result (HasNone is_char bytes.now) (λ n. IsLongestOf is_char bytes.now n) }
+{
+    if !begins_with_wide(bytes) {
+        return quoted_len(b'\'', bytes);
+    }
+    match quoted_len(b'\'', &bytes[1..]) {
+        Some(n) => Some(1 + n),
+        None => None,
+    }
+}
+
+/// The length of the string literal in front that has a prefix of one byte or none.
+fn short_text_len(bytes: &[u8]) -> Option<usize>
+    requires { (begins_with (λ c. c == 117) bytes.now && begins_with (λ c. c == 56) (drop 1 bytes.now)) ≡ false }
+    ensures { MatchOption result (HasNone is_text bytes.now) (λ n. IsLongestOf is_text bytes.now n) }
+{
+    if !begins_with_wide(bytes) {
+        return quoted_len(b'"', bytes);
+    }
+    match quoted_len(b'"', &bytes[1..]) {
+        Some(n) => Some(1 + n),
+        None => None,
+    }
+}
+
+/// The length of the string literal in front.
+pub(crate) fn text_len(bytes: &[u8]) -> Option<usize>
+    ensures { MatchOption result (HasNone is_text bytes.now) (λ n. IsLongestOf is_text bytes.now n) }
+{
+    if !begins_with_u8(bytes) {
+        return short_text_len(bytes);
+    }
+    match quoted_len(b'"', &bytes[2..]) {
+        Some(n) => Some(2 + n),
+        None => None,
+    }
 }

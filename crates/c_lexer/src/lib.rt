@@ -2,6 +2,7 @@
 #![tactic(auto)]
 
 mod fronts;
+mod longest;
 pub mod kinds;
 mod signs;
 mod words;

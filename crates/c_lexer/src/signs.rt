@@ -1,7 +1,8 @@
 //! Operators and brackets.
 
-ghost use Rattle.std.specs.Prelude.{◌≡◌, ◌∷◌, []};
+ghost use Rattle.std.specs.Prelude.{◌≡◌, ◌∷◌, [], length, take, nat_le, if◌then◌else◌, MatchOption};
 ghost use Rattle.c_lexer.specs.Words.{signs, sign_kind};
+ghost use Rattle.c_lexer.specs.Spelling.{is_sign, IsLongestOf, HasNone};
 
 use crate::kinds::Punct;
 
@@ -75,5 +76,48 @@ fn sign_of_three(first: u8, second: u8, third: u8) -> Option<Punct>
         (b'<', b'<', b'=') => Some(Punct::ShiftLeftEqual),
         (b'>', b'>', b'=') => Some(Punct::ShiftRightEqual),
         _ => None,
+    }
+}
+
+fn three_in_front(bytes: &[u8]) -> Option<Punct>
+    ensures { result ≡ (if nat_le 3 (length bytes.now) then sign_kind (take 3 bytes.now) else None) }
+{
+    match bytes {
+        [first, second, third, ..] => sign_of_three(*first, *second, *third),
+        _ => None,
+    }
+}
+
+fn two_in_front(bytes: &[u8]) -> Option<Punct>
+    ensures { result ≡ (if nat_le 2 (length bytes.now) then sign_kind (take 2 bytes.now) else None) }
+{
+    match bytes {
+        [first, second, ..] => sign_of_two(*first, *second),
+        _ => None,
+    }
+}
+
+fn one_in_front(bytes: &[u8]) -> Option<Punct>
+    ensures { result ≡ (if nat_le 1 (length bytes.now) then sign_kind (take 1 bytes.now) else None) }
+{
+    match bytes {
+        [first, ..] => sign_of_one(*first),
+        [] => None,
+    }
+}
+
+/// The longest operator or bracket in front, with its length.
+pub(crate) fn sign_in_front(bytes: &[u8]) -> Option<(Punct, usize)>
+    ensures { MatchOption result (HasNone is_sign bytes.now) (λ found. (sign_kind (take found.1 bytes.now) ≡ Some found.0) × IsLongestOf is_sign bytes.now found.1) }
+{
+    if let Some(sign) = three_in_front(bytes) {
+        return Some((sign, 3));
+    }
+    if let Some(sign) = two_in_front(bytes) {
+        return Some((sign, 2));
+    }
+    match one_in_front(bytes) {
+        Some(sign) => Some((sign, 1)),
+        None => None,
     }
 }
