@@ -3,3 +3,4 @@ pub mod WalkLemmas
 pub mod QuoteLemmas
 pub mod SignLemmas
 pub mod TokenLemmas
+pub mod GapLemmas

@@ -2,6 +2,7 @@
 #![tactic(auto)]
 
 mod fronts;
+mod gaps;
 mod longest;
 pub mod kinds;
 mod signs;
