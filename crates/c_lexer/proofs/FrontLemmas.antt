@@ -7,7 +7,7 @@ use Rattle.std.proofs.lemmas.Bool.{and_parts, or_from, eqb-true}
 use Rattle.c_lexer.specs.Spelling.{is_letter, is_word_byte, is_word, is_dollar, is_digit, is_digits, is_number, begins_with, goes_on, is_number_tail, IsLongestOf, HasNone}
 
 -- the bytes in front that pass are all of them, and more are not
-all_pass : (p : ℕ → Bool) (bytes : List ℕ) → list_all p (take (prefix_len p bytes) bytes) ≡ true
+pub all_pass : (p : ℕ → Bool) (bytes : List ℕ) → list_all p (take (prefix_len p bytes) bytes) ≡ true
 all_pass p [] = refl
 all_pass p (c ∷ cs) = by_test (p c) refl (all_pass p cs)
   where

@@ -4,3 +4,4 @@ pub mod QuoteLemmas
 pub mod SignLemmas
 pub mod TokenLemmas
 pub mod GapLemmas
+pub mod MarkLemmas

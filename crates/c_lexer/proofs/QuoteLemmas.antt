@@ -3,7 +3,7 @@ use Rattle.std.proofs.Common.{◌≡◌, ℕ, zero, suc, ◌+◌, ◌-◌, ◌<�
 use Rattle.std.proofs.lemmas.Bool.{and_parts, or_cases, eqb-true, cases_lt}
 use Rattle.std.proofs.lemmas.List.{length-drop}
 use Rattle.std.proofs.Common.{Option, Some, None, MatchOption}
-use Rattle.c_lexer.specs.Spelling.{is_wide, is_quoted, is_quoted_tail, is_char, is_text, begins_with, IsLongestOf, HasNone}
+use Rattle.c_lexer.specs.Spelling.{is_wide, is_quoted, is_quoted_tail, is_char, is_text, begins_with, IsLongestOf, NoneShorter, HasNone}
 
 -- a test of the whole front is another test of the front behind the first k bytes, and fewer bytes fail
 pub record IsShifted (test inner : List ℕ → Bool) (bytes : List ℕ) (k : ℕ) : Type 0 where
@@ -26,6 +26,13 @@ shifted-none {test} {inner} {bytes} {k} s none m le = by_order (cases_lt m k)
     by_order : (m < k) ⊎ (k ≤ m) → test (take m bytes) ≡ false
     by_order (inl lt) = s.before m lt
     by_order (inr ge) = s.behind m ge ∙ none (m - k) (let size = length-drop k bytes in omega arith)
+
+pub shifted-shorter : {test inner : List ℕ → Bool} {bytes : List ℕ} {k : ℕ} → IsShifted test inner bytes k → (n : ℕ) → NoneShorter inner (drop k bytes) n → NoneShorter test bytes (k + n)
+shifted-shorter {test} {inner} {bytes} {k} s n none m lt = by_order (cases_lt m k)
+  where
+    by_order : (m < k) ⊎ (k ≤ m) → test (take m bytes) ≡ false
+    by_order (inl lo) = s.before m lo
+    by_order (inr ge) = s.behind m ge ∙ none (m - k) (omega arith)
 
 -- a test of c ∷ cs that tests cs
 shifted_one : (test inner : List ℕ → Bool) (c : ℕ) (cs : List ℕ) → test [] ≡ false → ((r : List ℕ) → test (c ∷ r) ≡ inner r) → IsShifted test inner (c ∷ cs) 1

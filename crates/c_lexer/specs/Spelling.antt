@@ -100,3 +100,7 @@ pub record IsLongestOf (test : List ℕ → Bool) (bytes : List ℕ) (n : ℕ) :
 -- no front passes the test
 abbrev pub HasNone : (List ℕ → Bool) → List ℕ → Type 0
 HasNone test bytes = (m : ℕ) → m ≤ length bytes → test (take m bytes) ≡ false
+
+-- no front of fewer than n bytes passes
+abbrev pub NoneShorter : (List ℕ → Bool) → List ℕ → ℕ → Type 0
+NoneShorter test bytes n = (m : ℕ) → m < n → test (take m bytes) ≡ false

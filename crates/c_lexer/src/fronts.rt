@@ -2,7 +2,7 @@
 
 ghost use Rattle.std.specs.Prelude.{true, false, not, ◌&&◌, ◌≡◌, ◌≢◌, ◌==◌, ◌<◌, ◌≤◌, ◌+◌, ◌^◌, ◌∷◌, [], ℕ, List, length, drop, MatchOption, OnSome, IfSome};
 ghost use Rattle.std.specs.List.{prefix_len};
-ghost use Rattle.c_lexer.specs.Spelling.{is_digit, is_letter, is_word_byte, is_exponent, goes_on, is_word, is_number, is_number_tail, is_digits, is_quoted, is_quoted_tail, is_char, is_text, is_wide, is_dollar, begins_with, IsLongestOf, HasNone};
+ghost use Rattle.c_lexer.specs.Spelling.{is_digit, is_letter, is_word_byte, is_exponent, goes_on, is_word, is_number, is_number_tail, is_digits, is_quoted, is_quoted_tail, is_char, is_text, is_wide, is_dollar, begins_with, IsLongestOf, NoneShorter, HasNone};
 
 pub(crate) fn is_letter_byte(byte: u8) -> bool
     ensures { result ≡ is_letter byte }
@@ -119,7 +119,8 @@ fn opens_escape(escaped: bool, byte: u8) -> bool
 fn quoted_tail_len(quote: u8, bytes: &[u8]) -> Option<usize>
     requires plain { quote ≢ 92 }
     requires inline { quote ≢ 10 }
-    ensures { MatchOption result (HasNone (is_quoted_tail quote) bytes.now) (λ n. IsLongestOf (is_quoted_tail quote) bytes.now n) }
+    ensures longest { MatchOption result (HasNone (is_quoted_tail quote) bytes.now) (λ n. IsLongestOf (is_quoted_tail quote) bytes.now n) }
+    ensures only { IfSome result (λ n. NoneShorter (is_quoted_tail quote) bytes.now n) }
 {
     let mut escaped = false;
     for (at, byte) in bytes.iter().enumerate() {
@@ -147,7 +148,8 @@ fn begins_with_byte(byte: u8, bytes: &[u8]) -> bool
 pub(crate) fn quoted_len(quote: u8, bytes: &[u8]) -> Option<usize>
     requires plain { quote ≢ 92 }
     requires inline { quote ≢ 10 }
-    ensures { MatchOption result (HasNone (is_quoted quote) bytes.now) (λ n. IsLongestOf (is_quoted quote) bytes.now n) }
+    ensures longest { MatchOption result (HasNone (is_quoted quote) bytes.now) (λ n. IsLongestOf (is_quoted quote) bytes.now n) }
+    ensures only { IfSome result (λ n. NoneShorter (is_quoted quote) bytes.now n) }
 {
     if !begins_with_byte(quote, bytes) {
         return None;

@@ -5,5 +5,6 @@ mod fronts;
 mod gaps;
 mod longest;
 pub mod kinds;
+mod marks;
 mod signs;
 mod words;

@@ -2,14 +2,17 @@ use Rattle.std.proofs.Common.{get_or, sym, ◌∙◌, false, arith}
 use Rattle.c_lexer.proofs.WalkLemmas.{quoted_from, follows-more, follows-none, follows-close, none-more, quoted-newline, quoted-last, quoted-past, quoted-more, quoted-nil}
 use Rattle.c_lexer.proofs.fronts.quoted_tail_len.Goals as goal
 
-pub returns-then-byte-eq10 : goal.returns-then-byte-eq10
-returns-then-byte-eq10 c =
+pub returns-then-byte-eq10-clause-longest : goal.returns-then-byte-eq10-clause-longest
+returns-then-byte-eq10-clause-longest c =
     let q = c.args.quote in
     follows-none (quoted_from q) false c.loop-at.escaped c.args.bytes.now c.loop-at.at c.loop-at.invariant.follows c.loop-at.invariant.none
     (λ r _. quoted-newline q c.requires.plain c.requires.inline c.loop-at.escaped _ c.if-byte-eq10.true r)
 
-pub returns-then-closes_quote : goal.returns-then-closes_quote
-returns-then-closes_quote c =
+pub returns-then-closes_quote-clause-only : goal.returns-then-closes_quote-clause-only
+returns-then-closes_quote-clause-only c = λ m lt. c.loop-at.invariant.none m (omega arith) (omega arith)
+
+pub returns-then-closes_quote-clause-longest : goal.returns-then-closes_quote-clause-longest
+returns-then-closes_quote-clause-longest c =
     let q = c.args.quote in
     let closes = sym c.closes_quote.ensures ∙ c.if-closes_quote.true in
     follows-close (quoted_from q) false c.loop-at.escaped c.args.bytes.now c.loop-at.at (omega arith) c.loop-at.invariant.follows
