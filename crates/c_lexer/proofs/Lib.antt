@@ -5,3 +5,4 @@ pub mod SignLemmas
 pub mod TokenLemmas
 pub mod GapLemmas
 pub mod MarkLemmas
+pub mod NameLemmas

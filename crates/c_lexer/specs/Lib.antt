@@ -1,5 +1,7 @@
 pub mod Gaps
 pub mod Marks
+pub mod Names
+pub mod Reading
 pub mod Shapes
 pub mod Spelling
 pub mod Words

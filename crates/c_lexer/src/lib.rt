@@ -1,10 +1,14 @@
 //! The tokens of a C source with their places (C99, 6.4).
 #![tactic(auto)]
 
+mod front;
 mod fronts;
 mod gaps;
-mod longest;
 pub mod kinds;
+mod longest;
 mod marks;
+mod names;
+pub mod places;
 mod signs;
+pub mod token;
 mod words;
