@@ -28,7 +28,7 @@ occurs_closes bytes k o = (
     (let e : 2 + k + 1 ≡ 2 + (k + 1) = omega arith in ap (λ i. get_or bytes i 0) e) ∙ sym (get_or-drop 2 bytes (k + 1) 0) ∙ o.reads 1 (omega arith),
   )
 
-closes_inside : (bytes : List ℕ) (k : ℕ) → ClosesAt bytes k → k + 2 ≤ length bytes
+pub closes_inside : (bytes : List ℕ) (k : ℕ) → ClosesAt bytes k → k + 2 ≤ length bytes
 closes_inside bytes k h = by_order (cases_lt (k + 1) (length bytes))
   where
     by_order : (k + 1 < length bytes) ⊎ (length bytes ≤ k + 1) → k + 2 ≤ length bytes

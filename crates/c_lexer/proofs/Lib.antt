@@ -6,3 +6,4 @@ pub mod TokenLemmas
 pub mod GapLemmas
 pub mod MarkLemmas
 pub mod NameLemmas
+pub mod StepLemmas

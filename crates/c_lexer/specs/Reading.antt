@@ -139,3 +139,10 @@ IsStep unit words bytes old new = Skips bytes old new ⊎ Takes unit words bytes
 pub record IsCounted (front : Front) : Type 0 where
   pub tokens : length front.tokens ≤ front.at
   pub names : length front.names ≤ front.at
+
+-- why a token has no kind: its `$` word is unknown, which leaves the names as they were, or memory is wanting
+abbrev pub HasNoKind : ℕ → Meanings → List ℕ → List (List ℕ) → List (List ℕ) → Stop → Type 0
+HasNoKind unit words bytes old new BadByte = ⊥
+HasNoKind unit words bytes old new Unended = ⊥
+HasNoKind unit words bytes old new UnknownQualifier = (new ≡ old) × (is_dollar bytes ≡ true) × (is_index unit bytes ≡ false) × (meaning_of words bytes ≡ None)
+HasNoKind unit words bytes old new NoMemory = Unit {0}
