@@ -7,3 +7,4 @@ pub mod GapLemmas
 pub mod MarkLemmas
 pub mod NameLemmas
 pub mod StepLemmas
+pub mod FeedLemmas

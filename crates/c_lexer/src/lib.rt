@@ -10,5 +10,6 @@ mod marks;
 mod names;
 pub mod places;
 mod signs;
+mod text;
 pub mod token;
 mod words;
