@@ -8,3 +8,4 @@ pub mod MarkLemmas
 pub mod NameLemmas
 pub mod StepLemmas
 pub mod FeedLemmas
+pub mod ReachLemmas

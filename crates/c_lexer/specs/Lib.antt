@@ -5,4 +5,5 @@ pub mod Places
 pub mod Reading
 pub mod Shapes
 pub mod Spelling
+pub mod Tokens
 pub mod Words

@@ -146,3 +146,7 @@ HasNoKind unit words bytes old new BadByte = ⊥
 HasNoKind unit words bytes old new Unended = ⊥
 HasNoKind unit words bytes old new UnknownQualifier = (new ≡ old) × (is_dollar bytes ≡ true) × (is_index unit bytes ≡ false) × (meaning_of words bytes ≡ None)
 HasNoKind unit words bytes old new NoMemory = Unit {0}
+
+-- why reading stops behind gaps and tokens in turn
+abbrev pub StopsBehind : ℕ → Meanings → List ℕ → Front → Stop → Type 0
+StopsBehind unit words bytes new stop = (old : Front) × Reaches unit words bytes old × StopsAt unit words bytes old new stop

@@ -6,7 +6,7 @@ ghost use Rattle.c_lexer.specs.Gaps.{IsGap, HasNoGap, fresh_behind};
 ghost use Rattle.c_lexer.specs.Shapes.{HasShape};
 ghost use Rattle.c_lexer.specs.Spelling.{is_token, is_word, is_dollar, begins_comment, begins_with, IsLongestOf};
 ghost use Rattle.c_lexer.specs.Names.{name_number, with_name};
-ghost use Rattle.c_lexer.specs.Reading.{begin, is_index, IsKind, names_behind, MarksBehind, Skips, Takes, IsStep, HasNoKind, StopsAt, IsCounted, opens};
+ghost use Rattle.c_lexer.specs.Reading.{begin, is_index, IsKind, names_behind, MarksBehind, Skips, Takes, IsStep, HasNoKind, Reaches, StopsAt, StopsBehind, IsCounted, opens};
 ghost use Rattle.qual_base.specs.Words.{meaning_of};
 
 use crate::gaps::{Gap, gap_in_front, is_fresh_behind};
@@ -231,4 +231,18 @@ impl Front {
             None => Err(why_stuck(rest)),
         }
     }
+}
+
+/// Reads a unit to its end, in time linear in its bytes beside the look-ups of names.
+pub(crate) fn read_all(front: &mut Front, unit: UnitNo, words: &QualWords, bytes: &[u8]) -> Result<(), Stop>
+    requires small { length bytes.now < 2 ^ 32 - 1 }
+    requires begins { Reaches unit words.now bytes.now front.old }
+    ensures whole { OnOk result (front.new.at ≡ length bytes.now) }
+    ensures reached { OnOk result (Reaches unit words.now bytes.now front.new) }
+    ensures stops { IfErr result (λ stop. StopsBehind unit words.now bytes.now front.new stop) }
+{
+    'steps: while front.at() < bytes.len() {
+        front.step(unit, words, bytes)?;
+    }
+    Ok(())
 }

@@ -12,4 +12,5 @@ pub mod places;
 mod signs;
 mod text;
 pub mod token;
+pub mod tokens;
 mod words;
