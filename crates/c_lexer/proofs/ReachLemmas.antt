@@ -1,5 +1,5 @@
 -- What holds of each place that gaps and tokens in turn lead to.
-use Rattle.std.proofs.Common.{◌≡◌, ℕ, zero, suc, ◌+◌, ◌-◌, ◌<◌, ◌≤◌, Bool, true, false, cond, List, [], ◌∷◌, ◌++◌, length, take, drop, get_or, refl, sym, ◌∙◌, ap, subst, arith, Option, Some, None, inl, inr, ◌⊎◌, if◌then◌else◌, bytes_eq, position, is_some}
+use Rattle.std.proofs.Common.{◌≡◌, ℕ, zero, suc, ◌+◌, ◌-◌, ◌<◌, ◌≤◌, ◌^◌, Bool, true, false, cond, List, [], ◌∷◌, ◌++◌, length, take, drop, get_or, refl, sym, ◌∙◌, ap, subst, arith, Option, Some, None, inl, inr, ◌⊎◌, if◌then◌else◌, bytes_eq, position, is_some}
 use Rattle.std.specs.Prelude.{slice_get}
 use Rattle.std.specs.List.Sorted.{IsNonDecreasingBy}
 use Rattle.std.proofs.lemmas.List.{length-append, length-drop, append-nil}
@@ -12,7 +12,10 @@ use Rattle.c_lexer.specs.declared.kinds.TokenKind.TheVariants.{Name, Keyword, Nu
 use Rattle.c_lexer.specs.declared.token.Token.{Token}
 use Rattle.c_lexer.specs.declared.places.Mark.{Mark}
 use Rattle.c_lexer.specs.Names.{with_name}
-use Rattle.c_lexer.specs.Reading.{Meanings, Front, begin, mark_of, names_behind, MarksBehind, Skips, Takes, Reaches, IsStep, IsCounted}
+use Rattle.c_lexer.specs.Reading.{Meanings, Front, begin, mark_of, names_behind, MarksBehind, Skips, Takes, Reaches, IsStep, IsCounted, Spells, StopsBehind}
+use Rattle.c_lexer.specs.Tokens.{IsSound}
+use Rattle.c_lexer.specs.declared.front.Stop.{Stop}
+use Rattle.c_lexer.specs.declared.front.Stop.TheVariants.{BadByte, Unended, UnknownQualifier, NoMemory}
 use Rattle.c_lexer.specs.Reading.Reaches.{begins, skips, takes}
 use Rattle.c_lexer.proofs.StepLemmas.{gap-fits, token-some}
 
@@ -156,3 +159,32 @@ step-further unit words bytes old new (inr t) = let some = token-some (drop old.
 pub step-reaches : (unit : ℕ) (words : Meanings) (bytes : List ℕ) (old new : Front) → Reaches unit words bytes old → IsStep unit words bytes old new → Reaches unit words bytes new
 step-reaches unit words bytes old new reached (inl s) = skips old new reached s
 step-reaches unit words bytes old new reached (inr t) = takes old new reached t
+
+-- a whole unit with its last token
+pub sound-end : (unit : ℕ) (words : Meanings) (bytes : List ℕ) (front : Front) (tokens : List Token) (marks : List Mark) (end : ℕ) → length bytes < 2 ^ 32 - 1 → Reaches unit words bytes front → front.at ≡ length bytes → end ≡ length bytes →
+    tokens ≡ front.tokens ++ record { kind = End; start = end; end = end } ∷ [] → marks ≡ front.marks → IsSound bytes tokens marks
+sound-end unit words bytes front tokens marks end small reached whole end_is tokens_are marks_are =
+    let kept = reaches-kept unit words bytes front reached in
+    record {
+      few = (let few = kept.counted.tokens in let size = ap length tokens_are ∙ length-append front.tokens (record { kind = End; start = end; end = end } ∷ []) in omega arith);
+      inside = rw tokens_are (before_more front.tokens (record { kind = End; start = end; end = end }) front.at (length bytes) kept.tokens (omega arith) (omega arith) (omega arith));
+      rising = rw marks_are kept.rising;
+    }
+
+pub spells-end : (unit : ℕ) (words : Meanings) (bytes : List ℕ) (front : Front) (tokens : List Token) (marks : List Mark) (end : ℕ) → Reaches unit words bytes front → front.at ≡ length bytes → end ≡ length bytes →
+    tokens ≡ front.tokens ++ record { kind = End; start = end; end = end } ∷ [] → marks ≡ front.marks → Spells unit words bytes tokens front.names marks
+spells-end unit words bytes front tokens marks end reached whole end_is tokens_are marks_are = record {
+    front = front;
+    reached = reached;
+    whole = whole;
+    tokens_are = rw end_is at tokens_are;
+    names_are = refl;
+    marks_are = marks_are;
+  }
+
+-- where reading stops, the marks are in order, and the place is within the bytes
+pub stop-kept : (unit : ℕ) (words : Meanings) (bytes : List ℕ) (front : Front) (stop : Stop) → StopsBehind unit words bytes front stop → (stop ≡ NoMemory → ⊥) → IsKept bytes front
+stop-kept unit words bytes front BadByte h other = rw h.2.0 (reaches-kept unit words bytes h.0 h.1)
+stop-kept unit words bytes front Unended h other = rw h.2.0 (reaches-kept unit words bytes h.0 h.1)
+stop-kept unit words bytes front UnknownQualifier h other = rw h.2.0 (reaches-kept unit words bytes h.0 h.1)
+stop-kept unit words bytes front NoMemory h other = absurd (other refl)

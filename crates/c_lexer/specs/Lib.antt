@@ -3,6 +3,7 @@ pub mod Marks
 pub mod Names
 pub mod Places
 pub mod Reading
+pub mod Refusals
 pub mod Shapes
 pub mod Spelling
 pub mod Tokens

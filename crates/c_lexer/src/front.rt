@@ -8,6 +8,8 @@ ghost use Rattle.c_lexer.specs.Spelling.{is_token, is_word, is_dollar, begins_co
 ghost use Rattle.c_lexer.specs.Names.{name_number, with_name};
 ghost use Rattle.c_lexer.specs.Reading.{begin, is_index, IsKind, names_behind, MarksBehind, Skips, Takes, IsStep, HasNoKind, Reaches, StopsAt, StopsBehind, IsCounted, opens};
 ghost use Rattle.qual_base.specs.Words.{meaning_of};
+ghost use Rattle.std.specs.List.Sorted.{IsNonDecreasingBy};
+ghost use Rattle.c_lexer.specs.Places.{IsSpot};
 
 use crate::gaps::{Gap, gap_in_front, is_fresh_behind};
 use crate::kinds::{TokenKind, Word};
@@ -15,10 +17,12 @@ use crate::longest::{Shape, longest_token};
 use crate::marks::marker_of;
 use crate::names::Names;
 use crate::places::Mark;
+use crate::text::Text;
 use crate::token::Token;
 use crate::words::kind_of_word;
 use qual_base::faults::NoMemory as OutOfMemory;
 use qual_base::ids::{Numbered, UnitNo};
+use qual_base::places::Spot;
 use qual_base::words::QualWords;
 use std::alloc::Global;
 use std::marker::Model;
@@ -102,7 +106,7 @@ fn push_mark(marks: &mut Vec<Mark>, mark: Option<Mark>) -> Result<(), OutOfMemor
     Ok(())
 }
 
-fn push_token(tokens: &mut Vec<Token>, kind: TokenKind, start: u32, end: u32) -> Result<(), OutOfMemory>
+pub(crate) fn push_token(tokens: &mut Vec<Token>, kind: TokenKind, start: u32, end: u32) -> Result<(), OutOfMemory>
     ensures { OnOk result (tokens.new.items ≡ tokens.old.items ++ record { kind = kind; start = start; end = end } ∷ []) }
 {
     if tokens.push(Token { kind, start, end }).is_err() {
@@ -174,6 +178,23 @@ impl Front {
         ensures { result ≡ self.now.at }
     {
         self.at
+    }
+
+    /// How a report names the place.
+    pub(crate) fn spot_in(&self, text: &Text) -> Spot
+        requires inside { self.now.at ≤ length text.now.1 }
+        requires small { length text.now.1 < 2 ^ 32 - 1 }
+        requires rising { IsNonDecreasingBy (λ m. m.from) self.now.marks }
+        ensures { IsSpot text.now.0 text.now.1 self.now.marks self.now.at result }
+    {
+        text.spot_of(&self.marks, self.at as u32)
+    }
+
+    pub(crate) fn into_parts(self) -> (Vec<Token>, Vec<Mark>)
+        ensures tokens { result.0.items ≡ self.tokens }
+        ensures marks { result.1.items ≡ self.marks }
+    {
+        (self.tokens, self.marks)
     }
 
     fn skip(&mut self, bytes: &[u8], gap: Gap, n: usize) -> Result<(), OutOfMemory>

@@ -5,6 +5,7 @@ mod front;
 mod fronts;
 mod gaps;
 pub mod kinds;
+pub mod lex;
 mod longest;
 mod marks;
 mod names;
