@@ -1,13 +1,13 @@
 -- The table of line feeds of some bytes.
-use Rattle.std.proofs.Common.{◌≡◌, ◌≢◌, ℕ, zero, suc, ◌+◌, ◌-◌, ◌<◌, ◌≤◌, Bool, true, false, not, cond, ◌==◌, nat_lt, nat_le, List, [], ◌∷◌, ◌++◌, length, take, drop, get_or, refl, sym, ◌∙◌, ap, subst, arith, add-one, inl, inr, ◌⊎◌, if◌then◌else◌, All}
+use Rattle.std.proofs.Common.{◌≡◌, ◌≢◌, ℕ, zero, suc, ◌+◌, ◌-◌, ◌<◌, ◌≤◌, Bool, true, false, ◌==◌, nat_lt, nat_le, List, [], ◌∷◌, ◌++◌, length, take, drop, get_or, refl, sym, ◌∙◌, ap, subst, arith, add-one, inl, inr, ◌⊎◌, if◌then◌else◌, All}
 use Rattle.std.specs.List.{count_by}
 use Rattle.std.specs.List.Sorted.{IsPartitionedBy, IsPartitionPoint}
-use Rattle.std.proofs.lemmas.Bool.{both_ways, cases_Bool, cases_lt, cases_order, lt-ltb, le-ltb, ltb-true, ltb-false, eqb-true, eqb-false}
+use Rattle.std.proofs.lemmas.Bool.{both_ways, cases_Bool, cases_lt, cases_order, lt-ltb, le-ltb, eqb-true, eqb-false}
 use Rattle.std.proofs.lemmas.List.{take-append-drop, take-take, drop-take, append-nil, append_assoc, length-append, get_or_append_left, get_or-append_right, get_or_at}
 use Rattle.std.proofs.lemmas.List.Sums.{sum_by-append, count_by_more_yes, count_by_more_no}
-use Rattle.memchr.specs.Find.{is_byte, places, places_from, places_between}
+use Rattle.memchr.specs.Find.{is_byte, places, places_from}
 use Rattle.memchr.proofs.lemmas.PlaceLemmas.{places_from-append}
-use Rattle.std.specs.Prelude.{slice_range, slice_get, Option, Some, None}
+use Rattle.std.specs.Prelude.{slice_range, slice_get, Some}
 use Rattle.std.proofs.lemmas.Bool.{leb-true, leb-false}
 use Rattle.std.proofs.lemmas.Option.{get_or_from_slice_get, slice_get-get_or}
 use Rattle.c_lexer.specs.declared.places.Mark.{Mark}
@@ -89,6 +89,7 @@ feeds-point bytes xs at i is le within point =
         by_order : (a < length (feeds bytes at)) ⊎ (length (feeds bytes at) ≤ a) → nat_lt (get_or (feeds bytes at ++ behind bytes at) a d) at ≡ true
         by_order (inl before) = cut_below bytes at a d before
         by_order (inr past) = absurd (both_ways _ (cut_above bytes at b d (omega arith) lt) passes)
+
     at_cut : i ≤ length (feeds bytes at ++ behind bytes at) → (IsPartitionedBy (λ y. nat_lt y at) (feeds bytes at ++ behind bytes at) → IsPartitionPoint (λ y. nat_lt y at ≡ true) (λ y. nat_lt y at ≡ false) (feeds bytes at ++ behind bytes at) i) → i ≡ length (feeds bytes at)
     at_cut within point = by_order (cases_order i (length (feeds bytes at)))
       where
@@ -155,8 +156,7 @@ line-behind bytes xs at count is le size some = by_last (feeds-last bytes at)
         let parts = length-append (rest ++ p ∷ []) (behind bytes at) in
         let front = length-append rest (p ∷ []) in
         let reads : (d : ℕ) → get_or xs (count - 1) d ≡ p = λ d.
-            rw (whole, less) (get_or_append_left (rest ++ p ∷ []) (behind bytes at) d (length rest) (omega arith) ∙ get_or_at rest p [] d (length rest) refl) in
-        (
+        rw (whole, less) (get_or_append_left (rest ++ p ∷ []) (behind bytes at) d (length rest) (omega arith) ∙ get_or_at rest p [] d (length rest) refl) in (
           omega arith,
           (λ d. rw (reads d) lt),
           (λ d. rw (reads d) (record {
@@ -177,8 +177,8 @@ pub governs-last : (marks : List Mark) (at count : ℕ) → count ≤ length mar
 governs-last marks at count le some point d =
     let before : (get_or marks (count - 1) d).from ≤ at = leb-true _ at (point.0 (count - 1) d (omega arith) (omega arith)) in (
       last (count - 1) (slice_get-get_or marks (count - 1) d (omega arith)) before
-      (λ j m gt there. let lt : j < length marks = slice_get_length marks j m there in
-      let later : nat_le m.from at ≡ false = rw (get_or_from_slice_get marks j m d there) at (point.1 j d (omega arith) lt) in leb-false m.from at later),
+          (λ j m gt there. let lt : j < length marks = slice_get_length marks j m there in
+          let later : nat_le m.from at ≡ false = rw (get_or_from_slice_get marks j m d there) at (point.1 j d (omega arith) lt) in leb-false m.from at later),
       before,
     )
 

@@ -1,10 +1,10 @@
 -- Fronts of a list of bytes, and the longest that passes a test.
-use Rattle.std.proofs.Common.{◌≡◌, ℕ, zero, suc, ◌+◌, ◌-◌, ◌<◌, ◌≤◌, Bool, true, false, not, cond, ◌&&◌, ◌||◌, ◌==◌, List, [], ◌∷◌, length, take, drop, get_or, refl, sym, ◌∙◌, ap, subst, arith, one-add, add-one}
+use Rattle.std.proofs.Common.{◌≡◌, ℕ, zero, suc, ◌+◌, ◌<◌, ◌≤◌, Bool, true, false, cond, ◌&&◌, ◌||◌, ◌==◌, List, [], ◌∷◌, length, take, drop, refl, ◌∙◌, arith, one-add}
 use Rattle.std.specs.List.{list_all, prefix_len}
 use Rattle.std.proofs.lemmas.List.Sums.{prefix_len-le-length}
 use Rattle.std.proofs.lemmas.Bool.Decides.{nat_tests}
-use Rattle.std.proofs.lemmas.Bool.{and_parts, or_from, eqb-true}
-use Rattle.c_lexer.specs.Spelling.{is_letter, is_word_byte, is_word, is_dollar, is_digit, is_digits, is_number, begins_with, goes_on, is_number_tail, IsLongestOf, HasNone}
+use Rattle.std.proofs.lemmas.Bool.{and_parts, eqb-true}
+use Rattle.c_lexer.specs.Spelling.{is_letter, is_word_byte, is_word, is_dollar, is_digit, is_digits, is_number, begins_with, is_number_tail, IsLongestOf, HasNone}
 
 -- the bytes in front that pass are all of them, and more are not
 pub all_pass : (p : ℕ → Bool) (bytes : List ℕ) → list_all p (take (prefix_len p bytes) bytes) ≡ true
@@ -28,10 +28,10 @@ more_fail p (c ∷ cs) (suc m) lt le = by_test (p c) refl lt (λ lt. more_fail p
 pub longest_run : (first p : ℕ → Bool) (test : List ℕ → Bool) → ((c : ℕ) (cs : List ℕ) → test (c ∷ cs) ≡ (first c && list_all p cs)) →
     (c : ℕ) (cs : List ℕ) → first c ≡ true → IsLongestOf test (c ∷ cs) (1 + prefix_len p cs)
 longest_run first p test form c cs h = record {
-    inside = (let l = prefix_len-le-length p cs in omega arith);
-    passes = rw (one-add, form c (take (prefix_len p cs) cs), h) (all_pass p cs);
-    longest = longer;
-  }
+  inside = (let l = prefix_len-le-length p cs in omega arith);
+  passes = rw (one-add, form c (take (prefix_len p cs) cs), h) (all_pass p cs);
+  longest = longer;
+}
   where
     longer : (m : ℕ) → 1 + prefix_len p cs < m → m ≤ length (c ∷ cs) → test (take m (c ∷ cs)) ≡ false
     longer zero lt le = absurd (omega arith)

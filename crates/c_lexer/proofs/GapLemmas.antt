@@ -1,14 +1,11 @@
 -- Gaps in front of some bytes.
-use Rattle.std.proofs.Common.{◌≡◌, ℕ, zero, suc, ◌+◌, ◌-◌, ◌<◌, ◌≤◌, Bool, true, false, not, cond, ◌&&◌, ◌||◌, ◌==◌, List, [], ◌∷◌, length, take, drop, get_or, refl, sym, ◌∙◌, ap, subst, arith, nat_eq, codes, Option, Some, None, MatchOption, inl, inr, ◌⊎◌, unwrap_or}
-use Rattle.std.specs.List.{prefix_len, starts_with}
-use Rattle.std.proofs.lemmas.Bool.{both_ways, cases_lt, not-true, not-false, eqb-true, ne_eqb, not_from_true, not_from_false, false_from_ne_true, eq-eqb, and_parts, and_from}
+use Rattle.std.proofs.Common.{◌≡◌, ℕ, zero, suc, ◌+◌, ◌-◌, ◌<◌, ◌≤◌, true, not, ◌==◌, List, length, drop, get_or, sym, ◌∙◌, ap, arith, nat_eq, codes, Option, Some, None, inl, inr, ◌⊎◌, unwrap_or}
+use Rattle.std.specs.List.{starts_with}
+use Rattle.std.proofs.lemmas.Bool.{cases_lt, not_from_true, not_from_false, false_from_ne_true}
 use Rattle.std.proofs.lemmas.List.{get_or-drop, length-drop, get_or_past}
 use Rattle.std.proofs.lemmas.List.Sums.{prefix_len_is}
 use Rattle.memchr.specs.Find.{IsFirstByte, FindsNeedle, OccursAt, is_byte}
-use Rattle.c_lexer.specs.declared.gaps.Gap.{Gap}
-use Rattle.c_lexer.specs.declared.gaps.Gap.TheVariants.{Blank, LineFeed, OtherSpace, BlockComment, LineComment, SkippedLine}
-use Rattle.c_lexer.specs.Spelling.{begins_with}
-use Rattle.c_lexer.specs.Gaps.{is_blank, is_other_space, line_len, ClosesAt, IsBlockComment, IsGap, HasNoGap}
+use Rattle.c_lexer.specs.Gaps.{line_len, ClosesAt, IsBlockComment}
 
 -- what a search for a line feed says
 no_feed : (x : ℕ) → ((x == 10) ≡ true → ⊥) → not (x == 10) ≡ true
@@ -24,9 +21,9 @@ line-len bytes (Some k) h =
 -- `*/` stands at a place behind the first two bytes
 occurs_closes : (bytes : List ℕ) (k : ℕ) → OccursAt (drop 2 bytes) (codes "*/") k → ClosesAt bytes (2 + k)
 occurs_closes bytes k o = (
-    sym (get_or-drop 2 bytes k 0) ∙ (let e : k ≡ k + 0 = omega arith in ap (λ i. get_or (drop 2 bytes) i 0) e) ∙ o.reads 0 (omega arith),
-    (let e : 2 + k + 1 ≡ 2 + (k + 1) = omega arith in ap (λ i. get_or bytes i 0) e) ∙ sym (get_or-drop 2 bytes (k + 1) 0) ∙ o.reads 1 (omega arith),
-  )
+  sym (get_or-drop 2 bytes k 0) ∙ (let e : k ≡ k + 0 = omega arith in ap (λ i. get_or (drop 2 bytes) i 0) e) ∙ o.reads 0 (omega arith),
+  (let e : 2 + k + 1 ≡ 2 + (k + 1) = omega arith in ap (λ i. get_or bytes i 0) e) ∙ sym (get_or-drop 2 bytes (k + 1) 0) ∙ o.reads 1 (omega arith),
+)
 
 pub closes_inside : (bytes : List ℕ) (k : ℕ) → ClosesAt bytes k → k + 2 ≤ length bytes
 closes_inside bytes k h = by_order (cases_lt (k + 1) (length bytes))
@@ -45,12 +42,12 @@ closes_occurs bytes k h = record { fits = (let i = closes_inside bytes (2 + k) h
 
 pub block-found : (bytes : List ℕ) (k : ℕ) → starts_with nat_eq bytes (codes "/*") ≡ true → FindsNeedle (drop 2 bytes) (codes "*/") 0 (Some k) → IsBlockComment bytes (k + 4)
 block-found bytes k opens h = record {
-    opens = opens;
-    long = omega arith;
-    closes = (let e : k + 4 - 2 ≡ 2 + k = omega arith in rw e (occurs_closes bytes k h.1));
-    first = λ i lo lt closes.
-        h.0.before (i - 2) (omega arith) (omega arith) (closes_occurs bytes (i - 2) (let e : 2 + (i - 2) ≡ i = omega arith in rw e closes));
-  }
+  opens = opens;
+  long = omega arith;
+  closes = (let e : k + 4 - 2 ≡ 2 + k = omega arith in rw e (occurs_closes bytes k h.1));
+  first = λ i lo lt closes.
+      h.0.before (i - 2) (omega arith) (omega arith) (closes_occurs bytes (i - 2) (let e : 2 + (i - 2) ≡ i = omega arith in rw e closes));
+}
 
 pub block-none : (bytes : List ℕ) → FindsNeedle (drop 2 bytes) (codes "*/") 0 None → (n : ℕ) → ¬ IsBlockComment bytes n
 block-none bytes h n block =

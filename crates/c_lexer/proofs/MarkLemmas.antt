@@ -1,10 +1,10 @@
 -- Linemarkers: where their parts stand.
-use Rattle.std.proofs.Common.{◌≡◌, ℕ, zero, suc, ◌+◌, ◌-◌, ◌*◌, ◌^◌, ◌<◌, ◌≤◌, Bool, true, false, not, cond, ◌&&◌, ◌||◌, ◌==◌, List, [], ◌∷◌, length, take, drop, get_or, refl, sym, ◌∙◌, ap, subst, arith, nat_eq, nat_lt, nat_le, inl, inr, ◌⊎◌}
+use Rattle.std.proofs.Common.{◌≡◌, ℕ, zero, suc, ◌+◌, ◌-◌, ◌*◌, ◌^◌, ◌<◌, ◌≤◌, Bool, true, false, ◌&&◌, ◌==◌, List, [], ◌∷◌, length, take, drop, get_or, refl, sym, ◌∙◌, ap, arith, nat_lt, nat_le, inl, inr, ◌⊎◌}
 use Rattle.std.specs.Prelude.{slice_range}
 use Rattle.std.specs.List.{prefix_len, list_all}
-use Rattle.std.proofs.lemmas.Bool.{and_parts, and_from, eqb-true, ltb-true, leb-true, lt-ltb, le-leb, both_ways, cases_lt, cases_order}
+use Rattle.std.proofs.lemmas.Bool.{and_parts, and_from, eqb-true, ltb-true, leb-true, lt-ltb, le-leb, both_ways, cases_order}
 use Rattle.std.proofs.lemmas.Bool.Decides.{nat_tests}
-use Rattle.std.proofs.lemmas.List.{get_or-drop, get_or-take, length-drop, take_rest}
+use Rattle.std.proofs.lemmas.List.{get_or-drop, length-drop}
 use Rattle.std.proofs.lemmas.List.Sums.{prefix_len_is, prefix_len_passes, prefix_len-le-length}
 use Rattle.c_lexer.specs.declared.marks.Marker.{Marker}
 use Rattle.c_lexer.specs.declared.marks.Parts.{Parts}
@@ -21,20 +21,20 @@ run_len test bytes from to run stops =
     let inside = run.inside in
     let size = length-drop from bytes in
     let len : prefix_len test (drop from bytes) ≡ to - from =
-        prefix_len_is test (drop from bytes) (to - from) 0 (omega arith)
-        (λ k lt. ap test (get_or-drop from bytes k 0) ∙ run.passes (from + k) (omega arith) (omega arith))
-        (λ lt. ap test (get_or-drop from bytes (to - from) 0 ∙ ap (λ i. get_or bytes i 0) (let e : from + (to - from) ≡ to = omega arith in e)) ∙ stops) in
+    prefix_len_is test (drop from bytes) (to - from) 0 (omega arith)
+    (λ k lt. ap test (get_or-drop from bytes k 0) ∙ run.passes (from + k) (omega arith) (omega arith))
+    (λ lt. ap test (get_or-drop from bytes (to - from) 0 ∙ ap (λ i. get_or bytes i 0) (let e : from + (to - from) ≡ to = omega arith in e)) ∙ stops) in
     omega (arith, len)
 
 -- all that passes is a run, where it is not empty
 pub len-run : (test : ℕ → Bool) (bytes : List ℕ) (from to : ℕ) → to ≡ from + prefix_len test (drop from bytes) → from < to → IsRun test bytes from to
 len-run test bytes from to is rises = record {
-    rises = rises;
-    inside = (let most = prefix_len-le-length test (drop from bytes) in let size = length-drop from bytes in omega (arith, is));
-    passes = λ k lo lt.
-        ap test (sym (get_or-drop from bytes (k - from) 0 ∙ ap (λ i. get_or bytes i 0) (let e : from + (k - from) ≡ k = omega arith in e)))
-        ∙ prefix_len_passes test (drop from bytes) (k - from) 0 (omega (arith, is));
-  }
+  rises = rises;
+  inside = (let most = prefix_len-le-length test (drop from bytes) in let size = length-drop from bytes in omega (arith, is));
+  passes = λ k lo lt.
+      ap test (sym (get_or-drop from bytes (k - from) 0 ∙ ap (λ i. get_or bytes i 0) (let e : from + (k - from) ≡ k = omega arith in e)))
+      ∙ prefix_len_passes test (drop from bytes) (k - from) 0 (omega (arith, is));
+}
 
 blank_digit : (c : ℕ) → is_blank c ≡ true → is_digit c ≡ false
 blank_digit c h = grind (arith, nat_tests)
@@ -68,14 +68,14 @@ same_parts line parts read m marks =
     let digits = marks.digits in
     let blanks = marks.second_blanks in
     let first : marks.digits_at ≡ parts.digits_at =
-        run_len is_blank line 1 marks.digits_at marks.first_blanks (digit_blank (get_or line marks.digits_at 0) (digits.passes marks.digits_at (omega arith) digits.rises)) ∙ sym read.digits_at in
+    run_len is_blank line 1 marks.digits_at marks.first_blanks (digit_blank (get_or line marks.digits_at 0) (digits.passes marks.digits_at (omega arith) digits.rises)) ∙ sym read.digits_at in
     let second : marks.digits_end ≡ parts.digits_end =
-        run_len is_digit line marks.digits_at marks.digits_end digits (blank_digit (get_or line marks.digits_end 0) (blanks.passes marks.digits_end (omega arith) blanks.rises))
-        ∙ ap (λ at. at + prefix_len is_digit (drop at line)) first ∙ sym read.digits_end in
+    run_len is_digit line marks.digits_at marks.digits_end digits (blank_digit (get_or line marks.digits_end 0) (blanks.passes marks.digits_end (omega arith) blanks.rises))
+    ∙ ap (λ at. at + prefix_len is_digit (drop at line)) first ∙ sym read.digits_end in
     let stands : get_or line marks.quote_at 0 ≡ 34 = quote_stands line marks.quote_at (m.name_to + 1 - marks.quote_at) marks.file in
     let third : marks.quote_at ≡ parts.quote_at =
-        run_len is_blank line marks.digits_end marks.quote_at blanks (rw stands refl)
-        ∙ ap (λ at. at + prefix_len is_blank (drop at line)) second ∙ sym read.quote_at in
+    run_len is_blank line marks.digits_end marks.quote_at blanks (rw stands refl)
+    ∙ ap (λ at. at + prefix_len is_blank (drop at line)) second ∙ sym read.quote_at in
     record { digits_at = first; digits_end = second; quote_at = third }
 
 abbrev pub long_enough : Parts → Bool

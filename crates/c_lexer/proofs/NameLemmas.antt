@@ -1,5 +1,5 @@
 -- The keys of the set of names, and the names that clauses see of it.
-use Rattle.std.proofs.Common.{◌≡◌, ℕ, ◌+◌, Bool, true, false, not, cond, List, [], ◌∷◌, ◌++◌, map, length, Option, Some, None, refl, sym, ◌∙◌, ap, is_some, option_map, unwrap_or, if◌then◌else◌, ◌||◌, bytes_eq, position}
+use Rattle.std.proofs.Common.{◌≡◌, ℕ, false, not, List, [], ◌∷◌, ◌++◌, map, length, Some, None, refl, sym, ◌∙◌, ap, is_some, unwrap_or, if◌then◌else◌, bytes_eq, position}
 use Rattle.std.specs.List.{list_any, prefix_len}
 use Rattle.std.specs.declared.alloc.Global.{Global}
 use Rattle.std.specs.declared.vec.Vec.{Vec}

@@ -1,5 +1,5 @@
 -- Character constants and string literals in front of some bytes.
-use Rattle.std.proofs.Common.{◌≡◌, ℕ, zero, suc, ◌+◌, ◌-◌, ◌<◌, ◌≤◌, Bool, true, false, not, cond, ◌&&◌, ◌||◌, ◌==◌, List, [], ◌∷◌, length, take, drop, refl, sym, ◌∙◌, ap, subst, arith, nat_eq, inl, inr, ◌⊎◌}
+use Rattle.std.proofs.Common.{◌≡◌, ℕ, zero, suc, ◌+◌, ◌-◌, ◌<◌, ◌≤◌, Bool, true, false, ◌&&◌, ◌||◌, ◌==◌, List, [], ◌∷◌, length, take, drop, refl, ◌∙◌, arith, nat_eq, inl, inr, ◌⊎◌}
 use Rattle.std.proofs.lemmas.Bool.{and_parts, or_cases, eqb-true, cases_lt}
 use Rattle.std.proofs.lemmas.List.{length-drop}
 use Rattle.std.proofs.Common.{Option, Some, None, MatchOption}
@@ -41,6 +41,7 @@ shifted_one test inner c cs nil same = record { fits = omega arith; behind = beh
     behind : (m : ℕ) → 1 ≤ m → test (take m (c ∷ cs)) ≡ inner (take (m - 1) cs)
     behind zero le = absurd (omega arith)
     behind (suc m) le = rw (let e : suc m - 1 ≡ m = omega arith in e) (same (take m cs))
+
     before : (m : ℕ) → m < 1 → test (take m (c ∷ cs)) ≡ false
     before zero lt = nil
     before (suc m) lt = absurd (omega arith)
@@ -65,6 +66,7 @@ wide_cases c h = by_last (or_cases (c == 76 || c == 117) (c == 85) h)
     by_first : ((c == 76) ≡ true) ⊎ ((c == 117) ≡ true) → ((c ≡ 76) ⊎ (c ≡ 117)) ⊎ (c ≡ 85)
     by_first (inl e) = inl (inl (eqb-true c 76 e))
     by_first (inr e) = inl (inr (eqb-true c 117 e))
+
     by_last : ((c == 76 || c == 117) ≡ true) ⊎ ((c == 85) ≡ true) → ((c ≡ 76) ⊎ (c ≡ 117)) ⊎ (c ≡ 85)
     by_last (inl e) = by_first (or_cases (c == 76) (c == 117) e)
     by_last (inr e) = inr (eqb-true c 85 e)
@@ -127,6 +129,7 @@ text-shifted (c ∷ cs) h short = record { fits = omega arith; behind = behind; 
     behind : (m : ℕ) → 1 ≤ m → is_text (take m (c ∷ cs)) ≡ is_quoted 34 (take (m - 1) cs)
     behind zero le = absurd (omega arith)
     behind (suc m) le = rw (let e : suc m - 1 ≡ m = omega arith in e) (text_behind c h (take m cs) (u8_front c cs m short))
+
     before : (m : ℕ) → m < 1 → is_text (take m (c ∷ cs)) ≡ false
     before zero lt = refl
     before (suc m) lt = absurd (omega arith)
@@ -148,6 +151,7 @@ u8-shifted (c ∷ d ∷ cs) h =
     behind e f zero le = absurd (omega arith)
     behind e f (suc zero) le = absurd (omega arith)
     behind e f (suc (suc m)) le = rw (let g : suc (suc m) - 2 ≡ m = omega arith in g, e, f) (or_false (is_quoted 34 (take m cs)))
+
     before : c ≡ 117 → d ≡ 56 → (m : ℕ) → m < 2 → is_text (take m (c ∷ d ∷ cs)) ≡ false
     before e f zero lt = refl
     before e f (suc zero) lt = rw e refl

@@ -1,10 +1,10 @@
 -- What holds of each place that gaps and tokens in turn lead to.
-use Rattle.std.proofs.Common.{◌≡◌, ℕ, zero, suc, ◌+◌, ◌-◌, ◌<◌, ◌≤◌, ◌^◌, Bool, true, false, cond, List, [], ◌∷◌, ◌++◌, length, take, drop, get_or, refl, sym, ◌∙◌, ap, subst, arith, Option, Some, None, inl, inr, ◌⊎◌, if◌then◌else◌, bytes_eq, position, is_some}
+use Rattle.std.proofs.Common.{◌≡◌, ℕ, zero, suc, ◌+◌, ◌-◌, ◌<◌, ◌≤◌, ◌^◌, Bool, true, false, List, [], ◌∷◌, ◌++◌, length, take, drop, get_or, refl, ◌∙◌, ap, subst, arith, Some, inl, inr, ◌⊎◌, if◌then◌else◌, bytes_eq, position, is_some}
 use Rattle.std.specs.Prelude.{slice_get}
 use Rattle.std.specs.List.Sorted.{IsNonDecreasingBy}
-use Rattle.std.proofs.lemmas.List.{length-append, length-drop, append-nil}
+use Rattle.std.proofs.lemmas.List.{length-append, length-drop}
 use Rattle.std.proofs.lemmas.List.Sorted.{IsNonDecreasingBy-push, IsNonDecreasingBy-short}
-use Rattle.std.proofs.lemmas.Option.{slice_get-get_or, get_or_from_slice_get}
+use Rattle.std.proofs.lemmas.Option.{slice_get-get_or}
 use Rattle.c_lexer.specs.declared.gaps.Gap.{Gap}
 use Rattle.c_lexer.specs.declared.gaps.Gap.TheVariants.{Blank, LineFeed, OtherSpace, BlockComment, LineComment, SkippedLine}
 use Rattle.c_lexer.specs.declared.kinds.TokenKind.{TokenKind}
@@ -12,7 +12,7 @@ use Rattle.c_lexer.specs.declared.kinds.TokenKind.TheVariants.{Name, Keyword, Nu
 use Rattle.c_lexer.specs.declared.token.Token.{Token}
 use Rattle.c_lexer.specs.declared.places.Mark.{Mark}
 use Rattle.c_lexer.specs.Names.{with_name}
-use Rattle.c_lexer.specs.Reading.{Meanings, Front, begin, mark_of, names_behind, MarksBehind, Skips, Takes, Reaches, IsStep, IsCounted, Spells, StopsBehind}
+use Rattle.c_lexer.specs.Reading.{Meanings, Front, mark_of, names_behind, MarksBehind, Skips, Takes, Reaches, IsStep, IsCounted, Spells, StopsBehind}
 use Rattle.c_lexer.specs.Tokens.{IsSound}
 use Rattle.c_lexer.specs.declared.front.Stop.{Stop}
 use Rattle.c_lexer.specs.declared.front.Stop.TheVariants.{BadByte, Unended, UnknownQualifier, NoMemory}
@@ -142,12 +142,12 @@ takes_kept unit words bytes old new kept t =
 
 pub reaches-kept : (unit : ℕ) (words : Meanings) (bytes : List ℕ) (front : Front) → Reaches unit words bytes front → IsKept bytes front
 reaches-kept unit words bytes front begins = record {
-    inside = omega arith;
-    counted = record { tokens = omega arith; names = omega arith };
-    tokens = λ k t there. absurd cc;
-    rising = IsNonDecreasingBy-short (λ (m : Mark). m.from) [] (omega arith);
-    marked = λ k m there. absurd cc;
-  }
+  inside = omega arith;
+  counted = record { tokens = omega arith; names = omega arith };
+  tokens = λ k t there. absurd cc;
+  rising = IsNonDecreasingBy-short (λ (m : Mark). m.from) [] (omega arith);
+  marked = λ k m there. absurd cc;
+}
 reaches-kept unit words bytes front (skips old new reached step) = skips_kept bytes old new (reaches-kept unit words bytes old reached) step
 reaches-kept unit words bytes front (takes old new reached step) = takes_kept unit words bytes old new (reaches-kept unit words bytes old reached) step
 
@@ -174,13 +174,13 @@ sound-end unit words bytes front tokens marks end small reached whole end_is tok
 pub spells-end : (unit : ℕ) (words : Meanings) (bytes : List ℕ) (front : Front) (tokens : List Token) (marks : List Mark) (end : ℕ) → Reaches unit words bytes front → front.at ≡ length bytes → end ≡ length bytes →
     tokens ≡ front.tokens ++ record { kind = End; start = end; end = end } ∷ [] → marks ≡ front.marks → Spells unit words bytes tokens front.names marks
 spells-end unit words bytes front tokens marks end reached whole end_is tokens_are marks_are = record {
-    front = front;
-    reached = reached;
-    whole = whole;
-    tokens_are = rw end_is at tokens_are;
-    names_are = refl;
-    marks_are = marks_are;
-  }
+  front = front;
+  reached = reached;
+  whole = whole;
+  tokens_are = rw end_is at tokens_are;
+  names_are = refl;
+  marks_are = marks_are;
+}
 
 -- where reading stops, the marks are in order, and the place is within the bytes
 pub stop-kept : (unit : ℕ) (words : Meanings) (bytes : List ℕ) (front : Front) (stop : Stop) → StopsBehind unit words bytes front stop → (stop ≡ NoMemory → ⊥) → IsKept bytes front

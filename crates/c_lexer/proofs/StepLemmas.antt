@@ -1,16 +1,14 @@
 -- A step from one place of a unit to the next.
-use Rattle.std.proofs.Common.{◌≡◌, ℕ, zero, suc, ◌+◌, ◌-◌, ◌<◌, ◌≤◌, Bool, true, false, not, cond, ◌&&◌, ◌||◌, ◌==◌, List, [], ◌∷◌, ◌++◌, length, take, drop, get_or, refl, sym, ◌∙◌, ap, subst, arith, nat_eq, codes, Option, Some, None, inl, inr, ◌⊎◌, if◌then◌else◌}
-use Rattle.std.specs.List.{prefix_len, starts_with}
+use Rattle.std.proofs.Common.{◌≡◌, ℕ, zero, suc, ◌-◌, ◌<◌, ◌≤◌, Bool, true, false, not, ◌==◌, List, [], ◌∷◌, length, drop, refl, arith, nat_eq, codes, if◌then◌else◌}
+use Rattle.std.specs.List.{starts_with}
 use Rattle.std.proofs.lemmas.Bool.{both_ways, and_parts, or_from, eqb-true, false_from_ne_true}
 use Rattle.std.proofs.lemmas.List.Sums.{prefix_len-le-length}
-use Rattle.std.proofs.Common.{one-add}
-use Rattle.qual_base.specs.Words.{meaning_of}
 use Rattle.c_lexer.specs.declared.gaps.Gap.{Gap}
 use Rattle.c_lexer.specs.declared.gaps.Gap.TheVariants.{Blank, LineFeed, OtherSpace, BlockComment, LineComment, SkippedLine}
 use Rattle.c_lexer.specs.declared.front.Stop.{Stop}
-use Rattle.c_lexer.specs.declared.front.Stop.TheVariants.{BadByte, Unended, UnknownQualifier, NoMemory}
+use Rattle.c_lexer.specs.declared.front.Stop.TheVariants.{BadByte, Unended}
 use Rattle.c_lexer.specs.Words.{signs, sign_kind}
-use Rattle.c_lexer.specs.Spelling.{begins_with, begins_comment, is_token, IsLongestOf, HasNone}
+use Rattle.c_lexer.specs.Spelling.{begins_with, begins_comment, is_token, IsLongestOf}
 use Rattle.c_lexer.specs.Gaps.{is_blank, is_other_space, line_len, IsGap, HasNoGap}
 use Rattle.c_lexer.specs.Reading.{Meanings, Front, IsStuck, StopsAt, opens}
 use Rattle.c_lexer.proofs.GapLemmas.{closes_inside}

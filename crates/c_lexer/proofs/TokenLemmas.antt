@@ -1,10 +1,10 @@
 -- The longest token in front of some bytes, from the longest of each kind.
-use Rattle.std.proofs.Common.{◌≡◌, ℕ, zero, suc, ◌+◌, ◌-◌, ◌<◌, ◌≤◌, Bool, true, false, not, cond, ◌&&◌, ◌||◌, ◌==◌, List, [], ◌∷◌, length, take, drop, refl, sym, ◌∙◌, ap, subst, arith, nat_eq, Option, Some, None, is_some, inl, inr, ◌⊎◌}
-use Rattle.std.proofs.lemmas.Bool.{and_parts, or_parts, or_cases, or_left, or_right, eqb-true, both_ways}
+use Rattle.std.proofs.Common.{◌≡◌, ℕ, zero, suc, ◌<◌, ◌≤◌, Bool, true, false, ◌&&◌, ◌||◌, ◌==◌, List, [], ◌∷◌, take, drop, refl, arith, nat_eq, Option, Some, None, is_some, inl, inr, ◌⊎◌}
+use Rattle.std.proofs.lemmas.Bool.{and_parts, or_parts, or_cases, or_right, eqb-true}
 use Rattle.std.proofs.lemmas.Bool.Decides.{nat_tests}
 use Rattle.std.specs.List.{list_all, starts_with}
 use Rattle.c_lexer.specs.Words.{sign_kind}
-use Rattle.c_lexer.specs.Spelling.{is_wide, is_letter, is_digit, is_word_byte, is_digits, is_quoted, is_prefixed, is_word, is_number, is_char, is_text, is_dollar, is_sign, is_token, begins_with, IsLongestOf, HasNone}
+use Rattle.c_lexer.specs.Spelling.{is_wide, is_letter, is_digit, is_word_byte, is_digits, is_quoted, is_word, is_number, is_char, is_text, is_dollar, is_sign, is_token, begins_with, IsLongestOf, HasNone}
 use Rattle.c_lexer.proofs.QuoteLemmas.{wide_cases}
 use Rattle.c_lexer.proofs.SignLemmas.{sign-letter, sign-digit, sign-then_digit, sign-quote, sign-double, sign-dollar}
 
@@ -74,12 +74,12 @@ letter_dollar (c ∷ cs) h = rw (let e : (c == 36) ≡ false = grind (arith, nat
 
 pub longest-word : (bytes : List ℕ) (n : ℕ) → HasNone is_char bytes → HasNone is_text bytes → begins_with is_letter bytes ≡ true → IsLongestOf is_word bytes n → IsLongestOf is_token bytes n
 longest-word bytes n chars texts h long = record {
-    inside = long.inside;
-    passes = word_token (take n bytes) long.passes;
-    longest = λ m lt le.
-        let front = begins_front is_letter bytes m (omega arith) h in
-        no_token (take m bytes) (long.longest m lt le) (letter_number (take m bytes) front) (chars m le) (texts m le) (letter_dollar (take m bytes) front) (sign-letter (take m bytes) front);
-  }
+  inside = long.inside;
+  passes = word_token (take n bytes) long.passes;
+  longest = λ m lt le.
+      let front = begins_front is_letter bytes m (omega arith) h in
+      no_token (take m bytes) (long.longest m lt le) (letter_number (take m bytes) front) (chars m le) (texts m le) (letter_dollar (take m bytes) front) (sign-letter (take m bytes) front);
+}
 
 dollar_number : (a : List ℕ) → begins_with (λ c. c == 36) a ≡ true → is_number a ≡ false
 dollar_number [] h = absurd cc
@@ -91,12 +91,12 @@ dollar_word (c ∷ cs) h = let e : c ≡ 36 = eqb-true c 36 h in rw e refl
 
 pub longest-dollar : (bytes : List ℕ) (n : ℕ) → HasNone is_char bytes → HasNone is_text bytes → begins_with (λ c. c == 36) bytes ≡ true → IsLongestOf is_dollar bytes n → IsLongestOf is_token bytes n
 longest-dollar bytes n chars texts h long = record {
-    inside = long.inside;
-    passes = dollar_token (take n bytes) long.passes;
-    longest = λ m lt le.
-        let front = begins_front (λ c. c == 36) bytes m (omega arith) h in
-        no_token (take m bytes) (dollar_word (take m bytes) front) (dollar_number (take m bytes) front) (chars m le) (texts m le) (long.longest m lt le) (sign-dollar (take m bytes) front);
-  }
+  inside = long.inside;
+  passes = dollar_token (take n bytes) long.passes;
+  longest = λ m lt le.
+      let front = begins_front (λ c. c == 36) bytes m (omega arith) h in
+      no_token (take m bytes) (dollar_word (take m bytes) front) (dollar_number (take m bytes) front) (chars m le) (texts m le) (long.longest m lt le) (sign-dollar (take m bytes) front);
+}
 
 number_begins : (a : List ℕ) → is_number a ≡ true → (begins_with is_digit a ≡ true) ⊎ (begins_with is_digit (drop 1 a) ≡ true)
 number_begins [] h = absurd cc
@@ -105,6 +105,7 @@ number_begins (c ∷ cs) h = by_case (or_cases (is_digits (c ∷ cs)) (c == 46 &
     digits_begin : (a : List ℕ) → is_digits a ≡ true → begins_with is_digit a ≡ true
     digits_begin [] e = absurd cc
     digits_begin (d ∷ ds) e = (and_parts (is_digit d) _ e).0
+
     by_case : (is_digits (c ∷ cs) ≡ true) ⊎ ((c == 46 && is_digits cs) ≡ true) → (is_digit c ≡ true) ⊎ (begins_with is_digit cs ≡ true)
     by_case (inl e) = inl (digits_begin (c ∷ cs) e)
     by_case (inr e) = inr (digits_begin cs (and_parts (c == 46) (is_digits cs) e).1)
@@ -119,20 +120,20 @@ number_sign bytes n m le h = by_case (number_begins (take n bytes) h)
 pub longest-number : (bytes : List ℕ) (n : ℕ) → HasNone is_char bytes → HasNone is_text bytes → begins_with is_letter bytes ≡ false → begins_with (λ c. c == 36) bytes ≡ false →
     IsLongestOf is_number bytes n → IsLongestOf is_token bytes n
 longest-number bytes n chars texts letter dollar long = record {
-    inside = long.inside;
-    passes = number_token (take n bytes) long.passes;
-    longest = λ m lt le.
-        no_token (take m bytes) (word_apart bytes m letter) (long.longest m lt le) (chars m le) (texts m le) (dollar_apart bytes m dollar) (number_sign bytes n m (omega arith) long.passes);
-  }
+  inside = long.inside;
+  passes = number_token (take n bytes) long.passes;
+  longest = λ m lt le.
+      no_token (take m bytes) (word_apart bytes m letter) (long.longest m lt le) (chars m le) (texts m le) (dollar_apart bytes m dollar) (number_sign bytes n m (omega arith) long.passes);
+}
 
 pub longest-sign : (bytes : List ℕ) (n : ℕ) → HasNone is_char bytes → HasNone is_text bytes → begins_with is_letter bytes ≡ false → begins_with (λ c. c == 36) bytes ≡ false →
     HasNone is_number bytes → IsLongestOf is_sign bytes n → IsLongestOf is_token bytes n
 longest-sign bytes n chars texts letter dollar numbers long = record {
-    inside = long.inside;
-    passes = sign_token (take n bytes) long.passes;
-    longest = λ m lt le.
-        no_token (take m bytes) (word_apart bytes m letter) (numbers m le) (chars m le) (texts m le) (dollar_apart bytes m dollar) (no_kind (take m bytes) (long.longest m lt le));
-  }
+  inside = long.inside;
+  passes = sign_token (take n bytes) long.passes;
+  longest = λ m lt le.
+      no_token (take m bytes) (word_apart bytes m letter) (numbers m le) (chars m le) (texts m le) (dollar_apart bytes m dollar) (no_kind (take m bytes) (long.longest m lt le));
+}
 
 pub longest-none : (bytes : List ℕ) → HasNone is_char bytes → HasNone is_text bytes → begins_with is_letter bytes ≡ false → begins_with (λ c. c == 36) bytes ≡ false →
     HasNone is_number bytes → HasNone is_sign bytes → HasNone is_token bytes
@@ -167,15 +168,19 @@ char_opens (c ∷ cs) h = by_case (or_cases (is_quoted 39 (c ∷ cs)) _ h)
   where
     behind : (w : ℕ) → is_wide w ≡ true → (nat_eq w c && true && is_quoted 39 cs) ≡ true → Opens 39 (c ∷ cs)
     behind w h e = let parts = prefix_wide w c (is_quoted 39 cs) h e in wide parts.0 (quoted_begins 39 cs parts.1)
+
     by_last : ((nat_eq 85 c && true && is_quoted 39 cs) ≡ true) ⊎ (false ≡ true) → Opens 39 (c ∷ cs)
     by_last (inl e) = behind 85 refl e
     by_last (inr e) = absurd cc
+
     by_second : ((nat_eq 117 c && true && is_quoted 39 cs) ≡ true) ⊎ ((nat_eq 85 c && true && is_quoted 39 cs || false) ≡ true) → Opens 39 (c ∷ cs)
     by_second (inl e) = behind 117 refl e
     by_second (inr e) = by_last (or_cases _ _ e)
+
     by_first : ((nat_eq 76 c && true && is_quoted 39 cs) ≡ true) ⊎ ((nat_eq 117 c && true && is_quoted 39 cs || (nat_eq 85 c && true && is_quoted 39 cs || false)) ≡ true) → Opens 39 (c ∷ cs)
     by_first (inl e) = behind 76 refl e
     by_first (inr e) = by_second (or_cases _ _ e)
+
     by_case : (is_quoted 39 (c ∷ cs) ≡ true) ⊎ ((nat_eq 76 c && true && is_quoted 39 cs || (nat_eq 117 c && true && is_quoted 39 cs || (nat_eq 85 c && true && is_quoted 39 cs || false))) ≡ true) → Opens 39 (c ∷ cs)
     by_case (inl e) = plain (quoted_begins 39 (c ∷ cs) e)
     by_case (inr e) = by_first (or_cases _ _ e)
@@ -192,23 +197,27 @@ text_opens (c ∷ cs) h = by_case (or_cases (is_quoted 34 (c ∷ cs)) _ h)
         let first = and_parts (nat_eq 117 d) (nat_eq 56 f && true) parts.0 in
         let second = and_parts (nat_eq 56 f) true first.1 in
         utf (let g : 117 ≡ d = eqb-true 117 d first.0 in rw (← g) refl) (let g : 56 ≡ f = eqb-true 56 f second.0 in rw (← g) refl) (quoted_begins 34 r parts.1)
+
     behind : (w : ℕ) → is_wide w ≡ true → (nat_eq w c && true && is_quoted 34 cs) ≡ true → Opens 34 (c ∷ cs)
     behind w h e = let parts = prefix_wide w c (is_quoted 34 cs) h e in wide parts.0 (quoted_begins 34 cs parts.1)
-
 
     by_last : ((starts_with nat_eq (c ∷ cs) (117 ∷ 56 ∷ []) && is_quoted 34 (drop 1 cs)) ≡ true) ⊎ (false ≡ true) → Opens 34 (c ∷ cs)
     by_last (inl e) = utf_opens (c ∷ cs) e
     by_last (inr e) = absurd cc
+
     by_third : ((nat_eq 85 c && true && is_quoted 34 cs) ≡ true) ⊎ ((starts_with nat_eq (c ∷ cs) (117 ∷ 56 ∷ []) && is_quoted 34 (drop 1 cs) || false) ≡ true) → Opens 34 (c ∷ cs)
     by_third (inl e) = behind 85 refl e
     by_third (inr e) = by_last (or_cases _ _ e)
+
     by_second : ((nat_eq 117 c && true && is_quoted 34 cs) ≡ true) ⊎ ((nat_eq 85 c && true && is_quoted 34 cs || (starts_with nat_eq (c ∷ cs) (117 ∷ 56 ∷ []) && is_quoted 34 (drop 1 cs) || false)) ≡ true) → Opens 34 (c ∷ cs)
     by_second (inl e) = behind 117 refl e
     by_second (inr e) = by_third (or_cases _ _ e)
+
     by_first : ((nat_eq 76 c && true && is_quoted 34 cs) ≡ true)
         ⊎ ((nat_eq 117 c && true && is_quoted 34 cs || (nat_eq 85 c && true && is_quoted 34 cs || (starts_with nat_eq (c ∷ cs) (117 ∷ 56 ∷ []) && is_quoted 34 (drop 1 cs) || false))) ≡ true) → Opens 34 (c ∷ cs)
     by_first (inl e) = behind 76 refl e
     by_first (inr e) = by_second (or_cases _ _ e)
+
     by_case : (is_quoted 34 (c ∷ cs) ≡ true)
         ⊎ ((nat_eq 76 c && true && is_quoted 34 cs || (nat_eq 117 c && true && is_quoted 34 cs || (nat_eq 85 c && true && is_quoted 34 cs || (starts_with nat_eq (c ∷ cs) (117 ∷ 56 ∷ []) && is_quoted 34 (drop 1 cs) || false)))) ≡ true) → Opens 34 (c ∷ cs)
     by_case (inl e) = plain (quoted_begins 34 (c ∷ cs) e)
@@ -232,11 +241,11 @@ wide_letter c h = by_case (wide_cases c h)
 -- a letter in front, and a byte of no word among the bytes behind it
 letter_others : (c : ℕ) (cs : List ℕ) → is_letter c ≡ true → list_all is_word_byte cs ≡ false → Others (c ∷ cs)
 letter_others c cs h stops = record {
-    word = rw (h, stops) refl;
-    number = letter_number (c ∷ cs) h;
-    dollar = letter_dollar (c ∷ cs) h;
-    sign = sign-letter (c ∷ cs) h;
-  }
+  word = rw (h, stops) refl;
+  number = letter_number (c ∷ cs) h;
+  dollar = letter_dollar (c ∷ cs) h;
+  sign = sign-letter (c ∷ cs) h;
+}
 
 module _ (quote : ℕ) (no_part : is_word_byte quote ≡ false) (no_dollar : (quote == 36) ≡ false) (no_point : (quote == 46) ≡ false)
     (none : (a : List ℕ) → begins_with (λ c. c == quote) a ≡ true → sign_kind a ≡ None) where
@@ -282,20 +291,20 @@ char_text (c ∷ d ∷ h ∷ cs) (utf e f g) =
 
 pub longest-char : (bytes : List ℕ) (n : ℕ) → IsLongestOf is_char bytes n → IsLongestOf is_token bytes n
 longest-char bytes n long = record {
-    inside = long.inside;
-    passes = char_token (take n bytes) long.passes;
-    longest = λ m lt le.
-        let opens = opens_longer 39 bytes n m (omega arith) (char_opens (take n bytes) long.passes) in
-        let others = opens_others 39 refl refl refl sign-quote (take m bytes) opens in
-        no_token (take m bytes) others.word others.number (long.longest m lt le) (char_text (take m bytes) opens) others.dollar others.sign;
-  }
+  inside = long.inside;
+  passes = char_token (take n bytes) long.passes;
+  longest = λ m lt le.
+      let opens = opens_longer 39 bytes n m (omega arith) (char_opens (take n bytes) long.passes) in
+      let others = opens_others 39 refl refl refl sign-quote (take m bytes) opens in
+      no_token (take m bytes) others.word others.number (long.longest m lt le) (char_text (take m bytes) opens) others.dollar others.sign;
+}
 
 pub longest-text : (bytes : List ℕ) (n : ℕ) → HasNone is_char bytes → IsLongestOf is_text bytes n → IsLongestOf is_token bytes n
 longest-text bytes n chars long = record {
-    inside = long.inside;
-    passes = text_token (take n bytes) long.passes;
-    longest = λ m lt le.
-        let opens = opens_longer 34 bytes n m (omega arith) (text_opens (take n bytes) long.passes) in
-        let others = opens_others 34 refl refl refl sign-double (take m bytes) opens in
-        no_token (take m bytes) others.word others.number (chars m le) (long.longest m lt le) others.dollar others.sign;
-  }
+  inside = long.inside;
+  passes = text_token (take n bytes) long.passes;
+  longest = λ m lt le.
+      let opens = opens_longer 34 bytes n m (omega arith) (text_opens (take n bytes) long.passes) in
+      let others = opens_others 34 refl refl refl sign-double (take m bytes) opens in
+      no_token (take m bytes) others.word others.number (chars m le) (long.longest m lt le) others.dollar others.sign;
+}

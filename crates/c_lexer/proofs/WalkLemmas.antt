@@ -1,5 +1,5 @@
 -- A test of lists that goes over them from the front, with a state: what it says of a front of some bytes.
-use Rattle.std.proofs.Common.{◌≡◌, ℕ, zero, suc, ◌+◌, ◌-◌, ◌<◌, ◌≤◌, Bool, true, false, not, cond, ◌&&◌, ◌||◌, ◌==◌, List, [], ◌∷◌, length, take, drop, get_or, refl, sym, ◌∙◌, ap, subst, arith, one-add, add-one}
+use Rattle.std.proofs.Common.{◌≡◌, ℕ, zero, suc, ◌+◌, ◌-◌, ◌<◌, ◌≤◌, Bool, true, false, not, cond, ◌&&◌, ◌==◌, List, [], ◌∷◌, length, take, drop, get_or, refl, sym, ◌∙◌, ap, arith}
 use Rattle.std.proofs.lemmas.Bool.{cases_lt, ne_eqb, eqb-true}
 use Rattle.std.proofs.Common.{◌≢◌}
 use Rattle.std.proofs.lemmas.List.{length-take, length-drop}
@@ -35,10 +35,10 @@ follows-more test s s' s'' bytes at f step m lo le =
 pub follows-stop : {S : Type 0} (test : S → List ℕ → Bool) (s s' : S) (bytes : List ℕ) (at : ℕ) → at ≤ length bytes → Follows test s bytes at s' →
     test s' [] ≡ true → ((r : List ℕ) → at < length bytes → test s' (get_or bytes at 0 ∷ r) ≡ false) → IsLongestOf (test s) bytes at
 follows-stop test s s' bytes at within f done stop = record {
-    inside = within;
-    passes = f at (omega arith) within ∙ rw (let e : at - at ≡ 0 = omega arith in e) done;
-    longest = λ m lt le. f m (omega arith) le ∙ ap (test s') (front_step bytes at m (omega arith) le) ∙ stop (take (m - (at + 1)) (drop (at + 1) bytes)) (omega arith);
-  }
+  inside = within;
+  passes = f at (omega arith) within ∙ rw (let e : at - at ≡ 0 = omega arith in e) done;
+  longest = λ m lt le. f m (omega arith) le ∙ ap (test s') (front_step bytes at m (omega arith) le) ∙ stop (take (m - (at + 1)) (drop (at + 1) bytes)) (omega arith);
+}
 
 -- no front passes up to here, and none that goes on
 pub follows-none : {S : Type 0} (test : S → List ℕ → Bool) (s s' : S) (bytes : List ℕ) (at : ℕ) → Follows test s bytes at s' → NoneUpTo (test s) bytes at →
@@ -71,14 +71,15 @@ quoted-nil quote false = refl
 pub follows-close : {S : Type 0} (test : S → List ℕ → Bool) (s s' : S) (bytes : List ℕ) (at : ℕ) → at < length bytes → Follows test s bytes at s' →
     test s' (get_or bytes at 0 ∷ []) ≡ true → ((d : ℕ) (r : List ℕ) → test s' (get_or bytes at 0 ∷ d ∷ r) ≡ false) → IsLongestOf (test s) bytes (at + 1)
 follows-close test s s' bytes at within f done stop = record {
-    inside = omega arith;
-    passes = f (at + 1) (omega arith) (omega arith) ∙ ap (test s') (front_step bytes at (at + 1) (omega arith) (omega arith)) ∙ rw (let e : at + 1 - (at + 1) ≡ 0 = omega arith in e) done;
-    longest = longer;
-  }
+  inside = omega arith;
+  passes = f (at + 1) (omega arith) (omega arith) ∙ ap (test s') (front_step bytes at (at + 1) (omega arith) (omega arith)) ∙ rw (let e : at + 1 - (at + 1) ≡ 0 = omega arith in e) done;
+  longest = longer;
+}
   where
     by_rest : (r : List ℕ) → 0 < length r → test s' (get_or bytes at 0 ∷ r) ≡ false
     by_rest [] lt = absurd (omega arith)
     by_rest (d ∷ r) lt = stop d r
+
     longer : (m : ℕ) → at + 1 < m → m ≤ length bytes → test s (take m bytes) ≡ false
     longer m lt le =
         let rest = take (m - (at + 1)) (drop (at + 1) bytes) in

@@ -1,9 +1,9 @@
 -- What the bytes of a unit spell: gaps and tokens in turn, where no longer front of the rest is a token (C99, 6.4 paragraph 4).
-use Rattle.std.specs.Prelude.{◌≡◌, ℕ, ◌+◌, ◌<◌, ◌≤◌, Bool, true, false, ◌||◌, ◌&&◌, ◌==◌, ◌⊎◌, not, List, [], ◌∷◌, ◌++◌, length, take, drop, Option, Some, None, nat_eq, codes, slice_range}
+use Rattle.std.specs.Prelude.{◌≡◌, ℕ, ◌+◌, ◌<◌, ◌≤◌, Bool, true, false, ◌||◌, ◌&&◌, ◌==◌, ◌⊎◌, List, [], ◌∷◌, ◌++◌, length, take, drop, Some, None, nat_eq, codes, slice_range}
 use Rattle.std.specs.List.{starts_with}
 use Rattle.qual_base.specs.Words.{meaning_of}
 use Rattle.c_lexer.specs.declared.gaps.Gap.{Gap}
-use Rattle.c_lexer.specs.declared.gaps.Gap.TheVariants.{Blank, LineFeed, OtherSpace, BlockComment, LineComment, SkippedLine}
+use Rattle.c_lexer.specs.declared.gaps.Gap.TheVariants.{SkippedLine}
 use Rattle.c_lexer.specs.declared.kinds.TokenKind.{TokenKind}
 use Rattle.c_lexer.specs.declared.kinds.TokenKind.TheVariants.{Name, Keyword, Number, Char, Text, Punct, Qual, Index, End}
 use Rattle.c_lexer.specs.declared.kinds.Word.TheVariants.{Keyword as AsKeyword, Text as AsText}

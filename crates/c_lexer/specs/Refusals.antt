@@ -1,6 +1,5 @@
 -- Why the bytes of a unit spell no tokens: at the first place where they stop, with all before it read.
 use Rattle.std.specs.Prelude.{◌≡◌, ℕ, true, false, List, drop}
-use Rattle.qual_base.specs.declared.places.Spot.{Spot}
 use Rattle.c_lexer.specs.declared.lex.LexFault.{LexFault}
 use Rattle.c_lexer.specs.declared.lex.LexFault.TheVariants.{BadByte, Unended, UnknownQualifier, NoMemory}
 use Rattle.c_lexer.specs.Places.{IsSpot}

@@ -1,5 +1,5 @@
 -- What the bytes of a token are, before words are looked up.
-use Rattle.std.specs.Prelude.{◌≡◌, ℕ, Bool, true, List, Option, Some}
+use Rattle.std.specs.Prelude.{◌≡◌, ℕ, true, List, Some}
 use Rattle.c_lexer.specs.declared.longest.Shape.{Shape}
 use Rattle.c_lexer.specs.declared.longest.Shape.TheVariants.{Word, Number, Char, Text, Dollar, Sign}
 use Rattle.c_lexer.specs.Words.{sign_kind}

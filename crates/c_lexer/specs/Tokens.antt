@@ -1,16 +1,14 @@
 -- The tokens of a unit, as clauses see them, and what is answered of each.
-use Rattle.std.specs.Prelude.{◌≡◌, ℕ, ◌<◌, ◌≤◌, ◌-◌, ◌^◌, Bool, true, false, List, length, Option, Some, None, codes, slice_get, OnOk}
+use Rattle.std.specs.Prelude.{◌≡◌, ℕ, ◌<◌, ◌≤◌, ◌^◌, List, length, Option, Some, None, codes, slice_get}
 use Rattle.std.specs.List.Sorted.{IsNonDecreasingBy}
 use Rattle.qual_base.specs.Words.{meaning_of}
-use Rattle.qual_base.specs.declared.places.Spot.{Spot}
 use Rattle.c_lexer.specs.declared.kinds.TokenKind.{TokenKind}
-use Rattle.c_lexer.specs.declared.kinds.TokenKind.TheVariants.{Name, Keyword as IsKeyword, Number, Char, Text, Punct, Qual, Index, End}
+use Rattle.c_lexer.specs.declared.kinds.TokenKind.TheVariants.{Keyword as IsKeyword, Qual}
 use Rattle.c_lexer.specs.declared.kinds.Keyword.{Keyword}
 use Rattle.c_lexer.specs.declared.kinds.Keyword.TheVariants.{Const, Volatile, Restrict}
 use Rattle.c_lexer.specs.declared.token.Token.{Token}
 use Rattle.c_lexer.specs.declared.places.Mark.{Mark}
-use Rattle.c_lexer.specs.Places.{IsSpot}
-use Rattle.c_lexer.specs.Reading.{Meanings, Front, Reaches, Spells, IsStuck, IsUnknown, opens}
+use Rattle.c_lexer.specs.Reading.{Meanings, Spells}
 
 -- A unit with its tokens and linemarkers, and what `const`, `volatile` and `restrict` mean in the lattices.
 pub record Lexed : Type 0 where

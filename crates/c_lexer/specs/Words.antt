@@ -1,5 +1,5 @@
 -- The words and the signs of C, each with the kind of token that it is.
-use Rattle.std.specs.Prelude.{ℕ, List, [], ◌∷◌, Bool, Option, Some, None, bytes_eq, codes, find, option_map, if◌then◌else◌}
+use Rattle.std.specs.Prelude.{ℕ, List, [], ◌∷◌, Option, Some, None, bytes_eq, codes, find, option_map, if◌then◌else◌}
 use Rattle.c_lexer.specs.declared.kinds.Word.{Word}
 use Rattle.c_lexer.specs.declared.kinds.Word.TheVariants.{Keyword as AsKeyword, Text as AsText}
 use Rattle.c_lexer.specs.declared.kinds.Keyword.TheVariants.{Auto, Break, Case, Char, Const, Continue, Default, Do, Double, Else, Enum, Extern, Float, For, Goto, If, Inline, Int, Long, Register, Restrict, Return, Short, Signed, Sizeof, Static, Struct, Switch, Typedef, Union, Unsigned, Void, Volatile, While, Bool as BoolWord, Complex, Imaginary, Asm, Attribute, Alignof, Thread, Extension, Noreturn, StaticAssert, BaseWord, Int128, VaArg, VaStart, VaCopy, Offsetof, Reserved}

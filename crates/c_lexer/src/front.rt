@@ -106,7 +106,12 @@ fn push_mark(marks: &mut Vec<Mark>, mark: Option<Mark>) -> Result<(), OutOfMemor
     Ok(())
 }
 
-pub(crate) fn push_token(tokens: &mut Vec<Token>, kind: TokenKind, start: u32, end: u32) -> Result<(), OutOfMemory>
+pub(crate) fn push_token(
+    tokens: &mut Vec<Token>,
+    kind: TokenKind,
+    start: u32,
+    end: u32,
+) -> Result<(), OutOfMemory>
     ensures { OnOk result (tokens.new.items ≡ tokens.old.items ++ record { kind = kind; start = start; end = end } ∷ []) }
 {
     if tokens.push(Token { kind, start, end }).is_err() {
@@ -116,7 +121,13 @@ pub(crate) fn push_token(tokens: &mut Vec<Token>, kind: TokenKind, start: u32, e
 }
 
 /// The kind of a token of that shape.
-fn token_kind(unit: UnitNo, words: &QualWords, names: &mut Names, shape: Shape, spelling: &[u8]) -> Result<TokenKind, Stop>
+fn token_kind(
+    unit: UnitNo,
+    words: &QualWords,
+    names: &mut Names,
+    shape: Shape,
+    spelling: &[u8],
+) -> Result<TokenKind, Stop>
     requires room { length names.old < 2 ^ 32 }
     requires shape { HasShape shape spelling.now }
     ensures kind { IfOk result (λ kind. IsKind unit words.now names.old spelling.now kind) }
@@ -210,7 +221,14 @@ impl Front {
         Ok(())
     }
 
-    fn take(&mut self, unit: UnitNo, words: &QualWords, bytes: &[u8], shape: Shape, n: usize) -> Result<(), Stop>
+    fn take(
+        &mut self,
+        unit: UnitNo,
+        words: &QualWords,
+        bytes: &[u8],
+        shape: Shape,
+        n: usize,
+    ) -> Result<(), Stop>
         requires small { length bytes.now < 2 ^ 32 - 1 }
         requires before { self.old.at < length bytes.now }
         requires counted { IsCounted self.old }
@@ -255,7 +273,12 @@ impl Front {
 }
 
 /// Reads a unit to its end, in time linear in its bytes beside the look-ups of names.
-pub(crate) fn read_all(front: &mut Front, unit: UnitNo, words: &QualWords, bytes: &[u8]) -> Result<(), Stop>
+pub(crate) fn read_all(
+    front: &mut Front,
+    unit: UnitNo,
+    words: &QualWords,
+    bytes: &[u8],
+) -> Result<(), Stop>
     requires small { length bytes.now < 2 ^ 32 - 1 }
     requires begins { Reaches unit words.now bytes.now front.old }
     ensures whole { OnOk result (front.new.at ≡ length bytes.now) }

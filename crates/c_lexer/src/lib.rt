@@ -11,6 +11,8 @@ mod marks;
 mod names;
 pub mod places;
 mod signs;
+#[cfg(test)]
+mod tests;
 mod text;
 pub mod token;
 pub mod tokens;

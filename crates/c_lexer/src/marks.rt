@@ -26,14 +26,20 @@ fn blank_len(bytes: &[u8]) -> usize
     ensures value { result ≡ prefix_len is_blank bytes.now }
     ensures within { result ≤ length bytes.now }
 {
-    bytes.iter().take_while(|byte| is_blank_byte(**byte)).count()
+    bytes
+        .iter()
+        .take_while(|byte| is_blank_byte(**byte))
+        .count()
 }
 
 fn digit_len(bytes: &[u8]) -> usize
     ensures value { result ≡ prefix_len is_digit bytes.now }
     ensures within { result ≤ length bytes.now }
 {
-    bytes.iter().take_while(|byte| byte.is_ascii_digit()).count()
+    bytes
+        .iter()
+        .take_while(|byte| byte.is_ascii_digit())
+        .count()
 }
 
 fn may_stand_there(spaced: bool, byte: u8) -> bool

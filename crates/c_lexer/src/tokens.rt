@@ -56,7 +56,12 @@ impl Model for Tokens {
 }
 
 impl Tokens {
-    pub(crate) fn new(text: Text, tokens: Vec<Token>, marks: Vec<Mark>, keywords: KeywordMarks) -> Self
+    pub(crate) fn new(
+        text: Text,
+        tokens: Vec<Token>,
+        marks: Vec<Mark>,
+        keywords: KeywordMarks,
+    ) -> Self
         requires { IsSound text.1 tokens.items marks.items }
         ensures { result ≡ record { unit = text.0; bytes = text.1; tokens = tokens.items; marks = marks.items; constant = keywords.constant; volatile = keywords.volatile; restrict = keywords.restrict } }
     {

@@ -97,7 +97,10 @@ static WORDS: [(&[u8], Word); 91] = [
     (b"__builtin_va_start", Word::Keyword(Keyword::VaStart)),
     (b"__PRETTY_FUNCTION__", Word::Text),
     (b"__builtin_choose_expr", Word::Keyword(Keyword::Reserved)),
-    (b"__builtin_types_compatible_p", Word::Keyword(Keyword::Reserved)),
+    (
+        b"__builtin_types_compatible_p",
+        Word::Keyword(Keyword::Reserved),
+    ),
 ];
 
 /// The table is the standard's.

@@ -1,4 +1,4 @@
-use Rattle.std.proofs.Common.{◌≡◌, ◌≤◌, ◌<◌, length, sym, arith}
+use Rattle.std.proofs.Common.{arith}
 use Rattle.c_lexer.proofs.ReachLemmas.{reaches-kept, step-further, step-reaches}
 use Rattle.c_lexer.proofs.front.read_all.Goals as goal
 

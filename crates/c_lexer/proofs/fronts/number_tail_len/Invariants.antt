@@ -1,4 +1,3 @@
-use Rattle.std.proofs.Common.{◌≤◌, length}
 use Rattle.c_lexer.specs.Spelling.{is_number_tail}
 use Rattle.c_lexer.proofs.WalkLemmas.{Follows}
 use Rattle.c_lexer.proofs.fronts.number_tail_len.Given as goal

@@ -1,6 +1,6 @@
 use Rattle.std.proofs.Common.{sym, ◌∙◌}
 use Rattle.std.proofs.lemmas.List.{take_rest}
-use Rattle.c_lexer.proofs.QuoteLemmas.{quoted-shifted, quoted-none, shifted-long, shifted-shorter, shifted-none}
+use Rattle.c_lexer.proofs.QuoteLemmas.{quoted-shifted, shifted-long, shifted-shorter, shifted-none}
 use Rattle.c_lexer.proofs.fronts.quoted_len.Goals as goal
 
 pub returns-in-Some-clause-longest : goal.returns-in-Some-clause-longest

@@ -26,7 +26,7 @@ loop-at-preserved c =
     let bytes = c.args.bytes.now in
     let at = c.loop-at.at in
     let goes = follows-more (quoted_from q) false c.loop-at.escaped c.opens_escape-escaped.result bytes at before.follows
-        (λ r. rw c.opens_escape-escaped.ensures (quoted-more q c.requires.plain c.requires.inline c.loop-at.escaped (get_or bytes at 0) c.if-byte-eq10.false (sym c.closes_quote.ensures ∙ c.if-closes_quote.false) r)) in
+    (λ r. rw c.opens_escape-escaped.ensures (quoted-more q c.requires.plain c.requires.inline c.loop-at.escaped (get_or bytes at 0) c.if-byte-eq10.false (sym c.closes_quote.ensures ∙ c.if-closes_quote.false) r)) in
     record {
       follows = goes;
       none = none-more (quoted_from q) false c.opens_escape-escaped.result bytes at goes before.none (quoted-nil q c.opens_escape-escaped.result);

@@ -1,4 +1,4 @@
-use Rattle.std.proofs.Common.{◌≤◌, length, false}
+use Rattle.std.proofs.Common.{false}
 use Rattle.c_lexer.proofs.WalkLemmas.{Follows, NoneUpTo, quoted_from}
 use Rattle.c_lexer.proofs.fronts.quoted_tail_len.Given as goal
 

@@ -1,4 +1,4 @@
-use Rattle.c_lexer.specs.Spelling.{is_char, is_text, is_quoted}
+use Rattle.c_lexer.specs.Spelling.{is_text, is_quoted}
 use Rattle.std.proofs.Common.{sym, ◌∙◌}
 use Rattle.std.proofs.lemmas.List.{take_rest}
 use Rattle.c_lexer.proofs.QuoteLemmas.{text-shifted, text-plain, alike, shifted-long, shifted-none}

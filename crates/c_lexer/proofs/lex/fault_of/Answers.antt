@@ -1,4 +1,4 @@
-use Rattle.std.proofs.Common.{◌≡◌, ◌∙◌, sym}
+use Rattle.std.proofs.Common.{◌∙◌, sym}
 use Rattle.c_lexer.proofs.ReachLemmas.{stop-kept}
 use Rattle.c_lexer.proofs.lex.fault_of.Goals as goal
 

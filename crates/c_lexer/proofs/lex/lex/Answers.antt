@@ -1,4 +1,4 @@
-use Rattle.std.proofs.Common.{◌≡◌, ℕ, List, sym, subst}
+use Rattle.std.proofs.Common.{ℕ, List, sym, subst}
 use Rattle.c_lexer.specs.Reading.{Front, Reaches, StopsBehind}
 use Rattle.c_lexer.specs.Reading.Reaches.{begins}
 use Rattle.c_lexer.specs.Refusals.{IsRefusal}

@@ -1,5 +1,4 @@
-use Rattle.std.proofs.Common.{sym, ◌∙◌, arith}
-use Rattle.c_lexer.specs.Spelling.{begins_with, is_letter, HasNone, is_char, is_text, is_number, is_sign}
+use Rattle.std.proofs.Common.{sym, ◌∙◌}
 use Rattle.c_lexer.proofs.TokenLemmas.{longest-char, longest-text, longest-word, longest-dollar, longest-number, longest-sign, longest-none}
 use Rattle.c_lexer.proofs.longest.longest_token.Goals as goal
 

@@ -1,4 +1,4 @@
-use Rattle.std.proofs.Common.{◌<◌, ◌≤◌, ◌+◌, ◌*◌, ◌-◌, get_or, arith}
+use Rattle.std.proofs.Common.{◌≤◌, ◌-◌, get_or, arith}
 use Rattle.c_lexer.proofs.MarkLemmas.{room, digit_value}
 use Rattle.c_lexer.proofs.marks.number_of.Goals as goal
 

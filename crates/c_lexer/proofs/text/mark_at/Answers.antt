@@ -1,4 +1,4 @@
-use Rattle.std.proofs.Common.{◌≡◌, ◌≤◌, nat_le, rules}
+use Rattle.std.proofs.Common.{nat_le, rules}
 use Rattle.std.proofs.lemmas.List.Sorted.{IsPartitionPoint-from_clause, IsPartitionedBy-leb}
 use Rattle.c_lexer.specs.declared.places.Mark.{Mark}
 use Rattle.c_lexer.proofs.FeedLemmas.{governs-last, governs-none}

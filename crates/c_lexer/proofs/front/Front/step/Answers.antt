@@ -1,9 +1,9 @@
-use Rattle.std.proofs.Common.{◌≡◌, ◌<◌, ◌≤◌, ◌+◌, ℕ, length, drop, sym, ◌∙◌, ap, subst, arith, false, if◌then◌else◌}
+use Rattle.std.proofs.Common.{◌≡◌, drop, sym, ◌∙◌, ap, subst, arith, false, if◌then◌else◌}
 use Rattle.std.proofs.lemmas.List.{take_rest, length-drop}
 use Rattle.c_lexer.specs.declared.front.Stop.TheVariants.{BadByte, Unended}
 use Rattle.c_lexer.specs.Spelling.{begins_comment, is_token, HasNone}
-use Rattle.c_lexer.specs.Gaps.{IsGap, HasNoGap}
-use Rattle.c_lexer.specs.Reading.{IsStuck, Front, opens}
+use Rattle.c_lexer.specs.Gaps.{HasNoGap}
+use Rattle.c_lexer.specs.Reading.{Front, opens}
 use Rattle.c_lexer.proofs.StepLemmas.{gap-fits, no-comment, stuck}
 use Rattle.c_lexer.proofs.front.Front.step.Goals as goal
 

@@ -1,6 +1,4 @@
-use Rattle.std.proofs.Common.{◌≡◌, ◌+◌, ◌-◌, ◌∷◌, [], ◌++◌, List, ℕ, take, drop, sym, ◌∙◌, ap, subst, arith, refl, Bool}
-use Rattle.c_lexer.specs.declared.token.Token.{Token}
-use Rattle.c_lexer.specs.declared.places.Mark.{Mark}
+use Rattle.std.proofs.Common.{◌≡◌, ◌+◌, ◌-◌, ◌∷◌, [], ◌++◌, take, drop, sym, ap, subst, arith, refl}
 use Rattle.c_lexer.specs.Shapes.{HasShape}
 use Rattle.c_lexer.specs.Reading.{Front, IsKind, names_behind}
 use Rattle.c_lexer.proofs.front.Front.take.Goals as goal

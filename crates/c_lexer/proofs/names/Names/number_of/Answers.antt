@@ -1,6 +1,6 @@
-use Rattle.std.proofs.Common.{◌≡◌, sym, ◌∙◌, ap, length, position, bytes_eq, Option, None, Some}
+use Rattle.std.proofs.Common.{◌≡◌, sym, ◌∙◌, ap, length, position, bytes_eq, None, Some}
 use Rattle.std.proofs.lemmas.List.{length-map}
-use Rattle.c_lexer.proofs.NameLemmas.{spellings, position-spellings, known-number, known-names, new-number, new-names}
+use Rattle.c_lexer.proofs.NameLemmas.{position-spellings, known-number, known-names, new-number, new-names}
 use Rattle.c_lexer.proofs.names.Names.number_of.Goals as goal
 use Rattle.c_lexer.proofs.names.Names.number_of.Goals.{After-new, After-new-2}
 

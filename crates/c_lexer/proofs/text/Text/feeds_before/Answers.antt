@@ -1,7 +1,7 @@
 use Rattle.std.proofs.Common.{◌≡◌, ◌≤◌, ◌∙◌, nat_lt, ◌==◌, sym, take, ap, subst, length, rules, List, ℕ}
 use Rattle.std.specs.Prelude.{count_by}
 use Rattle.std.proofs.lemmas.List.Sorted.{IsPartitionPoint-from_clause}
-use Rattle.c_lexer.proofs.FeedLemmas.{feeds, feeds-point, feeds-count}
+use Rattle.c_lexer.proofs.FeedLemmas.{feeds-point, feeds-count}
 use Rattle.c_lexer.proofs.text.Text.feeds_before.Goals as goal
 
 pub returns : goal.returns

@@ -1,6 +1,5 @@
-use Rattle.std.proofs.Common.{◌≡◌, ◌≤◌, ◌<◌, ◌+◌, ◌-◌, ◌∙◌, ◌==◌, sym, ap, subst, take, length, arith, List, ℕ, zero, get_or}
+use Rattle.std.proofs.Common.{◌≡◌, ◌≤◌, ◌+◌, ◌∙◌, ◌==◌, sym, ap, subst, take, length, arith, List, ℕ}
 use Rattle.std.specs.Prelude.{count_by}
-use Rattle.memchr.specs.Find.{places, is_byte}
 use Rattle.c_lexer.specs.Places.{IsLineOf}
 use Rattle.c_lexer.proofs.FeedLemmas.{feeds, feeds-count, line-first, line-behind}
 use Rattle.c_lexer.proofs.text.Text.line_start.Goals as goal

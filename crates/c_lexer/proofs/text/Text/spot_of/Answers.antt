@@ -1,5 +1,4 @@
-use Rattle.std.proofs.Common.{◌≡◌, ◌≤◌, ◌+◌, ◌-◌, ◌==◌, ◌∙◌, List, ℕ, sym, ap, length, arith, refl, take}
-use Rattle.std.specs.Prelude.{slice_range, count_by}
+use Rattle.std.proofs.Common.{◌+◌, ◌==◌, List, ℕ, ap, arith, refl}
 use Rattle.c_lexer.proofs.FeedLemmas.{count-cut}
 use Rattle.c_lexer.proofs.text.Text.spot_of.Goals as goal
 
