@@ -9,3 +9,5 @@ pub mod NameLemmas
 pub mod StepLemmas
 pub mod FeedLemmas
 pub mod ReachLemmas
+pub mod UniqueLemmas
+pub mod OnceLemmas

@@ -58,12 +58,12 @@ pub record IsReadAt (line : List ℕ) (parts : Parts) : Type 0 where
   pub digits_end : parts.digits_end ≡ parts.digits_at + prefix_len is_digit (drop parts.digits_at line)
   pub quote_at : parts.quote_at ≡ parts.digits_end + prefix_len is_blank (drop parts.digits_end line)
 
-record SameParts (line : List ℕ) (m : Marker) (parts : Parts) (marks : IsMarker line m) : Type 0 where
-  digits_at : marks.digits_at ≡ parts.digits_at
-  digits_end : marks.digits_end ≡ parts.digits_end
-  quote_at : marks.quote_at ≡ parts.quote_at
+pub record SameParts (line : List ℕ) (m : Marker) (parts : Parts) (marks : IsMarker line m) : Type 0 where
+  pub digits_at : marks.digits_at ≡ parts.digits_at
+  pub digits_end : marks.digits_end ≡ parts.digits_end
+  pub quote_at : marks.quote_at ≡ parts.quote_at
 
-same_parts : (line : List ℕ) (parts : Parts) → IsReadAt line parts → (m : Marker) (marks : IsMarker line m) → SameParts line m parts marks
+pub same_parts : (line : List ℕ) (parts : Parts) → IsReadAt line parts → (m : Marker) (marks : IsMarker line m) → SameParts line m parts marks
 same_parts line parts read m marks =
     let digits = marks.digits in
     let blanks = marks.second_blanks in
@@ -96,7 +96,7 @@ short-no_marker line parts read short m marks =
     (and_from _ _ (le-leb parts.digits_end (parts.digits_at + 9) (omega arith)) (lt-ltb parts.digits_end parts.quote_at (omega arith)))))
 
 -- the length of the quoted name, from where the parts place it
-file_len : (line : List ℕ) (parts : Parts) → IsReadAt line parts → (m : Marker) (marks : IsMarker line m) →
+pub file_len : (line : List ℕ) (parts : Parts) → IsReadAt line parts → (m : Marker) (marks : IsMarker line m) →
     (n : ℕ) × (n ≤ length (drop parts.quote_at line)) × (is_quoted 34 (take n (drop parts.quote_at line)) ≡ true) × (m.name_to + 1 ≡ parts.quote_at + n)
 file_len line parts read m marks =
     let same = same_parts line parts read m marks in

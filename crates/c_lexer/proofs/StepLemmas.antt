@@ -40,7 +40,7 @@ pub no-comment : (fresh : Bool) (bytes : List ℕ) → HasNoGap fresh bytes → 
 no-comment fresh bytes none block =
     or_from (starts_with nat_eq bytes (codes "/*")) (starts_with nat_eq bytes (codes "//")) block (false_from_ne_true _ (λ line. none LineComment (line_len bytes) (line, refl)))
 
-nil_token : is_token [] ≡ false
+pub nil_token : is_token [] ≡ false
 unfolding sign_kind signs
 nil_token = refl
 

@@ -9,7 +9,7 @@ use Rattle.c_lexer.proofs.QuoteLemmas.{wide_cases}
 use Rattle.c_lexer.proofs.SignLemmas.{sign-letter, sign-digit, sign-then_digit, sign-quote, sign-double, sign-dollar}
 
 -- no kind of token, and some kind
-no_token : (a : List ℕ) → is_word a ≡ false → is_number a ≡ false → is_char a ≡ false → is_text a ≡ false → is_dollar a ≡ false → sign_kind a ≡ None → is_token a ≡ false
+pub no_token : (a : List ℕ) → is_word a ≡ false → is_number a ≡ false → is_char a ≡ false → is_text a ≡ false → is_dollar a ≡ false → sign_kind a ≡ None → is_token a ≡ false
 no_token a w n c t d s = rw (w, n, c, t, d, s) refl
 
 word_token : (a : List ℕ) → is_word a ≡ true → is_token a ≡ true
@@ -64,7 +64,7 @@ dollar_apart bytes zero h = refl
 dollar_apart [] (suc m) h = refl
 dollar_apart (c ∷ cs) (suc m) h = rw h refl
 
-letter_number : (a : List ℕ) → begins_with is_letter a ≡ true → is_number a ≡ false
+pub letter_number : (a : List ℕ) → begins_with is_letter a ≡ true → is_number a ≡ false
 letter_number [] h = absurd cc
 letter_number (c ∷ cs) h = rw (let e : is_digit c ≡ false = grind (arith, nat_tests) in e, let e : (c == 46) ≡ false = grind (arith, nat_tests) in e) refl
 
@@ -81,11 +81,11 @@ longest-word bytes n chars texts h long = record {
       no_token (take m bytes) (long.longest m lt le) (letter_number (take m bytes) front) (chars m le) (texts m le) (letter_dollar (take m bytes) front) (sign-letter (take m bytes) front);
 }
 
-dollar_number : (a : List ℕ) → begins_with (λ c. c == 36) a ≡ true → is_number a ≡ false
+pub dollar_number : (a : List ℕ) → begins_with (λ c. c == 36) a ≡ true → is_number a ≡ false
 dollar_number [] h = absurd cc
 dollar_number (c ∷ cs) h = let e : c ≡ 36 = eqb-true c 36 h in rw e refl
 
-dollar_word : (a : List ℕ) → begins_with (λ c. c == 36) a ≡ true → is_word a ≡ false
+pub dollar_word : (a : List ℕ) → begins_with (λ c. c == 36) a ≡ true → is_word a ≡ false
 dollar_word [] h = absurd cc
 dollar_word (c ∷ cs) h = let e : c ≡ 36 = eqb-true c 36 h in rw e refl
 
@@ -98,7 +98,7 @@ longest-dollar bytes n chars texts h long = record {
       no_token (take m bytes) (dollar_word (take m bytes) front) (dollar_number (take m bytes) front) (chars m le) (texts m le) (long.longest m lt le) (sign-dollar (take m bytes) front);
 }
 
-number_begins : (a : List ℕ) → is_number a ≡ true → (begins_with is_digit a ≡ true) ⊎ (begins_with is_digit (drop 1 a) ≡ true)
+pub number_begins : (a : List ℕ) → is_number a ≡ true → (begins_with is_digit a ≡ true) ⊎ (begins_with is_digit (drop 1 a) ≡ true)
 number_begins [] h = absurd cc
 number_begins (c ∷ cs) h = by_case (or_cases (is_digits (c ∷ cs)) (c == 46 && is_digits cs) h)
   where
@@ -110,7 +110,7 @@ number_begins (c ∷ cs) h = by_case (or_cases (is_digits (c ∷ cs)) (c == 46 &
     by_case (inl e) = inl (digits_begin (c ∷ cs) e)
     by_case (inr e) = inr (digits_begin cs (and_parts (c == 46) (is_digits cs) e).1)
 
-number_sign : (bytes : List ℕ) (n m : ℕ) → n ≤ m → is_number (take n bytes) ≡ true → sign_kind (take m bytes) ≡ None
+pub number_sign : (bytes : List ℕ) (n m : ℕ) → n ≤ m → is_number (take n bytes) ≡ true → sign_kind (take m bytes) ≡ None
 number_sign bytes n m le h = by_case (number_begins (take n bytes) h)
   where
     by_case : (begins_with is_digit (take n bytes) ≡ true) ⊎ (begins_with is_digit (drop 1 (take n bytes)) ≡ true) → sign_kind (take m bytes) ≡ None
@@ -141,7 +141,7 @@ longest-none bytes chars texts letter dollar numbers none m le =
     no_token (take m bytes) (word_apart bytes m letter) (numbers m le) (chars m le) (texts m le) (dollar_apart bytes m dollar) (no_kind (take m bytes) (none m le))
 
 -- Where a literal opens: a quote in front, behind a prefix of one byte, or behind `u8`.
-data Opens (quote : ℕ) (a : List ℕ) : Type 0 where
+pub data Opens (quote : ℕ) (a : List ℕ) : Type 0 where
   plain : begins_with (λ c. c == quote) a ≡ true → Opens quote a
   wide : begins_with is_wide a ≡ true → begins_with (λ c. c == quote) (drop 1 a) ≡ true → Opens quote a
   utf : begins_with (λ c. c == 117) a ≡ true → begins_with (λ c. c == 56) (drop 1 a) ≡ true → begins_with (λ c. c == quote) (drop 2 a) ≡ true → Opens quote a
@@ -162,7 +162,7 @@ prefix_wide w c b h e =
     let same : w ≡ c = eqb-true w c (and_parts (nat_eq w c) true parts.0).0 in
     (rw same at h, parts.1)
 
-char_opens : (a : List ℕ) → is_char a ≡ true → Opens 39 a
+pub char_opens : (a : List ℕ) → is_char a ≡ true → Opens 39 a
 char_opens [] h = absurd cc
 char_opens (c ∷ cs) h = by_case (or_cases (is_quoted 39 (c ∷ cs)) _ h)
   where
@@ -185,7 +185,7 @@ char_opens (c ∷ cs) h = by_case (or_cases (is_quoted 39 (c ∷ cs)) _ h)
     by_case (inl e) = plain (quoted_begins 39 (c ∷ cs) e)
     by_case (inr e) = by_first (or_cases _ _ e)
 
-text_opens : (a : List ℕ) → is_text a ≡ true → Opens 34 a
+pub text_opens : (a : List ℕ) → is_text a ≡ true → Opens 34 a
 text_opens [] h = absurd cc
 text_opens (c ∷ cs) h = by_case (or_cases (is_quoted 34 (c ∷ cs)) _ h)
   where
@@ -224,11 +224,11 @@ text_opens (c ∷ cs) h = by_case (or_cases (is_quoted 34 (c ∷ cs)) _ h)
     by_case (inr e) = by_first (or_cases _ _ e)
 
 -- the other kinds, none of which bytes are where a literal opens
-record Others (a : List ℕ) : Type 0 where
-  word : is_word a ≡ false
-  number : is_number a ≡ false
-  dollar : is_dollar a ≡ false
-  sign : sign_kind a ≡ None
+pub record Others (a : List ℕ) : Type 0 where
+  pub word : is_word a ≡ false
+  pub number : is_number a ≡ false
+  pub dollar : is_dollar a ≡ false
+  pub sign : sign_kind a ≡ None
 
 wide_letter : (c : ℕ) → is_wide c ≡ true → is_letter c ≡ true
 wide_letter c h = by_case (wide_cases c h)
@@ -249,7 +249,7 @@ letter_others c cs h stops = record {
 
 module _ (quote : ℕ) (no_part : is_word_byte quote ≡ false) (no_dollar : (quote == 36) ≡ false) (no_point : (quote == 46) ≡ false)
     (none : (a : List ℕ) → begins_with (λ c. c == quote) a ≡ true → sign_kind a ≡ None) where
-  opens_others : (a : List ℕ) → Opens quote a → Others a
+  pub opens_others : (a : List ℕ) → Opens quote a → Others a
   opens_others [] (plain e) = absurd cc
   opens_others (c ∷ cs) (plain e) =
       let same : c ≡ quote = eqb-true c quote e in

@@ -1,7 +1,10 @@
 -- Why the bytes of a unit spell no tokens: at the first place where they stop, with all before it read.
-use Rattle.std.specs.Prelude.{◌≡◌, ℕ, true, false, List, drop}
+use Rattle.std.specs.Prelude.{◌≡◌, ℕ, true, false, List, drop, Result, Ok, Err}
 use Rattle.c_lexer.specs.declared.lex.LexFault.{LexFault}
 use Rattle.c_lexer.specs.declared.lex.LexFault.TheVariants.{BadByte, Unended, UnknownQualifier, NoMemory}
+use Rattle.c_lexer.specs.declared.token.Token.{Token}
+use Rattle.c_lexer.specs.declared.places.Mark.{Mark}
+use Rattle.c_lexer.specs.Tokens.{Lexed}
 use Rattle.c_lexer.specs.Places.{IsSpot}
 use Rattle.c_lexer.specs.Reading.{Meanings, Front, Reaches, IsStuck, IsUnknown, opens}
 
@@ -14,3 +17,8 @@ IsRefusal unit words bytes (Unended spot) =
 IsRefusal unit words bytes (UnknownQualifier spot) =
     (front : Front) × Reaches unit words bytes front × IsUnknown unit words bytes front × IsSpot unit bytes front.marks front.at spot
 IsRefusal unit words bytes NoMemory = Unit {0}
+
+-- tokens and marks are answered as these, unless memory is wanting
+abbrev pub IsOnly : List Token → List Mark → Result Lexed LexFault → Type 0
+IsOnly tokens marks (Ok lexed) = (lexed.tokens ≡ tokens) × (lexed.marks ≡ marks)
+IsOnly tokens marks (Err fault) = fault ≡ NoMemory

@@ -3,7 +3,7 @@
 ghost use Rattle.std.specs.Prelude.{ℕ, ◌≡◌, ◌+◌, ◌-◌, ◌<◌, ◌^◌, length, IfOk, IfErr, MatchResult};
 ghost use Rattle.c_lexer.specs.Reading.{Reaches, Spells, StopsBehind};
 ghost use Rattle.c_lexer.specs.Tokens.{IsSpelled, NamesKeywords};
-ghost use Rattle.c_lexer.specs.Refusals.{IsRefusal};
+ghost use Rattle.c_lexer.specs.Refusals.{IsOnly, IsRefusal};
 
 use crate::front::{Front, Stop, push_token, read_all};
 use crate::kinds::TokenKind;
@@ -75,6 +75,7 @@ pub fn lex(alloc: Global, unit: UnitNo, bytes: &[u8], words: &QualWords) -> Resu
     ensures spelled { IfOk result (λ tokens. IsSpelled words.now tokens) }
     ensures keywords { IfOk result (λ tokens. NamesKeywords words.now tokens) }
     ensures refused { IfErr result (λ fault. IsRefusal unit words.now bytes.now fault) }
+    ensures only { (tokens : _) (names : _) (marks : _) → Spells unit words.now bytes.now tokens names marks → IsOnly tokens marks result }
 {
     let Ok(text) = Text::new(alloc, unit, bytes) else {
         return Err(LexFault::NoMemory);
