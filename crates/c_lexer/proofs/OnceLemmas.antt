@@ -121,8 +121,14 @@ is_kind-is unit words names a Char h = let others = char_others a h in rw (other
 is_kind-is unit words names a Text (inl h) = let others = text_others a h in rw (others.word, others.number, text_char a (text_opens a h), h) refl
 is_kind-is unit words names a Text (inr h) = rw (h.0, h.1) refl
 is_kind-is unit words names a (Sign sign) h =
-    rw (sign_apart is_word a sign h (λ e. sign-letter a (word_begins a e)), sign_apart is_number a sign h (number_none a), sign_apart is_char a sign h (λ e. (char_others a e).sign),
-    sign_apart is_text a sign h (λ e. (text_others a e).sign), sign_apart is_dollar a sign h (λ e. sign-dollar a (dollar_begins a e)), h) refl
+    rw (
+      sign_apart is_word a sign h (λ e. sign-letter a (word_begins a e)),
+      sign_apart is_number a sign h (number_none a),
+      sign_apart is_char a sign h (λ e. (char_others a e).sign),
+      sign_apart is_text a sign h (λ e. (text_others a e).sign),
+      sign_apart is_dollar a sign h (λ e. sign-dollar a (dollar_begins a e)),
+      h,
+    ) refl
 is_kind-is unit words names a (Qual lattice elem) h =
     let begins_so = dollar_begins a h.0 in
     rw (dollar_word a begins_so, dollar_number a begins_so, dollar_char a begins_so, dollar_text a begins_so, h.0, h.1, h.2) refl
@@ -208,6 +214,7 @@ compare unit words bytes x y to (on b c path s) = by_case (compare unit words by
     by_first : (b ≡ x) ⊎ First unit words bytes b x → Path unit words bytes x c ⊎ Path unit words bytes c x
     by_first (inl e) = let P : Front → Type 0 = λ f. IsStep unit words bytes f c in inl (on x c here (subst P e s))
     by_first (inr h) = let P : Front → Type 0 = λ f. Path unit words bytes f x in inr (subst P (step_once unit words bytes b h.next c h.step s) h.rest)
+
     by_case : Path unit words bytes x b ⊎ Path unit words bytes b x → Path unit words bytes x c ⊎ Path unit words bytes c x
     by_case (inl before) = inl (on b c before s)
     by_case (inr behind) = by_first (first_of unit words bytes b x behind)
@@ -244,9 +251,11 @@ last-once unit words bytes x y h g last_x last_y = by_case (compare unit words b
     from_x : (x ≡ y) ⊎ First unit words bytes x y → x ≡ y
     from_x (inl e) = e
     from_x (inr f) = absurd (last_x f.next f.step)
+
     from_y : (y ≡ x) ⊎ First unit words bytes y x → x ≡ y
     from_y (inl e) = sym e
     from_y (inr f) = absurd (last_y f.next f.step)
+
     by_case : Path unit words bytes x y ⊎ Path unit words bytes y x → x ≡ y
     by_case (inl p) = from_x (first_of unit words bytes x y p)
     by_case (inr p) = from_y (first_of unit words bytes y x p)

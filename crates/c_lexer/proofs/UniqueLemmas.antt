@@ -161,21 +161,27 @@ gap_token c r h = by_7 (or_cases _ (c == 35) h)
   where
     at : (k : ℕ) → c ≡ k → is_token (k ∷ r) ≡ false → is_token (c ∷ r) ≡ false
     at k e no_t = rw e no_t
+
     by_2 : ((c == 32) ≡ true) ⊎ ((c == 9) ≡ true) → is_token (c ∷ r) ≡ false
     by_2 (inl e) = at 32 (eqb-true c 32 e) (no_token (32 ∷ r) refl refl refl refl refl (sign_gap (32 ∷ r) refl))
     by_2 (inr e) = at 9 (eqb-true c 9 e) (no_token (9 ∷ r) refl refl refl refl refl (sign_gap (9 ∷ r) refl))
+
     by_3 : ((c == 32 || c == 9) ≡ true) ⊎ ((c == 10) ≡ true) → is_token (c ∷ r) ≡ false
     by_3 (inl e) = by_2 (or_cases (c == 32) (c == 9) e)
     by_3 (inr e) = at 10 (eqb-true c 10 e) (no_token (10 ∷ r) refl refl refl refl refl (sign_gap (10 ∷ r) refl))
+
     by_4 : ((c == 32 || c == 9 || c == 10) ≡ true) ⊎ ((c == 11) ≡ true) → is_token (c ∷ r) ≡ false
     by_4 (inl e) = by_3 (or_cases _ (c == 10) e)
     by_4 (inr e) = at 11 (eqb-true c 11 e) (no_token (11 ∷ r) refl refl refl refl refl (sign_gap (11 ∷ r) refl))
+
     by_5 : ((c == 32 || c == 9 || c == 10 || c == 11) ≡ true) ⊎ ((c == 12) ≡ true) → is_token (c ∷ r) ≡ false
     by_5 (inl e) = by_4 (or_cases _ (c == 11) e)
     by_5 (inr e) = at 12 (eqb-true c 12 e) (no_token (12 ∷ r) refl refl refl refl refl (sign_gap (12 ∷ r) refl))
+
     by_6 : ((c == 32 || c == 9 || c == 10 || c == 11 || c == 12) ≡ true) ⊎ ((c == 13) ≡ true) → is_token (c ∷ r) ≡ false
     by_6 (inl e) = by_5 (or_cases _ (c == 12) e)
     by_6 (inr e) = at 13 (eqb-true c 13 e) (no_token (13 ∷ r) refl refl refl refl refl (sign_gap (13 ∷ r) refl))
+
     by_7 : ((c == 32 || c == 9 || c == 10 || c == 11 || c == 12 || c == 13) ≡ true) ⊎ ((c == 35) ≡ true) → is_token (c ∷ r) ≡ false
     by_7 (inl e) = by_6 (or_cases _ (c == 13) e)
     by_7 (inr e) = at 35 (eqb-true c 35 e) (no_token (35 ∷ r) refl refl refl refl refl (sign_gap (35 ∷ r) refl))
