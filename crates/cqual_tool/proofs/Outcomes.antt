@@ -35,3 +35,8 @@ records_two old middle None one other first second = tt
 records_two old None (Some new) one other first second = absurd second
 records_two None (Some middle) (Some new) one other first second = absurd first
 records_two (Some old) (Some middle) (Some new) one other first second = second ∙ ap (λ (names : List (List ℕ)). names ++ other ∷ []) first ∙ append_assoc old (one ∷ []) (other ∷ [])
+
+-- what is told of the files
+pub when_told : {P Q : List (List ℕ × List ℕ) → Type 0} (told : Option (List (List ℕ × List ℕ))) → IfSome told P → ((all : List (List ℕ × List ℕ)) → P all → Q all) → IfSome told Q
+when_told None p f = tt
+when_told (Some all) p f = f all p

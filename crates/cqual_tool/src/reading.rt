@@ -129,7 +129,7 @@ fn lattice_in(alloc: Global, bytes: &[u8]) -> Result<Option<Lattice>, NoMemory>
 /// The answer for two files that are named, in the order in which they are read.
 pub fn answer<F: Files>(alloc: Global, named: Named<'_>, files: &mut F) -> Result<Answer, Stop>
     ensures outcome { IfOk result (λ answer. IfSome (F.contents files.old) (λ all.
-        OfFiles (names_in named.entry) (content_of all named.lattice.now) (content_of all named.source.now) answer.status answer.text.items)) }
+        OfFiles (names_in named.entry) (content_of all named.entry.lattice.now) (content_of all named.entry.source.now) answer.status answer.text.items)) }
     ensures read_fault { IsErrOf result Stop.ReadFault → Rose (F.faults files.old) (F.faults files.new) }
     ensures count { GoesOn (F.faults files.old) (F.faults files.new) }
     ensures started { (names : List (List ℕ)) × RecordsAll (F.started files.old) (F.started files.new) names × Starts (names_in named.entry) (F.contents files.old) names }

@@ -1,14 +1,13 @@
 //! The two reports of a program.
 
-ghost use Rattle.std.specs.Prelude.{◌≡◌, ◌<◌, ◌++◌, ◌≤◌, ◌^◌, ℕ, List, IfOk, OnOk, length, All};
-ghost use Rattle.lattice_core.specs.Order.{leq};
+ghost use Rattle.std.specs.Prelude.{◌≡◌, ◌<◌, ◌++◌, ◌↔◌, ◌≤◌, ◌^◌, ℕ, List, IfOk, OnOk, length, All};
 ghost use Rattle.flow_graph.specs.declared.constraint.Link.TheVariants.{Bound};
-ghost use Rattle.flow_graph.specs.System.{Stands};
+ghost use Rattle.flow_graph.specs.System.{IsWellOwned};
 ghost use Rattle.flow_graph.specs.Paths.{Lead};
 ghost use Rattle.flow_graph.specs.Unfolding.{IsExceeded};
 ghost use Rattle.flow_laws.specs.Flat.{IsFlat};
 ghost use Rattle.flow_laws.specs.Least.{NamesElementsIn};
-ghost use Rattle.lattice_solver.specs.Solution.{IsSolved, IsKept, Exceeds};
+ghost use Rattle.lattice_solver.specs.Solution.{HasElement, IsSolved, IsKept};
 ghost use Rattle.cqual_tool.specs.Texts.{steps_text};
 ghost use Rattle.cqual_tool.specs.Scenes.{scene_of, HasVar, HasElem, IsShown, IsOverBound, HasObjects};
 ghost use Rattle.cqual_tool.specs.Reports.{IsLine, Lines, IsError, IsErrorOf, Errors, IsAcceptedReport, IsRejectedReport};
@@ -110,7 +109,9 @@ fn put_error_of(alloc: Global, out: &mut Vec<u8>, scene: &Scene<'_>, graph: &Flo
     requires flat { IsFlat graph.now }
     requires shown { IsShown scene.now graph.now }
     requires lattice { solver.now.lattice ≡ 0 }
+    requires owned { IsWellOwned graph.now }
     requires solved { IsSolved graph.now solver.now }
+    requires reached { (v e : ℕ) → HasElement solver.now v e ↔ Lead graph.now 0 e v }
     requires named { NamesElementsIn graph.now 0 scene.now.lattice.now.order }
     requires number { number < length graph.now.constraints }
     ensures { OnOk result ((error : List ℕ) × (out.new.items ≡ out.old.items ++ error) × IsErrorOf (scene_of scene.now) graph.now scene.now.lattice.now.order number error) }
@@ -126,7 +127,9 @@ fn put_errors(alloc: Global, out: &mut Vec<u8>, scene: &Scene<'_>, graph: &FlowG
     requires flat { IsFlat graph.now }
     requires shown { IsShown scene.now graph.now }
     requires lattice { solver.now.lattice ≡ 0 }
+    requires owned { IsWellOwned graph.now }
     requires solved { IsSolved graph.now solver.now }
+    requires reached { (v e : ℕ) → HasElement solver.now v e ↔ Lead graph.now 0 e v }
     requires named { NamesElementsIn graph.now 0 scene.now.lattice.now.order }
     ensures { OnOk result ((errors : List ℕ) × (out.new.items ≡ out.old.items ++ errors) × Errors (scene_of scene.now) graph.now scene.now.lattice.now.order (length graph.now.constraints) errors) }
 {
@@ -141,7 +144,9 @@ pub fn rejected(alloc: Global, scene: &Scene<'_>, graph: &FlowGraph, solver: &So
     requires flat { IsFlat graph.now }
     requires shown { IsShown scene.now graph.now }
     requires lattice { solver.now.lattice ≡ 0 }
+    requires owned { IsWellOwned graph.now }
     requires solved { IsSolved graph.now solver.now }
+    requires reached { (v e : ℕ) → HasElement solver.now v e ↔ Lead graph.now 0 e v }
     requires named { NamesElementsIn graph.now 0 scene.now.lattice.now.order }
     requires exceeded { (n : ℕ) × IsExceeded graph.now 0 scene.now.lattice.now.order n }
     ensures { IfOk result (λ text. IsRejectedReport (scene_of scene.now) graph.now scene.now.lattice.now.order text.items) }

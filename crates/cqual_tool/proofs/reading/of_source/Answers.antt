@@ -7,12 +7,25 @@ use Rattle.cqual_tool.specs.Outcome.{OfSource, SourceRead, SourceNotYet, names_o
 use Rattle.cqual_tool.proofs.Outcomes.{at_equal}
 use Rattle.cqual_tool.proofs.reading.of_source.Goals as goal
 
+-- the names that were lent are those of the lattice
+abbrev Found : (names : List (List ℕ)) (bytes : List ℕ) → Option SourceForm → Type 0
+Found names bytes found = MatchOption found ((source : SourceForm) → IsSourceForm names bytes source → ⊥) (λ source. IsSourceForm names bytes source)
+
 pub returns-in-Some : goal.returns-in-Some
 returns-in-Some c =
-    IfOk-weaker c.analyse.result _ _ (λ answer is. SourceRead c.in-Some.source _ _ (record { within = c.requires; form = ? }) is) c.analyse.ensures
+    let Lent : List (List ℕ) → Type 0 = λ names. Found names c.args.bytes.now c.in_ok-source.field-0 in
+    let own : Lent (names_of c.args.lattice.now.entries) =
+        subst Lent (ap (λ (lent : List _). map (λ name. name.now) lent) c.deref.ensures.value ∙ c.in_ok-names.ensures) c.in_ok-source.ensures in
+    let form : IsSourceForm (names_of c.args.lattice.now.entries) c.args.bytes.now c.in-Some.source = subst (Found (names_of c.args.lattice.now.entries) c.args.bytes.now) c.in-Some.is own in
+    IfOk-weaker c.analyse.result _ _ (λ answer is. SourceRead c.in-Some.source _ _ (record { within = c.requires; form = form }) is) c.analyse.ensures
 
 pub returns : goal.returns
 returns c =
+    let Lent : List (List ℕ) → Type 0 = λ names. Found names c.args.bytes.now c.in_ok-source.field-0 in
+    let own : Lent (names_of c.args.lattice.now.entries) =
+        subst Lent (ap (λ (lent : List _). map (λ name. name.now) lent) c.deref.ensures.value ∙ c.in_ok-names.ensures) c.in_ok-source.ensures in
+    let other : (source : SourceForm) → IsSourceForm (names_of c.args.lattice.now.entries) c.args.bytes.now source → ⊥ =
+        subst (Found (names_of c.args.lattice.now.entries) c.args.bytes.now) c.in-None.is own in
     IfOk-weaker c.other_form.result _ _
-        (λ answer is. at_equal (OfSource c.args.file.now c.args.lattice.now c.args.bytes.now) _ _ _ _ is.0 is.1 (SourceNotYet (record { within = c.requires; other = ? })))
+        (λ answer is. at_equal (OfSource c.args.file.now c.args.lattice.now c.args.bytes.now) _ _ _ _ is.0 is.1 (SourceNotYet (record { within = c.requires; other = other })))
         c.other_form.ensures
