@@ -111,6 +111,13 @@ impl FlowGraph {
         }
     }
 
+    /// What is true of every graph. It does nothing.
+    pub fn law(&self)
+        ensures few { length self.now.constraints ≤ MOST_CONSTRAINTS }
+    {
+        let _ = &self.constraints;
+    }
+
     /// How many constraints there are.
     pub fn len(&self) -> u32
         ensures length { result ≡ length self.now.constraints }
