@@ -76,6 +76,7 @@ pub fn analyse(alloc: Global, file: &str, lattice: &Lattice, source: &SourceForm
         Err(GraphFault::TooMany) => return Ok(malformed(alloc, file, "G1")?),
         Err(GraphFault::NoMemory) => return Err(NoMemory),
     };
+    graph.law();
     let objects = object_tokens(alloc, &source.items)?;
     let scene = Scene {
         file,

@@ -1,4 +1,4 @@
-use Rattle.std.proofs.Common.{rules, ◌≡◌, ◌∙◌, sym, ap, refl, subst, length, List, ℕ}
+use Rattle.std.proofs.Common.{rules, Err, ◌≡◌, ◌≤◌, ◌∙◌, sym, ap, refl, subst, length, List, ℕ}
 use Rattle.flow_graph.specs.System.{System}
 use Rattle.flow_laws.specs.Flat.{IsFlat}
 use Rattle.flow_laws.specs.Least.{NamesElementsIn}
@@ -58,11 +58,11 @@ judge-requires-clause-owned c = rw c.in-Ok.ensures.graph (owned c.args.lattice.n
 pub returns-in-Err-TooMany : goal.returns-in-Err-TooMany
 returns-in-Err-TooMany c =
     at_equal (OfProgram c.args.file.now c.args.lattice.now c.args.source.now) _ _ _ _ c.in_ok-malformed-in-Err-TooMany.ensures.0 c.in_ok-malformed-in-Err-TooMany.ensures.1
-        (PastLimit (c.in-Err-TooMany.ensures.too_many refl))
+        (PastLimit (c.in-Err-TooMany.ensures.too_many (ap Err c.in-Err-TooMany.field-0-is)))
 
 pub returns : goal.returns
 returns c =
-    let few : length c.in-Ok.graph.constraints ≤ 67108864 = c.len.ensures.few in
+    let few : length c.in-Ok.graph.constraints ≤ 67108864 = c.law-2.ensures.few in
     let Few : System → Type 0 = λ sys. length sys.constraints ≤ 67108864 in
     let objects : c.deref-2.result.now ≡ object_tokens c.args.source.now.items.items = c.deref-2.ensures.value ∙ c.in_ok-objects.ensures ∙ ap object_tokens c.deref.ensures.value in
     IfOk-weaker c.judge.result _ _

@@ -11,16 +11,16 @@ use Rattle.cqual_tool.proofs.reading.of_source.Goals as goal
 abbrev Found : (names : List (List ℕ)) (bytes : List ℕ) → Option SourceForm → Type 0
 Found names bytes found = MatchOption found ((source : SourceForm) → IsSourceForm names bytes source → ⊥) (λ source. IsSourceForm names bytes source)
 
-pub returns-in-Some : goal.returns-in-Some
-returns-in-Some c =
+pub returns-in-Some-clause-outcome : goal.returns-in-Some-clause-outcome
+returns-in-Some-clause-outcome c =
     let Lent : List (List ℕ) → Type 0 = λ names. Found names c.args.bytes.now c.in_ok-source.field-0 in
     let own : Lent (names_of c.args.lattice.now.entries) =
         subst Lent (ap (λ (lent : List _). map (λ name. name.now) lent) c.deref.ensures.value ∙ c.in_ok-names.ensures) c.in_ok-source.ensures in
     let form : IsSourceForm (names_of c.args.lattice.now.entries) c.args.bytes.now c.in-Some.source = subst (Found (names_of c.args.lattice.now.entries) c.args.bytes.now) c.in-Some.is own in
     IfOk-weaker c.analyse.result _ _ (λ answer is. SourceRead c.in-Some.source _ _ (record { within = c.requires; form = form }) is) c.analyse.ensures
 
-pub returns : goal.returns
-returns c =
+pub returns-clause-outcome : goal.returns-clause-outcome
+returns-clause-outcome c =
     let Lent : List (List ℕ) → Type 0 = λ names. Found names c.args.bytes.now c.in_ok-source.field-0 in
     let own : Lent (names_of c.args.lattice.now.entries) =
         subst Lent (ap (λ (lent : List _). map (λ name. name.now) lent) c.deref.ensures.value ∙ c.in_ok-names.ensures) c.in_ok-source.ensures in
