@@ -6,3 +6,5 @@ pub mod constraint;
 pub mod graph;
 pub mod place;
 pub mod proof;
+#[cfg(test)]
+mod tests;

@@ -1,5 +1,5 @@
 -- Single bits of sets that are joined or met.
-use Rattle.std.proofs.Common.{◌≡◌, ℕ, ◌<◌, min, max, ◌⊎◌, inl, inr, sym, ◌∙◌, arith, bit_and, bit_or}
+use Rattle.std.proofs.Common.{◌≡◌, ℕ, ◌<◌, min, max, ◌⊎◌, sym, ◌∙◌, arith, bit_and, bit_or}
 use Rattle.std.specs.Int.{bit_at}
 use Rattle.std.proofs.lemmas.Nat.Bits.{bit_at-lt, bit_at_and, bit_at_or}
 

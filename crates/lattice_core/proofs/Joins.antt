@@ -1,9 +1,10 @@
 -- The join of a set: the element whose row is what the rows of the set share.
-use Rattle.std.proofs.Common.{◌≡◌, ◌≢◌, ℕ, ◌<◌, ◌≤◌, ◌+◌, ◌-◌, ◌^◌, zero, suc, true, List, length, get_or, sym, ◌∙◌, ap, arith, inl, inr, ◌⊎◌, ◌↔◌, add-one}
+use Rattle.std.proofs.Common.{◌≡◌, ℕ, ◌<◌, ◌≤◌, ◌-◌, ◌^◌, zero, suc, true, List, length, get_or, sym, ◌∙◌, ap, arith, inl, inr, ◌↔◌}
 use Rattle.std.specs.Int.{bit_at}
 use Rattle.std.proofs.lemmas.Bool.{cases_lt, cases_eq}
 use Rattle.std.proofs.lemmas.Nat.Bits.{bit_at_ones, bit_at_ones_above}
-use Rattle.lattice_core.specs.Order.{Order, order_of, size, leq, IsOrder, IsLattice, IsJoinOf}
+use Rattle.lattice_core.specs.Order.{Order, size, leq, IsLattice, IsJoinOf}
+use Rattle.lattice_core.specs.Rows.{order_of}
 use Rattle.lattice_core.proofs.UpperLower.{leq_bit, bit_leq, same_row}
 
 -- an element at or below each of the first k

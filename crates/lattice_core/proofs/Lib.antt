@@ -5,3 +5,4 @@ pub mod Written
 pub mod UpperLower
 pub mod Made
 pub mod Joins
+pub mod NameLemmas

@@ -1,12 +1,13 @@
 -- From order lines to a lattice.
-use Rattle.std.proofs.Common.{◌≡◌, ℕ, ◌<◌, ◌≤◌, true, List, length, get_or, Some, None, sym, ◌∙◌, ap, arith, inl, inr, ◌⊎◌, ◌↔◌, bit_and}
+use Rattle.std.proofs.Common.{◌≡◌, ℕ, ◌<◌, ◌≤◌, true, List, length, get_or, Some, None, ◌∙◌, ap, arith, inl, inr, ◌↔◌, bit_and}
 use Rattle.std.specs.Int.{bit_at}
 use Rattle.std.proofs.lemmas.Bool.{cases_lt, cases_order}
 use Rattle.std.proofs.lemmas.List.{get_or_past}
 use Rattle.std.proofs.lemmas.Nat.Bits.{bit_at-zero}
 use Rattle.lattice_core.specs.declared.Entry.{Entry}
 use Rattle.lattice_core.specs.declared.Pair.{Pair}
-use Rattle.lattice_core.specs.Order.{Order, order_of, size, leq, IsOrder, IsLeastUpper, IsGreatestLower, IsLattice}
+use Rattle.lattice_core.specs.Order.{Order, size, leq, IsOrder, IsLeastUpper, IsGreatestLower, IsLattice}
+use Rattle.lattice_core.specs.Rows.{order_of}
 use Rattle.lattice_core.specs.Rows.{Leads, Here, On}
 use Rattle.lattice_core.specs.Tables.{IsConverse}
 use Rattle.lattice_core.specs.Building.{IsWritten, IsBelow, Same, Through, IsClosureOf, IsCycle, HasNoPair, HasBounds, AreBounded, LacksBound, IsFirstPair, AreFit, first_unknown, RefusesCycle, RefusesBounds}

@@ -1,16 +1,14 @@
 -- Entries and their numbers by name.
-use Rattle.std.proofs.Common.{◌≡◌, ◌≢◌, ℕ, ◌<◌, ◌≤◌, ◌+◌, zero, suc, Bool, true, false, List, [], ◌∷◌, length, map, take, get_or, slice_get, Some, None, refl, sym, ◌∙◌, ap, arith, inl, inr, ◌⊎◌, position, cond, nat_lt, ltb-false, is_some}
+use Rattle.std.proofs.Common.{◌≡◌, ◌≢◌, ℕ, ◌<◌, ◌≤◌, ◌+◌, zero, suc, Bool, true, false, List, [], ◌∷◌, length, map, take, get_or, slice_get, Some, None, refl, sym, ◌∙◌, ap, arith, inl, inr, position, cond, nat_lt, ltb-false, is_some}
 use Rattle.std.specs.List.{position_or_len}
 use Rattle.std.specs.declared.option.Option.{Option}
 use Rattle.std.specs.Str.{bytes_eq}
 use Rattle.std.proofs.lemmas.Grind.{common_steps}
 use Rattle.std.proofs.lemmas.Bool.{cases_lt}
-use Rattle.std.proofs.lemmas.List.{get_or-take}
 use Rattle.std.proofs.lemmas.List.Quantifiers.{position-Some}
 use Rattle.std.proofs.lemmas.List.Sums.{fails_before_first}
 use Rattle.std.proofs.lemmas.Slice.Eq.{bytes_eq-Decides}
 use Rattle.lattice_core.specs.declared.Entry.{Entry}
-use Rattle.lattice_core.specs.declared.Level.{Level}
 use Rattle.lattice_core.specs.Entries.{name_of, level_of, name_at, level_at, number_of, AreDistinct}
 
 pub item_at : {X Y : Type 0} (f : X → Y) (xs : List X) (i : ℕ) (d : X) → i < length xs → slice_get (map f xs) i ≡ Some (f (get_or xs i d))
@@ -34,9 +32,9 @@ item_in_front f (x ∷ xs) (suc k) (suc i) h = item_in_front f xs k i (omega ari
 pub has_name : (entries : List Entry) (name : List ℕ) (i : ℕ) → number_of entries name ≡ Some i → (i < length entries) × (name_at entries i ≡ Some name)
 has_name [] name i h = absurd cc
 has_name (e ∷ es) name i h =
-    let found = position-Some (λ (entry : Entry). bytes_eq (name_of entry) name) (e ∷ es) i e h in
-    let same : name_of (get_or (e ∷ es) i e) ≡ name = (bytes_eq-Decides (name_of (get_or (e ∷ es) i e)) name).0 found.1 in
-    (found.0, name_is (e ∷ es) i e found.0 ∙ ap Some same)
+    let found = position-Some (λ (entry : Entry). bytes_eq name (name_of entry)) (e ∷ es) i e h in
+    let same : name ≡ name_of (get_or (e ∷ es) i e) = (bytes_eq-Decides name (name_of (get_or (e ∷ es) i e))).0 found.1 in
+    (found.0, name_is (e ∷ es) i e found.0 ∙ ap Some (sym same))
 
 untrue : (b : Bool) (n : ℕ) → cond b (Some n) None ≡ None → b ≡ false
 untrue true n h = absurd cc
@@ -57,10 +55,10 @@ pub lacks_name : (entries : List Entry) (name : List ℕ) → number_of entries 
 lacks_name [] name none i is = cc
 lacks_name (e ∷ es) name none i is = elim (cases_lt i (length (e ∷ es))) [
   | inl within ↦
-      let other : bytes_eq (name_of (get_or (e ∷ es) i e)) name ≡ false = none_passes (λ (entry : Entry). bytes_eq (name_of entry) name) (e ∷ es) none i e within in
+      let other : bytes_eq name (name_of (get_or (e ∷ es) i e)) ≡ false = none_passes (λ (entry : Entry). bytes_eq name (name_of entry)) (e ∷ es) none i e within in
       let there = name_is (e ∷ es) i e within in
-      let same : name_of (get_or (e ∷ es) i e) ≡ name = cc in
-      let eq : bytes_eq (name_of (get_or (e ∷ es) i e)) name ≡ true = (bytes_eq-Decides (name_of (get_or (e ∷ es) i e)) name).1 same in
+      let same : name ≡ name_of (get_or (e ∷ es) i e) = cc in
+      let eq : bytes_eq name (name_of (get_or (e ∷ es) i e)) ≡ true = (bytes_eq-Decides name (name_of (get_or (e ∷ es) i e))).1 same in
       cc
   | inr past ↦
       let none_there : name_at (e ∷ es) i ≡ None = item_past name_of (e ∷ es) i past in

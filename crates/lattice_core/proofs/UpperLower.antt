@@ -1,10 +1,11 @@
 -- Bounds in an order of rows: an element is the least upper bound of two exactly where its row is what theirs share.
-use Rattle.std.proofs.Common.{◌≡◌, ℕ, ◌<◌, ◌≢◌, ◌+◌, true, List, length, get_or, bit_and, sym, ◌∙◌, ap, arith, inl, inr, Bool, false, Some, None, is_some, MatchOption, MatchBool, ◌⊎◌, ◌↔◌, eq-eqb, eqb-true}
+use Rattle.std.proofs.Common.{◌≡◌, ℕ, ◌<◌, ◌≢◌, ◌+◌, true, List, length, get_or, bit_and, ◌∙◌, ap, arith, inl, inr, Bool, false, Some, None, is_some, MatchOption, MatchBool, eq-eqb, eqb-true}
 use Rattle.std.specs.Int.{bit_at}
 use Rattle.std.specs.declared.option.Option.{Option}
 use Rattle.std.proofs.lemmas.Bool.{cases_lt}
 use Rattle.std.proofs.lemmas.Nat.Bits.{bit_at-lt, same_from_bits}
-use Rattle.lattice_core.specs.Order.{Order, order_of, size, leq, IsOrder, IsLeastUpper, IsGreatestLower, IsLattice}
+use Rattle.lattice_core.specs.Order.{Order, leq, IsOrder, IsLeastUpper, IsGreatestLower}
+use Rattle.lattice_core.specs.Rows.{order_of}
 use Rattle.lattice_core.specs.Tables.{IsConverse}
 use Rattle.lattice_core.specs.Building.{LacksBound, HasBounds, AreBounded}
 use Rattle.lattice_core.proofs.Bits.{and_both, and_of_both}

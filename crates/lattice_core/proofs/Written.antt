@@ -1,7 +1,7 @@
 -- Order lines, taken one by one.
-use Rattle.std.proofs.Common.{◌≡◌, ◌≢◌, ℕ, ◌<◌, ◌≤◌, ◌+◌, zero, suc, Bool, true, false, cond, List, [], ◌∷◌, ◌++◌, length, take, set, get_or, Some, None, refl, sym, ◌∙◌, ap, inl, inr, ◌⊎◌, ◌↔◌, is_none, arith, add-one}
+use Rattle.std.proofs.Common.{◌≡◌, ◌≢◌, ℕ, ◌<◌, ◌+◌, zero, suc, Bool, true, false, cond, List, [], ◌∷◌, ◌++◌, length, take, set, get_or, Some, None, refl, sym, ◌∙◌, ap, inl, inr, ◌⊎◌, ◌↔◌, is_none, arith, add-one}
 use Rattle.std.specs.Int.{bit_at}
-use Rattle.std.specs.Prelude.{Contains, find}
+use Rattle.std.specs.Prelude.{Contains}
 use Rattle.std.specs.declared.option.Option.{Option}
 use Rattle.std.proofs.lemmas.Grind.{common_steps}
 use Rattle.std.proofs.lemmas.Bool.{cases_eq}
@@ -12,7 +12,7 @@ use Rattle.lattice_core.specs.declared.Pair.{Pair}
 use Rattle.lattice_core.specs.declared.LatticeFault.{LatticeFault}
 use Rattle.lattice_core.specs.declared.LatticeFault.TheVariants.{TooMany, Repeated, UnknownName, LevelMix, Cycle, NotALattice, NoMemory}
 use Rattle.lattice_core.specs.Entries.{number_of}
-use Rattle.lattice_core.specs.Building.{IsWritten, IsUnknown, IsFirstUnknown, first_unknown, written_names}
+use Rattle.lattice_core.specs.Building.{IsWritten, IsUnknown, IsFirstUnknown, first_unknown}
 
 peel : {X : Type 0} (b c : Bool) (x y : X) (rest : Option X) → cond b (Some x) (cond c (Some y) rest) ≡ None →
     (rest ≡ None) × ((other : Option X) → cond b (Some x) (cond c (Some y) other) ≡ other)

@@ -1,5 +1,5 @@
 -- Entries by their numbers: names and levels.
-use Rattle.std.specs.Prelude.{◌≡◌, ◌≢◌, ℕ, ◌<◌, ◌≤◌, List, length, map, Some, None, slice_get, position}
+use Rattle.std.specs.Prelude.{◌≡◌, ◌≢◌, ℕ, ◌<◌, List, length, map, slice_get, position}
 use Rattle.std.specs.declared.option.Option.{Option}
 use Rattle.std.specs.Str.{bytes_eq}
 use Rattle.lattice_core.specs.declared.Entry.{Entry}
@@ -21,7 +21,7 @@ level_at entries k = slice_get (map level_of entries) k
 
 -- the number of the first entry with a name
 abbrev pub number_of : List Entry → List ℕ → Option ℕ
-number_of entries name = position (λ entry. bytes_eq entry.name name) entries
+number_of entries name = position (λ entry. bytes_eq name entry.name) entries
 
 -- no two of the first k entries have one name
 abbrev pub AreDistinct : List Entry → ℕ → Type 0

@@ -1,6 +1,11 @@
 -- Links between elements as rows of bits, and where they lead.
 use Rattle.std.specs.Prelude.{◌≡◌, ℕ, ◌<◌, List, length, slice_index}
 use Rattle.std.specs.Int.{bit_at}
+use Rattle.lattice_core.specs.Order.{Order}
+
+-- the order that rows say
+abbrev pub order_of : List ℕ → Order
+order_of rows = record { above = rows }
 
 -- links lead from one element to another in any number of steps
 pub data Leads (links : List ℕ) (a : ℕ) : ℕ → Type 0 where

@@ -1,7 +1,8 @@
 -- Tables of an order: for each element the set at or above it, and the set at or below it.
 use Rattle.std.specs.Prelude.{◌≡◌, ℕ, ◌≤◌, ◌↔◌, true, List, length}
 use Rattle.lattice_core.specs.declared.Entry.{Entry}
-use Rattle.lattice_core.specs.Order.{leq, order_of, IsLattice}
+use Rattle.lattice_core.specs.Order.{leq, IsLattice}
+use Rattle.lattice_core.specs.Rows.{order_of}
 use Rattle.lattice_core.specs.Entries.{AreDistinct}
 
 -- the second rows say the order of the first, read downwards

@@ -1,7 +1,8 @@
 //! Bounds of two elements by the rows of an order, and the first two elements that lack one.
 
 ghost use Rattle.std.specs.Prelude.{◌≡◌, ℕ, ◌<◌, ◌≤◌, length, MatchOption, MatchBool};
-ghost use Rattle.lattice_core.specs.Order.{order_of, IsOrder, IsLeastUpper};
+ghost use Rattle.lattice_core.specs.Order.{IsOrder, IsLeastUpper};
+ghost use Rattle.lattice_core.specs.Rows.{order_of};
 ghost use Rattle.lattice_core.specs.Tables.{IsConverse};
 ghost use Rattle.lattice_core.specs.Building.{LacksBound, HasBounds, AreBounded, IsNextTo, IsFirstPair};
 

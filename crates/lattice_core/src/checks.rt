@@ -4,7 +4,7 @@ ghost use Rattle.std.specs.Prelude.{◌≡◌, ◌≢◌, ℕ, ◌<◌, ◌≤�
 ghost use Rattle.std.specs.Int.{bit_at};
 ghost use Rattle.lattice_core.specs.Entries.{number_of, name_at, AreDistinct, IsFirstRepeated, AreOfOneLevel, IsFirstMixed};
 ghost use Rattle.lattice_core.specs.Building.{IsWritten, first_unknown, IsUnknown, IsFirstUnknown, IsCycle, IsFirstPair, HasNoPair, IsNextTo, HasNone};
-ghost use Rattle.lattice_core.specs.Order.{order_of};
+ghost use Rattle.lattice_core.specs.Rows.{order_of};
 
 use crate::rows::{has, with};
 use crate::{Entry, LatticeFault, Name, Pair};
@@ -14,7 +14,7 @@ use std::alloc::{AllocError, Global};
 pub fn find_name(entries: &[Entry], name: &[u8]) -> Option<usize>
     ensures { result ≡ number_of entries.now name.now }
 {
-    entries.iter().position(|entry| entry.name.bytes() == name)
+    entries.iter().position(|entry| name == entry.name.bytes())
 }
 
 /// A copy of an entry's name.

@@ -1,13 +1,17 @@
 //! Finite lattices of named elements.
 #![tactic(auto)]
 
-pub mod bounds;
-pub mod checks;
-pub mod rows;
-pub mod tables;
+mod bounds;
+mod checks;
+mod collection;
+mod rows;
+mod tables;
+#[cfg(test)]
+mod tests;
 
 ghost use Rattle.std.specs.Prelude.{◌≡◌, ℕ, List, IfOk};
 
+pub use collection::Lattices;
 use std::alloc::{AllocError, AllocFailed, Global};
 use std::marker::Model;
 pub use tables::Lattice;

@@ -1,15 +1,19 @@
 //! A lattice by tables: its order as rows of bits, upwards and downwards.
 
-ghost use Rattle.std.specs.Prelude.{◌≡◌, ℕ, ◌<◌, ◌≤◌, ◌↔◌, true, length, IfOk, IfErr, IsErrOf, slice_get};
+ghost use Rattle.std.specs.Prelude.{◌≡◌, ℕ, ◌<◌, ◌≤◌, ◌↔◌, true, length, IfOk, IfErr, IsErrOf, OnOk, ◌++◌, Some, slice_get};
 ghost use Rattle.lattice_core.specs.Order.{size, leq, IsLattice, IsLeastUpper, IsGreatestLower, IsJoinOf};
-ghost use Rattle.lattice_core.specs.Entries.{AreDistinct, name_at};
+ghost use Rattle.lattice_core.specs.Entries.{AreDistinct, name_at, number_of};
 ghost use Rattle.lattice_core.specs.Building.{AreBuilt, Refuses};
+ghost use Rattle.lattice_core.specs.Names.{entry_words};
+ghost use Rattle.qual_base.specs.Words.{MeansTheSame};
 
 use crate::bounds::first_lack;
-use crate::checks::{first_cycle, first_mixed, first_repeated, links, name_of};
+use crate::checks::{find_name, first_cycle, first_mixed, first_repeated, links, name_of};
 use crate::rows::{all_below, closure, common, converse, has, row_of};
 use crate::{Entry, LatticeFault, Pair};
-use qual_base::ids::{Elem, ElemSet};
+use qual_base::faults::NoMemory;
+use qual_base::ids::{Elem, ElemSet, LatticeNo};
+use qual_base::words::QualWords;
 use std::alloc::{AllocError, Global};
 use std::marker::Model;
 
@@ -22,7 +26,7 @@ pub struct Lattice {
 }
 
 impl Model for Lattice {
-    ghost use Rattle.lattice_core.specs.Order.{order_of};
+    ghost use Rattle.lattice_core.specs.Rows.{order_of};
     ghost use Rattle.lattice_core.specs.View.{LatticeView};
     ghost use Rattle.lattice_core.specs.Tables.{AreTables};
 
@@ -155,5 +159,22 @@ impl Lattice {
         ensures { slice_get self.now.entries a ≡ Some result.now }
     {
         &self.entries[a.number() as usize]
+    }
+
+    /// The element with a name, if there is one, in at most 64 steps.
+    pub fn find(&self, word: &[u8]) -> Option<Elem>
+        ensures { result ≡ number_of self.now.entries word.now }
+    {
+        find_name(&self.entries, word).map(|n| Elem::new(n as u8))
+    }
+
+    /// Adds the name of each element to words, as that of an element of the lattice with a number.
+    pub fn add_words(&self, at: LatticeNo, words: &mut QualWords) -> Result<(), NoMemory>
+        ensures { OnOk result (MeansTheSame words.new (words.old ++ entry_words at 0 self.now.entries)) }
+    {
+        for (n, entry) in self.entries.iter().enumerate() {
+            words.push(entry.name.bytes(), at, Elem::new(n as u8))?;
+        }
+        Ok(())
     }
 }

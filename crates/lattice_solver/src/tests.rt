@@ -1,15 +1,19 @@
 //! What no clause says: that calls succeed where there is memory, and worked systems.
 
+ghost use Rattle.std.specs.Prelude.{◌<◌};
 ghost use Rattle.flow_graph.specs.System.{IsWithin};
+ghost use Rattle.match_summary.specs.Summary.{Summarises};
 
 use crate::solver::Solver;
-use crate::systems::{CASES, Case, Row, Shape};
+use crate::systems::{
+    Case, DRAWN_1, DRAWN_2, DRAWN_3, DRAWN_4, DRAWN_5, DRAWN_6, Row, Shape, WORKED,
+};
 use flow_graph::constraint::{Constraint, Link, Site};
 use flow_graph::graph::FlowGraph;
 use lattice_core::{Entry, Lattice, Level, Name, Pair, Sign};
 use match_summary::rounds::summarise;
 use match_summary::summary::Summaries;
-use qual_base::ids::{EdgeId, Elem, FuncId, LatticeNo, Numbered, SiteId, TokenId, UnitNo, VarId};
+use qual_base::ids::{Elem, FuncId, LatticeNo, Numbered, SiteId, TokenId, UnitNo, VarId};
 use qual_base::places::{Owner, Span};
 use std::alloc::{AllocError, Global};
 use std::process::Abort;
@@ -176,18 +180,84 @@ fn compare_exceeded(rt: &impl Abort, case: &Case, lattice: &Lattice) {
     }
 }
 
+/// Compares what is solved of a system with its answers.
+fn compare_solved(
+    rt: &impl Abort,
+    alloc: Global,
+    case: &Case,
+    graph: &FlowGraph,
+    summaries: &Summaries,
+) -> Result<(), Fail>
+    requires { Summarises graph.now 0 summaries.now }
+{
+    let lattice = lattice_of(rt, alloc, &case.shape)?;
+    let mut solver = Solver::new(alloc, graph, summaries, LatticeNo::new(0))?;
+    solver.run(graph, summaries);
+    compare_reached(rt, case, &solver, &lattice);
+    compare_exceeded(rt, case, &lattice);
+    Ok(())
+}
+
+/// Compares a system with its answers.
+fn compare(rt: &impl Abort, alloc: Global, case: &Case) -> Result<(), Fail> {
+    let graph = graph_of(rt, alloc, case)?;
+    let summaries = summarise(alloc, &graph, LatticeNo::new(0))?;
+    compare_matched(rt, case, &summaries);
+    compare_solved(rt, alloc, case, &graph, &summaries)
+}
+
 #[test]
-fn systems_have_their_answers(rt: HostRuntime) -> Result<(), Fail> {
-    let alloc = rt.alloc();
-    for case in &CASES {
-        let graph = graph_of(&rt, alloc, case)?;
-        let lattice = lattice_of(&rt, alloc, &case.shape)?;
-        let summaries = summarise(alloc, &graph, LatticeNo::new(0))?;
-        compare_matched(&rt, case, &summaries);
-        let mut solver = Solver::new(alloc, &graph, &summaries, LatticeNo::new(0))?;
-        solver.run(&graph, &summaries);
-        compare_reached(&rt, case, &solver, &lattice);
-        compare_exceeded(&rt, case, &lattice);
+fn worked_systems_have_their_answers(rt: HostRuntime) -> Result<(), Fail> {
+    for case in &WORKED {
+        compare(&rt, rt.alloc(), case)?;
+    }
+    Ok(())
+}
+
+#[test]
+fn drawn_systems_1_have_their_answers(rt: HostRuntime) -> Result<(), Fail> {
+    for case in &DRAWN_1 {
+        compare(&rt, rt.alloc(), case)?;
+    }
+    Ok(())
+}
+
+#[test]
+fn drawn_systems_2_have_their_answers(rt: HostRuntime) -> Result<(), Fail> {
+    for case in &DRAWN_2 {
+        compare(&rt, rt.alloc(), case)?;
+    }
+    Ok(())
+}
+
+#[test]
+fn drawn_systems_3_have_their_answers(rt: HostRuntime) -> Result<(), Fail> {
+    for case in &DRAWN_3 {
+        compare(&rt, rt.alloc(), case)?;
+    }
+    Ok(())
+}
+
+#[test]
+fn drawn_systems_4_have_their_answers(rt: HostRuntime) -> Result<(), Fail> {
+    for case in &DRAWN_4 {
+        compare(&rt, rt.alloc(), case)?;
+    }
+    Ok(())
+}
+
+#[test]
+fn drawn_systems_5_have_their_answers(rt: HostRuntime) -> Result<(), Fail> {
+    for case in &DRAWN_5 {
+        compare(&rt, rt.alloc(), case)?;
+    }
+    Ok(())
+}
+
+#[test]
+fn drawn_systems_6_have_their_answers(rt: HostRuntime) -> Result<(), Fail> {
+    for case in &DRAWN_6 {
+        compare(&rt, rt.alloc(), case)?;
     }
     Ok(())
 }

@@ -6,3 +6,5 @@ mod places;
 pub mod reason;
 pub mod rounds;
 pub mod summary;
+#[cfg(test)]
+mod tests;

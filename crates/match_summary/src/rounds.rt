@@ -35,11 +35,13 @@ struct Return {
     to: VarId,
 }
 
-/// All matched paths of a lattice that begin at the inner end of an `Enter`, as pairs of variables.
+/// All matched paths of a lattice that begin at the inner end of an `Enter`, as pairs of variables: the summaries of
+/// Rehof and Fähndrich (POPL 2001).
 ///
 /// It goes over all constraints in rounds until no pair is new. A round takes time in the number of constraints times
-/// that of `Enter`s, and in the number of flows and groups times that of inner ends, times that of pairs; there are at
-/// most as many rounds as pairs. Memory is that of the pairs.
+/// that of `Enter`s, and in the number of flows and groups times that of inner ends; there are at most as many rounds as
+/// pairs, and one more. A worklist over the constraints of each variable takes its place where systems are large. Memory
+/// is that of the pairs.
 pub fn summarise(
     alloc: Global,
     graph: &FlowGraph,

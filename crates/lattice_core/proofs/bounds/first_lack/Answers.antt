@@ -1,5 +1,5 @@
 use Rattle.std.proofs.Common.{below_more}
-use Rattle.lattice_core.specs.Order.{order_of}
+use Rattle.lattice_core.specs.Rows.{order_of}
 use Rattle.lattice_core.proofs.UpperLower.{lacks_none}
 use Rattle.lattice_core.proofs.bounds.first_lack.Goals as goal
 

@@ -1,5 +1,5 @@
 use Rattle.std.proofs.Common.{ℕ, ◌<◌, length}
-use Rattle.lattice_core.specs.Order.{order_of}
+use Rattle.lattice_core.specs.Rows.{order_of}
 use Rattle.lattice_core.specs.Building.{AreBounded}
 use Rattle.lattice_core.proofs.bounds.first_lack.Given as goal
 

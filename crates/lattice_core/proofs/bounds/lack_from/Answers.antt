@@ -1,7 +1,5 @@
-use Rattle.std.proofs.Common.{◌<◌, inl, inr, arith}
-use Rattle.std.proofs.lemmas.Bool.{cases_lt}
-use Rattle.lattice_core.specs.Order.{order_of}
-use Rattle.lattice_core.specs.Building.{HasBounds}
+use Rattle.std.proofs.Common.{arith}
+use Rattle.lattice_core.specs.Rows.{order_of}
 use Rattle.lattice_core.proofs.UpperLower.{lacks_none, lacking_at, bounded_at, bounded_on}
 use Rattle.lattice_core.proofs.bounds.lack_from.Goals as goal
 

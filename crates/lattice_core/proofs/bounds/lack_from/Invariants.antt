@@ -1,4 +1,4 @@
-use Rattle.lattice_core.specs.Order.{order_of}
+use Rattle.lattice_core.specs.Rows.{order_of}
 use Rattle.lattice_core.specs.Building.{AreBounded}
 use Rattle.lattice_core.proofs.bounds.lack_from.Given as goal
 

@@ -1,6 +1,6 @@
-use Rattle.std.proofs.Common.{◌≡◌, ℕ, ◌<◌, length}
+use Rattle.std.proofs.Common.{ℕ, ◌<◌, length}
 use Rattle.lattice_core.specs.Building.{IsCycle}
-use Rattle.lattice_core.specs.Order.{order_of}
+use Rattle.lattice_core.specs.Rows.{order_of}
 use Rattle.lattice_core.proofs.checks.first_cycle.Given as goal
 
 abbrev pub invariant-loop-a : goal.invariant-loop-a

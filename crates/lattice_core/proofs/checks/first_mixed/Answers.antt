@@ -1,6 +1,6 @@
-use Rattle.std.proofs.Common.{◌≡◌, ◌∙◌, sym, ap, Some, below_more, get_or, arith}
+use Rattle.std.proofs.Common.{◌≡◌, ◌∙◌, sym, ap, Some, below_more, arith}
 use Rattle.std.proofs.lemmas.Grind.{common_steps}
-use Rattle.lattice_core.specs.Entries.{level_at, level_of}
+use Rattle.lattice_core.specs.Entries.{level_of}
 use Rattle.lattice_core.proofs.Naming.{level_is}
 use Rattle.lattice_core.proofs.checks.first_mixed.Goals as goal
 

@@ -1,9 +1,7 @@
-use Rattle.std.proofs.Common.{◌≡◌, ◌<◌, length, Some, sym, ◌∙◌, ap, arith, get_or}
+use Rattle.std.proofs.Common.{◌≡◌, ◌∙◌, ap, arith, get_or}
 use Rattle.std.specs.Int.{bit_at}
 use Rattle.std.proofs.lemmas.Grind.{common_steps}
 use Rattle.std.proofs.lemmas.Result.{err_from_is_err_and}
-use Rattle.lattice_core.specs.Entries.{number_of}
-use Rattle.lattice_core.specs.Building.{IsFirstUnknown}
 use Rattle.lattice_core.proofs.Written.{low_unknown, high_unknown, all_known_on, linked_more}
 use Rattle.lattice_core.proofs.checks.links.Goals as goal
 

@@ -1,4 +1,4 @@
-use Rattle.std.proofs.Common.{◌≡◌, ◌-◌, ℕ, arith}
+use Rattle.std.proofs.Common.{◌≡◌, ◌-◌, arith}
 use Rattle.std.proofs.lemmas.Nat.Bits.{ones_shr}
 use Rattle.lattice_core.proofs.rows.all_below.Goals as goal
 

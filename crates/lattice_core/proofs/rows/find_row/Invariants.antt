@@ -1,4 +1,4 @@
-use Rattle.std.proofs.Common.{◌≡◌, ◌≢◌, ℕ, ◌<◌, get_or}
+use Rattle.std.proofs.Common.{◌≢◌, ℕ, ◌<◌, get_or}
 use Rattle.lattice_core.proofs.rows.find_row.Given as goal
 
 abbrev pub invariant-loop-k : goal.invariant-loop-k

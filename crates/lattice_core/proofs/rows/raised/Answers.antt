@@ -1,4 +1,4 @@
-use Rattle.std.proofs.Common.{◌≡◌, inl, inr, ◌⊎◌}
+use Rattle.std.proofs.Common.{◌≡◌, inl, inr}
 use Rattle.std.specs.Int.{bit_at}
 use Rattle.std.proofs.lemmas.Nat.{le_or_l}
 use Rattle.lattice_core.proofs.Bits.{or_left, or_right, or_either}

@@ -1,6 +1,6 @@
-use Rattle.std.proofs.Common.{◌≡◌, ◌<◌, ◌≤◌, length, get_or, arith, Some, refl}
+use Rattle.std.proofs.Common.{◌≡◌, arith, Some, refl}
 use Rattle.std.proofs.lemmas.Grind.{common_steps}
-use Rattle.lattice_core.specs.Order.{order_of, IsOrder}
+use Rattle.lattice_core.specs.Rows.{order_of}
 use Rattle.lattice_core.specs.Building.{IsClosureOf, AreFit}
 use Rattle.lattice_core.specs.Entries.{name_at}
 use Rattle.lattice_core.proofs.Made.{closure_made, order_made, converse_made, lattice_made, fit_made, cycle_made, lack_made}

@@ -1,0 +1,13 @@
+pub mod FrontLemmas
+pub mod WalkLemmas
+pub mod QuoteLemmas
+pub mod SignLemmas
+pub mod TokenLemmas
+pub mod GapLemmas
+pub mod MarkLemmas
+pub mod NameLemmas
+pub mod StepLemmas
+pub mod FeedLemmas
+pub mod ReachLemmas
+pub mod UniqueLemmas
+pub mod OnceLemmas

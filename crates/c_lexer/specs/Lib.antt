@@ -1,0 +1,10 @@
+pub mod Gaps
+pub mod Marks
+pub mod Names
+pub mod Places
+pub mod Reading
+pub mod Refusals
+pub mod Shapes
+pub mod Spelling
+pub mod Tokens
+pub mod Words

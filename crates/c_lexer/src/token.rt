@@ -1,0 +1,11 @@
+//! A token.
+
+use crate::kinds::TokenKind;
+
+/// A token: its kind, and the byte range of the unit where it stands.
+#[derive(Clone, Copy, PartialEq, Eq, Debug)]
+pub struct Token {
+    pub kind: TokenKind,
+    pub start: u32,
+    pub end: u32,
+}

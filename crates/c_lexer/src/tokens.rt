@@ -1,0 +1,148 @@
+//! The tokens of a unit.
+
+ghost use Rattle.std.specs.Prelude.{ℕ, ◌≡◌, ◌+◌, ◌-◌, ◌<◌, ◌≤◌, ◌^◌, length, Some, option_map, slice_get, slice_range, IfSome, IfOk, IfErr};
+ghost use Rattle.c_lexer.specs.Places.{IsSpot};
+ghost use Rattle.c_lexer.specs.Tokens.{Lexed, IsSound, keyword_meaning, mark_of_kind};
+
+use crate::kinds::{Keyword, TokenKind};
+use crate::places::Mark;
+use crate::text::Text;
+use crate::token::Token;
+use qual_base::ids::{Elem, LatticeNo, Numbered, TokenId, UnitNo};
+use qual_base::places::Spot;
+use std::marker::Model;
+
+/// What the keywords mean that a lattice may name.
+#[derive(Drop)]
+pub(crate) struct KeywordMarks {
+    pub(crate) constant: Option<(LatticeNo, Elem)>,
+    pub(crate) volatile: Option<(LatticeNo, Elem)>,
+    pub(crate) restrict: Option<(LatticeNo, Elem)>,
+}
+
+impl KeywordMarks {
+    fn of(&self, keyword: Keyword) -> Option<(LatticeNo, Elem)>
+        ensures { result ≡ keyword_meaning self.now.constant self.now.volatile self.now.restrict keyword }
+    {
+        match keyword {
+            Keyword::Const => self.constant,
+            Keyword::Volatile => self.volatile,
+            Keyword::Restrict => self.restrict,
+            _ => None,
+        }
+    }
+}
+
+/// The tokens of a unit with its bytes. The last token is `End`.
+///
+/// A token takes 16 bytes of memory, a line feed and a linemarker 4 and 16, beside a copy of the unit's bytes.
+#[derive(Drop)]
+pub struct Tokens {
+    text: Text,
+    tokens: Vec<Token>,
+    marks: Vec<Mark>,
+    keywords: KeywordMarks,
+}
+
+impl Model for Tokens {
+    ghost use Rattle.std.specs.Prelude.{ℕ, ◌≡◌, ◌<◌, ◌-◌, ◌^◌, length};
+    ghost use Rattle.c_lexer.specs.Tokens.{Lexed, IsSound};
+
+    ghost Value = { Lexed };
+
+    ghost view = { λ a. record { unit = a.text.0; bytes = a.text.1; tokens = a.tokens.items; marks = a.marks.items; constant = a.keywords.constant; volatile = a.keywords.volatile; restrict = a.keywords.restrict } };
+
+    ghost invariant = { λ a. IsSound a.text.1 a.tokens.items a.marks.items };
+}
+
+impl Tokens {
+    pub(crate) fn new(
+        text: Text,
+        tokens: Vec<Token>,
+        marks: Vec<Mark>,
+        keywords: KeywordMarks,
+    ) -> Self
+        requires { IsSound text.1 tokens.items marks.items }
+        ensures { result ≡ record { unit = text.0; bytes = text.1; tokens = tokens.items; marks = marks.items; constant = keywords.constant; volatile = keywords.volatile; restrict = keywords.restrict } }
+    {
+        Tokens {
+            text,
+            tokens,
+            marks,
+            keywords,
+        }
+    }
+
+    pub fn unit(&self) -> UnitNo
+        ensures { result ≡ self.now.unit }
+    {
+        self.text.unit()
+    }
+
+    pub fn unit_bytes(&self) -> &[u8]
+        ensures { result.now ≡ self.now.bytes }
+    {
+        self.text.bytes()
+    }
+
+    /// How many tokens there are, `End` among them.
+    pub fn len(&self) -> u32
+        ensures { result ≡ length self.now.tokens }
+    {
+        self.tokens.len() as u32
+    }
+
+    fn token(&self, at: TokenId) -> Token
+        requires { at < length self.now.tokens }
+        ensures token { slice_get self.now.tokens at ≡ Some result }
+        ensures order { result.start ≤ result.end }
+        ensures within { result.end ≤ length self.now.bytes }
+    {
+        self.tokens[at.number() as usize]
+    }
+
+    pub fn kind(&self, at: TokenId) -> TokenKind
+        requires { at < length self.now.tokens }
+        ensures { option_map (λ token. token.kind) (slice_get self.now.tokens at) ≡ Some result }
+    {
+        self.token(at).kind
+    }
+
+    /// The bytes that spell a token.
+    pub fn bytes(&self, at: TokenId) -> &[u8]
+        requires { at < length self.now.tokens }
+        ensures { option_map (λ token. slice_range self.now.bytes token.start token.end) (slice_get self.now.tokens at) ≡ Some result.now }
+    {
+        let token = self.token(at);
+        &self.text.bytes()[token.start as usize..token.end as usize]
+    }
+
+    /// Where a token begins among the unit's bytes.
+    pub fn start(&self, at: TokenId) -> u32
+        requires { at < length self.now.tokens }
+        ensures { option_map (λ token. token.start) (slice_get self.now.tokens at) ≡ Some result }
+    {
+        self.token(at).start
+    }
+
+    /// How a report names the place of a token, in time logarithmic in the numbers of lines and linemarkers.
+    pub fn place_of(&self, at: TokenId) -> Spot
+        requires { at < length self.now.tokens }
+        ensures { IfSome (slice_get self.now.tokens at) (λ token. IsSpot self.now.unit self.now.bytes self.now.marks token.start result) }
+    {
+        let start = self.start(at);
+        self.text.spot_of(&self.marks, start)
+    }
+
+    /// What a token means in a lattice, where it is a `$` word, or a keyword that a lattice names.
+    pub fn mark_of(&self, at: TokenId) -> Option<(LatticeNo, Elem)>
+        requires { at < length self.now.tokens }
+        ensures { option_map (λ token. mark_of_kind self.now token.kind) (slice_get self.now.tokens at) ≡ Some result }
+    {
+        match self.kind(at) {
+            TokenKind::Qual(lattice, elem) => Some((lattice, elem)),
+            TokenKind::Keyword(keyword) => self.keywords.of(keyword),
+            _ => None,
+        }
+    }
+}

@@ -1,0 +1,113 @@
+-- Each lexeme that a reader takes leads on.
+use Rattle.std.proofs.Common.{◌≡◌, ℕ, ◌<◌, true, false, List, [], ◌∷◌, ◌++◌, length, refl, sym, subst, ◌∙◌, ap, append_assoc, append-nil}
+use Rattle.std.specs.Prelude.{codes}
+use Rattle.lattice_core.specs.declared.Entry.{Entry}
+use Rattle.lattice_core.specs.declared.Pair.{Pair}
+use Rattle.lattice_file.specs.declared.words.Attribute.{Attribute}
+use Rattle.lattice_file.specs.declared.words.Given.{Given}
+use Rattle.lattice_file.specs.Blocks.{BlockView}
+use Rattle.lattice_file.specs.Text.{TakesWord, TakesSign, Attributes, Last, More, Close, EntryItem, LineItem, IsLatticeText, NextBlock, is_element_name, attribute_word, has_attribute, entry_of, no_attribute}
+use Rattle.lattice_file.specs.declared.blocks.Reader.{Reader}
+use Rattle.lattice_file.specs.declared.blocks.Stage.{Stage}
+use Rattle.lattice_file.specs.Going.{Draft, Goes, GoesOn, draft_of, GoesOnItems, GoesOnAttributes, GoesBehindAttribute, EndEntry, Comma, GoesBehindName, Bracket, Below, GoesOnOpen, GoesOnValue}
+
+-- a reader at a stage
+pub at_stage : (reader : Reader) (stage : Stage) (rest : List ℕ) (all : List BlockView) → reader.stage ≡ stage → Goes stage reader.given (draft_of reader) rest all → GoesOn reader rest all
+at_stage reader stage rest all e goes = let P : Stage → Type 0 = λ s. Goes s reader.given (draft_of reader) rest all in subst P (sym e) goes
+
+pub block_is : (block : BlockView) (entries : List Entry) (pairs : List Pair) → block.entries ≡ entries → block.pairs ≡ pairs → block ≡ record { entries = entries; pairs = pairs }
+block_is block entries pairs e f = rw (← e, ← f) refl
+
+-- one block more
+pub open_goes : (draft : Draft) (rest after : List ℕ) (all : List BlockView) → TakesWord (codes "partial") rest after →
+    (behind : List ℕ) × TakesWord (codes "order") after behind × GoesOnOpen draft behind all → (more : List BlockView) × IsLatticeText more rest × (all ≡ draft.blocks ++ more)
+open_goes draft rest after all word goes =
+    let opened = goes.2 in
+    let items = opened.items in (
+      record { entries = items.more_entries; pairs = items.more_pairs } ∷ items.more,
+      NextBlock (record { entries = items.more_entries; pairs = items.more_pairs }) items.more rest after goes.0 opened.behind items.behind word goes.1 opened.sign items.items items.filled items.others,
+      items.is,
+    )
+
+-- the end of a block
+pub close_goes : (entries : List Entry) (pairs : List Pair) (blocks : List BlockView) (rest after : List ℕ) (all : List BlockView) → 0 < length entries → TakesSign 125 rest after →
+    (more : List BlockView) × IsLatticeText more after × (all ≡ (blocks ++ record { entries = entries; pairs = pairs } ∷ []) ++ more) → GoesOnItems entries pairs blocks rest all
+close_goes entries pairs blocks rest after all filled sign goes = record {
+  more_entries = [];
+  more_pairs = [];
+  more = goes.0;
+  behind = after;
+  items = Close rest after sign;
+  filled = rw (append-nil entries) filled;
+  others = goes.1;
+  is = goes.2 ∙ append_assoc blocks (record { entries = entries; pairs = pairs } ∷ []) goes.0
+      ∙ ap (λ (p : List Entry × List Pair). blocks ++ record { entries = p.0; pairs = p.1 } ∷ goes.0) (sym (both (append-nil entries) (append-nil pairs)));
+}
+  where
+    both : {A B : Type 0} {a a' : A} {b b' : B} → a ≡ a' → b ≡ b' → (let p : A × B = (a, b) in p) ≡ (let p : A × B = (a', b') in p)
+    both e f = cc
+
+-- an entry more
+entry_goes : (name : List ℕ) (given : Given) (entries : List Entry) (pairs : List Pair) (blocks : List BlockView) (b0 b1 b2 b3 : List ℕ) (all : List BlockView) →
+    is_element_name name ≡ true → TakesWord name b0 b1 → TakesSign 91 b1 b2 → Attributes no_attribute given b2 b3 →
+    GoesOnItems (entries ++ entry_of name given ∷ []) pairs blocks b3 all → GoesOnItems entries pairs blocks b0 all
+entry_goes name given entries pairs blocks b0 b1 b2 b3 all named word sign attributes goes =
+    let same : (entries ++ entry_of name given ∷ []) ++ goes.more_entries ≡ entries ++ (entry_of name given ∷ goes.more_entries) = append_assoc entries (entry_of name given ∷ []) goes.more_entries in
+    record {
+      more_entries = entry_of name given ∷ goes.more_entries;
+      more_pairs = goes.more_pairs;
+      more = goes.more;
+      behind = goes.behind;
+      items = EntryItem name given goes.more_entries goes.more_pairs b0 b1 b2 b3 goes.behind named word sign attributes goes.items;
+      filled = rw same at goes.filled;
+      others = goes.others;
+      is = goes.is ∙ ap (λ (es : List Entry). blocks ++ record { entries = es; pairs = pairs ++ goes.more_pairs } ∷ goes.more) same;
+    }
+
+-- an order line more
+line_goes : (low high : List ℕ) (entries : List Entry) (pairs : List Pair) (blocks : List BlockView) (b0 b1 b2 b3 : List ℕ) (all : List BlockView) →
+    is_element_name low ≡ true → is_element_name high ≡ true → TakesWord low b0 b1 → TakesSign 60 b1 b2 → TakesWord high b2 b3 →
+    GoesOnItems entries (pairs ++ record { low = low; high = high } ∷ []) blocks b3 all → GoesOnItems entries pairs blocks b0 all
+line_goes low high entries pairs blocks b0 b1 b2 b3 all named named_high word sign word_high goes =
+    let pair : Pair = record { low = low; high = high } in
+    let same : (pairs ++ pair ∷ []) ++ goes.more_pairs ≡ pairs ++ (pair ∷ goes.more_pairs) = append_assoc pairs (pair ∷ []) goes.more_pairs in
+    record {
+      more_entries = goes.more_entries;
+      more_pairs = pair ∷ goes.more_pairs;
+      more = goes.more;
+      behind = goes.behind;
+      items = LineItem low high goes.more_entries goes.more_pairs b0 b1 b2 b3 goes.behind named named_high word sign word_high goes.items;
+      filled = goes.filled;
+      others = goes.others;
+      is = goes.is ∙ ap (λ (ps : List Pair). blocks ++ record { entries = entries ++ goes.more_entries; pairs = ps } ∷ goes.more) same;
+    }
+
+-- the name of an item
+pub name_goes : (draft : Draft) (rest after : List ℕ) (all : List BlockView) → is_element_name draft.name ≡ true → TakesWord draft.name rest after → GoesBehindName draft after all →
+    GoesOnItems draft.entries draft.pairs draft.blocks rest all
+name_goes draft rest after all named word (Bracket behind sign on) =
+    entry_goes draft.name on.end draft.entries draft.pairs draft.blocks rest after behind on.behind all named word sign on.attributes on.items
+name_goes draft rest after all named word (Below behind sign on) =
+    line_goes draft.name on.high draft.entries draft.pairs draft.blocks rest after behind on.behind all named on.named word sign on.word on.items
+
+-- an attribute's name, its = and its value
+pub attribute_goes : (attribute : Attribute) (given : Given) (draft : Draft) (rest after : List ℕ) (all : List BlockView) → has_attribute given attribute ≡ false → TakesWord (attribute_word attribute) rest after →
+    (behind : List ℕ) × TakesSign 61 after behind × GoesOnValue attribute given draft behind all → GoesOnAttributes given draft rest all
+attribute_goes attribute given draft rest after all new word goes = go goes.2.attributes
+  where
+    value : GoesOnValue attribute given draft goes.0 all
+    value = goes.2
+
+    go : GoesBehindAttribute value.then draft value.behind all → GoesOnAttributes given draft rest all
+    go (EndEntry behind sign items) = record {
+      end = value.then;
+      behind = behind;
+      attributes = Last attribute given value.then rest after goes.0 value.behind behind new word goes.1 value.value sign;
+      items = items;
+    }
+    go (Comma behind sign on) = record {
+      end = on.end;
+      behind = on.behind;
+      attributes = More attribute given value.then on.end rest after goes.0 value.behind behind on.behind new word goes.1 value.value sign on.attributes;
+      items = on.items;
+    }

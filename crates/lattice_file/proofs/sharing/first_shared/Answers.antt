@@ -1,0 +1,5 @@
+use Rattle.lattice_file.proofs.ShareLemmas.{apart_on}
+use Rattle.lattice_file.proofs.sharing.first_shared.Goals as goal
+
+pub loop-at-preserved : goal.loop-at-preserved
+loop-at-preserved c = apart_on c.args.all.now c.loop-at.at c.loop-at.invariant c.in_default.ensures

@@ -1,0 +1,105 @@
+-- How a reader goes on: what the rest of the bytes must be for the whole to be a text of all these blocks.
+use Rattle.std.specs.Prelude.{◌≡◌, ℕ, true, ◌<◌, List, [], ◌∷◌, ◌++◌, length, codes}
+use Rattle.lattice_core.specs.declared.Entry.{Entry}
+use Rattle.lattice_core.specs.declared.Pair.{Pair}
+use Rattle.lattice_file.specs.declared.words.Attribute.{Attribute}
+use Rattle.lattice_file.specs.declared.words.Given.{Given}
+use Rattle.lattice_file.specs.declared.blocks.Reader.{Reader}
+use Rattle.lattice_file.specs.declared.blocks.Stage.{Stage}
+use Rattle.lattice_file.specs.declared.blocks.Stage.TheVariants as stages
+use Rattle.lattice_file.specs.Blocks.{BlockView}
+use Rattle.lattice_file.specs.Text.{Gap, TakesWord, TakesSign, TakesText, TakesValue, Attributes, Items, IsLatticeText, is_element_name, entry_of, no_attribute}
+
+-- what a reader has read: the name of an item, the items of a block, and the blocks before it
+pub record Draft : Type 0 where
+  pub name : List ℕ
+  pub entries : List Entry
+  pub pairs : List Pair
+  pub blocks : List BlockView
+
+-- the rest has the other items of a block, and then the other blocks
+pub record GoesOnItems (entries : List Entry) (pairs : List Pair) (blocks : List BlockView) (rest : List ℕ) (all : List BlockView) : Type 0 where
+  pub more_entries : List Entry
+  pub more_pairs : List Pair
+  pub more : List BlockView
+  pub behind : List ℕ
+  pub items : Items more_entries more_pairs rest behind
+  pub filled : 0 < length (entries ++ more_entries)
+  pub others : IsLatticeText more behind
+  pub is : all ≡ blocks ++ record { entries = entries ++ more_entries; pairs = pairs ++ more_pairs } ∷ more
+
+-- the rest has the other attributes of an entry, and then goes on in its block
+pub record GoesOnAttributes (given : Given) (draft : Draft) (rest : List ℕ) (all : List BlockView) : Type 0 where
+  pub end : Given
+  pub behind : List ℕ
+  pub attributes : Attributes given end rest behind
+  pub items : GoesOnItems (draft.entries ++ entry_of draft.name end ∷ []) draft.pairs draft.blocks behind all
+
+-- behind an attribute: the entry ends, or a comma and others follow
+pub data GoesBehindAttribute (given : Given) (draft : Draft) (rest : List ℕ) (all : List BlockView) : Type 0 where
+  EndEntry : (behind : List ℕ) → TakesSign 93 rest behind → GoesOnItems (draft.entries ++ entry_of draft.name given ∷ []) draft.pairs draft.blocks behind all → GoesBehindAttribute given draft rest all
+  Comma : (behind : List ℕ) → TakesSign 44 rest behind → GoesOnAttributes given draft behind all → GoesBehindAttribute given draft rest all
+
+-- the upper name of an order line
+pub record GoesOnHigh (draft : Draft) (rest : List ℕ) (all : List BlockView) : Type 0 where
+  pub high : List ℕ
+  pub behind : List ℕ
+  pub named : is_element_name high ≡ true
+  pub word : TakesWord high rest behind
+  pub items : GoesOnItems draft.entries (draft.pairs ++ record { low = draft.name; high = high } ∷ []) draft.blocks behind all
+
+-- behind the name of an item
+pub data GoesBehindName (draft : Draft) (rest : List ℕ) (all : List BlockView) : Type 0 where
+  Bracket : (behind : List ℕ) → TakesSign 91 rest behind → GoesOnAttributes no_attribute draft behind all → GoesBehindName draft rest all
+  Below : (behind : List ℕ) → TakesSign 60 rest behind → GoesOnHigh draft behind all → GoesBehindName draft rest all
+
+-- { and a block's items
+pub record GoesOnOpen (draft : Draft) (rest : List ℕ) (all : List BlockView) : Type 0 where
+  pub behind : List ℕ
+  pub sign : TakesSign 123 rest behind
+  pub items : GoesOnItems [] [] draft.blocks behind all
+
+-- a value of an attribute and what follows it
+pub record GoesOnValue (attribute : Attribute) (given : Given) (draft : Draft) (rest : List ℕ) (all : List BlockView) : Type 0 where
+  pub then : Given
+  pub behind : List ℕ
+  pub value : TakesValue attribute given then rest behind
+  pub attributes : GoesBehindAttribute then draft behind all
+
+abbrev pub Goes : Stage → Given → Draft → List ℕ → List BlockView → Type 0
+Goes stages.Outside given draft rest all = (more : List BlockView) × IsLatticeText more rest × (all ≡ draft.blocks ++ more)
+Goes stages.Order given draft rest all = (behind : List ℕ) × TakesWord (codes "order") rest behind × GoesOnOpen draft behind all
+Goes stages.Open given draft rest all = GoesOnOpen draft rest all
+Goes stages.Items given draft rest all = GoesOnItems draft.entries draft.pairs draft.blocks rest all
+Goes stages.Named given draft rest all = GoesBehindName draft rest all
+Goes stages.High given draft rest all = GoesOnHigh draft rest all
+Goes stages.Attribute given draft rest all = GoesOnAttributes given draft rest all
+Goes (stages.Equals attribute) given draft rest all = (behind : List ℕ) × TakesSign 61 rest behind × GoesOnValue attribute given draft behind all
+Goes (stages.Value attribute) given draft rest all = GoesOnValue attribute given draft rest all
+Goes stages.Attributed given draft rest all = GoesBehindAttribute given draft rest all
+
+abbrev pub draft_of : Reader → Draft
+draft_of reader = record { name = reader.name; entries = reader.entries.items; pairs = reader.pairs.items; blocks = reader.blocks.items }
+
+abbrev pub GoesOn : Reader → List ℕ → List BlockView → Type 0
+GoesOn reader rest all = Goes reader.stage reader.given (draft_of reader) rest all
+
+-- a reader that has taken a word goes on where it stood before the word
+abbrev pub LeadsByWord : Reader → Reader → List ℕ → Type 0
+LeadsByWord old new word = (rest after : List ℕ) (all : List BlockView) → TakesWord word rest after → GoesOn new after all → GoesOn old rest all
+
+-- and so with a sign
+abbrev pub LeadsBySign : Reader → Reader → ℕ → Type 0
+LeadsBySign old new sign = (rest after : List ℕ) (all : List BlockView) → TakesSign sign rest after → GoesOn new after all → GoesOn old rest all
+
+-- and so with a colour text
+abbrev pub LeadsByText : Reader → Reader → Type 0
+LeadsByText old new = (rest after : List ℕ) (all : List BlockView) → TakesText rest after → GoesOn new after all → GoesOn old rest all
+
+-- a reader that has taken what stands between two places goes on where it stood, whatever gap comes first
+abbrev pub LeadsBehind : Reader → Reader → List ℕ → List ℕ → Type 0
+LeadsBehind old new rest after = (front : List ℕ) (all : List BlockView) → Gap front rest → GoesOn new after all → GoesOn old front all
+
+-- a reader goes on with a last gap, to these blocks
+abbrev pub Ends : Reader → List BlockView → Type 0
+Ends reader all = (front : List ℕ) → Gap front [] → GoesOn reader front all

@@ -1,0 +1,321 @@
+//! The blocks of a lattice file, lexeme by lexeme.
+
+ghost use Rattle.std.specs.Prelude.{◌≡◌, ◌≤◌, ◌<◌, [], length, IfOk, IfErr, IfSome, IsTrue};
+ghost use Rattle.std.specs.Bool.{OnTrue};
+ghost use Rattle.lattice_file.specs.Going.{Ends, LeadsByWord, LeadsBySign, LeadsByText};
+ghost use Rattle.lattice_core.specs.Building.{AreBuilt, Refuses};
+
+use crate::lexemes::shared_front;
+use crate::words::{Attribute, Given, is_name, name_front};
+use lattice_core::{Entry, Lattice, LatticeFault, Level, Name, Pair, Sign};
+use std::alloc::{AllocError, AllocFailed, Global};
+use std::marker::Model;
+
+/// The entries, of which there is at least one, and the order lines of a block, each in the order in which they are
+/// written.
+#[derive(Drop)]
+pub struct Block {
+    entries: Vec<Entry>,
+    pairs: Vec<Pair>,
+}
+
+impl Model for Block {
+    ghost use Rattle.std.specs.Prelude.{◌<◌, length};
+    ghost use Rattle.lattice_file.specs.Blocks.{BlockView};
+
+    ghost Value = { BlockView };
+
+    ghost view = { λ a. record { entries = a.entries.items; pairs = a.pairs.items } };
+
+    ghost invariant = { λ a. 0 < length a.entries.items };
+}
+
+impl Block {
+    /// A block of these entries and order lines.
+    pub fn new(entries: Vec<Entry>, pairs: Vec<Pair>) -> Block
+        requires { 0 < length entries.items }
+        ensures entries { result.entries ≡ entries.items }
+        ensures pairs { result.pairs ≡ pairs.items }
+    {
+        Block { entries, pairs }
+    }
+
+    /// The lattice of a block, or the first reason why there is none.
+    pub fn build(self, alloc: Global) -> Result<Lattice, LatticeFault>
+        ensures built { IfOk result (AreBuilt self.entries self.pairs) }
+        ensures refused { IfErr result (Refuses self.entries self.pairs) }
+    {
+        Lattice::build(alloc, self.entries, &self.pairs)
+    }
+}
+
+/// What may come next.
+#[derive(Clone, Copy, PartialEq, Eq, Debug)]
+pub enum Stage {
+    /// `partial`, or the end.
+    Outside,
+    /// `order`.
+    Order,
+    /// `{`.
+    Open,
+    /// A name, or `}` behind an entry.
+    Items,
+    /// `[` or `<`.
+    Named,
+    /// The name of an order line's upper element.
+    High,
+    /// The name of an attribute that the entry does not have yet.
+    Attribute,
+    /// `=`.
+    Equals(Attribute),
+    /// A value of the attribute.
+    Value(Attribute),
+    /// `,` where an attribute is left, or `]`.
+    Attributed,
+}
+
+/// Blocks as far as a file is read.
+#[derive(Drop)]
+pub struct Reader {
+    alloc: Global,
+    stage: Stage,
+    given: Given,
+    name: Name,
+    entries: Vec<Entry>,
+    pairs: Vec<Pair>,
+    blocks: Vec<Block>,
+}
+
+impl Reader {
+    pub fn new(alloc: Global) -> Reader
+        ensures stage { result.stage ≡ Stage.Outside }
+        ensures blocks { result.blocks.items ≡ [] }
+    {
+        Reader {
+            alloc,
+            stage: Stage::Outside,
+            given: Given::none(),
+            name: Name::new(Vec::new(alloc)),
+            entries: Vec::new(alloc),
+            pairs: Vec::new(alloc),
+            blocks: Vec::new(alloc),
+        }
+    }
+
+    /// The blocks, if the file may end here.
+    pub fn finish(self) -> Option<Vec<Block>>
+        ensures { IfSome result (λ blocks. Ends self blocks.items) }
+    {
+        match self.stage {
+            Stage::Outside => Some(self.blocks),
+            _ => None,
+        }
+    }
+
+    /// Whether a colour text may come next.
+    pub fn wants_text(&self) -> bool
+        ensures { IsTrue result → self.now.stage ≡ Stage.Value Attribute.Color }
+    {
+        self.stage == Stage::Value(Attribute::Color)
+    }
+
+    /// Takes a colour text.
+    pub fn take_text(&mut self)
+        requires { self.old.stage ≡ Stage.Value Attribute.Color }
+        ensures { LeadsByText self.old self.new }
+    {
+        self.given.color = true;
+        self.stage = Stage::Attributed;
+    }
+
+    /// How far a word can be one that may come next.
+    pub fn word_front(&self, word: &[u8]) -> usize
+        ensures { result ≤ length word.now }
+    {
+        match self.stage {
+            Stage::Outside => shared_front(word, b"partial"),
+            Stage::Order => shared_front(word, b"order"),
+            Stage::Items | Stage::High => name_front(word),
+            Stage::Attribute => self.given.name_front(word),
+            Stage::Value(attribute) => attribute.value_front(word),
+            _ => 0,
+        }
+    }
+
+    /// Takes a word, and says whether it may come next.
+    pub fn take_word(&mut self, word: &[u8]) -> Result<bool, AllocError>
+        ensures { IfOk result (λ taken. OnTrue taken (LeadsByWord self.old self.new word.now)) }
+    {
+        match self.stage {
+            Stage::Outside => Ok(self.begin_order(word)),
+            Stage::Order => Ok(self.end_order(word)),
+            Stage::Items => self.begin_item(word),
+            Stage::High => self.end_line(word),
+            Stage::Attribute => Ok(self.begin_attribute(word)),
+            Stage::Value(attribute) => Ok(self.end_value(attribute, word)),
+            _ => Ok(false),
+        }
+    }
+
+    /// Takes a sign, and says whether it may come next.
+    pub fn take_sign(&mut self, sign: u8) -> Result<bool, AllocError>
+        ensures { IfOk result (λ taken. OnTrue taken (LeadsBySign self.old self.new sign)) }
+    {
+        match (self.stage, sign) {
+            (Stage::Open, b'{') => Ok(self.open_block()),
+            (Stage::Items, b'}') if !self.entries.is_empty() => self.end_block(),
+            (Stage::Named, b'[') => Ok(self.begin_entry()),
+            (Stage::Named, b'<') => Ok(self.begin_high()),
+            (Stage::Equals(attribute), b'=') => Ok(self.begin_value(attribute)),
+            (Stage::Attributed, b',') if !self.given.is_full() => Ok(self.begin_next()),
+            (Stage::Attributed, b']') => self.end_entry(),
+            _ => Ok(false),
+        }
+    }
+
+    fn begin_order(&mut self, word: &[u8]) -> bool
+        requires { self.old.stage ≡ Stage.Outside }
+        ensures { OnTrue result (LeadsByWord self.old self.new word.now) }
+    {
+        if word != b"partial".as_slice() {
+            return false;
+        }
+        self.stage = Stage::Order;
+        true
+    }
+
+    fn end_order(&mut self, word: &[u8]) -> bool
+        requires { self.old.stage ≡ Stage.Order }
+        ensures { OnTrue result (LeadsByWord self.old self.new word.now) }
+    {
+        if word != b"order".as_slice() {
+            return false;
+        }
+        self.stage = Stage::Open;
+        true
+    }
+
+    fn open_block(&mut self) -> bool
+        requires { self.old.stage ≡ Stage.Open }
+        ensures { OnTrue result (LeadsBySign self.old self.new 123) }
+    {
+        self.entries = Vec::new(self.alloc);
+        self.pairs = Vec::new(self.alloc);
+        self.stage = Stage::Items;
+        true
+    }
+
+    fn begin_item(&mut self, word: &[u8]) -> Result<bool, AllocError>
+        requires { self.old.stage ≡ Stage.Items }
+        ensures { IfOk result (λ taken. OnTrue taken (LeadsByWord self.old self.new word.now)) }
+    {
+        if !is_name(word) {
+            return Ok(false);
+        }
+        self.name = Name::new(word.to_vec(self.alloc)?);
+        self.stage = Stage::Named;
+        Ok(true)
+    }
+
+    fn begin_high(&mut self) -> bool
+        requires { self.old.stage ≡ Stage.Named }
+        ensures { OnTrue result (LeadsBySign self.old self.new 60) }
+    {
+        self.stage = Stage::High;
+        true
+    }
+
+    fn end_line(&mut self, word: &[u8]) -> Result<bool, AllocError>
+        requires { self.old.stage ≡ Stage.High }
+        ensures { IfOk result (λ taken. OnTrue taken (LeadsByWord self.old self.new word.now)) }
+    {
+        if !is_name(word) {
+            return Ok(false);
+        }
+        let high = Name::new(word.to_vec(self.alloc)?);
+        let low = self.name.copy(self.alloc)?;
+        self.pairs.push(Pair { low, high })?;
+        self.stage = Stage::Items;
+        Ok(true)
+    }
+
+    fn begin_entry(&mut self) -> bool
+        requires { self.old.stage ≡ Stage.Named }
+        ensures { OnTrue result (LeadsBySign self.old self.new 91) }
+    {
+        self.given = Given::none();
+        self.stage = Stage::Attribute;
+        true
+    }
+
+    fn begin_attribute(&mut self, word: &[u8]) -> bool
+        requires { self.old.stage ≡ Stage.Attribute }
+        ensures { OnTrue result (LeadsByWord self.old self.new word.now) }
+    {
+        match self.given.named(word) {
+            Some(attribute) => {
+                self.stage = Stage::Equals(attribute);
+                true
+            }
+            None => false,
+        }
+    }
+
+    fn begin_value(&mut self, attribute: Attribute) -> bool
+        requires { self.old.stage ≡ Stage.Equals attribute }
+        ensures { OnTrue result (LeadsBySign self.old self.new 61) }
+    {
+        self.stage = Stage::Value(attribute);
+        true
+    }
+
+    fn end_value(&mut self, attribute: Attribute, word: &[u8]) -> bool
+        requires { self.old.stage ≡ Stage.Value attribute }
+        ensures { OnTrue result (LeadsByWord self.old self.new word.now) }
+    {
+        match self.given.give(attribute, word) {
+            Some(given) => {
+                self.given = given;
+                self.stage = Stage::Attributed;
+                true
+            }
+            None => false,
+        }
+    }
+
+    fn begin_next(&mut self) -> bool
+        requires { self.old.stage ≡ Stage.Attributed }
+        ensures { OnTrue result (LeadsBySign self.old self.new 44) }
+    {
+        self.stage = Stage::Attribute;
+        true
+    }
+
+    fn end_entry(&mut self) -> Result<bool, AllocError>
+        requires { self.old.stage ≡ Stage.Attributed }
+        ensures { IfOk result (λ taken. OnTrue taken (LeadsBySign self.old self.new 93)) }
+    {
+        let entry = Entry {
+            name: self.name.copy(self.alloc)?,
+            level: self.given.level.unwrap_or(Level::Value),
+            sign: self.given.sign.unwrap_or(Sign::Eq),
+            write: self.given.write,
+            deref: self.given.deref,
+        };
+        self.entries.push(entry)?;
+        self.stage = Stage::Items;
+        Ok(true)
+    }
+
+    fn end_block(&mut self) -> Result<bool, AllocError>
+        requires stage { self.old.stage ≡ Stage.Items }
+        requires filled { 0 < length self.old.entries.items }
+        ensures { IfOk result (λ taken. OnTrue taken (LeadsBySign self.old self.new 125)) }
+    {
+        let entries = std::mem::replace(&mut self.entries, Vec::new(self.alloc));
+        let pairs = std::mem::replace(&mut self.pairs, Vec::new(self.alloc));
+        self.blocks.push(Block::new(entries, pairs))?;
+        self.stage = Stage::Outside;
+        Ok(true)
+    }
+}

@@ -1,0 +1,6 @@
+mod Walk
+mod Splits
+mod Numbers
+mod Reading
+mod WholeReports
+mod Placed

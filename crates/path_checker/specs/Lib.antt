@@ -1,0 +1,6 @@
+pub mod Orders
+pub mod Start
+pub mod Lines
+pub mod Report
+pub mod Reader
+pub mod Grammar
