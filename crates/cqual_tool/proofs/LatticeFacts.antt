@@ -83,7 +83,7 @@ module _ (block : Block) (differ : block.first ≢ block.second) where
   first_number = rw (equal_bytes block.first) refl
 
   second_number : number_of (entries_of block) block.second ≡ Some 1
-  second_number = rw (other_bytes block.first block.second differ, equal_bytes block.second) refl
+  second_number = rw (other_bytes block.second block.first (λ e. differ (sym e)), equal_bytes block.second) refl
 
   -- the numbers of the lower and the higher element, by their names
   record Line (low_name high_name : List ℕ) : Type 0 where
