@@ -52,7 +52,7 @@ pub none_found : (size : ℕ) (content : List ℕ) (limit : ℕ) (found : Option
 none_found size content limit found is none = let Found : Option (Vec ℕ Global) → Type 0 = λ o. MatchOption o (limit < size) (λ bytes. bytes.items ≡ content) in subst Found none is
 
 -- what is judged or read is decided
-decided_program : (file : List ℕ) (lattice : LatticeView) (source : SourceForm) (status : Status) (text : List ℕ) → OfProgram file lattice source status text → IsDecided status
+pub decided_program : (file : List ℕ) (lattice : LatticeView) (source : SourceForm) (status : Status) (text : List ℕ) → OfProgram file lattice source status text → IsDecided status
 decided_program file lattice source _ _ (PastLimit many) = tt
 decided_program file lattice source _ _ (Judged _ _ few (JudgedAccepted _ report)) = tt
 decided_program file lattice source _ _ (Judged _ _ few (JudgedRejected _ report)) = tt
@@ -134,3 +134,13 @@ meant words names found named is some = sym is ∙ ap (option_map names) some
 
 pub unmeant : {A : Type 0} (words : List (List ℕ)) (names : A → FileNames) (found : Option A) → option_map names found ≡ meaning_of words → found ≡ None → meaning_of words ≡ None
 unmeant words names found is none = sym is ∙ ap (option_map names) none
+
+pub some_found : (size : ℕ) (content : List ℕ) (limit : ℕ) (found : Option (Vec ℕ Global)) (bytes : Vec ℕ Global) → MatchOption found (limit < size) (λ b. b.items ≡ content) → found ≡ Some bytes →
+    bytes.items ≡ content
+some_found size content limit found bytes is some = let Found : Option (Vec ℕ Global) → Type 0 = λ o. MatchOption o (limit < size) (λ b. b.items ≡ content) in subst Found some is
+
+-- two things that are told of the files
+pub both_told : {P Q R : List (List ℕ × List ℕ) → Type 0} (told : Option (List (List ℕ × List ℕ))) → IfSome told P → IfSome told Q →
+    ((all : List (List ℕ × List ℕ)) → P all → Q all → R all) → IfSome told R
+both_told None p q f = tt
+both_told (Some all) p q f = f all p q

@@ -4,7 +4,7 @@ use Rattle.std.proofs.lemmas.Result.{IfOk-weaker}
 use Rattle.first_form.specs.SourceText.{IsSourceForm}
 use Rattle.first_form.specs.declared.source_form.SourceForm.{SourceForm}
 use Rattle.cqual_tool.specs.Outcome.{OfSource, SourceRead, SourceNotYet, names_of}
-use Rattle.cqual_tool.proofs.Outcomes.{at_equal}
+use Rattle.cqual_tool.proofs.Outcomes.{at_equal, decided_program}
 use Rattle.cqual_tool.proofs.reading.of_source.Goals as goal
 
 -- the names that were lent are those of the lattice
@@ -29,3 +29,7 @@ returns-clause-outcome c =
     IfOk-weaker c.other_form.result _ _
         (λ answer is. at_equal (OfSource c.args.file.now c.args.lattice.now c.args.bytes.now) _ _ _ _ is.0 is.1 (SourceNotYet (record { within = c.requires; other = other })))
         c.other_form.ensures
+
+pub returns-in-Some-clause-decided : goal.returns-in-Some-clause-decided
+returns-in-Some-clause-decided c =
+    IfOk-weaker c.analyse.result _ _ (λ answer is. decided_program c.args.file.now c.args.lattice.now c.in-Some.source answer.status answer.text.items is) c.analyse.ensures
