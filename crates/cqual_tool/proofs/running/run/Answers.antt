@@ -38,12 +38,12 @@ returns-in-Err-NoMemory-clause-started g c =
 
 pub returns-in-None-clause-outcome : goal.returns-in-None-clause-outcome
 returns-in-None-clause-outcome g c =
-    usage_all (map string_bytes c.args.words.now) (g.O.Sink.written c.args.out.now) (g.O.Sink.written c.finish.new.out) c.finish.result c.finish.ensures.sent
+    usage_all (map string_bytes c.args.words.now) (g.O.Sink.written c.args.out.now) (g.O.Sink.written c.finish-in-None.new.out) c.finish-in-None.result c.finish-in-None.ensures.sent
         (unmeant (map string_bytes c.args.words.now) names_in c.meaning.result c.meaning.ensures c.in-None.is) (g.F.Files.contents c.args.files.now)
 
 pub returns-in-None-clause-front : goal.returns-in-None-clause-front
 returns-in-None-clause-front g c =
-    usage_front (map string_bytes c.args.words.now) (g.O.Sink.written c.args.out.now) (g.O.Sink.written c.finish.new.out) c.finish.result c.finish.ensures.sent
+    usage_front (map string_bytes c.args.words.now) (g.O.Sink.written c.args.out.now) (g.O.Sink.written c.finish-in-None.new.out) c.finish-in-None.result c.finish-in-None.ensures.sent
         (unmeant (map string_bytes c.args.words.now) names_in c.meaning.result c.meaning.ensures c.in-None.is) (g.F.Files.contents c.args.files.now)
 
 pub returns-in-None-clause-started : goal.returns-in-None-clause-started
