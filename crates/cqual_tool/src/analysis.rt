@@ -66,7 +66,12 @@ fn judge(alloc: Global, scene: &Scene<'_>, graph: &FlowGraph) -> Result<Answer, 
 }
 
 /// The answer for a lattice and a source that were read.
-pub fn analyse(alloc: Global, file: &str, lattice: &Lattice, source: &SourceForm) -> Result<Answer, NoMemory>
+pub fn analyse(
+    alloc: Global,
+    file: &str,
+    lattice: &Lattice,
+    source: &SourceForm,
+) -> Result<Answer, NoMemory>
     requires { (bytes : List ℕ) × SourceReads lattice.now.entries bytes source.now }
     ensures { IfOk result (λ answer. OfProgram file.now lattice.now source.now answer.status answer.text.items) }
 {

@@ -46,7 +46,12 @@ impl From<NoMemory> for Stop {
 }
 
 /// The bytes of a file; none where it has more than the limit.
-fn taken<F: Files>(alloc: Global, files: &mut F, name: &str, limit: usize) -> Result<Option<Vec<u8>>, Stop>
+fn taken<F: Files>(
+    alloc: Global,
+    files: &mut F,
+    name: &str,
+    limit: usize,
+) -> Result<Option<Vec<u8>>, Stop>
     requires { limit < usize.MAX }
     ensures whole { IfOk result (λ found. IfSome (F.contents files.old) (λ all. MatchOption found (limit < length (content_of all name.now)) (λ bytes. bytes.items ≡ content_of all name.now))) }
     ensures within { IfOk result (λ found. IfSome found (λ bytes. length bytes.items ≤ limit)) }
@@ -90,7 +95,12 @@ fn of_source(alloc: Global, file: &str, lattice: &Lattice, bytes: &[u8]) -> Resu
 }
 
 /// Takes the source, where the lattice file has read, and answers.
-fn take_source<F: Files>(alloc: Global, file: &str, lattice: &Lattice, files: &mut F) -> Result<Answer, Stop>
+fn take_source<F: Files>(
+    alloc: Global,
+    file: &str,
+    lattice: &Lattice,
+    files: &mut F,
+) -> Result<Answer, Stop>
     ensures outcome { IfOk result (λ answer. IfSome (F.contents files.old) (λ all. OfSource file.now lattice.now (content_of all file.now) answer.status answer.text.items)) }
     ensures decided { IfOk result (λ answer. IsDecided answer.status) }
     ensures read_fault { IsErrOf result Stop.ReadFault → Rose (F.faults files.old) (F.faults files.new) }

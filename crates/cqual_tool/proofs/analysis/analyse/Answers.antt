@@ -58,7 +58,7 @@ judge-requires-clause-owned c = rw c.in-Ok.ensures.graph (owned c.args.lattice.n
 pub returns-in-Err-TooMany : goal.returns-in-Err-TooMany
 returns-in-Err-TooMany c =
     at_equal (OfProgram c.args.file.now c.args.lattice.now c.args.source.now) _ _ _ _ c.in_ok-malformed-in-Err-TooMany.ensures.0 c.in_ok-malformed-in-Err-TooMany.ensures.1
-        (PastLimit (c.in-Err-TooMany.ensures.too_many (ap Err c.in-Err-TooMany.field-0-is)))
+    (PastLimit (c.in-Err-TooMany.ensures.too_many (ap Err c.in-Err-TooMany.field-0-is)))
 
 pub returns : goal.returns
 returns c =
@@ -66,9 +66,9 @@ returns c =
     let Few : System → Type 0 = λ sys. length sys.constraints ≤ 67108864 in
     let objects : c.deref-2.result.now ≡ object_tokens c.args.source.now.items.items = c.deref-2.ensures.value ∙ c.in_ok-objects.ensures ∙ ap object_tokens c.deref.ensures.value in
     IfOk-weaker c.judge.result _ _
-        (λ answer is.
-            let Objects : List ℕ → Type 0 = λ tokens.
-                IsJudged (record { file = c.args.file.now; lexed = c.args.source.now.lexemes; entries = c.args.lattice.now.entries; objects = tokens }) c.in-Ok.graph c.args.lattice.now.order answer.status answer.text.items in
-            let Of : System → Type 0 = λ sys. IsJudged (scene_in c.args.file.now c.args.lattice.now.entries c.args.source.now) sys c.args.lattice.now.order answer.status answer.text.items in
-            Judged _ _ (subst Few c.in-Ok.ensures.graph few) (subst Of c.in-Ok.ensures.graph (subst Objects objects is)))
-        c.judge.ensures
+    (λ answer is.
+    let Objects : List ℕ → Type 0 = λ tokens.
+    IsJudged (record { file = c.args.file.now; lexed = c.args.source.now.lexemes; entries = c.args.lattice.now.entries; objects = tokens }) c.in-Ok.graph c.args.lattice.now.order answer.status answer.text.items in
+    let Of : System → Type 0 = λ sys. IsJudged (scene_in c.args.file.now c.args.lattice.now.entries c.args.source.now) sys c.args.lattice.now.order answer.status answer.text.items in
+    Judged _ _ (subst Few c.in-Ok.ensures.graph few) (subst Of c.in-Ok.ensures.graph (subst Objects objects is)))
+    c.judge.ensures

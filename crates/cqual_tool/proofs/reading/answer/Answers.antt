@@ -23,25 +23,26 @@ returns-in-Some-2-clause-outcome g c =
     let told = g.F.Files.contents c.args.files.now in
     let reads : LatticeReads c.deref.result.now c.in-Some-2.lattice = subst (Read c.deref.result.now) c.in-Some-2.is c.in_ok-lattice-in-Some.ensures in
     IfOk-weaker c.take_source.result _ _
-        (λ answer of.
-            let Of : Option (List (List ℕ × List ℕ)) → Type 0 = λ all.
-                IfSome all (λ files. OfSource c.args.named.source.now c.in-Some-2.lattice (content_of files c.args.named.source.now) answer.status answer.text.items) in
-            both_told told c.in_ok-bytes.ensures.whole (subst Of c.in_ok-bytes.ensures.contents of) (λ all found ofs.
-                let Reads : List ℕ → Type 0 = λ bytes. LatticeReads bytes c.in-Some-2.lattice in
-                let content = c.deref.ensures.value ∙ some_found _ _ _ c.in_ok-bytes.field-0 c.in-Some.bytes found c.in-Some.is in
-                LatticeRead c.in-Some-2.lattice _ _ (subst Reads content reads) ofs))
-        c.take_source.ensures.outcome
+    (λ answer of.
+    let Of : Option (List (List ℕ × List ℕ)) → Type 0 = λ all.
+    IfSome all (λ files. OfSource c.args.named.source.now c.in-Some-2.lattice (content_of files c.args.named.source.now) answer.status answer.text.items) in
+    both_told told c.in_ok-bytes.ensures.whole (subst Of c.in_ok-bytes.ensures.contents of) (λ all found ofs.
+    let Reads : List ℕ → Type 0 = λ bytes. LatticeReads bytes c.in-Some-2.lattice in
+    let content = c.deref.ensures.value ∙ some_found _ _ _ c.in_ok-bytes.field-0 c.in-Some.bytes found c.in-Some.is in
+    LatticeRead c.in-Some-2.lattice _ _ (subst Reads content reads) ofs))
+    c.take_source.ensures.outcome
 
 pub returns-in-Some-2-clause-started : goal.returns-in-Some-2-clause-started
 returns-in-Some-2-clause-started g c =
     let told = g.F.Files.contents c.args.files.now in
-    let reads : LatticeReads c.deref.result.now c.in-Some-2.lattice = subst (Read c.deref.result.now) c.in-Some-2.is c.in_ok-lattice-in-Some.ensures in
-    (c.args.named.lattice.now ∷ c.args.named.source.now ∷ [],
+    let reads : LatticeReads c.deref.result.now c.in-Some-2.lattice = subst (Read c.deref.result.now) c.in-Some-2.is c.in_ok-lattice-in-Some.ensures in (
+      c.args.named.lattice.now ∷ c.args.named.source.now ∷ [],
       records_two _ _ _ _ _ c.in_ok-bytes.ensures.started c.take_source.ensures.started,
       ThenSource (when_told told c.in_ok-bytes.ensures.whole (λ all found.
           let Reads : List ℕ → Type 0 = λ bytes. LatticeReads bytes c.in-Some-2.lattice in
           let content = c.deref.ensures.value ∙ some_found _ _ _ c.in_ok-bytes.field-0 c.in-Some.bytes found c.in-Some.is in
-          (c.in-Some-2.lattice, subst Reads content reads))))
+          (c.in-Some-2.lattice, subst Reads content reads))),
+    )
 
 pub returns-in_err-other_form-in-None-2-clause-started : goal.returns-in_err-other_form-in-None-2-clause-started
 returns-in_err-other_form-in-None-2-clause-started g c = (c.args.named.lattice.now ∷ [], records_one _ _ _ c.in_ok-bytes.ensures.started, LatticeAlone)
@@ -50,8 +51,8 @@ pub returns-in-Some-clause-outcome : goal.returns-in-Some-clause-outcome
 returns-in-Some-clause-outcome g c =
     let other : LatticeIsOther c.deref.result.now = subst (Read c.deref.result.now) c.in-None-2.is c.in_ok-lattice-in-Some.ensures in
     when_told (g.F.Files.contents c.args.files.now) c.in_ok-bytes.ensures.whole (λ all found.
-        lattice_other (names_in c.args.named) all _ _ c.deref.result.now c.in_ok-other_form-in-None-2.ensures.0 c.in_ok-other_form-in-None-2.ensures.1
-            (c.deref.ensures.value ∙ some_found _ _ _ c.in_ok-bytes.field-0 c.in-Some.bytes found c.in-Some.is) other)
+    lattice_other (names_in c.args.named) all _ _ c.deref.result.now c.in_ok-other_form-in-None-2.ensures.0 c.in_ok-other_form-in-None-2.ensures.1
+    (c.deref.ensures.value ∙ some_found _ _ _ c.in_ok-bytes.field-0 c.in-Some.bytes found c.in-Some.is) other)
 
 pub returns-in-Some-clause-started : goal.returns-in-Some-clause-started
 returns-in-Some-clause-started g c = (c.args.named.lattice.now ∷ [], records_one _ _ _ c.in_ok-bytes.ensures.started, LatticeAlone)
@@ -62,8 +63,8 @@ returns-in_err-too_large-in-None-clause-started g c = (c.args.named.lattice.now 
 pub returns-clause-outcome : goal.returns-clause-outcome
 returns-clause-outcome g c =
     when_told (g.F.Files.contents c.args.files.now) c.in_ok-bytes.ensures.whole (λ all found.
-        lattice_too_large (names_in c.args.named) all _ _ c.in_ok-too_large-in-None.ensures.0 c.in_ok-too_large-in-None.ensures.1
-            (none_found _ (content_of all c.args.named.lattice.now) lattice_limit c.in_ok-bytes.field-0 found c.in-None.is))
+    lattice_too_large (names_in c.args.named) all _ _ c.in_ok-too_large-in-None.ensures.0 c.in_ok-too_large-in-None.ensures.1
+    (none_found _ (content_of all c.args.named.lattice.now) lattice_limit c.in_ok-bytes.field-0 found c.in-None.is))
 
 pub returns-clause-started : goal.returns-clause-started
 returns-clause-started g c = (c.args.named.lattice.now ∷ [], records_one _ _ _ c.in_ok-bytes.ensures.started, LatticeAlone)

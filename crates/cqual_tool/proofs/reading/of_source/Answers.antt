@@ -15,7 +15,7 @@ pub returns-in-Some-clause-outcome : goal.returns-in-Some-clause-outcome
 returns-in-Some-clause-outcome c =
     let Lent : List (List ℕ) → Type 0 = λ names. Found names c.args.bytes.now c.in_ok-source.field-0 in
     let own : Lent (names_of c.args.lattice.now.entries) =
-        subst Lent (ap (λ (lent : List _). map (λ name. name.now) lent) c.deref.ensures.value ∙ c.in_ok-names.ensures) c.in_ok-source.ensures in
+    subst Lent (ap (λ (lent : List _). map (λ name. name.now) lent) c.deref.ensures.value ∙ c.in_ok-names.ensures) c.in_ok-source.ensures in
     let form : IsSourceForm (names_of c.args.lattice.now.entries) c.args.bytes.now c.in-Some.source = subst (Found (names_of c.args.lattice.now.entries) c.args.bytes.now) c.in-Some.is own in
     IfOk-weaker c.analyse.result _ _ (λ answer is. SourceRead c.in-Some.source _ _ (record { within = c.requires; form = form }) is) c.analyse.ensures
 
@@ -23,12 +23,12 @@ pub returns-clause-outcome : goal.returns-clause-outcome
 returns-clause-outcome c =
     let Lent : List (List ℕ) → Type 0 = λ names. Found names c.args.bytes.now c.in_ok-source.field-0 in
     let own : Lent (names_of c.args.lattice.now.entries) =
-        subst Lent (ap (λ (lent : List _). map (λ name. name.now) lent) c.deref.ensures.value ∙ c.in_ok-names.ensures) c.in_ok-source.ensures in
+    subst Lent (ap (λ (lent : List _). map (λ name. name.now) lent) c.deref.ensures.value ∙ c.in_ok-names.ensures) c.in_ok-source.ensures in
     let other : (source : SourceForm) → IsSourceForm (names_of c.args.lattice.now.entries) c.args.bytes.now source → ⊥ =
-        subst (Found (names_of c.args.lattice.now.entries) c.args.bytes.now) c.in-None.is own in
+    subst (Found (names_of c.args.lattice.now.entries) c.args.bytes.now) c.in-None.is own in
     IfOk-weaker c.other_form.result _ _
-        (λ answer is. at_equal (OfSource c.args.file.now c.args.lattice.now c.args.bytes.now) _ _ _ _ is.0 is.1 (SourceNotYet (record { within = c.requires; other = other })))
-        c.other_form.ensures
+    (λ answer is. at_equal (OfSource c.args.file.now c.args.lattice.now c.args.bytes.now) _ _ _ _ is.0 is.1 (SourceNotYet (record { within = c.requires; other = other })))
+    c.other_form.ensures
 
 pub returns-in-Some-clause-decided : goal.returns-in-Some-clause-decided
 returns-in-Some-clause-decided c =

@@ -8,5 +8,5 @@ use Rattle.cqual_tool.proofs.reading.take_source.Goals as goal
 pub returns-in_ok-too_large-in-None-clause-outcome : goal.returns-in_ok-too_large-in-None-clause-outcome
 returns-in_ok-too_large-in-None-clause-outcome g c =
     when_told (g.F.Files.contents c.args.files.now) c.in_ok-bytes.ensures.whole (λ all found.
-        at_equal (OfSource c.args.file.now c.args.lattice.now (content_of all c.args.file.now)) _ _ _ _ c.in_ok-too_large-in-None.ensures.0 c.in_ok-too_large-in-None.ensures.1
-            (SourceTooLarge (none_found (length (content_of all c.args.file.now)) (content_of all c.args.file.now) 16777216 c.in_ok-bytes.field-0 found c.in-None.is)))
+    at_equal (OfSource c.args.file.now c.args.lattice.now (content_of all c.args.file.now)) _ _ _ _ c.in_ok-too_large-in-None.ensures.0 c.in_ok-too_large-in-None.ensures.1
+    (SourceTooLarge (none_found (length (content_of all c.args.file.now)) (content_of all c.args.file.now) 16777216 c.in_ok-bytes.field-0 found c.in-None.is)))

@@ -8,18 +8,18 @@ use Rattle.cqual_tool.proofs.running.run.Goals as goal
 pub returns-in-Ok-clause-outcome : goal.returns-in-Ok-clause-outcome
 returns-in-Ok-clause-outcome g c =
     let sends : Sends _ _ c.in-Ok.answer.status c.in-Ok.answer.text.items c.finish.result =
-        subst (λ text. Sends (g.O.Sink.written c.args.out.now) (g.O.Sink.written c.finish.new.out) c.in-Ok.answer.status text c.finish.result) c.deref.ensures.value c.finish.ensures.sent in
+    subst (λ text. Sends (g.O.Sink.written c.args.out.now) (g.O.Sink.written c.finish.new.out) c.in-Ok.answer.status text c.finish.result) c.deref.ensures.value c.finish.ensures.sent in
     sent_all (map string_bytes c.args.words.now) (g.O.Sink.written c.args.out.now) (g.O.Sink.written c.finish.new.out) c.in-Ok.answer.status c.finish.result c.in-Ok.answer.text.items sends
-        c.in-Ok.ensures.decided (g.F.Files.contents c.args.files.now) (names_in c.in-Some.named)
-        (meant (map string_bytes c.args.words.now) names_in c.meaning.result c.in-Some.named c.meaning.ensures c.in-Some.is) c.in-Ok.ensures.outcome
+    c.in-Ok.ensures.decided (g.F.Files.contents c.args.files.now) (names_in c.in-Some.named)
+    (meant (map string_bytes c.args.words.now) names_in c.meaning.result c.in-Some.named c.meaning.ensures c.in-Some.is) c.in-Ok.ensures.outcome
 
 pub returns-in-Ok-clause-front : goal.returns-in-Ok-clause-front
 returns-in-Ok-clause-front g c =
     let sends : Sends _ _ c.in-Ok.answer.status c.in-Ok.answer.text.items c.finish.result =
-        subst (λ text. Sends (g.O.Sink.written c.args.out.now) (g.O.Sink.written c.finish.new.out) c.in-Ok.answer.status text c.finish.result) c.deref.ensures.value c.finish.ensures.sent in
+    subst (λ text. Sends (g.O.Sink.written c.args.out.now) (g.O.Sink.written c.finish.new.out) c.in-Ok.answer.status text c.finish.result) c.deref.ensures.value c.finish.ensures.sent in
     sent_front (map string_bytes c.args.words.now) (g.O.Sink.written c.args.out.now) (g.O.Sink.written c.finish.new.out) c.in-Ok.answer.status c.finish.result c.in-Ok.answer.text.items sends
-        c.in-Ok.ensures.decided (g.F.Files.contents c.args.files.now) (names_in c.in-Some.named)
-        (meant (map string_bytes c.args.words.now) names_in c.meaning.result c.in-Some.named c.meaning.ensures c.in-Some.is) c.in-Ok.ensures.outcome
+    c.in-Ok.ensures.decided (g.F.Files.contents c.args.files.now) (names_in c.in-Some.named)
+    (meant (map string_bytes c.args.words.now) names_in c.meaning.result c.in-Some.named c.meaning.ensures c.in-Some.is) c.in-Ok.ensures.outcome
 
 pub returns-in-Ok-clause-started : goal.returns-in-Ok-clause-started
 returns-in-Ok-clause-started g c =
@@ -39,12 +39,12 @@ returns-in-Err-NoMemory-clause-started g c =
 pub returns-in-None-clause-outcome : goal.returns-in-None-clause-outcome
 returns-in-None-clause-outcome g c =
     usage_all (map string_bytes c.args.words.now) (g.O.Sink.written c.args.out.now) (g.O.Sink.written c.finish-in-None.new.out) c.finish-in-None.result c.finish-in-None.ensures.sent
-        (unmeant (map string_bytes c.args.words.now) names_in c.meaning.result c.meaning.ensures c.in-None.is) (g.F.Files.contents c.args.files.now)
+    (unmeant (map string_bytes c.args.words.now) names_in c.meaning.result c.meaning.ensures c.in-None.is) (g.F.Files.contents c.args.files.now)
 
 pub returns-in-None-clause-front : goal.returns-in-None-clause-front
 returns-in-None-clause-front g c =
     usage_front (map string_bytes c.args.words.now) (g.O.Sink.written c.args.out.now) (g.O.Sink.written c.finish-in-None.new.out) c.finish-in-None.result c.finish-in-None.ensures.sent
-        (unmeant (map string_bytes c.args.words.now) names_in c.meaning.result c.meaning.ensures c.in-None.is) (g.F.Files.contents c.args.files.now)
+    (unmeant (map string_bytes c.args.words.now) names_in c.meaning.result c.meaning.ensures c.in-None.is) (g.F.Files.contents c.args.files.now)
 
 pub returns-in-None-clause-started : goal.returns-in-None-clause-started
 returns-in-None-clause-started g c =
