@@ -19,6 +19,7 @@ static USAGE: &[u8] =
 
 /// The words of a call, the bytes of `l.q` and `s.c`, the numbers of the read and the write that fail (0: none), and how
 /// many bytes a write takes.
+#[derive(Clone, Copy, Drop)]
 struct Call<'a> {
     words: &'a [&'a str],
     lattice: &'a [u8],
