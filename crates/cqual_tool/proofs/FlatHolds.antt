@@ -69,14 +69,14 @@ module _ (sys : System) (order : Order) (lattice elem : ℕ) where
   walk_passes u _ _ bound limit before last (Here _) st over unbound ends =
       let Passes : Seen → Type 0 = λ step. fault_or (rule_of (Edge last ∷ before) step []) 0 None ≡ None in
       subst Passes (sym (seen bound (Bound u lattice limit) st))
-          (ap (λ why. fault_or why 0 None) (bound_passes (first_of before) None _ last u limit st.constraint.lattices st.constraint.span unbound ends over))
+      (ap (λ why. fault_or why 0 None) (bound_passes (first_of before) None _ last u limit st.constraint.lattices st.constraint.span unbound ends over))
   walk_passes u v _ bound limit before last (Flow n _ x _ more flow rest) st over unbound ends =
       let step = with_link (Le u x) flow.constraint.lattices flow.constraint.span in
       let Passes : Seen → Type 0 = λ s. fault_or (rule_of (Edge last ∷ before) s (more ++ bound ∷ [])) 0 (walked (s ∷ Edge last ∷ before) (more ++ bound ∷ [])) ≡ None in
       subst Passes (sym (seen n (Le u x) flow))
-          (ap (λ why. fault_or why 0 (walked (Edge step ∷ Edge last ∷ before) (more ++ bound ∷ [])))
-              (flow_passes (first_of before) _ _ last u x flow.constraint.lattices flow.constraint.span unbound ends flow.carried)
-            ∙ walk_passes x v more bound limit (Edge last ∷ before) step rest st over refl refl)
+      (ap (λ why. fault_or why 0 (walked (Edge step ∷ Edge last ∷ before) (more ++ bound ∷ [])))
+      (flow_passes (first_of before) _ _ last u x flow.constraint.lattices flow.constraint.span unbound ends flow.carried)
+      ∙ walk_passes x v more bound limit (Edge last ∷ before) step rest st over refl refl)
 
 last_more : {A : Type 0} (x y : A) (zs : List A) → last_of (x ∷ y ∷ zs) ≡ last_of (y ∷ zs)
 last_more x y zs =
@@ -96,8 +96,8 @@ module _ (sys : System) (orders : List Order) (order : Order) (lattice elem boun
   ends_well n flows v limit end st =
       let Ends : Option PathStep → Type 0 = λ step. (if ends_in_bound sys step then None else Some (unended end)) ≡ None in
       subst Ends (sym (last_taken n flows bound))
-          (let Sees : Seen → Type 0 = λ s. (if is_bound s then None else Some (unended end)) ≡ None in
-            subst Sees (sym (seen sys order lattice elem bound (Bound v lattice limit) st)) refl)
+      (let Sees : Seen → Type 0 = λ s. (if is_bound s then None else Some (unended end)) ≡ None in
+      subst Sees (sym (seen sys order lattice elem bound (Bound v lattice limit) st)) refl)
 
   -- of a path that begins with the constant and goes on along flows
   module _ (start from at limit end : ℕ) (flows : List ℕ) (constant : Stands sys lattice start (Const lattice elem from)) (along : Flows sys lattice from at flows)
@@ -115,11 +115,11 @@ module _ (sys : System) (orders : List Order) (order : Order) (lattice elem boun
     passes =
         let Passes : Seen → Type 0 = λ s. whole (rule_of sys order lattice elem [] s rest) (walked sys order lattice elem (s ∷ []) rest) ≡ None in
         subst Passes (sym (seen sys order lattice elem start (Const lattice elem from) constant))
-            (ap (λ why. whole why (walked sys order lattice elem (Edge first ∷ []) rest))
-                (start_passes sys order lattice elem _ _ from constant.constraint.lattices constant.constraint.span)
-              ∙ ap (λ walk. or_else walk (end_fault sys (takes (start ∷ rest)) end))
-                  (walk_passes sys order lattice elem from at flows bound limit [] first along finish over refl refl)
-              ∙ ends_well start flows at limit end finish)
+        (ap (λ why. whole why (walked sys order lattice elem (Edge first ∷ []) rest))
+        (start_passes sys order lattice elem _ _ from constant.constraint.lattices constant.constraint.span)
+        ∙ ap (λ walk. or_else walk (end_fault sys (takes (start ∷ rest)) end))
+        (walk_passes sys order lattice elem from at flows bound limit [] first along finish over refl refl)
+        ∙ ends_well start flows at limit end finish)
 
     begun : first_fault sys orders [] (takes (start ∷ rest)) end ≡ None
     begun =

@@ -1,6 +1,8 @@
 -- Answers and their outcomes.
-use Rattle.std.proofs.Common.{◌≡◌, ◌⊎◌, inl, inr, ℕ, zero, suc, ◌<◌, ◌≤◌, List, [], ◌∷◌, ◌++◌, length, map, take, slice_get, Some, None, codes, IfSome, MatchOption, refl, append_assoc, sym, ◌∙◌, ap, subst}
+use Rattle.std.proofs.Common.{◌≡◌, ◌⊎◌, inl, inr, ℕ, zero, suc, ◌<◌, ◌≤◌, List, [], ◌∷◌, ◌++◌, length, map, take, slice_get, Some, None, codes, IfSome, MatchOption, refl, append_assoc, append-nil, sym, ◌∙◌, ap, subst}
 use Rattle.std.specs.declared.option.Option.{Option}
+use Rattle.std.specs.declared.alloc.Global.{Global}
+use Rattle.std.specs.declared.vec.Vec.{Vec}
 use Rattle.std.specs.Io.KnownBytes.{Appends}
 use Rattle.qual_base.specs.Outside.{content_of, Records}
 use Rattle.lattice_core.specs.View.{LatticeView}
@@ -8,8 +10,12 @@ use Rattle.first_form.specs.declared.source_form.SourceForm.{SourceForm}
 use Rattle.cqual_tool.specs.declared.status.Status.{Status}
 use Rattle.cqual_tool.specs.declared.status.Status.TheVariants.{Accepted, Rejected, NotYet, Malformed, BadWords, ReadFault, WriteFault, NoMemory}
 use Rattle.cqual_tool.specs.Words.{FileNames, meaning_of}
-use Rattle.cqual_tool.specs.Texts.{not_yet_line, malformed_line}
-use Rattle.cqual_tool.specs.Outcome.{SourceIsOther, LatticeIsOther, LatticeReads, OfSource, SourceTooLarge, SourceNotYet, OfFiles, LatticeTooLarge, LatticeNotYet, LatticeRead, Outcome, WithMeaning, IsAnswer, RecordsAll, Starts, LatticeAlone, ThenSource, source_limit, lattice_limit}
+use Rattle.cqual_tool.specs.Texts.{not_yet_line, malformed_line, usage_line}
+use Rattle.cqual_tool.specs.Sending.{AppendsFront, Sends}
+use Rattle.qual_base.specs.Counts.{Rose}
+use Rattle.std.specs.Option.{option_map}
+use Rattle.cqual_tool.specs.Reports.{IsJudged, JudgedAccepted, JudgedRejected}
+use Rattle.cqual_tool.specs.Outcome.{OfProgram, PastLimit, Judged, SourceRead, WithoutMeaning, IsDecided, StartsFor, NoFile, InOrder, SourceIsOther, LatticeIsOther, LatticeReads, OfSource, SourceTooLarge, SourceNotYet, OfFiles, LatticeTooLarge, LatticeNotYet, LatticeRead, Outcome, WithMeaning, IsAnswer, RecordsAll, Starts, LatticeAlone, ThenSource, source_limit, lattice_limit}
 
 -- an outcome at equal statuses and texts
 pub at_equal : (Is : Status → List ℕ → Type 0) (one other : Status) (text same : List ℕ) → one ≡ other → text ≡ same → Is other same → Is one text
@@ -35,3 +41,106 @@ records_two old middle None one other first second = tt
 records_two old None (Some new) one other first second = absurd second
 records_two None (Some middle) (Some new) one other first second = absurd first
 records_two (Some old) (Some middle) (Some new) one other first second = second ∙ ap (λ (names : List (List ℕ)). names ++ other ∷ []) first ∙ append_assoc old (one ∷ []) (other ∷ [])
+
+-- what is told of the files
+pub when_told : {P Q : List (List ℕ × List ℕ) → Type 0} (told : Option (List (List ℕ × List ℕ))) → IfSome told P → ((all : List (List ℕ × List ℕ)) → P all → Q all) → IfSome told Q
+when_told None p f = tt
+when_told (Some all) p f = f all p
+
+-- what was taken, where it was too large or was all there
+pub none_found : (size : ℕ) (content : List ℕ) (limit : ℕ) (found : Option (Vec ℕ Global)) → MatchOption found (limit < size) (λ bytes. bytes.items ≡ content) → found ≡ None → limit < size
+none_found size content limit found is none = let Found : Option (Vec ℕ Global) → Type 0 = λ o. MatchOption o (limit < size) (λ bytes. bytes.items ≡ content) in subst Found none is
+
+-- what is judged or read is decided
+pub decided_program : (file : List ℕ) (lattice : LatticeView) (source : SourceForm) (status : Status) (text : List ℕ) → OfProgram file lattice source status text → IsDecided status
+decided_program file lattice source _ _ (PastLimit many) = tt
+decided_program file lattice source _ _ (Judged _ _ few (JudgedAccepted _ report)) = tt
+decided_program file lattice source _ _ (Judged _ _ few (JudgedRejected _ report)) = tt
+
+pub decided_source : (file : List ℕ) (lattice : LatticeView) (bytes : List ℕ) (status : Status) (text : List ℕ) → OfSource file lattice bytes status text → IsDecided status
+decided_source file lattice bytes _ _ (SourceTooLarge large) = tt
+decided_source file lattice bytes _ _ (SourceNotYet other) = tt
+decided_source file lattice bytes _ _ (SourceRead source status text reads is) = decided_program file lattice source status text is
+
+pub decided_as : (one other : Status) → one ≡ other → IsDecided other → IsDecided one
+decided_as one other same is = subst IsDecided (sym same) is
+
+pub records_none : (told : Option (List (List ℕ))) → RecordsAll told told []
+records_none None = tt
+records_none (Some names) = sym (append-nil names)
+
+-- the outcome for two files, by what was read of each
+module _ (named : FileNames) (all : List (List ℕ × List ℕ)) where
+  pub lattice_too_large : (status : Status) (text : List ℕ) → status ≡ Malformed → text ≡ malformed_line named.lattice (codes "F2") → lattice_limit < length (content_of all named.lattice) →
+      OfFiles named (content_of all named.lattice) (content_of all named.source) status text
+  lattice_too_large status text is words large = at_equal (OfFiles named (content_of all named.lattice) (content_of all named.source)) status Malformed text _ is words (LatticeTooLarge large)
+
+  pub lattice_other : (status : Status) (text bytes : List ℕ) → status ≡ NotYet → text ≡ not_yet_line named.lattice → bytes ≡ content_of all named.lattice → LatticeIsOther bytes →
+      OfFiles named (content_of all named.lattice) (content_of all named.source) status text
+  lattice_other status text bytes is words content other =
+      at_equal (OfFiles named (content_of all named.lattice) (content_of all named.source)) status NotYet text _ is words (LatticeNotYet (subst LatticeIsOther content other))
+
+-- what is sent of a decided answer
+module _ (words : List (List ℕ)) (old new : Option (List ℕ)) (status given : Status) (text : List ℕ) (sends : Sends old new status text given) (decided : IsDecided status) where
+  pub given_not : (bad : Status) → (IsDecided bad → ⊥) → (WriteFault ≡ bad → ⊥) → given ≡ bad → ⊥
+  given_not bad undecided other is = elim sends [
+    | inl all ↦ undecided (subst IsDecided (sym all.0 ∙ is) decided)
+    | inr part ↦ other (sym part.0 ∙ is)
+  ]
+
+  module _ (told : Option (List (List ℕ × List ℕ))) (named : FileNames) (meaning : meaning_of words ≡ Some named)
+      (outcome : IfSome told (λ all. OfFiles named (content_of all named.lattice) (content_of all named.source) status text)) where
+    pub sent_all : IsAnswer given → IfSome told (λ all. (written : List ℕ) × Outcome words all given written × Appends old new written)
+    sent_all is = elim sends [
+      | inl whole ↦ when_told told outcome (λ all of.
+          let Is : Status → Type 0 = λ s. Outcome words all s text in
+          (text, subst Is (sym whole.0) (WithMeaning named status text meaning of), whole.1))
+      | inr part ↦ absurd (subst IsAnswer part.0 is)
+    ]
+
+    pub sent_front : given ≡ WriteFault → IfSome told (λ all. (s : Status) × (written : List ℕ) × Outcome words all s written × AppendsFront old new written)
+    sent_front is = elim sends [
+      | inl whole ↦ absurd (subst IsDecided (sym whole.0 ∙ is) decided)
+      | inr part ↦ when_told told outcome (λ all of. (status, text, WithMeaning named status text meaning of, part.1))
+    ]
+
+-- what is sent for words without a meaning
+module _ (words : List (List ℕ)) (old new : Option (List ℕ)) (given : Status) (sends : Sends old new BadWords usage_line given) (none : meaning_of words ≡ None)
+    (told : Option (List (List ℕ × List ℕ))) where
+  whatever : {P : List (List ℕ × List ℕ) → Type 0} → ((all : List (List ℕ × List ℕ)) → P all) → IfSome told P
+  whatever {P} f = always told
+    where
+      always : (o : Option (List (List ℕ × List ℕ))) → IfSome o P
+      always None = tt
+      always (Some all) = f all
+
+  pub usage_all : IsAnswer given → IfSome told (λ all. (written : List ℕ) × Outcome words all given written × Appends old new written)
+  usage_all is = elim sends [
+    | inl whole ↦ whatever (λ all.
+        let Is : Status → Type 0 = λ s. Outcome words all s usage_line in (usage_line, subst Is (sym whole.0) (WithoutMeaning none), whole.1))
+    | inr part ↦ absurd (subst IsAnswer part.0 is)
+  ]
+
+  pub usage_front : given ≡ WriteFault → IfSome told (λ all. (s : Status) × (written : List ℕ) × Outcome words all s written × AppendsFront old new written)
+  usage_front is = elim sends [
+    | inl whole ↦ let wrong : BadWords ≡ WriteFault = sym whole.0 ∙ is in absurd cc
+    | inr part ↦ whatever (λ all. (BadWords, usage_line, WithoutMeaning none, part.1))
+  ]
+
+-- the meaning of words, as the code holds it
+pub meant : {A : Type 0} (words : List (List ℕ)) (names : A → FileNames) (found : Option A) (named : A) → option_map names found ≡ meaning_of words → found ≡ Some named →
+    meaning_of words ≡ Some (names named)
+meant words names found named is some = sym is ∙ ap (option_map names) some
+
+pub unmeant : {A : Type 0} (words : List (List ℕ)) (names : A → FileNames) (found : Option A) → option_map names found ≡ meaning_of words → found ≡ None → meaning_of words ≡ None
+unmeant words names found is none = sym is ∙ ap (option_map names) none
+
+pub some_found : (size : ℕ) (content : List ℕ) (limit : ℕ) (found : Option (Vec ℕ Global)) (bytes : Vec ℕ Global) → MatchOption found (limit < size) (λ b. b.items ≡ content) → found ≡ Some bytes →
+    bytes.items ≡ content
+some_found size content limit found bytes is some = let Found : Option (Vec ℕ Global) → Type 0 = λ o. MatchOption o (limit < size) (λ b. b.items ≡ content) in subst Found some is
+
+-- two things that are told of the files
+pub both_told : {P Q R : List (List ℕ × List ℕ) → Type 0} (told : Option (List (List ℕ × List ℕ))) → IfSome told P → IfSome told Q →
+    ((all : List (List ℕ × List ℕ)) → P all → Q all → R all) → IfSome told R
+both_told None p q f = tt
+both_told (Some all) p q f = f all p q

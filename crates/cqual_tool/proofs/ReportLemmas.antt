@@ -1,5 +1,5 @@
 -- Reports from their parts.
-use Rattle.std.proofs.Common.{◌≡◌, ℕ, zero, suc, ◌<◌, true, false, List, [], ◌∷◌, ◌++◌, length, slice_get, slice_index, Some, None, codes, refl, sym, ◌∙◌, ap, subst, append_assoc, append-nil}
+use Rattle.std.proofs.Common.{◌≡◌, ℕ, zero, suc, ◌<◌, true, false, List, [], ◌∷◌, ◌++◌, length, slice_get, Some, None, codes, refl, sym, ◌∙◌, ap, subst, append_assoc, append-nil}
 use Rattle.lattice_core.specs.Order.{Order, size, leq, IsLattice, IsJoinOf}
 use Rattle.flow_graph.specs.declared.constraint.Constraint.{Constraint}
 use Rattle.flow_graph.specs.declared.constraint.Link.{Link}
@@ -10,7 +10,7 @@ use Rattle.flow_graph.specs.System.{System, Stands}
 use Rattle.flow_graph.specs.Unfolding.{IsAccepted, IsAcceptedIn, IsExceeded, Printed}
 use Rattle.flow_graph.specs.PathProofs.{first_of, last_of}
 use Rattle.flow_laws.specs.Refuting.{ExceededIsRefuted}
-use Rattle.lattice_solver.specs.Solution.{Solution, IsKept}
+use Rattle.lattice_solver.specs.Solution.{Solution, reached_at, IsKept}
 use Rattle.cqual_tool.specs.Texts.{Scene, line, value_line, error_line, subs_text, steps_text}
 use Rattle.cqual_tool.specs.Scenes.{IsOverBound}
 use Rattle.cqual_tool.specs.FlatPaths.{takes, IsFlatPath}
@@ -45,7 +45,7 @@ rejected_report scene sys order text begun errors law n exceeded begins is liste
 
 -- a line from the least element of the solution
 module _ (scene : Scene) (sys : System) (order : Order) (solution : Solution) (var elem bottom : ℕ) (first : solution.lattice ≡ 0) (kept : IsKept sys solution order)
-    (lattice : IsLattice order) (is_bottom : IsBottom order bottom) (join : IsJoinOf order (slice_index solution.sets var) elem) where
+    (lattice : IsLattice order) (is_bottom : IsBottom order bottom) (join : IsJoinOf order (reached_at solution var) elem) where
   printed : Printed sys 0 order var elem
   printed = let Is : ℕ → Type 0 = λ l. Printed sys l order var elem in subst Is first (kept.printed var elem join)
 

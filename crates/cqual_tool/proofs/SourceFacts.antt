@@ -13,7 +13,7 @@ use Rattle.lattice_core.specs.Order.{Order, size}
 use Rattle.flow_graph.specs.declared.constraint.Link.{Link}
 use Rattle.flow_graph.specs.declared.constraint.Link.TheVariants.{Le, Const, Bound, Enter, Leave}
 use Rattle.flow_graph.specs.declared.constraint.Constraint.{Constraint}
-use Rattle.flow_graph.specs.System.{Has, Stands}
+use Rattle.flow_graph.specs.System.{Has, Stands, IsWellOwned}
 use Rattle.flow_laws.specs.Flat.{IsFlat}
 use Rattle.flow_laws.specs.Least.{NamesElementsIn}
 use Rattle.first_form.specs.declared.source_form.Item.{Item}
@@ -150,6 +150,16 @@ flat entries items =
     let flows : (n : ℕ) (link : Link) → Has (system_of entries items) n link → IsFlow link =
     λ n link has. subst IsFlow has.link_is (at_number Flows (constraints_of entries 0 items) n has.constraint all has.there) in
     record { enter = λ n s u v has. flows n (Enter s u v) has; leave = λ n s u v has. flows n (Leave s u v) has }
+
+-- Nothing of a source belongs to a function, so its system is well owned.
+pub owned : (entries : List Entry) (items : List Item) → IsWellOwned (system_of entries items)
+owned entries items =
+    let no_calls = flat entries items in
+    record {
+      le = λ n u v f g has one other. absurd cc;
+      enter = λ n s u v has. absurd (no_calls.enter n s u v has);
+      leave = λ n s u v has. absurd (no_calls.leave n s u v has);
+    }
 
 -- a link whose variables and elements are below these numbers
 abbrev IsNamed : ℕ → ℕ → Link → Type 0

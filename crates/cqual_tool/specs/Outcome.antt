@@ -87,6 +87,14 @@ IsAnswer WriteFault = ⊥
 IsAnswer NoMemory = ⊥
 IsAnswer _ = Unit {0}
 
+-- the status says what was decided of the files that were read
+abbrev pub IsDecided : Status → Type 0
+IsDecided Accepted = Unit {0}
+IsDecided Rejected = Unit {0}
+IsDecided NotYet = Unit {0}
+IsDecided Malformed = Unit {0}
+IsDecided _ = ⊥
+
 -- names that are told afterwards were told before, and have grown by these at their end
 abbrev pub RecordsAll : Option (List (List ℕ)) → Option (List (List ℕ)) → List (List ℕ) → Type 0
 RecordsAll old None names = Unit {0}

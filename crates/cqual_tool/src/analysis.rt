@@ -2,6 +2,7 @@
 
 ghost use Rattle.std.specs.Prelude.{◌≡◌, ◌≤◌, ◌^◌, ℕ, List, IfOk, length};
 ghost use Rattle.first_form.specs.SourceText.{IsSourceForm};
+ghost use Rattle.flow_graph.specs.System.{IsWellOwned};
 ghost use Rattle.flow_laws.specs.Flat.{IsFlat};
 ghost use Rattle.flow_laws.specs.Least.{NamesElementsIn};
 ghost use Rattle.cqual_tool.specs.Scenes.{scene_of, IsShown, HasObjects};
@@ -18,6 +19,7 @@ use first_form::source_form::{Item, SourceForm};
 use flow_graph::graph::{FlowGraph, GraphFault};
 use lattice_core::Lattice;
 use lattice_solver::solver::Solver;
+use match_summary::rounds::summarise;
 use qual_base::faults::NoMemory;
 use qual_base::ids::{LatticeNo, TokenId};
 use std::alloc::{AllocError, Global};
@@ -41,11 +43,14 @@ fn judge(alloc: Global, scene: &Scene<'_>, graph: &FlowGraph) -> Result<Answer, 
     requires objects { HasObjects scene.now }
     requires shown { IsShown scene.now graph.now }
     requires flat { IsFlat graph.now }
+    requires owned { IsWellOwned graph.now }
     requires named { NamesElementsIn graph.now 0 scene.now.lattice.now.order }
     ensures { IfOk result (λ answer. IsJudged (scene_of scene.now) graph.now scene.now.lattice.now.order answer.status answer.text.items) }
 {
-    let mut solver = Solver::new(alloc, graph, LatticeNo::new(0))?;
-    solver.run(graph);
+    let lattice = LatticeNo::new(0);
+    let summaries = summarise(alloc, graph, lattice)?;
+    let mut solver = Solver::new(alloc, graph, &summaries, lattice)?;
+    solver.run(graph, &summaries);
     if solver.first_exceeded(graph, scene.lattice).is_some() {
         let text = rejected(alloc, scene, graph, &solver)?;
         return Ok(Answer {
@@ -61,7 +66,12 @@ fn judge(alloc: Global, scene: &Scene<'_>, graph: &FlowGraph) -> Result<Answer, 
 }
 
 /// The answer for a lattice and a source that were read.
-pub fn analyse(alloc: Global, file: &str, lattice: &Lattice, source: &SourceForm) -> Result<Answer, NoMemory>
+pub fn analyse(
+    alloc: Global,
+    file: &str,
+    lattice: &Lattice,
+    source: &SourceForm,
+) -> Result<Answer, NoMemory>
     requires { (bytes : List ℕ) × SourceReads lattice.now.entries bytes source.now }
     ensures { IfOk result (λ answer. OfProgram file.now lattice.now source.now answer.status answer.text.items) }
 {
@@ -71,6 +81,7 @@ pub fn analyse(alloc: Global, file: &str, lattice: &Lattice, source: &SourceForm
         Err(GraphFault::TooMany) => return Ok(malformed(alloc, file, "G1")?),
         Err(GraphFault::NoMemory) => return Err(NoMemory),
     };
+    graph.law();
     let objects = object_tokens(alloc, &source.items)?;
     let scene = Scene {
         file,

@@ -33,7 +33,13 @@ fn add(graph: &mut FlowGraph, link: Link, from: TokenId, to: TokenId) -> Result<
 }
 
 /// Adds what the word of an element gives at a variable.
-fn annotate(graph: &mut FlowGraph, sign: Sign, elem: Elem, var: VarId, word: TokenId) -> Result<(), GraphFault>
+fn annotate(
+    graph: &mut FlowGraph,
+    sign: Sign,
+    elem: Elem,
+    var: VarId,
+    word: TokenId,
+) -> Result<(), GraphFault>
     requires elem { elem < 64 }
     requires var { var < 2 ^ 24 }
     ensures added { OnOk result (Adds graph.old graph.new (by_sign sign elem var (span_from word word))) }
@@ -63,18 +69,29 @@ fn assign(graph: &mut FlowGraph, assigns: &[Assign]) -> Result<(), GraphFault>
 }
 
 /// Adds the constraints of an item behind so many objects.
-fn add_item(graph: &mut FlowGraph, lattice: &Lattice, objects: u32, item: &Item) -> Result<(), GraphFault>
+fn add_item(
+    graph: &mut FlowGraph,
+    lattice: &Lattice,
+    objects: u32,
+    item: &Item,
+) -> Result<(), GraphFault>
     requires { IsNumberedItem (length lattice.now.entries) objects item.now }
     ensures added { OnOk result (Adds graph.old graph.new (of_item lattice.now.entries objects item.now)) }
     ensures too_many { IsErrOf result GraphFault.TooMany → OverLimit graph.old (length (of_item lattice.now.entries objects item.now)) }
 {
     match item {
-        Item::Object { mark: Some(mark), name: _ } => {
+        Item::Object {
+            mark: Some(mark),
+            name: _,
+        } => {
             lattice.law();
             let sign = lattice.entry(mark.elem).sign;
             annotate(graph, sign, mark.elem, VarId::new(objects), mark.token)
         }
-        Item::Object { mark: None, name: _ } => Ok(()),
+        Item::Object {
+            mark: None,
+            name: _,
+        } => Ok(()),
         Item::Function { name: _, assigns } => assign(graph, assigns),
     }
 }
@@ -86,12 +103,19 @@ fn objects_after(objects: u32, item: &Item) -> u32
 {
     match item {
         Item::Object { mark: _, name: _ } => objects + 1,
-        Item::Function { name: _, assigns: _ } => objects,
+        Item::Function {
+            name: _,
+            assigns: _,
+        } => objects,
     }
 }
 
 /// The constraints of a source, in order. Linear in the source.
-pub fn generate(alloc: Global, lattice: &Lattice, source: &SourceForm) -> Result<FlowGraph, GraphFault>
+pub fn generate(
+    alloc: Global,
+    lattice: &Lattice,
+    source: &SourceForm,
+) -> Result<FlowGraph, GraphFault>
     requires { AreNumbered (length lattice.now.entries) 0 source.now.items.items }
     ensures graph { IfOk result (λ graph. graph ≡ system_of lattice.now.entries source.now.items.items) }
     ensures too_many { IsErrOf result GraphFault.TooMany → 67108864 < length (system_of lattice.now.entries source.now.items.items).constraints }

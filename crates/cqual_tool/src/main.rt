@@ -11,6 +11,8 @@ mod running;
 mod search;
 mod sending;
 mod status;
+#[cfg(test)]
+mod tests;
 mod texts;
 mod words;
 

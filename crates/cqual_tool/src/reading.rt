@@ -6,7 +6,7 @@ ghost use Rattle.qual_base.specs.Outside.{content_of, Records};
 ghost use Rattle.cqual_tool.specs.declared.status.Status.TheVariants as Statuses;
 ghost use Rattle.cqual_tool.specs.Texts.{not_yet_line, malformed_line};
 ghost use Rattle.cqual_tool.specs.Words.{names_in};
-ghost use Rattle.cqual_tool.specs.Outcome.{LatticeIsOther, LatticeReads, OfSource, OfFiles, RecordsAll, Starts, names_of, lattice_limit, source_limit};
+ghost use Rattle.cqual_tool.specs.Outcome.{LatticeIsOther, LatticeReads, OfSource, OfFiles, IsDecided, RecordsAll, Starts, names_of, lattice_limit, source_limit};
 
 use crate::analysis::analyse;
 use crate::answer::{Answer, malformed, not_yet};
@@ -46,7 +46,12 @@ impl From<NoMemory> for Stop {
 }
 
 /// The bytes of a file; none where it has more than the limit.
-fn taken<F: Files>(alloc: Global, files: &mut F, name: &str, limit: usize) -> Result<Option<Vec<u8>>, Stop>
+fn taken<F: Files>(
+    alloc: Global,
+    files: &mut F,
+    name: &str,
+    limit: usize,
+) -> Result<Option<Vec<u8>>, Stop>
     requires { limit < usize.MAX }
     ensures whole { IfOk result (λ found. IfSome (F.contents files.old) (λ all. MatchOption found (limit < length (content_of all name.now)) (λ bytes. bytes.items ≡ content_of all name.now))) }
     ensures within { IfOk result (λ found. IfSome found (λ bytes. length bytes.items ≤ limit)) }
@@ -78,7 +83,8 @@ fn names(alloc: Global, lattice: &Lattice) -> Result<Vec<&[u8]>, AllocError>
 /// The answer for the bytes of a source.
 fn of_source(alloc: Global, file: &str, lattice: &Lattice, bytes: &[u8]) -> Result<Answer, NoMemory>
     requires { length bytes.now ≤ source_limit }
-    ensures { IfOk result (λ answer. OfSource file.now lattice.now bytes.now answer.status answer.text.items) }
+    ensures outcome { IfOk result (λ answer. OfSource file.now lattice.now bytes.now answer.status answer.text.items) }
+    ensures decided { IfOk result (λ answer. IsDecided answer.status) }
 {
     lattice.law();
     let names = names(alloc, lattice)?;
@@ -89,8 +95,14 @@ fn of_source(alloc: Global, file: &str, lattice: &Lattice, bytes: &[u8]) -> Resu
 }
 
 /// Takes the source, where the lattice file has read, and answers.
-fn take_source<F: Files>(alloc: Global, file: &str, lattice: &Lattice, files: &mut F) -> Result<Answer, Stop>
+fn take_source<F: Files>(
+    alloc: Global,
+    file: &str,
+    lattice: &Lattice,
+    files: &mut F,
+) -> Result<Answer, Stop>
     ensures outcome { IfOk result (λ answer. IfSome (F.contents files.old) (λ all. OfSource file.now lattice.now (content_of all file.now) answer.status answer.text.items)) }
+    ensures decided { IfOk result (λ answer. IsDecided answer.status) }
     ensures read_fault { IsErrOf result Stop.ReadFault → Rose (F.faults files.old) (F.faults files.new) }
     ensures count { GoesOn (F.faults files.old) (F.faults files.new) }
     ensures started { Records (F.started files.old) (F.started files.new) file.now }
@@ -129,7 +141,8 @@ fn lattice_in(alloc: Global, bytes: &[u8]) -> Result<Option<Lattice>, NoMemory>
 /// The answer for two files that are named, in the order in which they are read.
 pub fn answer<F: Files>(alloc: Global, named: Named<'_>, files: &mut F) -> Result<Answer, Stop>
     ensures outcome { IfOk result (λ answer. IfSome (F.contents files.old) (λ all.
-        OfFiles (names_in named.entry) (content_of all named.lattice.now) (content_of all named.source.now) answer.status answer.text.items)) }
+        OfFiles (names_in named.entry) (content_of all named.entry.lattice.now) (content_of all named.entry.source.now) answer.status answer.text.items)) }
+    ensures decided { IfOk result (λ answer. IsDecided answer.status) }
     ensures read_fault { IsErrOf result Stop.ReadFault → Rose (F.faults files.old) (F.faults files.new) }
     ensures count { GoesOn (F.faults files.old) (F.faults files.new) }
     ensures started { (names : List (List ℕ)) × RecordsAll (F.started files.old) (F.started files.new) names × Starts (names_in named.entry) (F.contents files.old) names }

@@ -1,14 +1,13 @@
 //! The two reports of a program.
 
-ghost use Rattle.std.specs.Prelude.{◌≡◌, ◌<◌, ◌++◌, ◌≤◌, ◌^◌, ℕ, List, IfOk, OnOk, length, All};
-ghost use Rattle.lattice_core.specs.Order.{leq};
+ghost use Rattle.std.specs.Prelude.{◌≡◌, ◌<◌, ◌++◌, ◌↔◌, ◌≤◌, ◌^◌, ℕ, List, IfOk, OnOk, length, All};
 ghost use Rattle.flow_graph.specs.declared.constraint.Link.TheVariants.{Bound};
-ghost use Rattle.flow_graph.specs.System.{Stands};
+ghost use Rattle.flow_graph.specs.System.{IsWellOwned};
 ghost use Rattle.flow_graph.specs.Paths.{Lead};
 ghost use Rattle.flow_graph.specs.Unfolding.{IsExceeded};
 ghost use Rattle.flow_laws.specs.Flat.{IsFlat};
 ghost use Rattle.flow_laws.specs.Least.{NamesElementsIn};
-ghost use Rattle.lattice_solver.specs.Solution.{IsSolved, IsKept, Exceeds};
+ghost use Rattle.lattice_solver.specs.Solution.{HasElement, IsSolved, IsKept};
 ghost use Rattle.cqual_tool.specs.Texts.{steps_text};
 ghost use Rattle.cqual_tool.specs.Scenes.{scene_of, HasVar, HasElem, IsShown, IsOverBound, HasObjects};
 ghost use Rattle.cqual_tool.specs.Reports.{IsLine, Lines, IsError, IsErrorOf, Errors, IsAcceptedReport, IsRejectedReport};
@@ -24,7 +23,13 @@ use qual_base::ids::{EdgeId, Elem, LatticeNo, Numbered, VarId};
 use std::alloc::{AllocError, Global};
 
 /// The line of an object, unless its least element is the bottom.
-fn put_line(out: &mut Vec<u8>, scene: &Scene<'_>, graph: &FlowGraph, solver: &Solver, var: VarId) -> Result<(), AllocError>
+fn put_line(
+    out: &mut Vec<u8>,
+    scene: &Scene<'_>,
+    graph: &FlowGraph,
+    solver: &Solver,
+    var: VarId,
+) -> Result<(), AllocError>
     requires var { HasVar scene.now var }
     requires lattice { solver.now.lattice ≡ 0 }
     requires kept { IsKept graph.now solver.now scene.now.lattice.now.order }
@@ -39,7 +44,12 @@ fn put_line(out: &mut Vec<u8>, scene: &Scene<'_>, graph: &FlowGraph, solver: &So
 }
 
 /// The line of each object whose least element is not the bottom.
-fn put_lines(out: &mut Vec<u8>, scene: &Scene<'_>, graph: &FlowGraph, solver: &Solver) -> Result<(), AllocError>
+fn put_lines(
+    out: &mut Vec<u8>,
+    scene: &Scene<'_>,
+    graph: &FlowGraph,
+    solver: &Solver,
+) -> Result<(), AllocError>
     requires few { length scene.now.objects.now ≤ 2 ^ 24 }
     requires objects { HasObjects scene.now }
     requires lattice { solver.now.lattice ≡ 0 }
@@ -53,7 +63,12 @@ fn put_lines(out: &mut Vec<u8>, scene: &Scene<'_>, graph: &FlowGraph, solver: &S
 }
 
 /// The accepted report. Linear in the objects but for their places.
-pub fn accepted(alloc: Global, scene: &Scene<'_>, graph: &FlowGraph, solver: &Solver) -> Result<Vec<u8>, AllocError>
+pub fn accepted(
+    alloc: Global,
+    scene: &Scene<'_>,
+    graph: &FlowGraph,
+    solver: &Solver,
+) -> Result<Vec<u8>, AllocError>
     requires few { length scene.now.objects.now ≤ 2 ^ 24 }
     requires objects { HasObjects scene.now }
     requires lattice { solver.now.lattice ≡ 0 }
@@ -67,7 +82,12 @@ pub fn accepted(alloc: Global, scene: &Scene<'_>, graph: &FlowGraph, solver: &So
 }
 
 /// The lines of a path's steps.
-fn put_path(out: &mut Vec<u8>, scene: &Scene<'_>, graph: &FlowGraph, path: &[EdgeId]) -> Result<(), AllocError>
+fn put_path(
+    out: &mut Vec<u8>,
+    scene: &Scene<'_>,
+    graph: &FlowGraph,
+    path: &[EdgeId],
+) -> Result<(), AllocError>
     requires shown { IsShown scene.now graph.now }
     requires within { All (λ n. n < length graph.now.constraints) path.now }
     ensures { OnOk result (out.new.items ≡ out.old.items ++ steps_text (scene_of scene.now) graph.now (takes path.now)) }
@@ -91,7 +111,14 @@ fn bound_of(constraint: &Constraint) -> Elem
 }
 
 /// The error of a bound that an element exceeds: a line with both, and a shortest path from a constant of the element.
-fn put_exceeded(alloc: Global, out: &mut Vec<u8>, scene: &Scene<'_>, graph: &FlowGraph, elem: Elem, bound: EdgeId) -> Result<(), AllocError>
+fn put_exceeded(
+    alloc: Global,
+    out: &mut Vec<u8>,
+    scene: &Scene<'_>,
+    graph: &FlowGraph,
+    elem: Elem,
+    bound: EdgeId,
+) -> Result<(), AllocError>
     requires flat { IsFlat graph.now }
     requires shown { IsShown scene.now graph.now }
     requires elem { HasElem scene.now elem }
@@ -100,17 +127,32 @@ fn put_exceeded(alloc: Global, out: &mut Vec<u8>, scene: &Scene<'_>, graph: &Flo
 {
     let path = shortest(alloc, graph, LatticeNo::new(0), elem, bound)?;
     let constraint = graph.constraint(bound);
-    put_error(out, scene, elem, bound_of(&constraint), constraint.span.from)?;
+    put_error(
+        out,
+        scene,
+        elem,
+        bound_of(&constraint),
+        constraint.span.from,
+    )?;
     put(out, b"path\n")?;
     put_path(out, scene, graph, &path)
 }
 
 /// The error of a constraint, if it is an exceeded bound.
-fn put_error_of(alloc: Global, out: &mut Vec<u8>, scene: &Scene<'_>, graph: &FlowGraph, solver: &Solver, number: EdgeId) -> Result<(), AllocError>
+fn put_error_of(
+    alloc: Global,
+    out: &mut Vec<u8>,
+    scene: &Scene<'_>,
+    graph: &FlowGraph,
+    solver: &Solver,
+    number: EdgeId,
+) -> Result<(), AllocError>
     requires flat { IsFlat graph.now }
     requires shown { IsShown scene.now graph.now }
     requires lattice { solver.now.lattice ≡ 0 }
+    requires owned { IsWellOwned graph.now }
     requires solved { IsSolved graph.now solver.now }
+    requires reached { (v e : ℕ) → HasElement solver.now v e ↔ Lead graph.now 0 e v }
     requires named { NamesElementsIn graph.now 0 scene.now.lattice.now.order }
     requires number { number < length graph.now.constraints }
     ensures { OnOk result ((error : List ℕ) × (out.new.items ≡ out.old.items ++ error) × IsErrorOf (scene_of scene.now) graph.now scene.now.lattice.now.order number error) }
@@ -122,11 +164,19 @@ fn put_error_of(alloc: Global, out: &mut Vec<u8>, scene: &Scene<'_>, graph: &Flo
 }
 
 /// The errors of all exceeded bounds, in the order of the constraints.
-fn put_errors(alloc: Global, out: &mut Vec<u8>, scene: &Scene<'_>, graph: &FlowGraph, solver: &Solver) -> Result<(), AllocError>
+fn put_errors(
+    alloc: Global,
+    out: &mut Vec<u8>,
+    scene: &Scene<'_>,
+    graph: &FlowGraph,
+    solver: &Solver,
+) -> Result<(), AllocError>
     requires flat { IsFlat graph.now }
     requires shown { IsShown scene.now graph.now }
     requires lattice { solver.now.lattice ≡ 0 }
+    requires owned { IsWellOwned graph.now }
     requires solved { IsSolved graph.now solver.now }
+    requires reached { (v e : ℕ) → HasElement solver.now v e ↔ Lead graph.now 0 e v }
     requires named { NamesElementsIn graph.now 0 scene.now.lattice.now.order }
     ensures { OnOk result ((errors : List ℕ) × (out.new.items ≡ out.old.items ++ errors) × Errors (scene_of scene.now) graph.now scene.now.lattice.now.order (length graph.now.constraints) errors) }
 {
@@ -137,11 +187,18 @@ fn put_errors(alloc: Global, out: &mut Vec<u8>, scene: &Scene<'_>, graph: &FlowG
 }
 
 /// The rejected report. Its time is that of a search for each exceeded bound, and of the places of the lines.
-pub fn rejected(alloc: Global, scene: &Scene<'_>, graph: &FlowGraph, solver: &Solver) -> Result<Vec<u8>, AllocError>
+pub fn rejected(
+    alloc: Global,
+    scene: &Scene<'_>,
+    graph: &FlowGraph,
+    solver: &Solver,
+) -> Result<Vec<u8>, AllocError>
     requires flat { IsFlat graph.now }
     requires shown { IsShown scene.now graph.now }
     requires lattice { solver.now.lattice ≡ 0 }
+    requires owned { IsWellOwned graph.now }
     requires solved { IsSolved graph.now solver.now }
+    requires reached { (v e : ℕ) → HasElement solver.now v e ↔ Lead graph.now 0 e v }
     requires named { NamesElementsIn graph.now 0 scene.now.lattice.now.order }
     requires exceeded { (n : ℕ) × IsExceeded graph.now 0 scene.now.lattice.now.order n }
     ensures { IfOk result (λ text. IsRejectedReport (scene_of scene.now) graph.now scene.now.lattice.now.order text.items) }

@@ -2,7 +2,6 @@
 
 ghost use Rattle.std.specs.Prelude.{◌≡◌};
 
-
 /// What the tool answers.
 #[derive(Clone, Copy, PartialEq, Eq, Debug)]
 pub enum Status {
@@ -26,8 +25,7 @@ pub enum Status {
 
 impl Status {
     /// The number with which the program exits.
-    pub fn exit(self) -> u8
-    {
+    pub fn exit(self) -> u8 {
         match self {
             Status::Accepted => 0,
             Status::Rejected => 1,

@@ -58,7 +58,13 @@ fn put_elem(out: &mut Vec<u8>, scene: &Scene<'_>, elem: Elem) -> Result<(), Allo
 }
 
 /// Two variables, with a word before the first.
-fn put_flow(out: &mut Vec<u8>, scene: &Scene<'_>, word: &[u8], from: VarId, to: VarId) -> Result<(), AllocError>
+fn put_flow(
+    out: &mut Vec<u8>,
+    scene: &Scene<'_>,
+    word: &[u8],
+    from: VarId,
+    to: VarId,
+) -> Result<(), AllocError>
     requires first { HasVar scene.now from }
     requires second { HasVar scene.now to }
     ensures { OnOk result (out.new.items ≡ out.old.items ++ (word.now ++ var_text (scene_of scene.now) from ++ codes " to " ++ var_text (scene_of scene.now) to)) }
@@ -108,7 +114,12 @@ fn put_link(out: &mut Vec<u8>, scene: &Scene<'_>, link: Link) -> Result<(), Allo
 }
 
 /// The number and the place before what a constraint says.
-fn put_number(out: &mut Vec<u8>, scene: &Scene<'_>, number: EdgeId, token: TokenId) -> Result<(), AllocError>
+fn put_number(
+    out: &mut Vec<u8>,
+    scene: &Scene<'_>,
+    number: EdgeId,
+    token: TokenId,
+) -> Result<(), AllocError>
     requires { HasToken scene.now token }
     ensures { OnOk result (out.new.items ≡ out.old.items ++ (codes "  " ++ decimal number ++ codes " " ++ place_text (scene_of scene.now) token ++ codes " ")) }
 {
@@ -119,7 +130,12 @@ fn put_number(out: &mut Vec<u8>, scene: &Scene<'_>, number: EdgeId, token: Token
 }
 
 /// The line of a step that is a constraint.
-pub fn put_step(out: &mut Vec<u8>, scene: &Scene<'_>, number: EdgeId, constraint: &Constraint) -> Result<(), AllocError>
+pub fn put_step(
+    out: &mut Vec<u8>,
+    scene: &Scene<'_>,
+    number: EdgeId,
+    constraint: &Constraint,
+) -> Result<(), AllocError>
     requires token { HasToken scene.now constraint.now.span.from }
     requires link { HasLink scene.now constraint.now.link }
     ensures { OnOk result (out.new.items ≡ out.old.items ++ constraint_text (scene_of scene.now) number (Some constraint.now)) }
@@ -130,7 +146,12 @@ pub fn put_step(out: &mut Vec<u8>, scene: &Scene<'_>, number: EdgeId, constraint
 }
 
 /// The line of a variable with its element.
-pub fn put_value(out: &mut Vec<u8>, scene: &Scene<'_>, var: VarId, elem: Elem) -> Result<(), AllocError>
+pub fn put_value(
+    out: &mut Vec<u8>,
+    scene: &Scene<'_>,
+    var: VarId,
+    elem: Elem,
+) -> Result<(), AllocError>
     requires var { HasVar scene.now var }
     requires elem { HasElem scene.now elem }
     ensures { OnOk result (out.new.items ≡ out.old.items ++ value_line (scene_of scene.now) var elem) }
@@ -142,7 +163,13 @@ pub fn put_value(out: &mut Vec<u8>, scene: &Scene<'_>, var: VarId, elem: Elem) -
 }
 
 /// The line of a bound that is exceeded by an element.
-pub fn put_error(out: &mut Vec<u8>, scene: &Scene<'_>, elem: Elem, bound: Elem, token: TokenId) -> Result<(), AllocError>
+pub fn put_error(
+    out: &mut Vec<u8>,
+    scene: &Scene<'_>,
+    elem: Elem,
+    bound: Elem,
+    token: TokenId,
+) -> Result<(), AllocError>
     requires elem { HasElem scene.now elem }
     requires bound { HasElem scene.now bound }
     requires token { HasToken scene.now token }

@@ -29,8 +29,7 @@ pub fn meaning(words: &[String]) -> Option<Named<'_>>
         [option, lattice, source]
             if option.as_str() == "--lattice"
                 && is_file_name(lattice.as_str())
-                && is_file_name(source.as_str()) =>
-        {
+                && is_file_name(source.as_str()) => {
             Some(Named {
                 lattice: lattice.as_str(),
                 source: source.as_str(),

@@ -10,6 +10,7 @@ use super::shortest;
 use flow_graph::constraint::{Constraint, Link};
 use flow_graph::graph::FlowGraph;
 use lattice_solver::solver::Solver;
+use match_summary::rounds::summarise;
 use qual_base::ids::{EdgeId, Elem, ElemSet, LatticeNo, Numbered, TokenId, UnitNo, VarId};
 use qual_base::places::Span;
 use std::alloc::Global;
@@ -109,8 +110,9 @@ fn path_to(alloc: Global, graph: &FlowGraph, bound: EdgeId) -> Option<Vec<EdgeId
         return None;
     }
     let lattice = LatticeNo::new(0);
-    let mut solver = Solver::new(alloc, graph, lattice).ok()?;
-    solver.run(graph);
+    let summaries = summarise(alloc, graph, lattice).ok()?;
+    let mut solver = Solver::new(alloc, graph, &summaries, lattice).ok()?;
+    solver.run(graph, &summaries);
     let at = bounded_at(&graph.constraint(bound))?;
     if !has_element(solver.reached(at), Elem::new(0)) {
         return None;

@@ -15,10 +15,11 @@ numbered entries objects items lent i item same within is all =
 pub add_item-requires : goal.add_item-requires
 add_item-requires c =
     (numbered (length c.args.lattice.now.entries) c.loop-item.objects c.args.source.now.items.items c.deref-item-items.result.now c.loop-item.item-index c.item-item.result
-        c.deref-item-items.ensures.value c.loop-item-test.true c.item-item.is c.loop-item.invariant.numbered).0
+    c.deref-item-items.ensures.value c.loop-item-test.true c.item-item.is c.loop-item.invariant.numbered).0
 
 pub objects_after-objects-requires : goal.objects_after-objects-requires
-objects_after-objects-requires c =
-    (length c.args.lattice.now.entries,
-      (numbered (length c.args.lattice.now.entries) c.loop-item.objects c.args.source.now.items.items c.deref-item-items.result.now c.loop-item.item-index c.item-item.result
-          c.deref-item-items.ensures.value c.loop-item-test.true c.item-item.is c.loop-item.invariant.numbered).0)
+objects_after-objects-requires c = (
+  length c.args.lattice.now.entries,
+  (numbered (length c.args.lattice.now.entries) c.loop-item.objects c.args.source.now.items.items c.deref-item-items.result.now c.loop-item.item-index c.item-item.result
+      c.deref-item-items.ensures.value c.loop-item-test.true c.item-item.is c.loop-item.invariant.numbered).0,
+)

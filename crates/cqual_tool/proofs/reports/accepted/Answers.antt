@@ -8,4 +8,4 @@ pub returns : goal.returns
 returns c =
     let lines = c.in_ok-put_lines.ensures in
     accepted_report (scene_of c.args.scene.now) c.args.graph.now c.args.scene.now.lattice.now.order c.args.solver.now c.put_lines.new.out.items c.put.new.out.items lines.0
-        c.requires.lattice c.requires.kept (c.in_ok-put.ensures ∙ ap (λ (text : List _). text ++ line (codes "accepted")) c.new-text.ensures.items) lines.1 lines.2
+    c.requires.lattice c.requires.kept (c.in_ok-put.ensures ∙ ap (λ (text : List _). text ++ line (codes "accepted")) c.new-text.ensures.items) lines.1 lines.2

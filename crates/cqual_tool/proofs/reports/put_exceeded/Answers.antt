@@ -20,12 +20,12 @@ pub returns : goal.returns
 returns c =
     on_ok c.put_path.result c.put_path.ensures (λ steps. (
       error_line (scene_of c.args.scene.now) c.args.elem c.bound_of.result c.constraint-constraint.result.span.from
-      ++ subs_text (scene_of c.args.scene.now) c.args.graph.now 1 []
-      ++ line (codes "path")
-      ++ steps_text (scene_of c.args.scene.now) c.args.graph.now (takes c.in_ok-path.path.items),
+          ++ subs_text (scene_of c.args.scene.now) c.args.graph.now 1 []
+          ++ line (codes "path")
+          ++ steps_text (scene_of c.args.scene.now) c.args.graph.now (takes c.in_ok-path.path.items),
       in_parts _ _ _ _ _ _ _ c.in_ok-put_error.ensures c.in_ok-put.ensures
           (steps ∙ ap (λ ns. c.put.new.out.items ++ steps_text (scene_of c.args.scene.now) c.args.graph.now (takes ns)) c.deref.ensures.value),
       error_of (scene_of c.args.scene.now) c.args.graph.now c.args.scene.now.lattice.now.order c.args.bound c.args.elem c.bound_of.result c.in_ok-path.path.items
-          c.constraint-constraint.result c.requires.over c.constraint-constraint.ensures.there c.bound_of.ensures.0 c.bound_of.ensures.1 c.bound_of.ensures.2 
+          c.constraint-constraint.result c.requires.over c.constraint-constraint.ensures.there c.bound_of.ensures.0 c.bound_of.ensures.1 c.bound_of.ensures.2
           (let Found : ℕ → Type 0 = λ l. IsFlatPath c.args.graph.now l c.args.elem c.args.bound c.in_ok-path.path.items in subst Found c.new.ensures c.in_ok-path.ensures),
     ))
