@@ -288,13 +288,13 @@ fn keeps_bounds(
     requires elements { AreElements lattice.now.order (map_of map.now) }
     ensures { MatchBool result (KeepsBelow graph.now lattice_no lattice.now.order depth (map_of map.now) strings.now (length graph.now.constraints)) (IsOver graph.now lattice_no lattice.now.order depth (map_of map.now)) }
 {
-    for n in 0..graph.len() {
+    for bound in 0..graph.len() {
         if !keeps_bound(
             graph,
             lattice_no,
             lattice,
             depth,
-            EdgeId::new(n),
+            EdgeId::new(bound),
             strings,
             map,
         ) {
@@ -342,8 +342,8 @@ fn names_elements(graph: &FlowGraph, lattice_no: LatticeNo, lattice: &Lattice) -
     requires { lattice_no < 16 }
     ensures { MatchBool result (NamesUpTo graph.now lattice_no lattice.now.order (length graph.now.constraints)) (NamesNone graph.now lattice_no lattice.now.order) }
 {
-    for n in 0..graph.len() {
-        if !names_element(graph, lattice_no, lattice, EdgeId::new(n)) {
+    for named in 0..graph.len() {
+        if !names_element(graph, lattice_no, lattice, EdgeId::new(named)) {
             return false;
         }
     }
