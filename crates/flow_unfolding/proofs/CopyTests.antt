@@ -1,5 +1,5 @@
 -- What the tests of call strings and copies say.
-use Rattle.std.proofs.Common.{◌≡◌, ℕ, ◌<◌, ◌≤◌, List, [], ◌∷◌, length, slice_get, Some, None, true, ◌&&◌, nat_eq, nat_le, refl, sym, ◌∙◌, ap, subst, eq-eqb, arith}
+use Rattle.std.proofs.Common.{◌≡◌, ℕ, ◌≤◌, List, [], ◌∷◌, length, slice_get, Some, None, true, ◌&&◌, nat_eq, nat_le, refl, sym, ◌∙◌, ap, subst, eq-eqb, arith}
 use Rattle.std.specs.declared.option.Option.{Option}
 use Rattle.std.proofs.lemmas.Bool.{eqb-true, leb-true, le-leb, and_parts, and_from}
 use Rattle.std.proofs.lemmas.Option.{slice_get_within}
@@ -9,7 +9,7 @@ use Rattle.flow_graph.specs.declared.constraint.Site.{Site}
 use Rattle.flow_graph.specs.System.{System, Calls, owner_of}
 use Rattle.flow_graph.specs.CallStrings.{IsCallString, IsCopy}
 use Rattle.flow_unfolding.specs.Strings.{AreBelow}
-use Rattle.flow_unfolding.specs.Copies.{has_target, owner_at, calls, outer_of, is_call_string, is_copy, is_entered, behind, ends_in}
+use Rattle.flow_unfolding.specs.Copies.{has_target, owner_at, calls, outer_of, is_call_string, is_copy, is_entered}
 
 calls_at : (sys : System) (s : ℕ) (owner : Owner) (o : Option Site) → slice_get sys.sites s ≡ o → has_target o owner ≡ true → Calls sys s (owner_at o) owner
 calls_at sys s owner None e h = absurd cc

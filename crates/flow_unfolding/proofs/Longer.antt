@@ -1,10 +1,10 @@
 -- Longer lists of sites from shorter ones.
-use Rattle.std.proofs.Common.{◌≡◌, ℕ, zero, suc, ◌+◌, ◌<◌, ◌≤◌, List, [], ◌∷◌, ◌++◌, length, get_or, slice_get, Some, refl, sym, ◌∙◌, ap, subst, arith, inl, inr}
+use Rattle.std.proofs.Common.{◌≡◌, ℕ, ◌+◌, ◌<◌, ◌≤◌, List, [], ◌∷◌, ◌++◌, length, get_or, slice_get, Some, refl, sym, ◌∙◌, ap, subst, arith, inl, inr}
 use Rattle.std.specs.List.{Contains}
 use Rattle.std.proofs.lemmas.Bool.{cases_lt}
 use Rattle.std.proofs.lemmas.Option.{slice_get_read, get_or_from_slice_get}
 use Rattle.std.proofs.lemmas.List.Elements.{Contains-push, Contains-append_left}
-use Rattle.flow_unfolding.specs.Strings.{AreBelow, HasAll}
+use Rattle.flow_unfolding.specs.Strings.{HasAll}
 
 pub kept_push : (old new : List (List ℕ)) (y w : List ℕ) → new ≡ old ++ y ∷ [] → Contains old w → Contains new w
 kept_push old new y w is there = let Has : List (List ℕ) → Type 0 = λ k. Contains k w in subst Has (sym is) (Contains-append_left old (y ∷ []) w there)

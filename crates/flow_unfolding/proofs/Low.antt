@@ -1,15 +1,14 @@
 -- Raising keeps an assignment at or below each that rises along the constraints.
-use Rattle.std.proofs.Common.{◌≡◌, ℕ, ◌<◌, ◌≤◌, List, [], ◌∷◌, length, slice_get, Some, Ok, Err, IfOk, OnOk, MatchBool, Bool, true, false, ◌&&◌, cond, nat_eq, refl, sym, ◌∙◌, ap, subst, arith}
+use Rattle.std.proofs.Common.{◌≡◌, ℕ, ◌<◌, List, [], ◌∷◌, length, Ok, Err, IfOk, OnOk, MatchBool, Bool, true, false, cond, nat_eq, refl, sym, ◌∙◌, ap, subst, arith}
 use Rattle.std.specs.declared.result.Result.{Result}
 use Rattle.std.specs.Str.{bytes_eq}
 use Rattle.std.specs.Cmp.Lexicographic.{bytes_decides}
 use Rattle.std.proofs.lemmas.Bool.{eqb-true, and_parts, ltb-true, lt-ltb}
 use Rattle.std.proofs.lemmas.Option.{slice_get_within}
 use Rattle.qual_base.specs.declared.places.Owner.{Owner}
-use Rattle.lattice_core.specs.Order.{Order, size, leq, IsOrder, IsLattice}
+use Rattle.lattice_core.specs.Order.{Order, size, leq, IsOrder}
 use Rattle.flow_graph.specs.declared.constraint.Link.{Link}
 use Rattle.flow_graph.specs.declared.constraint.Link.TheVariants.{Le, Const, Bound, Enter, Leave}
-use Rattle.flow_graph.specs.declared.constraint.Constraint.{Constraint}
 use Rattle.flow_graph.specs.System.{System, IsInLattice, Stands, owner_of}
 use Rattle.flow_graph.specs.CallStrings.{either}
 use Rattle.flow_graph.specs.PathRules.{link_ends}

@@ -1,10 +1,10 @@
 -- An assignment that rises along each constraint in each copy rises along the unfolding.
-use Rattle.std.proofs.Common.{◌≡◌, ℕ, ◌<◌, ◌≤◌, List, ◌∷◌, length, slice_get, Some, true, false, refl, sym, ◌∙◌, subst}
+use Rattle.std.proofs.Common.{◌≡◌, ℕ, ◌<◌, ◌≤◌, List, ◌∷◌, length, slice_get, Some, true, refl, sym, subst}
 use Rattle.std.proofs.lemmas.Option.{slice_get_within, slice_get_read}
-use Rattle.lattice_core.specs.Order.{Order, leq, IsOrder}
+use Rattle.lattice_core.specs.Order.{Order, leq}
 use Rattle.flow_graph.specs.declared.constraint.Link.{Link}
-use Rattle.flow_graph.specs.declared.constraint.Link.TheVariants.{Le, Const, Bound, Enter, Leave}
-use Rattle.flow_graph.specs.System.{System, IsInLattice, Has, Stands, AllWithin, owner_of}
+use Rattle.flow_graph.specs.declared.constraint.Link.TheVariants.{Le, Const, Enter, Leave}
+use Rattle.flow_graph.specs.System.{System, IsInLattice, Stands, AllWithin, owner_of}
 use Rattle.flow_graph.specs.CallStrings.{either}
 use Rattle.flow_graph.specs.PathRules.{link_ends}
 use Rattle.flow_graph.specs.Unfolding.{Assignment, at, Rises, Meets}

@@ -1,10 +1,10 @@
 -- The constraints of an unfolding one by one, in one copy each.
-use Rattle.std.specs.Prelude.{◌≡◌, ℕ, ◌<◌, ◌≤◌, List, length, slice_get, Some, Bool, true, false, nat_lt}
+use Rattle.std.specs.Prelude.{◌≡◌, ℕ, ◌<◌, List, length, slice_get, Some, Bool, true, false, nat_lt}
 use Rattle.lattice_core.specs.Order.{Order, size, leq}
 use Rattle.flow_graph.specs.declared.constraint.Link.{Link}
 use Rattle.flow_graph.specs.declared.constraint.Link.TheVariants.{Le, Const, Bound, Enter, Leave}
 use Rattle.flow_graph.specs.declared.constraint.Constraint.{Constraint}
-use Rattle.flow_graph.specs.System.{System, IsInLattice, Stands}
+use Rattle.flow_graph.specs.System.{System, IsInLattice}
 use Rattle.flow_graph.specs.PathRules.{link_ends}
 use Rattle.flow_graph.specs.Unfolding.{Assignment, at, Rises, Meets}
 use Rattle.flow_unfolding.specs.Copies.{stands, behind}

@@ -1,4 +1,4 @@
-use Rattle.std.proofs.Common.{◌≡◌, List, ℕ, length}
+use Rattle.std.proofs.Common.{List, ℕ, length}
 use Rattle.flow_graph.specs.Unfolding.{Assignment, Meets}
 use Rattle.flow_unfolding.specs.Assigned.{map_of}
 use Rattle.flow_unfolding.specs.Strings.{HasAll}

@@ -2,7 +2,7 @@ use Rattle.std.proofs.Common.{◌≡◌, List, ℕ, sym, ◌∙◌, subst}
 use Rattle.std.proofs.lemmas.Bool.{OnFalse_from, OnFalse_at, false≢true}
 use Rattle.flow_unfolding.specs.declared.assigned.Assigned.{Assigned}
 use Rattle.flow_unfolding.specs.Assigned.{map_of}
-use Rattle.flow_unfolding.specs.Meeting.{AgreesAt, AgreesUpTo}
+use Rattle.flow_unfolding.specs.Meeting.{AgreesAt}
 use Rattle.flow_unfolding.proofs.Longer.{true_more}
 use Rattle.flow_unfolding.proofs.unfolding.turn_at.Goals as goal
 use Rattle.flow_unfolding.proofs.unfolding.turn_at.Goals.{then-branch, else-branch}

@@ -1,4 +1,4 @@
-use Rattle.std.proofs.Common.{◌≡◌, ◌<◌, length}
+use Rattle.std.proofs.Common.{◌≡◌}
 use Rattle.std.specs.Bool.{OnFalse}
 use Rattle.flow_unfolding.specs.Assigned.{map_of}
 use Rattle.flow_unfolding.specs.Meeting.{IsLow, AgreesUpTo}
