@@ -4,9 +4,9 @@
 //! definition of the unfolding alone, and on no law of paths.
 #![tactic(auto)]
 
-pub mod assigned;
-pub mod copies;
-pub mod strings;
+mod assigned;
+mod copies;
+mod strings;
 #[cfg(test)]
 mod tests;
 pub mod unfolding;

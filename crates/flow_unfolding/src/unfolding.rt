@@ -193,6 +193,7 @@ fn raise_all(
     ensures low { OnOk result (IsLow graph.now lattice_no lattice.now.order depth (map_of map.new)) }
     ensures rises { OnOk result (Rises graph.now lattice_no lattice.now.order depth (map_of map.new)) }
 {
+    // its clause says that the sites of all links are there
     let _count = graph.len();
     for _ in 0..u64::MAX {
         let grew = turn(alloc, graph, lattice_no, lattice, depth, strings, map)?;
@@ -358,7 +359,8 @@ fn names_elements(graph: &FlowGraph, lattice_no: LatticeNo, lattice: &Lattice) -
 ///
 /// There are about `sites` to the power of `depth` copies. A turn takes time in their number times that of the
 /// constraints, times that of the changes so far; there are at most 64 changes for each copy of each variable, and as
-/// many turns. Memory is that of the copies and the changes.
+/// many turns. Memory is that of the copies and the changes. Want of memory is answered too where 2^64 turns were not
+/// enough.
 pub fn is_met(
     alloc: Global,
     graph: &FlowGraph,
