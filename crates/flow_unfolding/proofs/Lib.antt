@@ -1,0 +1,6 @@
+mod CopyTests
+mod Rising
+mod Low
+mod Changes
+mod Longer
+mod Answering

@@ -1,0 +1,12 @@
+//! Whether some assignment meets the unfolding of a small system at a depth, by a plain search for the least one.
+//!
+//! It writes the unfolding out, copy by copy, and so decides small systems slowly. What it answers rests on the
+//! definition of the unfolding alone, and on no law of paths.
+#![tactic(auto)]
+
+mod assigned;
+mod copies;
+mod strings;
+#[cfg(test)]
+mod tests;
+pub mod unfolding;

@@ -1,0 +1,382 @@
+//! The least assignment that rises along the constraints of an unfolding, and whether it keeps the bounds.
+
+ghost use Rattle.std.specs.Prelude.{◌≡◌, ℕ, ◌<◌, length, IfOk, OnOk, MatchBool, List, nat_lt};
+ghost use Rattle.std.specs.Bool.{OnFalse};
+ghost use Rattle.lattice_core.specs.Order.{size, IsLattice};
+ghost use Rattle.flow_graph.specs.PathRules;
+ghost use Rattle.flow_graph.specs.Unfolding;
+ghost use Rattle.flow_graph.specs.Unfolding.{Assignment, Meets, Rises};
+ghost use Rattle.flow_laws.specs.Least.{NamesElementsIn};
+ghost use Rattle.flow_unfolding.specs.Assigned.{map_of};
+ghost use Rattle.flow_unfolding.specs.Strings.{HasAll};
+ghost use Rattle.flow_unfolding.specs.Meeting;
+ghost use Rattle.flow_unfolding.specs.Meeting.{IsLow, AgreesAt, AgreesUpTo, AgreesBelow, AreElements, KeepsAt, KeepsUpTo, KeepsBelow, IsOver, IsUnmet, NamesAt, NamesNone, NamesUpTo};
+
+use crate::assigned::Assigned;
+use crate::copies::{behind, seen_from, stands};
+use crate::strings::{CallString, all_strings};
+use flow_graph::constraint::Link;
+use flow_graph::graph::FlowGraph;
+use lattice_core::Lattice;
+use qual_base::faults::NoMemory;
+use qual_base::ids::{EdgeId, Elem, LatticeNo, Numbered, SiteId, VarId};
+use std::alloc::Global;
+
+/// The element of a variable as it is met from a copy of a function.
+fn element_at(map: &Assigned, graph: &FlowGraph, var: VarId, sites: &[SiteId]) -> Elem
+    ensures { result ≡ Unfolding.at graph.now (map_of map.now) var sites.now }
+{
+    map.get(var, seen_from(graph.owner(var), sites))
+}
+
+/// The variable where a link ends.
+fn end_of(link: Link) -> VarId
+    ensures { result ≡ PathRules.link_ends link }
+{
+    match link {
+        Link::Le(_, to) => to,
+        Link::Const(_, _, to) => to,
+        Link::Bound(at, _, _) => at,
+        Link::Enter(_, _, to) => to,
+        Link::Leave(_, _, to) => to,
+    }
+}
+
+/// The copy from which the end of a link is met.
+fn end_sites(link: Link, sites: &[SiteId]) -> &[SiteId]
+    ensures { result.now ≡ Meeting.end_sites link sites.now }
+{
+    match link {
+        Link::Le(_, _) => sites,
+        Link::Const(_, _, _) => sites,
+        Link::Bound(_, _, _) => sites,
+        Link::Enter(_, _, _) => sites,
+        Link::Leave(_, _, _) => behind(sites),
+    }
+}
+
+/// The element at which a link begins. A bound asks nothing of its variable but what that has.
+fn begin_element(map: &Assigned, graph: &FlowGraph, link: Link, sites: &[SiteId]) -> Elem
+    ensures { result ≡ Meeting.begin_element graph.now (map_of map.now) link sites.now }
+{
+    match link {
+        Link::Le(from, _) => element_at(map, graph, from, sites),
+        Link::Const(_, elem, _) => elem,
+        Link::Bound(at, _, _) => element_at(map, graph, at, sites),
+        Link::Enter(_, from, _) => element_at(map, graph, from, behind(sites)),
+        Link::Leave(_, from, _) => element_at(map, graph, from, sites),
+    }
+}
+
+/// Raises the end of a constraint in one copy, and says whether it has changed.
+fn step(
+    alloc: Global,
+    graph: &FlowGraph,
+    lattice_no: LatticeNo,
+    lattice: &Lattice,
+    depth: u32,
+    at: EdgeId,
+    sites: &[SiteId],
+    map: &mut Assigned,
+) -> Result<bool, NoMemory>
+    requires lattice { lattice_no < 16 }
+    requires order { IsLattice lattice.now.order }
+    requires named { NamesElementsIn graph.now lattice_no lattice.now.order }
+    requires at { at < length graph.now.constraints }
+    requires low { IsLow graph.now lattice_no lattice.now.order depth (map_of map.old) }
+    ensures low { OnOk result (IsLow graph.now lattice_no lattice.now.order depth (map_of map.new)) }
+    ensures same { IfOk result (λ grew. OnFalse grew (map.new ≡ map.old)) }
+    ensures agrees { IfOk result (λ grew. OnFalse grew (AgreesAt graph.now lattice_no lattice.now.order depth (map_of map.old) at sites.now)) }
+{
+    let constraint = graph.constraint(at);
+    if !constraint.is_in(lattice_no) {
+        return Ok(false);
+    }
+    if !stands(graph, depth, constraint.link, sites) {
+        return Ok(false);
+    }
+    let elem = begin_element(map, graph, constraint.link, sites);
+    let end = end_of(constraint.link);
+    let copy = seen_from(graph.owner(end), end_sites(constraint.link, sites));
+    map.raise(alloc, lattice, end, copy, elem)
+}
+
+/// Raises the end of a constraint in each copy, and says whether one has changed.
+fn turn_at(
+    alloc: Global,
+    graph: &FlowGraph,
+    lattice_no: LatticeNo,
+    lattice: &Lattice,
+    depth: u32,
+    at: EdgeId,
+    strings: &[CallString],
+    map: &mut Assigned,
+) -> Result<bool, NoMemory>
+    requires lattice { lattice_no < 16 }
+    requires order { IsLattice lattice.now.order }
+    requires named { NamesElementsIn graph.now lattice_no lattice.now.order }
+    requires at { at < length graph.now.constraints }
+    requires low { IsLow graph.now lattice_no lattice.now.order depth (map_of map.old) }
+    ensures low { OnOk result (IsLow graph.now lattice_no lattice.now.order depth (map_of map.new)) }
+    ensures same { IfOk result (λ grew. OnFalse grew (map.new ≡ map.old)) }
+    ensures agrees { IfOk result (λ grew. OnFalse grew (AgreesUpTo graph.now lattice_no lattice.now.order depth (map_of map.old) at strings.now (length strings.now))) }
+{
+    let mut grew = false;
+    for string in strings {
+        if step(
+            alloc,
+            graph,
+            lattice_no,
+            lattice,
+            depth,
+            at,
+            string.sites(),
+            map,
+        )? {
+            grew = true;
+        }
+    }
+    Ok(grew)
+}
+
+/// Raises the end of each constraint in each copy, and says whether one has changed.
+fn turn(
+    alloc: Global,
+    graph: &FlowGraph,
+    lattice_no: LatticeNo,
+    lattice: &Lattice,
+    depth: u32,
+    strings: &[CallString],
+    map: &mut Assigned,
+) -> Result<bool, NoMemory>
+    requires lattice { lattice_no < 16 }
+    requires order { IsLattice lattice.now.order }
+    requires named { NamesElementsIn graph.now lattice_no lattice.now.order }
+    requires low { IsLow graph.now lattice_no lattice.now.order depth (map_of map.old) }
+    ensures low { OnOk result (IsLow graph.now lattice_no lattice.now.order depth (map_of map.new)) }
+    ensures same { IfOk result (λ grew. OnFalse grew (map.new ≡ map.old)) }
+    ensures agrees { IfOk result (λ grew. OnFalse grew (AgreesBelow graph.now lattice_no lattice.now.order depth (map_of map.old) strings.now (length graph.now.constraints))) }
+{
+    let mut grew = false;
+    for n in 0..graph.len() {
+        if turn_at(
+            alloc,
+            graph,
+            lattice_no,
+            lattice,
+            depth,
+            EdgeId::new(n),
+            strings,
+            map,
+        )? {
+            grew = true;
+        }
+    }
+    Ok(grew)
+}
+
+/// Turns over all constraints and copies until nothing changes.
+fn raise_all(
+    alloc: Global,
+    graph: &FlowGraph,
+    lattice_no: LatticeNo,
+    lattice: &Lattice,
+    depth: u32,
+    strings: &[CallString],
+    map: &mut Assigned,
+) -> Result<(), NoMemory>
+    requires lattice { lattice_no < 16 }
+    requires order { IsLattice lattice.now.order }
+    requires named { NamesElementsIn graph.now lattice_no lattice.now.order }
+    requires all { HasAll strings.now (length graph.now.sites) depth }
+    requires low { IsLow graph.now lattice_no lattice.now.order depth (map_of map.old) }
+    ensures low { OnOk result (IsLow graph.now lattice_no lattice.now.order depth (map_of map.new)) }
+    ensures rises { OnOk result (Rises graph.now lattice_no lattice.now.order depth (map_of map.new)) }
+{
+    // its clause says that the sites of all links are there
+    let _count = graph.len();
+    for _ in 0..u64::MAX {
+        let grew = turn(alloc, graph, lattice_no, lattice, depth, strings, map)?;
+        if !grew {
+            return Ok(());
+        }
+    }
+    Err(NoMemory)
+}
+
+/// Whether an assignment is at or below a link's bound in one copy. True of any link but a bound.
+fn is_below(
+    map: &Assigned,
+    graph: &FlowGraph,
+    lattice: &Lattice,
+    link: Link,
+    sites: &[SiteId],
+) -> bool
+    requires elements { AreElements lattice.now.order (map_of map.now) }
+    requires bound { Meeting.HasBoundIn lattice.now.order link }
+    ensures { result ≡ Meeting.is_below graph.now lattice.now.order (map_of map.now) link sites.now }
+{
+    match link {
+        Link::Le(_, _) => true,
+        Link::Const(_, _, _) => true,
+        Link::Bound(at, _, elem) => lattice.leq(element_at(map, graph, at, sites), elem),
+        Link::Enter(_, _, _) => true,
+        Link::Leave(_, _, _) => true,
+    }
+}
+
+/// Whether an assignment keeps a bound in one copy. True of any constraint but a bound of the lattice.
+fn keeps_at(
+    graph: &FlowGraph,
+    lattice_no: LatticeNo,
+    lattice: &Lattice,
+    depth: u32,
+    at: EdgeId,
+    sites: &[SiteId],
+    map: &Assigned,
+) -> bool
+    requires lattice { lattice_no < 16 }
+    requires named { NamesElementsIn graph.now lattice_no lattice.now.order }
+    requires at { at < length graph.now.constraints }
+    requires elements { AreElements lattice.now.order (map_of map.now) }
+    ensures { MatchBool result (KeepsAt graph.now lattice_no lattice.now.order depth (map_of map.now) at sites.now) (IsOver graph.now lattice_no lattice.now.order depth (map_of map.now)) }
+{
+    let constraint = graph.constraint(at);
+    if !constraint.is_in(lattice_no) {
+        return true;
+    }
+    if !stands(graph, depth, constraint.link, sites) {
+        return true;
+    }
+    is_below(map, graph, lattice, constraint.link, sites)
+}
+
+/// Whether an assignment keeps a bound in each copy.
+fn keeps_bound(
+    graph: &FlowGraph,
+    lattice_no: LatticeNo,
+    lattice: &Lattice,
+    depth: u32,
+    at: EdgeId,
+    strings: &[CallString],
+    map: &Assigned,
+) -> bool
+    requires lattice { lattice_no < 16 }
+    requires named { NamesElementsIn graph.now lattice_no lattice.now.order }
+    requires at { at < length graph.now.constraints }
+    requires elements { AreElements lattice.now.order (map_of map.now) }
+    ensures { MatchBool result (KeepsUpTo graph.now lattice_no lattice.now.order depth (map_of map.now) at strings.now (length strings.now)) (IsOver graph.now lattice_no lattice.now.order depth (map_of map.now)) }
+{
+    for string in strings {
+        if !keeps_at(graph, lattice_no, lattice, depth, at, string.sites(), map) {
+            return false;
+        }
+    }
+    true
+}
+
+/// Whether an assignment keeps each bound in each copy.
+fn keeps_bounds(
+    graph: &FlowGraph,
+    lattice_no: LatticeNo,
+    lattice: &Lattice,
+    depth: u32,
+    strings: &[CallString],
+    map: &Assigned,
+) -> bool
+    requires lattice { lattice_no < 16 }
+    requires named { NamesElementsIn graph.now lattice_no lattice.now.order }
+    requires elements { AreElements lattice.now.order (map_of map.now) }
+    ensures { MatchBool result (KeepsBelow graph.now lattice_no lattice.now.order depth (map_of map.now) strings.now (length graph.now.constraints)) (IsOver graph.now lattice_no lattice.now.order depth (map_of map.now)) }
+{
+    for bound in 0..graph.len() {
+        if !keeps_bound(
+            graph,
+            lattice_no,
+            lattice,
+            depth,
+            EdgeId::new(bound),
+            strings,
+            map,
+        ) {
+            return false;
+        }
+    }
+    true
+}
+
+/// Whether a number is that of an element.
+fn is_element(lattice: &Lattice, elem: Elem) -> bool
+    ensures { result ≡ nat_lt elem (size lattice.now.order) }
+{
+    elem.number() < lattice.size()
+}
+
+/// Whether a link names no number or that of an element.
+fn is_inside(lattice: &Lattice, link: Link) -> bool
+    ensures { result ≡ Meeting.is_inside lattice.now.order link }
+{
+    match link {
+        Link::Le(_, _) => true,
+        Link::Const(_, elem, _) => is_element(lattice, elem),
+        Link::Bound(_, _, elem) => is_element(lattice, elem),
+        Link::Enter(_, _, _) => true,
+        Link::Leave(_, _, _) => true,
+    }
+}
+
+/// Whether a constraint names an element, if it is a constant or a bound of a lattice.
+fn names_element(graph: &FlowGraph, lattice_no: LatticeNo, lattice: &Lattice, at: EdgeId) -> bool
+    requires lattice { lattice_no < 16 }
+    requires at { at < length graph.now.constraints }
+    ensures { MatchBool result (NamesAt graph.now lattice_no lattice.now.order at) (NamesNone graph.now lattice_no lattice.now.order) }
+{
+    let constraint = graph.constraint(at);
+    if !constraint.is_in(lattice_no) {
+        return true;
+    }
+    is_inside(lattice, constraint.link)
+}
+
+/// Whether each constant and bound of a lattice names an element of it.
+fn names_elements(graph: &FlowGraph, lattice_no: LatticeNo, lattice: &Lattice) -> bool
+    requires { lattice_no < 16 }
+    ensures { MatchBool result (NamesUpTo graph.now lattice_no lattice.now.order (length graph.now.constraints)) (NamesNone graph.now lattice_no lattice.now.order) }
+{
+    for named in 0..graph.len() {
+        if !names_element(graph, lattice_no, lattice, EdgeId::new(named)) {
+            return false;
+        }
+    }
+    true
+}
+
+/// Whether some assignment meets the unfolding of a system at a depth, in one lattice.
+///
+/// It takes the least element for each copy of each variable and raises them along the constraints, copy by copy,
+/// until nothing changes; what comes out is at or below each assignment that meets the unfolding, so that one does
+/// exactly where this one keeps the bounds. Where a constant or a bound names no element, none does.
+///
+/// There are about `sites` to the power of `depth` copies. A turn takes time in their number times that of the
+/// constraints, times that of the changes so far; there are at most 64 changes for each copy of each variable, and as
+/// many turns. Memory is that of the copies and the changes. Want of memory is answered too where 2^64 turns were not
+/// enough.
+pub fn is_met(
+    alloc: Global,
+    graph: &FlowGraph,
+    lattice_no: LatticeNo,
+    lattice: &Lattice,
+    depth: u32,
+) -> Result<bool, NoMemory>
+    requires { lattice_no < 16 }
+    ensures { IfOk result (λ met. MatchBool met ((map : Assignment) × Meets graph.now lattice_no lattice.now.order depth map) (IsUnmet graph.now lattice_no lattice.now.order depth)) }
+{
+    lattice.law();
+    if !names_elements(graph, lattice_no, lattice) {
+        return Ok(false);
+    }
+    let strings = all_strings(alloc, graph.sites(), depth)?;
+    let mut map = Assigned::new(alloc, lattice.bottom());
+    raise_all(alloc, graph, lattice_no, lattice, depth, &strings, &mut map)?;
+    Ok(keeps_bounds(graph, lattice_no, lattice, depth, &strings, &map))
+}
