@@ -110,8 +110,12 @@ fn path_to(alloc: Global, graph: &FlowGraph, bound: EdgeId) -> Option<Vec<EdgeId
         return None;
     }
     let lattice = LatticeNo::new(0);
-    let summaries = summarise(alloc, graph, lattice).ok()?;
-    let mut solver = Solver::new(alloc, graph, &summaries, lattice).ok()?;
+    let Ok(summaries) = summarise(alloc, graph, lattice) else {
+        return None;
+    };
+    let Ok(mut solver) = Solver::new(alloc, graph, &summaries, lattice) else {
+        return None;
+    };
     solver.run(graph, &summaries);
     let at = bounded_at(&graph.constraint(bound))?;
     if !has_element(solver.reached(at), Elem::new(0)) {
