@@ -1,0 +1,1 @@
+$tainted int a; $untainted int b; void f(void) { b = a; }
