@@ -2,3 +2,4 @@ pub mod Tree
 pub mod View
 pub mod Text
 pub mod Height
+pub mod Levels
