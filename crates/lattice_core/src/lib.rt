@@ -1,18 +1,26 @@
 //! Finite lattices of named elements.
 #![tactic(auto)]
 
-ghost use Rattle.std.specs.Prelude.{◌≡◌, ℕ, List};
-ghost use Rattle.lattice_core.specs.Order.{IsLattice};
+pub mod bounds;
+pub mod checks;
+pub mod rows;
+pub mod tables;
 
+ghost use Rattle.std.specs.Prelude.{◌≡◌, ℕ, List, IfOk};
+
+use std::alloc::{AllocError, AllocFailed, Global};
 use std::marker::Model;
+pub use tables::Lattice;
 
 /// The bytes of a name.
-#[derive(Drop)]
+#[derive(Drop, Debug)]
 pub struct Name {
     bytes: Vec<u8>,
 }
 
 impl Model for Name {
+    ghost use Rattle.std.specs.Prelude.{List, ℕ};
+
     ghost Value = { List ℕ };
 
     ghost view = { λ a. a.bytes.items };
@@ -29,6 +37,13 @@ impl Name {
         ensures { result.now ≡ self.now }
     {
         self.bytes.as_slice()
+    }
+
+    /// A name with the same bytes.
+    pub fn copy(&self, alloc: Global) -> Result<Self, AllocError>
+        ensures { IfOk result (λ copy. copy ≡ self.now) }
+    {
+        Ok(Name::new(self.bytes().to_vec(alloc)?))
     }
 }
 
@@ -48,11 +63,47 @@ pub enum Sign {
 }
 
 /// An element as it is written.
-#[derive(Drop)]
+#[derive(Drop, Debug)]
 pub struct Entry {
     pub name: Name,
     pub level: Level,
     pub sign: Sign,
     pub write: bool,
     pub deref: bool,
+}
+
+/// An order line as it is written: the element named `low` is below the one named `high`.
+#[derive(Drop, Debug)]
+pub struct Pair {
+    pub low: Name,
+    pub high: Name,
+}
+
+/// Why entries and order lines make no lattice.
+#[derive(Drop, Debug)]
+pub enum LatticeFault {
+    /// There are more than 64 entries.
+    TooMany,
+    /// An earlier entry has this name.
+    Repeated(Name),
+    /// No entry has this name of an order line.
+    UnknownName(Name),
+    /// The level of the second entry is not that of the first.
+    LevelMix(Name, Name),
+    /// Each of two different entries is below the other.
+    Cycle(Name, Name),
+    /// Two entries have no least upper bound or no greatest lower bound.
+    NotALattice(Name, Name),
+    NoMemory,
+}
+
+impl From<AllocError> for LatticeFault {
+    ghost use Rattle.std.specs.Prelude.{◌≡◌};
+    ghost use Rattle.lattice_core.specs.declared.LatticeFault.TheVariants.{NoMemory};
+
+    ghost from_gives = { λ _ fault. fault ≡ NoMemory };
+
+    fn from(_e: AllocError) -> LatticeFault {
+        LatticeFault::NoMemory
+    }
 }

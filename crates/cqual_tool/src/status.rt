@@ -1,0 +1,42 @@
+//! How a call of the tool ends.
+
+ghost use Rattle.std.specs.Prelude.{◌≡◌};
+
+
+/// What the tool answers.
+#[derive(Clone, Copy, PartialEq, Eq, Debug)]
+pub enum Status {
+    /// The program has an assignment at every call depth; the accepted report was written.
+    Accepted,
+    /// It has none at some depth; the rejected report was written.
+    Rejected,
+    /// A file has a form that is not built yet.
+    NotYet,
+    /// A file is past its limit, or the program has too many constraints.
+    Malformed,
+    /// The words have no meaning.
+    BadWords,
+    /// A read failed; nothing was written.
+    ReadFault,
+    /// A write failed; a prefix of the text was written.
+    WriteFault,
+    /// There was not enough memory; nothing was written.
+    NoMemory,
+}
+
+impl Status {
+    /// The number with which the program exits.
+    pub fn exit(self) -> u8
+    {
+        match self {
+            Status::Accepted => 0,
+            Status::Rejected => 1,
+            Status::Malformed => 2,
+            Status::BadWords => 3,
+            Status::ReadFault => 4,
+            Status::WriteFault => 5,
+            Status::NoMemory => 6,
+            Status::NotYet => 7,
+        }
+    }
+}

@@ -1,0 +1,5 @@
+pub mod ExtentLemmas
+pub mod LexingLemmas
+pub mod ReadingLemmas
+pub mod LatticeLemmas
+pub mod ScopeLemmas

@@ -1,0 +1,20 @@
+-- What is true of a graph's fields stays true where they hold the same, or one more site.
+use Rattle.std.proofs.Common.{◌≡◌, ℕ, ◌<◌, ◌≤◌, ◌^◌, length, refl, sym, ◌∙◌, ap, arith, subst}
+use Rattle.flow_graph.specs.declared.graph.FlowGraph.TheInside.{Inside}
+use Rattle.flow_graph.specs.System.{highest, AllWithin}
+use Rattle.flow_graph.specs.Held.{IsHeld, system_of}
+use Rattle.flow_graph.proofs.Bounds.{all_within-sites}
+
+pub held_on : (one other : Inside) → one.constraints.items ≡ other.constraints.items → length one.sites.items ≤ length other.sites.items →
+    length other.sites.items < 2 ^ 32 → one.owners.items ≡ other.owners.items → one.highest ≡ other.highest → IsHeld one → IsHeld other
+held_on one other same more few owners high held =
+    let count : length one.constraints.items ≡ length other.constraints.items = ap length same in
+    let owned : length one.owners.items ≡ length other.owners.items = ap length owners in
+    record {
+      most = omega (arith, count, held.most);
+      few_sites = few;
+      few_owners = omega (arith, owned, held.few_owners);
+      highest_is = sym high ∙ held.highest_is ∙ ap highest same;
+      low = omega (arith, high, held.low);
+      within = all_within-sites (system_of one) (system_of other) same more held.within;
+    }

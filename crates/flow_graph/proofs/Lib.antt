@@ -1,0 +1,3 @@
+mod Highest
+mod Bounds
+mod Keeping

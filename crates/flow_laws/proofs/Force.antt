@@ -1,0 +1,172 @@
+-- Each assignment that rises is raised along a path.
+use Rattle.std.proofs.Common.{◌≡◌, ℕ, ◌+◌, ◌≤◌, max, true, List, [], ◌∷◌, length, refl, sym, ◌∙◌, ap, subst, arith, inl, inr}
+use Rattle.qual_base.specs.declared.places.Owner.TheVariants.{Function}
+use Rattle.lattice_core.specs.Order.{Order, leq, IsOrder}
+use Rattle.flow_graph.specs.declared.constraint.Link.TheVariants.{Enter, Leave}
+use Rattle.flow_graph.specs.System.{System, owner_of, Stands, IsWellOwned}
+use Rattle.flow_graph.specs.CallStrings.{IsCopy, either}
+use Rattle.flow_graph.specs.Unfolding.{Assignment, at, seen_from, Rises}
+use Rattle.flow_graph.specs.Paths.{Matches, stay, longer, Part, flow, group, Returning, start, flows, returns, grouped, anew, Calling, calls, calls_on, flows_on, grouped_on}
+use Rattle.flow_laws.specs.Refuting.{LeadsForce, PathsRefute, ExceededIsRefuted}
+use Rattle.flow_laws.proofs.Leads.{root}
+use Rattle.flow_laws.proofs.Owners.{seen_is, seen_twice, copy_on, flow_to, flow_from, start_owner, end_owner, entering, leaving, same_function, same_outer}
+
+module _ (sys : System) (lattice : ℕ) (order : Order) (owned : IsWellOwned sys) (ordered : IsOrder order) where
+  -- what a path inside a function raises in each copy, at each depth that leaves room for its groups
+  abbrev Raises : ℕ → ℕ → ℕ → Type 0
+  Raises u v room = (depth : ℕ) (map : Assignment) (sites : List ℕ) → Rises sys lattice order depth map → IsCopy sys depth (owner_of sys u) sites → length sites + room ≤ depth →
+      leq order (at sys map u sites) (at sys map v sites) ≡ true
+
+  -- a group raises what stands outside it
+  group_raises : (n m s u a b v room : ℕ) → Stands sys lattice n (Enter s u a) → Raises a b room → Stands sys lattice m (Leave s b v) → Raises u v (room + 1)
+  group_raises n m s u a b v room st inside st2 depth map sites rises copy fits =
+      let deeper : IsCopy sys depth (owner_of sys a) (s ∷ sites) = copy_on sys depth (owner_of sys u) (owner_of sys a) s sites copy (entering sys lattice owned n s u a st) (omega arith) in
+      let home : IsCopy sys depth (owner_of sys v) sites = subst (λ o. IsCopy sys depth o sites) (same_outer sys lattice owned n m s u a b v st st2) copy in
+      let to_end : leq order (at sys map u sites) (at sys map b (s ∷ sites)) ≡ true =
+      ordered.through (at sys map u sites) (at sys map a (s ∷ sites)) (at sys map b (s ∷ sites))
+      (rises.enter n s u a sites st copy (omega arith)) (inside depth map (s ∷ sites) rises deeper (omega arith)) in
+      ordered.through (at sys map u sites) (at sys map b (s ∷ sites)) (at sys map v sites) to_end (rises.leave m s b v sites st2 home (omega arith))
+
+  mutual
+    raises : (f u v : ℕ) → Matches sys lattice f u v → (room : ℕ) × Raises u v room
+    raises f u v (stay _ _ is) = (0, λ depth map sites rises copy fits. ordered.same (at sys map u sites) (rises.elements u (seen_from (owner_of sys u) sites)))
+    raises f u v (longer _ _ x _ m p) =
+        let before = raises f u x m in
+        let last = part_raises f x v p (end_owner sys lattice f u x m) in (
+          max before.0 last.0,
+          λ depth map sites rises copy fits.
+              let same : owner_of sys u ≡ owner_of sys x = start_owner sys lattice f u x m ∙ sym (end_owner sys lattice f u x m) in
+              ordered.through (at sys map u sites) (at sys map x sites) (at sys map v sites)
+              (before.1 depth map sites rises copy (omega arith))
+              (last.1 depth map sites rises (subst (λ o. IsCopy sys depth o sites) same copy) (omega arith)),
+        )
+
+    part_raises : (f x v : ℕ) → Part sys lattice f x v → owner_of sys x ≡ Function f → (room : ℕ) × Raises x v room
+    part_raises f x v (flow _ _ _ n st is) own =
+        (0, λ depth map sites rises copy fits. rises.le n x v sites st (subst (λ o. IsCopy sys depth (either o (owner_of sys v)) sites) (sym own) (subst (λ o. IsCopy sys depth o sites) own copy)))
+    part_raises f x v (group _ _ a b _ s g n m st q st2 is) own =
+        let inside = raises g a b q in (inside.0 + 1, group_raises n m s x a b v inside.0 st inside.1 st2)
+
+  -- a path that has no open call raises each copy of its end, at each depth that leaves room
+  abbrev ForcesAll : ℕ → ℕ → ℕ → Type 0
+  ForcesAll e v room = (depth : ℕ) (map : Assignment) (sites : List ℕ) → Rises sys lattice order depth map → IsCopy sys depth (owner_of sys v) sites → length sites + room ≤ depth →
+      leq order e (at sys map v sites) ≡ true
+
+  -- another raises one copy
+  abbrev ForcesOne : ℕ → ℕ → ℕ → List ℕ → Type 0
+  ForcesOne e v room sites = (depth : ℕ) → length sites + room ≤ depth →
+      IsCopy sys depth (owner_of sys v) sites × ((map : Assignment) → Rises sys lattice order depth map → leq order e (at sys map v sites) ≡ true)
+
+  mutual
+    forces : (e v : ℕ) → Returning sys lattice e v → (room : ℕ) × ForcesAll e v room
+    forces e v (start _ n st) = (0, λ depth map sites rises copy fits. rises.const n e v sites st copy)
+    forces e v (flows u _ n p st) =
+        let before = forces e u p in (
+          before.0,
+          λ depth map sites rises copy fits.
+              let from = flow_to sys depth (owner_of sys u) (owner_of sys v) sites (same_function sys lattice owned n u v st) copy in
+              let same : at sys map v from.0 ≡ at sys map v sites = ap (map v) from.3 in
+              let seen : at sys map u (seen_from (owner_of sys u) from.0) ≡ at sys map u from.0 = ap (map u) (seen_is sys depth (owner_of sys u) (seen_from (owner_of sys u) from.0) from.2) in
+              ordered.through e (at sys map u from.0) (at sys map v sites)
+              (subst (λ x. leq order e x ≡ true) seen (before.1 depth map (seen_from (owner_of sys u) from.0) rises from.2 (omega (arith, from.4))))
+              (subst (λ x. leq order (at sys map u from.0) x ≡ true) same (rises.le n u v from.0 st from.1)),
+        )
+    forces e v (returns u _ s n p st) =
+        let before = forces e u p in (
+          before.0 + 1,
+          λ depth map sites rises copy fits.
+              let deeper = copy_on sys depth (owner_of sys v) (owner_of sys u) s sites copy (leaving sys lattice owned n s u v st) (omega arith) in
+              ordered.through e (at sys map u (s ∷ sites)) (at sys map v sites)
+              (before.1 depth map (s ∷ sites) rises deeper (omega arith)) (rises.leave n s u v sites st copy (omega arith)),
+        )
+    forces e v (grouped u a b _ s g n m p st q st2) =
+        let before = forces e u p in
+        let inside = raises g a b q in (
+          max before.0 (inside.0 + 1),
+          λ depth map sites rises copy fits.
+              let home : IsCopy sys depth (owner_of sys u) sites = subst (λ o. IsCopy sys depth o sites) (sym (same_outer sys lattice owned n m s u a b v st st2)) copy in
+              ordered.through e (at sys map u sites) (at sys map v sites) (before.1 depth map sites rises home (omega arith))
+              (group_raises n m s u a b v inside.0 st inside.1 st2 depth map sites rises home (omega arith)),
+        )
+    forces e v (anew _ c is) =
+        let before = forces_one e v c in (
+          length before.1 + before.0,
+          λ depth map sites rises copy fits.
+              let same : at sys map v before.1 ≡ at sys map v sites = rw is refl in
+              subst (λ x. leq order e x ≡ true) same ((before.2 depth (omega arith)).1 map rises),
+        )
+
+    forces_one : (e v : ℕ) → Calling sys lattice e v → (room : ℕ) × (sites : List ℕ) × ForcesOne e v room sites
+    forces_one e v (calls u _ s n p st) =
+        let before = forces e u p in (
+          before.0,
+          s ∷ [],
+          λ depth fits. (
+            copy_on sys depth (owner_of sys u) (owner_of sys v) s [] (root sys depth (owner_of sys u)) (entering sys lattice owned n s u v st) (omega arith),
+            λ map rises. ordered.through e (at sys map u []) (at sys map v (s ∷ [])) (before.1 depth map [] rises (root sys depth (owner_of sys u)) (omega arith))
+                (rises.enter n s u v [] st (root sys depth (owner_of sys u)) (omega arith)),
+          ),
+        )
+    forces_one e v (calls_on u _ s n c st) =
+        let before = forces_one e u c in (
+          before.0,
+          s ∷ before.1,
+          λ depth fits.
+              let one = before.2 depth (omega arith) in (
+                copy_on sys depth (owner_of sys u) (owner_of sys v) s before.1 one.0 (entering sys lattice owned n s u v st) (omega arith),
+                λ map rises. ordered.through e (at sys map u before.1) (at sys map v (s ∷ before.1)) (one.1 map rises) (rises.enter n s u v before.1 st one.0 (omega arith)),
+              ),
+        )
+    forces_one e v (flows_on u _ n c st) =
+        let before = forces_one e u c in
+        let sites = before.1 in (
+          before.0 + length sites,
+          seen_from (owner_of sys v) sites,
+          λ depth fits.
+              let one = before.2 depth (omega arith) in
+              let on = flow_from sys depth (owner_of sys u) (owner_of sys v) sites (same_function sys lattice owned n u v st) one.0 in (
+                on.0,
+                λ map rises. subst (λ x. leq order e x ≡ true) (ap (map v) (sym (seen_twice (owner_of sys v) sites)))
+                    (ordered.through e (at sys map u sites) (at sys map v sites) (one.1 map rises) (rises.le n u v sites st on.1)),
+              ),
+        )
+    forces_one e v (grouped_on u a b _ s g n m c st q st2) =
+        let before = forces_one e u c in
+        let inside = raises g a b q in (
+          max before.0 (inside.0 + 1),
+          before.1,
+          λ depth fits.
+              let one = before.2 depth (omega arith) in (
+                subst (λ o. IsCopy sys depth o before.1) (same_outer sys lattice owned n m s u a b v st st2) one.0,
+                λ map rises. ordered.through e (at sys map u before.1) (at sys map v before.1) (one.1 map rises)
+                    (group_raises n m s u a b v inside.0 st inside.1 st2 depth map before.1 rises one.0 (omega arith)),
+              ),
+        )
+
+pub leads_force : LeadsForce
+leads_force sys lattice order owned ordered e v (inl p) =
+    let f = forces sys lattice order owned ordered e v p in
+    record {
+      depth = f.0;
+      sites = [];
+      copy = root sys f.0 (owner_of sys v);
+      above = λ map rises. f.1 f.0 map [] rises (root sys f.0 (owner_of sys v)) (omega arith);
+    }
+leads_force sys lattice order owned ordered e v (inr c) =
+    let f = forces_one sys lattice order owned ordered e v c in
+    let one = f.2 (length f.1 + f.0) (omega arith) in
+    record { depth = length f.1 + f.0; sites = f.1; copy = one.0; above = one.1 }
+
+pub paths_refute : PathsRefute
+paths_refute sys lattice order owned ordered e v n b lead stands over =
+    let f = leads_force sys lattice order owned ordered e v lead in
+    record {
+      var = v;
+      element = b;
+      bound = stands;
+      depth = f.depth;
+      unmet = λ map rises keeps. let both = ordered.through e (at sys map v f.sites) b (f.above map rises) (keeps b v f.sites stands f.copy) in cc;
+    }
+
+pub exceeded_is_refuted : ExceededIsRefuted
+exceeded_is_refuted sys lattice order n over accepted = let met = accepted over.depth in over.unmet met.0 met.1.rises (met.1.bound n)

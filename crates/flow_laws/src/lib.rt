@@ -1,0 +1,8 @@
+//! Laws of constraint systems and their unfolding: functions without a body, each with a law as its contract.
+#![tactic(auto)]
+
+pub mod accepting;
+pub mod flat;
+pub mod holding;
+pub mod laws;
+pub mod paths;

@@ -1,0 +1,8 @@
+use Rattle.lattice_core.proofs.Bits.{and_both, and_of_both}
+use Rattle.lattice_core.proofs.rows.narrowed.Goals as goal
+
+pub returns-then-has : goal.returns-then-has
+returns-then-has c i = (
+  λ h. let both = and_both c.args.left c.args.row i h in (both.0, λ _. both.1),
+  λ h. and_of_both c.args.left c.args.row i h.0 (h.1 (c.has.ensures.exact.0 c.if-has.true)),
+)

@@ -1,0 +1,28 @@
+use Rattle.std.proofs.Common.{◌≡◌, ◌<◌, length, get_or, arith, bit_and}
+use Rattle.std.proofs.lemmas.Grind.{common_steps}
+use Rattle.lattice_core.proofs.Made.{meet_there, meet_from_row}
+use Rattle.lattice_core.proofs.tables.Lattice.meet.Goals as goal
+
+pub row_of-requires-clause-there : goal.row_of-requires-clause-there
+row_of-requires-clause-there c =
+    let above = c.self.inside.above.items in
+    let below = c.self.inside.below.items in
+    let turn = c.self.invariant.converse in
+    let first : c.args.a < length above = rw (← c.self.view_is) at c.requires.first in
+    let second : c.args.b < length above = rw (← c.self.view_is) at c.requires.second in
+    let one : c.index.result.now ≡ get_or below c.args.a 0 = grind (arith, common_steps, turn.elements) in
+    let other : c.index-2.result.now ≡ get_or below c.args.b 0 = grind (arith, common_steps, turn.elements) in
+    rw (c.deref.ensures.value, one, other) (meet_there above below c.self.invariant.lattice turn c.args.a c.args.b first second)
+
+pub returns : goal.returns
+returns c =
+    let above = c.self.inside.above.items in
+    let below = c.self.inside.below.items in
+    let turn = c.self.invariant.converse in
+    let first : c.args.a < length above = rw (← c.self.view_is) at c.requires.first in
+    let second : c.args.b < length above = rw (← c.self.view_is) at c.requires.second in
+    let one : c.index.result.now ≡ get_or below c.args.a 0 = grind (arith, common_steps, turn.elements) in
+    let other : c.index-2.result.now ≡ get_or below c.args.b 0 = grind (arith, common_steps, turn.elements) in
+    let within : c.row_of.result < length below = rw c.deref.ensures.value at c.row_of.ensures.within in
+    let is : get_or below c.row_of.result 0 ≡ bit_and (get_or below c.args.a 0) (get_or below c.args.b 0) = rw (c.deref.ensures.value, one, other) at c.row_of.ensures.is in
+    rw (c.new.ensures, ← c.self.view_is) (meet_from_row above below c.self.invariant.lattice.ordered turn c.args.a c.args.b c.row_of.result within is)

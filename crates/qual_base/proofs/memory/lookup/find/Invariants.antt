@@ -1,0 +1,10 @@
+use Rattle.std.proofs.Common.{◌≡◌, drop}
+use Rattle.qual_base.specs.Memory.{files_of, has_file}
+use Rattle.qual_base.specs.Outside.{content_of}
+use Rattle.qual_base.proofs.memory.lookup.find.Given as goal
+
+abbrev pub invariant-loop-i : goal.invariant-loop-i
+invariant-loop-i l = record {
+  content : content_of (files_of l.files) l.name ≡ content_of (files_of (drop l.i l.files)) l.name;
+  has : has_file (files_of l.files) l.name ≡ has_file (files_of (drop l.i l.files)) l.name;
+}

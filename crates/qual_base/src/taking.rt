@@ -1,0 +1,79 @@
+//! Taking a whole file within a limit.
+
+ghost use Rattle.std.specs.Prelude.{◌≡◌, ◌<◌, ◌≤◌, length, IfOk, IsErrOf, IfSome, vec_len};
+ghost use Rattle.qual_base.specs.Counts.{GoesOn, Rose};
+ghost use Rattle.qual_base.specs.Outside.{Records, content_of};
+
+use crate::outside::Files;
+use std::alloc::{AllocError, Global};
+use thiserror::Error;
+
+/// Why a file was not taken.
+#[derive(Clone, Copy, PartialEq, Eq, Debug, Error)]
+pub enum TakeFault {
+    /// A read failed.
+    #[error("a read failed")]
+    ReadFault,
+    /// The file is longer than the limit.
+    #[error("the file is longer than its limit")]
+    TooLarge,
+    /// There was not enough memory.
+    #[error("out of memory")]
+    NoMemory,
+}
+
+/// How many bytes are asked for at once.
+const PIECE: usize = 65_536;
+
+/// Bytes to lend to a read.
+fn zeros(alloc: Global, count: usize) -> Result<Vec<u8>, AllocError>
+    ensures { IfOk result (λ v. vec_len v ≡ count) }
+{
+    vec![in alloc; 0u8; count]
+}
+
+/// All bytes of a file of at most `limit` bytes.
+///
+/// It takes time and memory linear in the bytes taken, of which there are at most `limit + 1`, beside 65,536 bytes to
+/// read into.
+///
+/// TooLarge comes once `limit + 1` bytes were taken, ReadFault at the first read that failed, and either or want of
+/// memory ends it at once.
+pub fn take_all<F: Files>(
+    alloc: Global,
+    files: &mut F,
+    name: &str,
+    limit: usize,
+) -> Result<Vec<u8>, TakeFault>
+    requires { limit < usize.MAX }
+    ensures whole { IfOk result (λ v. IfSome (F.contents files.old) (λ all. v.items ≡ content_of all name.now)) }
+    ensures within { IfOk result (λ v. vec_len v ≤ limit) }
+    ensures fits { IfOk result (λ _. IfSome (F.contents files.old) (λ all. length (content_of all name.now) ≤ limit)) }
+    ensures too_large { IsErrOf result TakeFault.TooLarge → IfSome (F.contents files.old) (λ all. limit < length (content_of all name.now)) }
+    ensures read_fault { IsErrOf result TakeFault.ReadFault → Rose (F.faults files.old) (F.faults files.new) }
+    ensures count { GoesOn (F.faults files.old) (F.faults files.new) }
+    ensures started { Records (F.started files.old) (F.started files.new) name.now }
+    ensures contents { F.contents files.new ≡ F.contents files.old }
+{
+    if files.start(name).is_err() {
+        return Err(TakeFault::ReadFault);
+    }
+    let Ok(mut buffer) = zeros(alloc, PIECE) else {
+        return Err(TakeFault::NoMemory);
+    };
+    let mut taken = Vec::new(alloc);
+    while taken.len() <= limit {
+        let lent = buffer.len().min(limit + 1 - taken.len());
+        let piece = &mut buffer[..lent];
+        let Ok(count) = files.next(piece) else {
+            return Err(TakeFault::ReadFault);
+        };
+        if count == 0 {
+            return Ok(taken);
+        }
+        if taken.extend_from_slice(&piece[..count]).is_err() {
+            return Err(TakeFault::NoMemory);
+        }
+    }
+    Err(TakeFault::TooLarge)
+}
