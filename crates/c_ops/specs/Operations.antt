@@ -55,3 +55,7 @@ first_bad before operand (x ∷ k) = if is_bad before operand x.operator then So
 
 abbrev pub bad_target : Operations → Option ℕ
 bad_target list = first_bad None list.first list.rest
+
+-- no list has two trees
+abbrev pub HasOneTree : Type 0
+HasOneTree = (list : Operations) (e f : Expr) → IsTreeOf list e → IsTreeOf list f → e ≡ f

@@ -1,7 +1,7 @@
 //! Operators with what stands between them and their right operands.
 
 ghost use Rattle.std.specs.Prelude.{◌≡◌, ◌≤◌};
-ghost use Rattle.c_tree.specs.Levels.{binary_level as level_of_binary, operator_level, right_level as right_level_of};
+ghost use Rattle.c_tree.specs.Levels.{binary_level, operator_level, right_level as right_level_of};
 ghost use Rattle.c_ops.specs.Op.{operator_of};
 
 use c_lexer::kinds::Punct;
@@ -24,8 +24,8 @@ pub enum Op {
 }
 
 /// The level of a binary operator, from 1 to 10, the loosest first; 0 for other signs.
-fn binary_level(sign: Punct) -> u8
-    ensures { result ≡ level_of_binary sign }
+pub(crate) fn level_of_binary(sign: Punct) -> u8
+    ensures { result ≡ binary_level sign }
 {
     match sign {
         Punct::BarBar => 1,
@@ -51,7 +51,7 @@ impl Op {
             Op::Comma => 0,
             Op::Assign(_) => 1,
             Op::Cond { .. } => 2,
-            Op::Binary(sign) => binary_level(*sign) + 2,
+            Op::Binary(sign) => level_of_binary(*sign) + 2,
         }
     }
 
@@ -62,7 +62,7 @@ impl Op {
         match self {
             Op::Comma | Op::Assign(_) => 1,
             Op::Cond { .. } => 2,
-            Op::Binary(sign) => binary_level(*sign) + 3,
+            Op::Binary(sign) => level_of_binary(*sign) + 3,
         }
     }
 }
