@@ -1,13 +1,13 @@
 -- What the precedence table says of any two operators.
-use Rattle.std.proofs.Common.{◌≡◌, ℕ, ◌+◌, ◌≤◌, ◌<◌, Bool, true, false, List, refl, arith}
-use Rattle.std.specs.Prelude.{nat_le, ◌⊎◌}
+use Rattle.std.proofs.Common.{◌≡◌, ℕ, ◌≤◌, ◌<◌, false, List, refl, arith}
+use Rattle.std.specs.Prelude.{nat_le}
 use Rattle.std.proofs.Common.{inl, inr}
 use Rattle.std.proofs.lemmas.Bool.Decides.{leb_tells}
 use Rattle.c_lexer.specs.declared.kinds.Punct.{Punct}
 use Rattle.c_lexer.specs.declared.kinds.Punct.TheVariants.{BarBar, AmpersandAmpersand, Bar, Caret, Ampersand, EqualEqual, BangEqual, Less, Greater, LessEqual, GreaterEqual, ShiftLeft, ShiftRight, Plus, Minus, Star, Slash, Percent}
 use Rattle.c_tree.specs.Tree.{Expr, operation, cast, Operator, comma, assign, cond, binary}
 use Rattle.c_tree.specs.Levels.{binary_level, IsOperator, expr_level, operator_level, left_level, right_level}
-use Rattle.c_ops.specs.Operations.{IsLevelled, is_assign, Operations, Entry, in_order}
+use Rattle.c_ops.specs.Operations.{IsLevelled, is_assign, Entry, in_order}
 
 pub not_le : (a b : ℕ) → b < a → nat_le a b ≡ false
 not_le a b h = elim (leb_tells a b) [ inl t ↦ absurd (omega (arith, t.1)) | inr t ↦ t.0 ]

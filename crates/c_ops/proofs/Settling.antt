@@ -1,10 +1,10 @@
 -- What joining keeps.
-use Rattle.std.proofs.Common.{◌≡◌, ℕ, ◌≤◌, ◌<◌, Bool, true, false, inl, inr, refl, ap, arith}
+use Rattle.std.proofs.Common.{◌≡◌, ℕ, ◌≤◌, ◌<◌, Bool, true, false, inl, inr, refl, arith}
 use Rattle.std.specs.Prelude.{nat_le, if◌then◌else◌}
 use Rattle.std.proofs.lemmas.Bool.{leb-true, le-leb}
 use Rattle.std.proofs.lemmas.Bool.Decides.{leb_tells}
 use Rattle.c_tree.specs.Tree.{Expr, operation, Operator}
-use Rattle.c_tree.specs.Levels.{IsOperator, expr_level, operator_level, left_level, right_level}
+use Rattle.c_tree.specs.Levels.{expr_level, operator_level, left_level, right_level}
 use Rattle.c_ops.specs.Operations.{IsLevelled, is_assign}
 use Rattle.c_ops.specs.Joining.{Left, Stack, bottom, above, finished, Accepts, Settled, settle_of, AreOperators, IsStack}
 use Rattle.c_ops.proofs.Levels.{not_le, level_most, right_most, right_least, takes_left}

@@ -1,7 +1,7 @@
 -- A list has one tree at most: what reads the list from left to right makes any tree of it.
 use Rattle.std.proofs.Common.{◌≡◌, ℕ, ◌≤◌, List, [], ◌∷◌, refl, sym, ◌∙◌, ap, arith}
 use Rattle.c_tree.specs.Tree.{Expr, operation}
-use Rattle.c_tree.specs.Levels.{IsOperator, expr_level, operator_level, left_level, right_level}
+use Rattle.c_tree.specs.Levels.{IsOperator, expr_level, operator_level, left_level}
 use Rattle.c_ops.specs.Operations.{Entry, Operations, joined, in_order, IsLevelled, IsTreeOf}
 use Rattle.c_ops.specs.Joining.{Left, Stack, bottom, above, finished, Accepts, Settled, settle_of}
 use Rattle.c_ops.proofs.Levels.{level_left, level_right, ends_right}

@@ -1,9 +1,8 @@
 -- Operands and operators that wait for their right operands, and how they are joined.
-use Rattle.std.specs.Prelude.{◌≡◌, ℕ, ◌≤◌, nat_le, List, [], ◌∷◌, Option, None, Some, if◌then◌else◌}
-use Rattle.std.specs.Coded.{×_prop, Unit-prop, le_prop}
-use Rattle.c_tree.specs.Tree.{Expr, operation, Operator, comma, assign, cond, binary}
+use Rattle.std.specs.Prelude.{ℕ, ◌≤◌, nat_le, if◌then◌else◌}
+use Rattle.c_tree.specs.Tree.{Expr, operation, Operator}
 use Rattle.c_tree.specs.Levels.{IsOperator, expr_level, operator_level, left_level, right_level}
-use Rattle.c_ops.specs.Operations.{Operations, joined, in_order, IsLevelled}
+use Rattle.c_ops.specs.Operations.{IsLevelled}
 
 -- a left operand with its operator
 pub record Left : Type 0 where

@@ -1,6 +1,6 @@
 -- Lists of operands and operators, and the trees of such a list.
-use Rattle.std.specs.Prelude.{◌≡◌, ℕ, ◌≤◌, nat_le, Bool, true, false, ◌&&◌, not, List, [], ◌∷◌, ◌++◌, Option, None, Some, if◌then◌else◌}
-use Rattle.c_tree.specs.Tree.{Expr, operation, Operator, comma, assign, cond, binary}
+use Rattle.std.specs.Prelude.{◌≡◌, ℕ, ◌≤◌, nat_le, Bool, true, false, ◌&&◌, not, List, [], ◌∷◌, Option, None, Some, if◌then◌else◌}
+use Rattle.c_tree.specs.Tree.{Expr, operation, Operator, comma, assign}
 use Rattle.c_tree.specs.Levels.{IsOperator, expr_level, left_level, right_level}
 
 -- an operator, its token, and the operand behind it

@@ -1,5 +1,5 @@
 -- What waits in the program, as a stack.
-use Rattle.std.specs.Prelude.{ℕ, List, [], ◌∷◌}
+use Rattle.std.specs.Prelude.{List, [], ◌∷◌}
 use Rattle.c_tree.specs.Tree.{Expr}
 use Rattle.c_tree.specs.View.{expr_of}
 use Rattle.c_ops.specs.declared.pending.Pending.{Pending}

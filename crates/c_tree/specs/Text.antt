@@ -15,12 +15,10 @@ use Rattle.c_tree.specs.declared.parts.Word.{Word}
 use Rattle.c_tree.specs.declared.parts.Group.{Group}
 use Rattle.c_tree.specs.declared.parts.Attr.{Attr}
 use Rattle.c_tree.specs.declared.parts.AsmLabel.{AsmLabel}
-use Rattle.c_tree.specs.declared.parts.Semi.{Semi}
 use Rattle.c_tree.specs.declared.parts.Assert.{Assert}
 use Rattle.c_tree.specs.declared.parts.Qual.{Qual}
 use Rattle.c_tree.specs.declared.parts.PointerWord.{PointerWord}
 use Rattle.c_tree.specs.declared.parts.ArrayWord.{ArrayWord}
-use Rattle.c_tree.specs.declared.specifier.TypedefName.{TypedefName}
 use Rattle.c_tree.specs.declared.parts.Qual.TheVariants as quals
 use Rattle.c_tree.specs.declared.parts.PointerWord.TheVariants as pointer_words
 use Rattle.c_tree.specs.declared.parts.ArrayWord.TheVariants as array_words

@@ -1,11 +1,11 @@
 -- Which trees are well formed, scopes of names aside: the rules of the grammar and those beside it.
 --
 -- A `sizeof` with a type's name does not stand before `{`; no tree of a whole unit has one there.
-use Rattle.std.specs.Prelude.{◌≡◌, ◌≢◌, ℕ, ◌+◌, ◌≤◌, ◌⊎◌, All, Bool, true, false, List, [], ◌∷◌, Option, None, Some, ⊤}
+use Rattle.std.specs.Prelude.{◌≡◌, ◌≢◌, ℕ, ◌≤◌, All, Bool, true, false, List, [], ◌∷◌, Option, None, Some}
 use Rattle.c_lexer.specs.declared.kinds.Punct.{Punct}
 use Rattle.c_lexer.specs.declared.kinds.Punct.TheVariants.{PlusPlus, MinusMinus, Ampersand, Star, Plus, Minus, Tilde, Bang}
 use Rattle.c_lexer.specs.declared.kinds.Keyword.{Keyword}
-use Rattle.c_lexer.specs.declared.kinds.Keyword.TheVariants.{Const, Volatile, Restrict, Goto, Inline, Sizeof, Alignof, Struct, Union, Typedef}
+use Rattle.c_lexer.specs.declared.kinds.Keyword.TheVariants.{Const, Volatile, Restrict, Goto, Inline, Sizeof, Alignof, Struct, Union}
 use Rattle.c_lexer.specs.declared.kinds.TokenKind.{TokenKind}
 use Rattle.c_lexer.specs.declared.kinds.TokenKind.TheVariants as kinds
 use Rattle.c_tree.specs.declared.lexeme.Lexeme.{Lexeme}
@@ -22,7 +22,7 @@ use Rattle.c_tree.specs.Tree.{Expr, operation, cast, prefix, sizeof_value, sizeo
 use Rattle.c_tree.specs.Text.{tokens_between}
 use Rattle.c_tree.specs.Groups.{IsGroup}
 use Rattle.c_tree.specs.Levels.{IsOperator, expr_level, left_level, right_level}
-use Rattle.c_tree.specs.Specifiers.{IsMix, storage_words}
+use Rattle.c_tree.specs.Specifiers.{IsMix}
 
 -- the least level of the operand of a prefix; above all levels where the sign is no prefix
 abbrev pub prefix_level : Punct → ℕ
