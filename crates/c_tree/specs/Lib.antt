@@ -6,3 +6,4 @@ pub mod Levels
 pub mod Groups
 pub mod Specifiers
 pub mod WellFormed
+pub mod Unit
