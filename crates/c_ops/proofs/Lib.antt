@@ -1,0 +1,4 @@
+pub mod Levels
+pub mod Settling
+pub mod Unique
+pub mod Targets

@@ -1,0 +1,56 @@
+-- Which specifiers may stand together (C99, 6.7.1 and 6.7.2), in any order.
+use Rattle.std.specs.Prelude.{◌≡◌, ℕ, ◌+◌, ◌⊎◌, Any, List, [], ◌∷◌, ◌++◌, IsPermutation}
+use Rattle.c_lexer.specs.declared.kinds.Keyword.{Keyword}
+use Rattle.c_lexer.specs.declared.kinds.Keyword.TheVariants.{Auto, Char, Double, Extern, Float, Int, Long, Register, Short, Signed, Static, Typedef, Unsigned, Void, Bool, Complex, Thread, BaseWord, Int128}
+use Rattle.c_tree.specs.Tree.{SpecWords, no_words, more_words, storage, thread, basic, struct_type, enum_type, typedef_name}
+
+-- the words of basic types
+abbrev pub type_words : SpecWords → List Keyword
+type_words no_words = []
+type_words (more_words (basic w) ws) = w.keyword ∷ type_words ws
+type_words (more_words _ ws) = type_words ws
+
+-- how many structs, unions, enums and typedef names there are
+abbrev pub type_count : SpecWords → ℕ
+type_count no_words = 0
+type_count (more_words (struct_type a b c d) ws) = type_count ws + 1
+type_count (more_words (enum_type e) ws) = type_count ws + 1
+type_count (more_words (typedef_name n) ws) = type_count ws + 1
+type_count (more_words _ ws) = type_count ws
+
+abbrev pub storage_words : SpecWords → List Keyword
+storage_words no_words = []
+storage_words (more_words (storage w) ws) = w.keyword ∷ storage_words ws
+storage_words (more_words (thread token) ws) = Thread ∷ storage_words ws
+storage_words (more_words _ ws) = storage_words ws
+
+-- a set of words alone, with `signed`, or with `unsigned`
+abbrev pub with_signs : List Keyword → List (List Keyword)
+with_signs ws = ws ∷ (Signed ∷ ws) ∷ (Unsigned ∷ ws) ∷ []
+
+-- a set of words alone or with `_Complex`
+abbrev pub with_complex : List Keyword → List (List Keyword)
+with_complex ws = ws ∷ (Complex ∷ ws) ∷ []
+
+-- the sets of words of the basic types
+abbrev pub basic_types : List (List Keyword)
+basic_types =
+    (Void ∷ []) ∷ (Bool ∷ []) ∷ (BaseWord ∷ []) ∷ (Signed ∷ []) ∷ (Unsigned ∷ []) ∷ (Complex ∷ []) ∷ []
+    ++ with_signs (Char ∷ []) ++ with_signs (Int ∷ []) ++ with_signs (Int128 ∷ [])
+    ++ with_signs (Short ∷ []) ++ with_signs (Short ∷ Int ∷ [])
+    ++ with_signs (Long ∷ []) ++ with_signs (Long ∷ Int ∷ [])
+    ++ with_signs (Long ∷ Long ∷ []) ++ with_signs (Long ∷ Long ∷ Int ∷ [])
+    ++ with_complex (Float ∷ []) ++ with_complex (Double ∷ []) ++ with_complex (Long ∷ Double ∷ [])
+
+-- one type: a basic one, or one struct, union, enum or typedef name
+abbrev pub IsOneType : SpecWords → Type 0
+IsOneType ws = ((type_count ws ≡ 0) × Any (IsPermutation (type_words ws)) basic_types) ⊎ ((type_count ws ≡ 1) × (type_words ws ≡ []))
+
+-- at most one storage word; `_Thread_local` may join `static` or `extern`
+abbrev pub storages : List (List Keyword)
+storages =
+    [] ∷ (Typedef ∷ []) ∷ (Extern ∷ []) ∷ (Static ∷ []) ∷ (Auto ∷ []) ∷ (Register ∷ []) ∷ (Thread ∷ [])
+    ∷ (Thread ∷ Static ∷ []) ∷ (Thread ∷ Extern ∷ []) ∷ []
+
+abbrev pub IsMix : SpecWords → Type 0
+IsMix ws = IsOneType ws × Any (IsPermutation (storage_words ws)) storages

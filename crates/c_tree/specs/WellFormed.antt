@@ -1,0 +1,397 @@
+-- Which trees are well formed, scopes of names aside: the rules of the grammar and those beside it.
+--
+-- A `sizeof` with a type's name does not stand before `{`; no tree of a whole unit has one there.
+use Rattle.std.specs.Prelude.{◌≡◌, ◌≢◌, ℕ, ◌≤◌, All, Bool, true, false, List, [], ◌∷◌, Option, None, Some}
+use Rattle.c_lexer.specs.declared.kinds.Punct.{Punct}
+use Rattle.c_lexer.specs.declared.kinds.Punct.TheVariants.{PlusPlus, MinusMinus, Ampersand, Star, Plus, Minus, Tilde, Bang}
+use Rattle.c_lexer.specs.declared.kinds.Keyword.{Keyword}
+use Rattle.c_lexer.specs.declared.kinds.Keyword.TheVariants.{Const, Volatile, Restrict, Goto, Inline, Sizeof, Alignof, Struct, Union}
+use Rattle.c_lexer.specs.declared.kinds.TokenKind.{TokenKind}
+use Rattle.c_lexer.specs.declared.kinds.TokenKind.TheVariants as kinds
+use Rattle.c_tree.specs.declared.lexeme.Lexeme.{Lexeme}
+use Rattle.c_tree.specs.declared.parts.Identifier.{Identifier}
+use Rattle.c_tree.specs.declared.parts.Attr.{Attr}
+use Rattle.c_tree.specs.declared.parts.AsmLabel.{AsmLabel}
+use Rattle.c_tree.specs.declared.parts.Qual.{Qual}
+use Rattle.c_tree.specs.declared.parts.PointerWord.{PointerWord}
+use Rattle.c_tree.specs.declared.parts.ArrayWord.{ArrayWord}
+use Rattle.c_tree.specs.declared.parts.Qual.TheVariants as quals
+use Rattle.c_tree.specs.declared.parts.PointerWord.TheVariants as pointer_words
+use Rattle.c_tree.specs.declared.parts.ArrayWord.TheVariants as array_words
+use Rattle.c_tree.specs.Tree.{Expr, operation, cast, prefix, sizeof_value, sizeof_type, extension, index, call, dot, arrow, post, compound, name_use, number_use, char_use, text_use, paren, statement_expr, va_arg, va_start, va_copy, offset, Operator, comma, assign, cond, binary, SomeExpr, no_expr, some_expr, Exprs, no_exprs, more_exprs, SpecWords, no_words, more_words, SpecWord, storage, thread, inline_word, noreturn, qualifier, basic, struct_type, enum_type, typedef_name, attribute, SomeBody, no_body, some_body, StructItems, no_struct_items, more_struct_items, StructItem, member, member_semi, member_assert, MemDeclrs, no_mem_declrs, more_mem_declrs, MemDeclr, named, unnamed, SomeValue, no_value, some_value, EnumType, enum_of, SomeEnumBody, no_enum_body, some_enum_body, Enumerators, no_enumerators, more_enumerators, Declr, pointer, declr_name, declr_paren, array, params, abs_pointer, abs_paren, abs_array, abs_params, SomeDeclr, no_declr, some_declr, SomeSize, no_size, some_size, ArraySize, size_value, size_star, Params, no_params, more_params, Init, init_value, init_braced, InitList, init_list, InitItems, no_init_items, more_init_items, Desigs, no_desigs, more_desigs, Desig, member_desig, index_desig, SomeInit, no_init, some_init, InitDeclrs, no_init_declrs, more_init_declrs, Declaration, declaration, Decl, decl_declaration, decl_assert, BlockItems, no_block_items, more_block_items, BlockItem, block_decl, block_stmt, Stmt, block, expr_stmt, attr_stmt, label, case_stmt, default_stmt, if_stmt, switch_stmt, while_stmt, do_stmt, for_stmt, goto_stmt, continue_stmt, break_stmt, return_stmt, asm_stmt, SomeElse, no_else, some_else, ForStart, start_declaration, start_value, Dots}
+use Rattle.c_tree.specs.Text.{tokens_between}
+use Rattle.c_tree.specs.Groups.{IsGroup}
+use Rattle.c_tree.specs.Levels.{IsOperator, expr_level, left_level, right_level}
+use Rattle.c_tree.specs.Specifiers.{IsMix}
+
+-- the least level of the operand of a prefix; above all levels where the sign is no prefix
+abbrev pub prefix_level : Punct → ℕ
+prefix_level PlusPlus = 14
+prefix_level MinusMinus = 14
+prefix_level Ampersand = 13
+prefix_level Star = 13
+prefix_level Plus = 13
+prefix_level Minus = 13
+prefix_level Tilde = 13
+prefix_level Bang = 13
+prefix_level _ = 17
+
+abbrev pub is_postfix : Punct → Bool
+is_postfix PlusPlus = true
+is_postfix MinusMinus = true
+is_postfix _ = false
+
+abbrev pub is_sizeof : Keyword → Bool
+is_sizeof Sizeof = true
+is_sizeof Alignof = true
+is_sizeof _ = false
+
+abbrev pub is_struct : Keyword → Bool
+is_struct Struct = true
+is_struct Union = true
+is_struct _ = false
+
+abbrev pub is_qual : Keyword → Bool
+is_qual Const = true
+is_qual Volatile = true
+is_qual Restrict = true
+is_qual _ = false
+
+abbrev pub is_asm_word : Keyword → Bool
+is_asm_word Volatile = true
+is_asm_word Goto = true
+is_asm_word Inline = true
+is_asm_word _ = false
+
+-- one token of a `$` word that names an element
+abbrev pub IsElementKind : TokenKind → Type 0
+IsElementKind (kinds.Qual lattice elem) = Unit {0}
+IsElementKind _ = ⊥
+
+abbrev pub IsElement : List Lexeme → Type 0
+IsElement (t ∷ []) = IsElementKind t.kind
+IsElement _ = ⊥
+
+abbrev pub IsQual : List Lexeme → Qual → Type 0
+IsQual all (quals.Word w) = is_qual w.keyword ≡ true
+IsQual all (quals.Element token) = IsElement (tokens_between all token token)
+IsQual all (quals.Index token) = Unit {0}
+
+abbrev pub IsPointerWord : List Lexeme → PointerWord → Type 0
+IsPointerWord all (pointer_words.Qual q) = IsQual all q
+IsPointerWord all (pointer_words.Attr a) = IsGroup all a.group
+
+abbrev pub IsArrayWord : List Lexeme → ArrayWord → Type 0
+IsArrayWord all (array_words.Static token) = Unit {0}
+IsArrayWord all (array_words.Qual q) = IsQual all q
+
+abbrev pub AreAttrs : List Lexeme → List Attr → Type 0
+AreAttrs all attrs = All (λ a. IsGroup all a.group) attrs
+
+abbrev pub IsLabel : List Lexeme → Option AsmLabel → Type 0
+IsLabel all None = Unit {0}
+IsLabel all (Some l) = IsGroup all l.group
+
+-- declarators with a name, and those without
+abbrev pub is_named : Declr → Bool
+is_named (pointer a b c) = true
+is_named (declr_name a b) = true
+is_named (declr_paren a b c d) = true
+is_named (array a b c d e) = true
+is_named (params a b c d e) = true
+is_named _ = false
+
+-- all but pointers
+abbrev pub is_direct : Declr → Bool
+is_direct (pointer a b c) = false
+is_direct (abs_pointer a b c) = false
+is_direct _ = true
+
+-- the ends of a list: with more arguments only behind a parameter
+abbrev pub IsEllipsis : List Lexeme → Params → Option Dots → Type 0
+IsEllipsis all ps None = Unit {0}
+IsEllipsis all no_params (Some d) = ⊥
+IsEllipsis all ps (Some d) = All (IsQual all) d.quals
+
+-- a declarator that ends with the star of a pointer takes the attributes behind it
+abbrev mutual
+  pub ends_starred : Declr → Bool
+  ends_starred (pointer a b d) = ends_starred d
+  ends_starred (abs_pointer a b d) = ends_starred_some d
+  ends_starred _ = false
+
+  pub ends_starred_some : SomeDeclr → Bool
+  ends_starred_some no_declr = true
+  ends_starred_some (some_declr d) = ends_starred d
+
+-- the attributes of a parameter stand behind its declarator, where that takes none itself; without one they are
+-- words of its specifiers
+abbrev pub IsParamEnd : SomeDeclr → List Attr → Type 0
+IsParamEnd d [] = Unit {0}
+IsParamEnd no_declr (a ∷ attrs) = ⊥
+IsParamEnd (some_declr d) (a ∷ attrs) = ends_starred d ≡ false
+
+-- attributes before a first declarator are words of the specifiers
+abbrev pub IsInitStart : InitDeclrs → Type 0
+IsInitStart no_init_declrs = Unit {0}
+IsInitStart (more_init_declrs attrs a b c d e) = attrs ≡ []
+
+abbrev pub IsMemStart : MemDeclrs → Type 0
+IsMemStart no_mem_declrs = Unit {0}
+IsMemStart (more_mem_declrs attrs d ds) = attrs ≡ []
+
+-- a struct, union or enum has a tag or a body
+abbrev pub HasTagOrBody : Option Identifier → SomeBody → Type 0
+HasTagOrBody None no_body = ⊥
+HasTagOrBody tag body = Unit {0}
+
+abbrev pub HasTagOrEnumBody : Option Identifier → SomeEnumBody → Type 0
+HasTagOrEnumBody None no_enum_body = ⊥
+HasTagOrEnumBody tag body = Unit {0}
+
+-- a comma ends a list only behind an item
+abbrev pub IsItemsEnd : InitItems → Option ℕ → Type 0
+IsItemsEnd no_init_items (Some token) = ⊥
+IsItemsEnd items last = Unit {0}
+
+-- `=` stands behind designators, and only there
+abbrev pub IsDesignated : Desigs → Option ℕ → Type 0
+IsDesignated no_desigs None = Unit {0}
+IsDesignated (more_desigs d ds) (Some equal) = Unit {0}
+IsDesignated _ _ = ⊥
+
+abbrev pub IsNoAttrStmt : Stmt → Type 0
+IsNoAttrStmt (attr_stmt attrs semi) = ⊥
+IsNoAttrStmt _ = Unit {0}
+
+-- a statement behind which an `else` would belong to an `if` in it
+abbrev mutual
+  pub takes_else : Stmt → Bool
+  takes_else (if_stmt a b c d s other) = other_takes_else other
+  takes_else (label a b c s) = takes_else s
+  takes_else (case_stmt a b c s) = takes_else s
+  takes_else (default_stmt a b s) = takes_else s
+  takes_else (switch_stmt a b c d s) = takes_else s
+  takes_else (while_stmt a b c d s) = takes_else s
+  takes_else (for_stmt a b c d e f g s) = takes_else s
+  takes_else _ = false
+
+  pub other_takes_else : SomeElse → Bool
+  other_takes_else no_else = true
+  other_takes_else (some_else a s) = takes_else s
+
+-- a word of the name of a type: no storage word, `_Thread_local`, `inline` or `_Noreturn`
+abbrev pub IsTypeWord : SpecWord → Type 0
+IsTypeWord (storage word) = ⊥
+IsTypeWord (thread keyword) = ⊥
+IsTypeWord (inline_word keyword) = ⊥
+IsTypeWord (noreturn keyword) = ⊥
+IsTypeWord _ = Unit {0}
+
+module _ (all : List Lexeme) where
+  abbrev mutual
+    pub IsExpr : Expr → Type 0
+    IsExpr (operation e op token e2) = IsExpr e × IsExpr e2 × IsOperator op × IsMiddle op × (left_level op ≤ expr_level e) × (right_level op ≤ expr_level e2)
+    IsExpr (cast opening ws d closing e) = IsMix ws × AreTypeWords ws × IsSomeAbstract d × IsExpr e × (13 ≤ expr_level e)
+    IsExpr (prefix token p e) = IsExpr e × (prefix_level p ≤ expr_level e)
+    IsExpr (sizeof_value word e) = IsExpr e × (is_sizeof word.keyword ≡ true) × (14 ≤ expr_level e)
+    IsExpr (sizeof_type word opening ws d closing) = IsMix ws × AreTypeWords ws × IsSomeAbstract d × (is_sizeof word.keyword ≡ true)
+    IsExpr (extension keyword e) = IsExpr e × (13 ≤ expr_level e)
+    IsExpr (index e opening e2 closing) = IsExpr e × IsExpr e2 × (15 ≤ expr_level e)
+    IsExpr (call e opening es closing) = IsExpr e × AreArguments es × (15 ≤ expr_level e)
+    IsExpr (dot e token name) = IsExpr e × (15 ≤ expr_level e)
+    IsExpr (arrow e token name) = IsExpr e × (15 ≤ expr_level e)
+    IsExpr (post e token p) = IsExpr e × (is_postfix p ≡ true) × (15 ≤ expr_level e)
+    IsExpr (compound opening ws d closing list) = IsMix ws × AreTypeWords ws × IsSomeAbstract d × IsInitList list
+    IsExpr (name_use token name) = Unit {0}
+    IsExpr (number_use token) = Unit {0}
+    IsExpr (char_use token) = Unit {0}
+    IsExpr (text_use texts) = texts ≢ []
+    IsExpr (paren opening e closing) = IsExpr e
+    IsExpr (statement_expr opening opening2 items closing closing2) = AreBlockItems items
+    IsExpr (va_arg keyword opening e separator ws d closing) = IsExpr e × IsMix ws × AreTypeWords ws × IsSomeAbstract d × (1 ≤ expr_level e)
+    IsExpr (va_start keyword opening e separator e2 closing) = IsExpr e × IsExpr e2 × (1 ≤ expr_level e) × (1 ≤ expr_level e2)
+    IsExpr (va_copy keyword opening e separator e2 closing) = IsExpr e × IsExpr e2 × (1 ≤ expr_level e) × (1 ≤ expr_level e2)
+    IsExpr (offset keyword opening ws d separator name steps closing) = IsMix ws × AreTypeWords ws × IsSomeAbstract d × AreSteps steps
+
+    pub IsMiddle : Operator → Type 0
+    IsMiddle comma = Unit {0}
+    IsMiddle (assign p) = Unit {0}
+    IsMiddle (cond e colon) = IsSomeExpr e
+    IsMiddle (binary p) = Unit {0}
+
+    pub IsSomeExpr : SomeExpr → Type 0
+    IsSomeExpr no_expr = Unit {0}
+    IsSomeExpr (some_expr e) = IsExpr e
+
+    pub AreArguments : Exprs → Type 0
+    AreArguments no_exprs = Unit {0}
+    AreArguments (more_exprs e es) = IsExpr e × (1 ≤ expr_level e) × AreArguments es
+
+    pub AreSteps : Desigs → Type 0
+    AreSteps no_desigs = Unit {0}
+    AreSteps (more_desigs d ds) = IsStep d × AreSteps ds
+
+    pub IsStep : Desig → Type 0
+    IsStep (member_desig token name) = Unit {0}
+    IsStep (index_desig opening e closing) = IsExpr e
+
+    pub AreDesigs : Desigs → Type 0
+    AreDesigs no_desigs = Unit {0}
+    AreDesigs (more_desigs d ds) = IsDesig d × AreDesigs ds
+
+    pub IsDesig : Desig → Type 0
+    IsDesig (member_desig token name) = Unit {0}
+    IsDesig (index_desig opening e closing) = IsExpr e × (2 ≤ expr_level e)
+
+    pub AreTypeWords : SpecWords → Type 0
+    AreTypeWords no_words = Unit {0}
+    AreTypeWords (more_words w ws) = IsSpecWord w × IsTypeWord w × AreTypeWords ws
+
+    pub AreSpecWords : SpecWords → Type 0
+    AreSpecWords no_words = Unit {0}
+    AreSpecWords (more_words w ws) = IsSpecWord w × AreSpecWords ws
+
+    pub IsSpecWord : SpecWord → Type 0
+    IsSpecWord (storage word) = Unit {0}
+    IsSpecWord (thread keyword) = Unit {0}
+    IsSpecWord (inline_word keyword) = Unit {0}
+    IsSpecWord (noreturn keyword) = Unit {0}
+    IsSpecWord (qualifier qual) = IsQual all qual
+    IsSpecWord (basic word) = Unit {0}
+    IsSpecWord (struct_type word attrs tag body) = (is_struct word.keyword ≡ true) × AreAttrs all attrs × HasTagOrBody tag body × IsBody body
+    IsSpecWord (enum_type enum) = IsEnum enum
+    IsSpecWord (typedef_name name) = Unit {0}
+    IsSpecWord (attribute attr) = IsGroup all attr.group
+
+    pub IsBody : SomeBody → Type 0
+    IsBody no_body = Unit {0}
+    IsBody (some_body opening items closing) = AreStructItems items
+
+    pub AreStructItems : StructItems → Type 0
+    AreStructItems no_struct_items = Unit {0}
+    AreStructItems (more_struct_items item items) = IsStructItem item × AreStructItems items
+
+    pub IsStructItem : StructItem → Type 0
+    IsStructItem (member exts ws ds semi) = IsMix ws × AreSpecWords ws × IsMemStart ds × AreMemDeclrs ds
+    IsStructItem (member_semi semi) = Unit {0}
+    IsStructItem (member_assert it) = IsGroup all it.group
+
+    pub AreMemDeclrs : MemDeclrs → Type 0
+    AreMemDeclrs no_mem_declrs = Unit {0}
+    AreMemDeclrs (more_mem_declrs attrs d ds) = AreAttrs all attrs × IsMemDeclr d × AreMemDeclrs ds
+
+    pub IsMemDeclr : MemDeclr → Type 0
+    IsMemDeclr (named d width attrs) = IsDeclr d × (is_named d ≡ true) × IsSomeValue width × AreAttrs all attrs
+    IsMemDeclr (unnamed colon e attrs) = IsExpr e × (2 ≤ expr_level e) × AreAttrs all attrs
+
+    pub IsSomeValue : SomeValue → Type 0
+    IsSomeValue no_value = Unit {0}
+    IsSomeValue (some_value token e) = IsExpr e × (2 ≤ expr_level e)
+
+    pub IsEnum : EnumType → Type 0
+    IsEnum (enum_of keyword attrs tag body) = AreAttrs all attrs × HasTagOrEnumBody tag body × IsEnumBody body
+
+    pub IsEnumBody : SomeEnumBody → Type 0
+    IsEnumBody no_enum_body = Unit {0}
+    IsEnumBody (some_enum_body opening es last closing) = (es ≢ no_enumerators) × AreEnumerators es
+
+    pub AreEnumerators : Enumerators → Type 0
+    AreEnumerators no_enumerators = Unit {0}
+    AreEnumerators (more_enumerators name attrs value es) = AreAttrs all attrs × IsSomeValue value × AreEnumerators es
+
+    pub IsDeclr : Declr → Type 0
+    IsDeclr (pointer star words d) = All (IsPointerWord all) words × IsDeclr d × (is_named d ≡ true)
+    IsDeclr (declr_name token name) = Unit {0}
+    IsDeclr (declr_paren opening attrs d closing) = AreAttrs all attrs × IsDeclr d × (is_named d ≡ true)
+    IsDeclr (array d opening words size closing) = IsDeclr d × (is_named d ≡ true) × (is_direct d ≡ true) × All (IsArrayWord all) words × IsSize size
+    IsDeclr (params d opening ps dots closing) = IsDeclr d × (is_named d ≡ true) × (is_direct d ≡ true) × AreParams ps × IsEllipsis all ps dots
+    IsDeclr (abs_pointer star words d) = All (IsPointerWord all) words × IsSomeAbstract d
+    IsDeclr (abs_paren opening attrs d closing) = AreAttrs all attrs × IsDeclr d × (is_named d ≡ false)
+    IsDeclr (abs_array d opening words size closing) = IsSomeDirect d × All (IsArrayWord all) words × IsSize size
+    IsDeclr (abs_params d opening ps dots closing) = IsSomeDirect d × AreParams ps × IsEllipsis all ps dots
+
+    pub IsSomeAbstract : SomeDeclr → Type 0
+    IsSomeAbstract no_declr = Unit {0}
+    IsSomeAbstract (some_declr d) = IsDeclr d × (is_named d ≡ false)
+
+    pub IsSomeDirect : SomeDeclr → Type 0
+    IsSomeDirect no_declr = Unit {0}
+    IsSomeDirect (some_declr d) = IsDeclr d × (is_named d ≡ false) × (is_direct d ≡ true)
+
+    pub IsSize : SomeSize → Type 0
+    IsSize no_size = Unit {0}
+    IsSize (some_size size) = IsArraySize size
+
+    pub IsArraySize : ArraySize → Type 0
+    IsArraySize (size_value e) = IsExpr e × (1 ≤ expr_level e)
+    IsArraySize (size_star star) = Unit {0}
+
+    pub AreParams : Params → Type 0
+    AreParams no_params = Unit {0}
+    AreParams (more_params ws d attrs ps) = IsMix ws × AreSpecWords ws × IsSomeDeclr d × AreAttrs all attrs × IsParamEnd d attrs × AreParams ps
+
+    pub IsSomeDeclr : SomeDeclr → Type 0
+    IsSomeDeclr no_declr = Unit {0}
+    IsSomeDeclr (some_declr d) = IsDeclr d
+
+    pub IsInit : Init → Type 0
+    IsInit (init_value e) = IsExpr e × (1 ≤ expr_level e)
+    IsInit (init_braced list) = IsInitList list
+
+    pub IsInitList : InitList → Type 0
+    IsInitList (init_list opening items last closing) = AreInitItems items × IsItemsEnd items last
+
+    pub AreInitItems : InitItems → Type 0
+    AreInitItems no_init_items = Unit {0}
+    AreInitItems (more_init_items ds equal init items) = AreDesigs ds × IsDesignated ds equal × IsInit init × AreInitItems items
+
+    pub IsSomeInit : SomeInit → Type 0
+    IsSomeInit no_init = Unit {0}
+    IsSomeInit (some_init equal init) = IsInit init
+
+    pub AreInitDeclrs : InitDeclrs → Type 0
+    AreInitDeclrs no_init_declrs = Unit {0}
+    AreInitDeclrs (more_init_declrs attrs d asm_label attrs2 init ds) = AreAttrs all attrs × IsDeclr d × (is_named d ≡ true) × IsLabel all asm_label × AreAttrs all attrs2 × IsSomeInit init × AreInitDeclrs ds
+
+    pub IsDeclaration : Declaration → Type 0
+    IsDeclaration (declaration exts ws ds semi) = IsMix ws × AreSpecWords ws × IsInitStart ds × AreInitDeclrs ds
+
+    pub IsDecl : Decl → Type 0
+    IsDecl (decl_declaration d) = IsDeclaration d
+    IsDecl (decl_assert it) = IsGroup all it.group
+
+    pub AreBlockItems : BlockItems → Type 0
+    AreBlockItems no_block_items = Unit {0}
+    AreBlockItems (more_block_items item items) = IsBlockItem item × AreBlockItems items
+
+    pub IsBlockItem : BlockItem → Type 0
+    IsBlockItem (block_decl d) = IsDecl d
+    IsBlockItem (block_stmt s) = IsStmt s
+
+    pub IsStmt : Stmt → Type 0
+    IsStmt (block opening items closing) = AreBlockItems items
+    IsStmt (expr_stmt e semi) = IsSomeExpr e
+    IsStmt (attr_stmt attrs semi) = (attrs ≢ []) × AreAttrs all attrs
+    IsStmt (label name colon attrs s) = AreAttrs all attrs × IsStmt s × IsNoAttrStmt s
+    IsStmt (case_stmt keyword e colon s) = IsExpr e × (2 ≤ expr_level e) × IsStmt s
+    IsStmt (default_stmt keyword colon s) = IsStmt s
+    IsStmt (if_stmt keyword opening e closing s other) = IsExpr e × IsStmt s × IsOther s other
+    IsStmt (switch_stmt keyword opening e closing s) = IsExpr e × IsStmt s
+    IsStmt (while_stmt keyword opening e closing s) = IsExpr e × IsStmt s
+    IsStmt (do_stmt keyword s keyword2 opening e closing semi) = IsStmt s × IsExpr e
+    IsStmt (for_stmt keyword opening start e semi e2 closing s) = IsStart start × IsSomeExpr e × IsSomeExpr e2 × IsStmt s
+    IsStmt (goto_stmt keyword name semi) = Unit {0}
+    IsStmt (continue_stmt keyword semi) = Unit {0}
+    IsStmt (break_stmt keyword semi) = Unit {0}
+    IsStmt (return_stmt keyword e semi) = IsSomeExpr e
+    IsStmt (asm_stmt keyword words group semi) = All (λ w. is_asm_word w.keyword ≡ true) words × IsGroup all group
+
+    -- an `else` belongs to the nearest `if`
+    pub IsOther : Stmt → SomeElse → Type 0
+    IsOther before no_else = Unit {0}
+    IsOther before (some_else keyword s) = IsStmt s × (takes_else before ≡ false)
+
+    pub IsStart : ForStart → Type 0
+    IsStart (start_declaration d) = IsDeclaration d
+    IsStart (start_value e semi) = IsSomeExpr e

@@ -1,0 +1,11 @@
+//! A token as trees and their reader see it.
+
+use c_lexer::kinds::TokenKind;
+use qual_base::ids::TokenId;
+
+/// A token with its number in the unit.
+#[derive(Clone, Copy, PartialEq, Eq, Debug)]
+pub struct Lexeme {
+    pub kind: TokenKind,
+    pub at: TokenId,
+}

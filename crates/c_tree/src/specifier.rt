@@ -1,0 +1,103 @@
+//! Declaration specifiers (C99, 6.7): storage words, qualifiers, type words, and the types that have a body.
+
+use crate::declarator::Declr;
+use crate::expression::Expr;
+use crate::parts::{
+    Assert, Attr, Braced, BracedList, Identifier, Listed, Marked, Qual, Semi, Word,
+};
+use qual_base::ids::{NameId, TokenId};
+
+/// `Specs = spec+`, in the order of the words.
+#[cycle(tree)]
+#[derive(Drop)]
+pub struct Specs {
+    pub words: Vec<SpecWord>,
+}
+
+/// `spec = storage | thread | inline | _Noreturn | qual | typeword | Struct | Enum | TypedefName | Attr`.
+#[cycle(tree)]
+#[derive(Drop)]
+pub enum SpecWord {
+    /// `typedef`, `extern`, `static`, `auto` or `register`.
+    Storage(Word),
+    Thread { token: TokenId },
+    Inline { token: TokenId },
+    Noreturn { token: TokenId },
+    Qual(Qual),
+    /// A word of a basic type, as `unsigned`, `_Complex` or `__int128`.
+    Type(Word),
+    Struct(Struct),
+    Enum(Enum),
+    TypedefName(TypedefName),
+    Attr(Attr),
+}
+
+/// `TypedefName`, a name whose kind at its place is a typedef.
+#[derive(Clone, Copy, PartialEq, Eq, Debug)]
+pub struct TypedefName {
+    pub token: TokenId,
+    pub name: NameId,
+}
+
+/// `Struct = (struct | union) Attr* [Name] [{ member* }]`, with a name or a body (C99, 6.7.2.1).
+#[cycle(tree)]
+#[derive(Drop)]
+pub struct Struct {
+    pub keyword: Word,
+    pub attrs: Vec<Attr>,
+    pub tag: Option<Identifier>,
+    pub body: Option<Braced<StructItem>>,
+}
+
+/// `member = Member | Semi | Assert`.
+#[cycle(tree)]
+#[derive(Drop)]
+pub enum StructItem {
+    Member(Member),
+    Semi(Semi),
+    Assert(Assert),
+}
+
+/// `Member = ext* Specs [MemDeclr (, Attr* MemDeclr)*] ;`.
+#[cycle(tree)]
+#[derive(Drop)]
+pub struct Member {
+    pub extensions: Vec<TokenId>,
+    pub specs: Specs,
+    pub declrs: Vec<Listed<MemDeclr>>,
+    pub semi: TokenId,
+}
+
+/// `MemDeclr = declr [: cond] Attr* | : cond Attr*`: a member, or a bit-field without a name.
+#[cycle(tree)]
+#[derive(Drop)]
+pub enum MemDeclr {
+    Named {
+        declr: Declr,
+        width: Option<Marked<Expr>>,
+        attrs: Vec<Attr>,
+    },
+    Unnamed {
+        width: Marked<Expr>,
+        attrs: Vec<Attr>,
+    },
+}
+
+/// `Enum = enum Attr* [Name] [{ Enumerator (, Enumerator)* [,] }]`, with a name or a body (C99, 6.7.2.2).
+#[cycle(tree)]
+#[derive(Drop)]
+pub struct Enum {
+    pub keyword: TokenId,
+    pub attrs: Vec<Attr>,
+    pub tag: Option<Identifier>,
+    pub body: Option<BracedList<Enumerator>>,
+}
+
+/// `Enumerator = Name Attr* [= cond]`.
+#[cycle(tree)]
+#[derive(Drop)]
+pub struct Enumerator {
+    pub name: Identifier,
+    pub attrs: Vec<Attr>,
+    pub value: Option<Marked<Expr>>,
+}
