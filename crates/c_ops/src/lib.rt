@@ -1,6 +1,6 @@
 //! Operands and operators in a row, and their one tree by the precedence table of C (C99, 6.5).
 #![tactic(auto)]
 
+pub mod joining;
 pub mod laws;
 pub mod op;
-pub mod joining;
