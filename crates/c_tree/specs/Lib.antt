@@ -7,3 +7,4 @@ pub mod Groups
 pub mod Specifiers
 pub mod WellFormed
 pub mod Unit
+pub mod Laws

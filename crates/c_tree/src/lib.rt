@@ -12,6 +12,7 @@ pub mod declaration;
 pub mod declarator;
 pub mod expression;
 pub mod initialiser;
+pub mod laws;
 pub mod lexeme;
 pub mod parts;
 pub mod specifier;

@@ -1,0 +1,9 @@
+//! What the definitions of trees say by themselves.
+
+ghost use Rattle.c_tree.specs.Laws.{OperandsHoldTighter};
+
+/// An operator asks of each operand that it hold together at least as tightly as the operator with its operands, and
+/// of one of them that it hold tighter (C99, 6.5).
+pub fn operands_hold_tighter()
+    ensures { OperandsHoldTighter }
+{}
