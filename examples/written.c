@@ -1,0 +1,3 @@
+const int limit;
+int count;
+void reset(void) { count = limit; }
