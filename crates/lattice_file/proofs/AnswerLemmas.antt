@@ -1,14 +1,16 @@
 -- From the answer for the blocks of a text to the answer for its bytes.
-use Rattle.std.proofs.Common.{◌≡◌, ℕ, ◌≤◌, ◌+◌, ◌-◌, zero, suc, List, length, drop, sym, subst, arith, Result, Ok, Err, IfOk, IfErr}
+use Rattle.std.proofs.Common.{◌≡◌, ℕ, ◌<◌, ◌≤◌, ◌+◌, ◌-◌, zero, suc, List, ◌++◌, length, take, drop, refl, sym, subst, arith, Result, Ok, Err, IfOk, IfErr}
 use Rattle.std.proofs.lemmas.List.{take-append-drop}
 use Rattle.lattice_core.specs.View.{LatticeView}
 use Rattle.lattice_file.specs.Blocks.{BlockView}
 use Rattle.lattice_file.specs.Text.{IsLatticeText}
-use Rattle.lattice_file.specs.Begins.{IsFirstBad}
+use Rattle.lattice_file.specs.Begins.{BeginsText, IsFirstBad}
 use Rattle.lattice_file.specs.Faults.{IsBuildFault, Reads, IsFileFault, IsAnswerFor}
 use Rattle.lattice_file.specs.declared.reading.LatticeFileFault.{LatticeFileFault}
 use Rattle.lattice_file.specs.declared.reading.LatticeFileFault.TheVariants.{Block, Grammar, TooManyLattices, SharedName, NoMemory}
 use Rattle.lattice_file.proofs.OneReading.{one_reading}
+use Rattle.lattice_file.proofs.FirstBad.{take_front}
+use Rattle.std.specs.List.{slice_range}
 
 pub build_answer : (blocks : List BlockView) (fault : LatticeFileFault) → length blocks ≤ 16 → IsBuildFault blocks fault → IsAnswerFor blocks (Err fault)
 build_answer blocks (Block number reason) few h = (few, h)
@@ -39,3 +41,22 @@ bad_no_text bytes place blocks bad text = by (length bytes - place) (omega (arit
     by : (n : ℕ) → length bytes ≡ place + n → ⊥
     by zero e = bad.ends_behind (omega (arith, e)) blocks text
     by (suc n) e = bad.ends_in_bytes (omega (arith, e)) (record { more = drop (place + 1) bytes; blocks = blocks; text = subst (λ (bs : List ℕ). IsLatticeText blocks bs) (sym (take-append-drop (place + 1) bytes)) text })
+
+shorter : (bytes : List ℕ) (p q : ℕ) → p < q → q ≤ length bytes → BeginsText (take q bytes) → BeginsText (take (p + 1) bytes)
+shorter bytes p q less within begins = record {
+  more = slice_range bytes (p + 1) q ++ begins.more;
+  blocks = begins.blocks;
+  text = subst (λ (bs : List ℕ). IsLatticeText begins.blocks bs) (sym (take_front bytes begins.more (p + 1) q (omega (arith, less)) within)) begins.text;
+}
+
+-- the first bad place is one
+pub one_place : (bytes : List ℕ) (p q : ℕ) → IsFirstBad bytes p → IsFirstBad bytes q → p ≡ q
+one_place bytes p q one other = by (q - p) refl (p - q) refl
+  where
+    earlier : (p q : ℕ) → IsFirstBad bytes p → IsFirstBad bytes q → p < q → ⊥
+    earlier p q one other less = one.ends_in_bytes (omega (arith, less, other.within)) (shorter bytes p q less other.within other.begins)
+
+    by : (n : ℕ) → q - p ≡ n → (m : ℕ) → p - q ≡ m → p ≡ q
+    by zero e zero f = omega (arith, e, f)
+    by (suc n) e m f = absurd (earlier p q one other (omega (arith, e)))
+    by zero e (suc m) f = absurd (earlier q p other one (omega (arith, f)))
