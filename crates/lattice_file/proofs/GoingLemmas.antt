@@ -1,5 +1,5 @@
--- Each lexeme that a reader takes leads on.
-use Rattle.std.proofs.Common.{◌≡◌, ℕ, ◌<◌, true, false, List, [], ◌∷◌, ◌++◌, length, refl, sym, subst, ◌∙◌, ap, append_assoc, append-nil}
+-- What a reader has read and what follows it, put together.
+use Rattle.std.proofs.Common.{◌≡◌, ℕ, ◌<◌, true, false, List, [], ◌∷◌, ◌++◌, length, refl, sym, ◌∙◌, ap, append_assoc, append-nil}
 use Rattle.std.specs.Prelude.{codes}
 use Rattle.lattice_core.specs.declared.Entry.{Entry}
 use Rattle.lattice_core.specs.declared.Pair.{Pair}
@@ -7,13 +7,7 @@ use Rattle.lattice_file.specs.declared.words.Attribute.{Attribute}
 use Rattle.lattice_file.specs.declared.words.Given.{Given}
 use Rattle.lattice_file.specs.Blocks.{BlockView}
 use Rattle.lattice_file.specs.Text.{TakesWord, TakesSign, Attributes, Last, More, Close, EntryItem, LineItem, IsLatticeText, NextBlock, is_element_name, attribute_word, has_attribute, entry_of, no_attribute}
-use Rattle.lattice_file.specs.declared.blocks.Reader.{Reader}
-use Rattle.lattice_file.specs.declared.blocks.Stage.{Stage}
-use Rattle.lattice_file.specs.Going.{Draft, Goes, GoesOn, draft_of, GoesOnItems, GoesOnAttributes, GoesBehindAttribute, EndEntry, Comma, GoesBehindName, Bracket, Below, GoesOnOpen, GoesOnValue}
-
--- a reader at a stage
-pub at_stage : (reader : Reader) (stage : Stage) (rest : List ℕ) (all : List BlockView) → reader.stage ≡ stage → Goes stage reader.given (draft_of reader) rest all → GoesOn reader rest all
-at_stage reader stage rest all e goes = let P : Stage → Type 0 = λ s. Goes s reader.given (draft_of reader) rest all in subst P (sym e) goes
+use Rattle.lattice_file.specs.Going.{Draft, GoesOnItems, GoesOnAttributes, GoesBehindAttribute, EndEntry, Comma, GoesBehindName, Bracket, Below, GoesOnOpen, GoesOnValue}
 
 pub block_is : (block : BlockView) (entries : List Entry) (pairs : List Pair) → block.entries ≡ entries → block.pairs ≡ pairs → block ≡ record { entries = entries; pairs = pairs }
 block_is block entries pairs e f = rw (← e, ← f) refl

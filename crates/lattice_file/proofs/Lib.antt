@@ -2,5 +2,14 @@ pub mod PlaceLemmas
 pub mod ShareLemmas
 pub mod BlockLemmas
 pub mod GoingLemmas
-pub mod GapLemmas
+pub mod GapUnique
+pub mod LexemeUnique
+pub mod StepLeads
+pub mod StepSeen
+pub mod StepAble
+pub mod OneReading
+pub mod FirstBad
 pub mod LexemeLemmas
+pub mod GapLemmas
+pub mod FrontLemmas
+pub mod AnswerLemmas

@@ -1,5 +1,5 @@
 -- When each fault of the blocks of a file comes.
-use Rattle.std.specs.Prelude.{◌≡◌, ◌≢◌, ℕ, ◌+◌, ◌<◌, ◌≤◌, List, length}
+use Rattle.std.specs.Prelude.{◌≡◌, ◌≢◌, ℕ, ◌+◌, ◌<◌, ◌≤◌, List, length, Result, Ok, Err}
 use Rattle.lattice_core.specs.Building.{Refuses}
 use Rattle.lattice_core.specs.declared.LatticeFault.TheVariants.{NoMemory}
 use Rattle.lattice_file.specs.declared.reading.LatticeFileFault.{LatticeFileFault}
@@ -10,6 +10,7 @@ use Rattle.lattice_file.specs.Blocks.{BlockView, IsFirstRefused, AreAllBuilt}
 use Rattle.lattice_file.specs.Sharing.{AreApart, IsFirstShared}
 use Rattle.lattice_file.specs.Places.{line_of, column_of}
 use Rattle.lattice_file.specs.Text.{IsLatticeText}
+use Rattle.lattice_file.specs.Begins.{IsFirstBad}
 
 -- a block that follows so many others makes no lattice, for a reason other than memory, or memory ran out
 abbrev pub IsBlockFault : BlockView → ℕ → LatticeFileFault → Type 0
@@ -53,17 +54,26 @@ pub record HasSharedName (bytes name : List ℕ) : Type 0 where
   pub built : AreAllBuilt blocks lattices
   pub first : IsFirstShared lattices name
 
--- a line and a column within the bytes or right behind them
-pub record IsPlaceIn (bytes : List ℕ) (line column : ℕ) : Type 0 where
+-- the answer for the blocks of a text, which is no fault of the text, and memory aside is this one alone
+abbrev pub IsAnswerFor : List BlockView → Result (List LatticeView) LatticeFileFault → Type 0
+IsAnswerFor blocks (Ok lattices) = (length blocks ≤ 16) × AreAllBuilt blocks lattices × AreApart lattices (length lattices)
+IsAnswerFor blocks (Err (Block number reason)) = (length blocks ≤ 16) × IsFirstRefused blocks number reason
+IsAnswerFor blocks (Err (Grammar line column)) = ⊥
+IsAnswerFor blocks (Err TooManyLattices) = 16 < length blocks
+IsAnswerFor blocks (Err (SharedName name)) = (length blocks ≤ 16) × (lattices : List LatticeView) × AreAllBuilt blocks lattices × IsFirstShared lattices name
+IsAnswerFor blocks (Err OutOfMemory) = Unit {0}
+
+-- the line and the column of the first place up to which no lattice text begins so
+pub record IsFirstBadPlace (bytes : List ℕ) (line column : ℕ) : Type 0 where
   pub place : ℕ
-  pub within : place ≤ length bytes
+  pub first : IsFirstBad bytes place
   pub line_is : line ≡ line_of bytes place
   pub column_is : column ≡ column_of bytes place
 
--- when each fault of a file comes; which place a Grammar names is tested alone
+-- when each fault of a file comes
 abbrev pub IsFileFault : List ℕ → LatticeFileFault → Type 0
 IsFileFault bytes (Block number reason) = IsRefusedBlock bytes number reason
-IsFileFault bytes (Grammar line column) = IsPlaceIn bytes line column
+IsFileFault bytes (Grammar line column) = IsFirstBadPlace bytes line column
 IsFileFault bytes TooManyLattices = HasTooMany bytes
 IsFileFault bytes (SharedName name) = HasSharedName bytes name
 IsFileFault bytes OutOfMemory = Unit {0}

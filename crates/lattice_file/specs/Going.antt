@@ -4,11 +4,10 @@ use Rattle.lattice_core.specs.declared.Entry.{Entry}
 use Rattle.lattice_core.specs.declared.Pair.{Pair}
 use Rattle.lattice_file.specs.declared.words.Attribute.{Attribute}
 use Rattle.lattice_file.specs.declared.words.Given.{Given}
-use Rattle.lattice_file.specs.declared.blocks.Reader.{Reader}
 use Rattle.lattice_file.specs.declared.blocks.Stage.{Stage}
 use Rattle.lattice_file.specs.declared.blocks.Stage.TheVariants as stages
 use Rattle.lattice_file.specs.Blocks.{BlockView}
-use Rattle.lattice_file.specs.Text.{Gap, TakesWord, TakesSign, TakesText, TakesValue, Attributes, Items, IsLatticeText, is_element_name, entry_of, no_attribute}
+use Rattle.lattice_file.specs.Text.{TakesWord, TakesSign, TakesValue, Attributes, Items, IsLatticeText, is_element_name, entry_of, no_attribute}
 
 -- what a reader has read: the name of an item, the items of a block, and the blocks before it
 pub record Draft : Type 0 where
@@ -77,29 +76,3 @@ Goes stages.Attribute given draft rest all = GoesOnAttributes given draft rest a
 Goes (stages.Equals attribute) given draft rest all = (behind : List ℕ) × TakesSign 61 rest behind × GoesOnValue attribute given draft behind all
 Goes (stages.Value attribute) given draft rest all = GoesOnValue attribute given draft rest all
 Goes stages.Attributed given draft rest all = GoesBehindAttribute given draft rest all
-
-abbrev pub draft_of : Reader → Draft
-draft_of reader = record { name = reader.name; entries = reader.entries.items; pairs = reader.pairs.items; blocks = reader.blocks.items }
-
-abbrev pub GoesOn : Reader → List ℕ → List BlockView → Type 0
-GoesOn reader rest all = Goes reader.stage reader.given (draft_of reader) rest all
-
--- a reader that has taken a word goes on where it stood before the word
-abbrev pub LeadsByWord : Reader → Reader → List ℕ → Type 0
-LeadsByWord old new word = (rest after : List ℕ) (all : List BlockView) → TakesWord word rest after → GoesOn new after all → GoesOn old rest all
-
--- and so with a sign
-abbrev pub LeadsBySign : Reader → Reader → ℕ → Type 0
-LeadsBySign old new sign = (rest after : List ℕ) (all : List BlockView) → TakesSign sign rest after → GoesOn new after all → GoesOn old rest all
-
--- and so with a colour text
-abbrev pub LeadsByText : Reader → Reader → Type 0
-LeadsByText old new = (rest after : List ℕ) (all : List BlockView) → TakesText rest after → GoesOn new after all → GoesOn old rest all
-
--- a reader that has taken what stands between two places goes on where it stood, whatever gap comes first
-abbrev pub LeadsBehind : Reader → Reader → List ℕ → List ℕ → Type 0
-LeadsBehind old new rest after = (front : List ℕ) (all : List BlockView) → Gap front rest → GoesOn new after all → GoesOn old front all
-
--- a reader goes on with a last gap, to these blocks
-abbrev pub Ends : Reader → List BlockView → Type 0
-Ends reader all = (front : List ℕ) → Gap front [] → GoesOn reader front all

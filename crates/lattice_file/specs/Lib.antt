@@ -4,4 +4,7 @@ pub mod Places
 pub mod Faults
 pub mod Text
 pub mod Going
+pub mod Steps
 pub mod Extents
+pub mod Begins
+pub mod Reading

@@ -1,7 +1,5 @@
 -- Lines and columns of a file, both counted from 1; a column is a number of bytes.
-use Rattle.lattice_file.specs.declared.reading.TextFault.{TextFault}
-use Rattle.lattice_file.specs.declared.reading.TextFault.TheVariants.{At, NoMemory}
-use Rattle.std.specs.Prelude.{ℕ, ◌+◌, ◌≤◌, List, [], ◌∷◌, take, ◌==◌, count_by, if◌then◌else◌}
+use Rattle.std.specs.Prelude.{ℕ, ◌+◌, List, [], ◌∷◌, take, ◌==◌, count_by, if◌then◌else◌}
 
 -- how many line feeds there are
 abbrev pub lines_in : List ℕ → ℕ
@@ -19,8 +17,3 @@ after_last_line (byte ∷ bytes) count = after_last_line bytes (if byte == 10 th
 -- how many bytes of its line stand before a place, and one more
 abbrev pub column_of : List ℕ → ℕ → ℕ
 column_of bytes place = after_last_line (take place bytes) 0 + 1
-
--- a place within so many bytes or right behind them, or memory ran out
-abbrev pub IsPlaced : ℕ → TextFault → Type 0
-IsPlaced count (At place) = place ≤ count
-IsPlaced count NoMemory = Unit {0}

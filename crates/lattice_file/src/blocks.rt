@@ -1,8 +1,9 @@
 //! The blocks of a lattice file, lexeme by lexeme.
 
-ghost use Rattle.std.specs.Prelude.{◌≡◌, ◌≤◌, ◌<◌, [], length, IfOk, IfErr, IfSome, IsTrue};
-ghost use Rattle.std.specs.Bool.{OnTrue};
-ghost use Rattle.lattice_file.specs.Going.{Ends, LeadsByWord, LeadsBySign, LeadsByText};
+ghost use Rattle.std.specs.Prelude.{◌≡◌, ◌<◌, [], length, is_some, true, Some, IfOk, IfErr, OnOk, IfSome, IfNone};
+ghost use Rattle.lattice_file.specs.Steps.{WordLexeme, SignLexeme, TextLexeme, next, only_if, behind_entry, behind_block};
+ghost use Rattle.lattice_file.specs.Reading.{standing_of};
+ghost use Rattle.lattice_file.specs.Extents.{IsFront, may_come};
 ghost use Rattle.lattice_core.specs.Building.{AreBuilt, Refuses};
 
 use crate::lexemes::shared_front;
@@ -104,7 +105,9 @@ impl Reader {
 
     /// The blocks, if the file may end here.
     pub fn finish(self) -> Option<Vec<Block>>
-        ensures { IfSome result (λ blocks. Ends self blocks.items) }
+        ensures outside { IfSome result (λ blocks. self.stage ≡ Stage.Outside) }
+        ensures blocks { IfSome result (λ blocks. blocks.items ≡ self.blocks.items) }
+        ensures inside { IfNone result (self.stage ≡ Stage.Outside → ⊥) }
     {
         match self.stage {
             Stage::Outside => Some(self.blocks),
@@ -114,15 +117,18 @@ impl Reader {
 
     /// Whether a colour text may come next.
     pub fn wants_text(&self) -> bool
-        ensures { IsTrue result → self.now.stage ≡ Stage.Value Attribute.Color }
+        ensures { result ≡ is_some (next (standing_of self.now) TextLexeme) }
     {
-        self.stage == Stage::Value(Attribute::Color)
+        match self.stage {
+            Stage::Value(Attribute::Color) => true,
+            _ => false,
+        }
     }
 
     /// Takes a colour text.
     pub fn take_text(&mut self)
-        requires { self.old.stage ≡ Stage.Value Attribute.Color }
-        ensures { LeadsByText self.old self.new }
+        requires { is_some (next (standing_of self.old) TextLexeme) ≡ true }
+        ensures { next (standing_of self.old) TextLexeme ≡ Some (standing_of self.new) }
     {
         self.given.color = true;
         self.stage = Stage::Attributed;
@@ -130,7 +136,7 @@ impl Reader {
 
     /// How far a word can be one that may come next.
     pub fn word_front(&self, word: &[u8]) -> usize
-        ensures { result ≤ length word.now }
+        ensures { IsFront (may_come (standing_of self.now)) word.now result }
     {
         match self.stage {
             Stage::Outside => shared_front(word, b"partial"),
@@ -138,13 +144,13 @@ impl Reader {
             Stage::Items | Stage::High => name_front(word),
             Stage::Attribute => self.given.name_front(word),
             Stage::Value(attribute) => attribute.value_front(word),
-            _ => 0,
+            Stage::Open | Stage::Named | Stage::Equals(_) | Stage::Attributed => 0,
         }
     }
 
     /// Takes a word, and says whether it may come next.
     pub fn take_word(&mut self, word: &[u8]) -> Result<bool, AllocError>
-        ensures { IfOk result (λ taken. OnTrue taken (LeadsByWord self.old self.new word.now)) }
+        ensures { IfOk result (λ taken. next (standing_of self.old) (WordLexeme word.now) ≡ only_if taken (standing_of self.new)) }
     {
         match self.stage {
             Stage::Outside => Ok(self.begin_order(word)),
@@ -153,29 +159,29 @@ impl Reader {
             Stage::High => self.end_line(word),
             Stage::Attribute => Ok(self.begin_attribute(word)),
             Stage::Value(attribute) => Ok(self.end_value(attribute, word)),
-            _ => Ok(false),
+            Stage::Open | Stage::Named | Stage::Equals(_) | Stage::Attributed => Ok(false),
         }
     }
 
     /// Takes a sign, and says whether it may come next.
     pub fn take_sign(&mut self, sign: u8) -> Result<bool, AllocError>
-        ensures { IfOk result (λ taken. OnTrue taken (LeadsBySign self.old self.new sign)) }
+        ensures { IfOk result (λ taken. next (standing_of self.old) (SignLexeme sign) ≡ only_if taken (standing_of self.new)) }
     {
-        match (self.stage, sign) {
-            (Stage::Open, b'{') => Ok(self.open_block()),
-            (Stage::Items, b'}') if !self.entries.is_empty() => self.end_block(),
-            (Stage::Named, b'[') => Ok(self.begin_entry()),
-            (Stage::Named, b'<') => Ok(self.begin_high()),
-            (Stage::Equals(attribute), b'=') => Ok(self.begin_value(attribute)),
-            (Stage::Attributed, b',') if !self.given.is_full() => Ok(self.begin_next()),
-            (Stage::Attributed, b']') => self.end_entry(),
-            _ => Ok(false),
+        match self.stage {
+            Stage::Open => Ok(self.open_block(sign)),
+            Stage::Items => self.end_block(sign),
+            Stage::Named => Ok(self.behind_name(sign)),
+            Stage::Equals(attribute) => Ok(self.begin_value(attribute, sign)),
+            Stage::Attributed => self.behind_attribute(sign),
+            Stage::Outside | Stage::Order | Stage::High | Stage::Attribute | Stage::Value(_) => {
+                Ok(false)
+            }
         }
     }
 
     fn begin_order(&mut self, word: &[u8]) -> bool
         requires { self.old.stage ≡ Stage.Outside }
-        ensures { OnTrue result (LeadsByWord self.old self.new word.now) }
+        ensures { next (standing_of self.old) (WordLexeme word.now) ≡ only_if result (standing_of self.new) }
     {
         if word != b"partial".as_slice() {
             return false;
@@ -186,7 +192,7 @@ impl Reader {
 
     fn end_order(&mut self, word: &[u8]) -> bool
         requires { self.old.stage ≡ Stage.Order }
-        ensures { OnTrue result (LeadsByWord self.old self.new word.now) }
+        ensures { next (standing_of self.old) (WordLexeme word.now) ≡ only_if result (standing_of self.new) }
     {
         if word != b"order".as_slice() {
             return false;
@@ -195,10 +201,13 @@ impl Reader {
         true
     }
 
-    fn open_block(&mut self) -> bool
+    fn open_block(&mut self, sign: u8) -> bool
         requires { self.old.stage ≡ Stage.Open }
-        ensures { OnTrue result (LeadsBySign self.old self.new 123) }
+        ensures { next (standing_of self.old) (SignLexeme sign) ≡ only_if result (standing_of self.new) }
     {
+        if sign != b'{' {
+            return false;
+        }
         self.entries = Vec::new(self.alloc);
         self.pairs = Vec::new(self.alloc);
         self.stage = Stage::Items;
@@ -207,7 +216,7 @@ impl Reader {
 
     fn begin_item(&mut self, word: &[u8]) -> Result<bool, AllocError>
         requires { self.old.stage ≡ Stage.Items }
-        ensures { IfOk result (λ taken. OnTrue taken (LeadsByWord self.old self.new word.now)) }
+        ensures { IfOk result (λ taken. next (standing_of self.old) (WordLexeme word.now) ≡ only_if taken (standing_of self.new)) }
     {
         if !is_name(word) {
             return Ok(false);
@@ -217,17 +226,25 @@ impl Reader {
         Ok(true)
     }
 
-    fn begin_high(&mut self) -> bool
+    fn behind_name(&mut self, sign: u8) -> bool
         requires { self.old.stage ≡ Stage.Named }
-        ensures { OnTrue result (LeadsBySign self.old self.new 60) }
+        ensures { next (standing_of self.old) (SignLexeme sign) ≡ only_if result (standing_of self.new) }
     {
+        if sign == b'[' {
+            self.given = Given::none();
+            self.stage = Stage::Attribute;
+            return true;
+        }
+        if sign != b'<' {
+            return false;
+        }
         self.stage = Stage::High;
         true
     }
 
     fn end_line(&mut self, word: &[u8]) -> Result<bool, AllocError>
         requires { self.old.stage ≡ Stage.High }
-        ensures { IfOk result (λ taken. OnTrue taken (LeadsByWord self.old self.new word.now)) }
+        ensures { IfOk result (λ taken. next (standing_of self.old) (WordLexeme word.now) ≡ only_if taken (standing_of self.new)) }
     {
         if !is_name(word) {
             return Ok(false);
@@ -239,18 +256,9 @@ impl Reader {
         Ok(true)
     }
 
-    fn begin_entry(&mut self) -> bool
-        requires { self.old.stage ≡ Stage.Named }
-        ensures { OnTrue result (LeadsBySign self.old self.new 91) }
-    {
-        self.given = Given::none();
-        self.stage = Stage::Attribute;
-        true
-    }
-
     fn begin_attribute(&mut self, word: &[u8]) -> bool
         requires { self.old.stage ≡ Stage.Attribute }
-        ensures { OnTrue result (LeadsByWord self.old self.new word.now) }
+        ensures { next (standing_of self.old) (WordLexeme word.now) ≡ only_if result (standing_of self.new) }
     {
         match self.given.named(word) {
             Some(attribute) => {
@@ -261,17 +269,20 @@ impl Reader {
         }
     }
 
-    fn begin_value(&mut self, attribute: Attribute) -> bool
+    fn begin_value(&mut self, attribute: Attribute, sign: u8) -> bool
         requires { self.old.stage ≡ Stage.Equals attribute }
-        ensures { OnTrue result (LeadsBySign self.old self.new 61) }
+        ensures { next (standing_of self.old) (SignLexeme sign) ≡ only_if result (standing_of self.new) }
     {
+        if sign != b'=' {
+            return false;
+        }
         self.stage = Stage::Value(attribute);
         true
     }
 
     fn end_value(&mut self, attribute: Attribute, word: &[u8]) -> bool
         requires { self.old.stage ≡ Stage.Value attribute }
-        ensures { OnTrue result (LeadsByWord self.old self.new word.now) }
+        ensures { next (standing_of self.old) (WordLexeme word.now) ≡ only_if result (standing_of self.new) }
     {
         match self.given.give(attribute, word) {
             Some(given) => {
@@ -283,17 +294,24 @@ impl Reader {
         }
     }
 
-    fn begin_next(&mut self) -> bool
+    fn behind_attribute(&mut self, sign: u8) -> Result<bool, AllocError>
         requires { self.old.stage ≡ Stage.Attributed }
-        ensures { OnTrue result (LeadsBySign self.old self.new 44) }
+        ensures { IfOk result (λ taken. next (standing_of self.old) (SignLexeme sign) ≡ only_if taken (standing_of self.new)) }
     {
-        self.stage = Stage::Attribute;
-        true
+        if sign == b',' && !self.given.is_full() {
+            self.stage = Stage::Attribute;
+            return Ok(true);
+        }
+        if sign != b']' {
+            return Ok(false);
+        }
+        self.end_entry()?;
+        Ok(true)
     }
 
-    fn end_entry(&mut self) -> Result<bool, AllocError>
-        requires { self.old.stage ≡ Stage.Attributed }
-        ensures { IfOk result (λ taken. OnTrue taken (LeadsBySign self.old self.new 93)) }
+    /// Adds the entry that is read.
+    fn end_entry(&mut self) -> Result<(), AllocError>
+        ensures { OnOk result (standing_of self.new ≡ behind_entry (standing_of self.old)) }
     {
         let entry = Entry {
             name: self.name.copy(self.alloc)?,
@@ -304,18 +322,29 @@ impl Reader {
         };
         self.entries.push(entry)?;
         self.stage = Stage::Items;
+        Ok(())
+    }
+
+    fn end_block(&mut self, sign: u8) -> Result<bool, AllocError>
+        requires { self.old.stage ≡ Stage.Items }
+        ensures { IfOk result (λ taken. next (standing_of self.old) (SignLexeme sign) ≡ only_if taken (standing_of self.new)) }
+    {
+        if sign != b'}' || self.entries.is_empty() {
+            return Ok(false);
+        }
+        self.add_block()?;
         Ok(true)
     }
 
-    fn end_block(&mut self) -> Result<bool, AllocError>
-        requires stage { self.old.stage ≡ Stage.Items }
-        requires filled { 0 < length self.old.entries.items }
-        ensures { IfOk result (λ taken. OnTrue taken (LeadsBySign self.old self.new 125)) }
+    /// Adds the block that is read.
+    fn add_block(&mut self) -> Result<(), AllocError>
+        requires { 0 < length self.old.entries.items }
+        ensures { OnOk result (standing_of self.new ≡ behind_block (standing_of self.old)) }
     {
         let entries = std::mem::replace(&mut self.entries, Vec::new(self.alloc));
         let pairs = std::mem::replace(&mut self.pairs, Vec::new(self.alloc));
         self.blocks.push(Block::new(entries, pairs))?;
         self.stage = Stage::Outside;
-        Ok(true)
+        Ok(())
     }
 }

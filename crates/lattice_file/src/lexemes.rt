@@ -1,8 +1,10 @@
 //! Gaps, words and colour texts in the bytes of a lattice file.
 
-ghost use Rattle.std.specs.Prelude.{◌≡◌, ◌≤◌, ◌<◌, false, length, drop, IfOk, IfErr, slice_index};
-ghost use Rattle.lattice_file.specs.Text.{Gap, is_blank, lengthens, stands_in_words};
-ghost use Rattle.lattice_file.specs.Extents.{CommentEnds, LineEnds, TextGoes};
+ghost use Rattle.std.specs.Prelude.{◌≡◌, ◌≤◌, ◌<◌, ◌+◌, true, false, length, drop, IfOk, IfErr, slice_index, ◌⊎◌};
+ghost use Rattle.std.specs.List.{list_all, slice_range};
+ghost use Rattle.std.specs.Str.{bytes_eq};
+ghost use Rattle.lattice_file.specs.Text.{StaysOpen, is_blank, lengthens, stands_in_words, stands_in_text};
+ghost use Rattle.lattice_file.specs.Extents.{CommentEnds, LineEnds, GapGoes, CommentFails, GapFails, begins_lexeme, IsFront};
 
 /// Whether a byte stands in words.
 pub fn is_word_byte(byte: u8) -> bool
@@ -17,7 +19,8 @@ fn block_comment_end(bytes: &[u8], from: usize) -> Result<usize, usize>
     ensures later { IfOk result (λ end. from < end) }
     ensures within { IfOk result (λ end. end ≤ length bytes.now) }
     ensures comment { IfOk result (CommentEnds bytes.now from) }
-    ensures place { IfErr result (λ place. place ≤ length bytes.now) }
+    ensures over { IfErr result (λ place. place ≡ length bytes.now) }
+    ensures open_to_the_end { IfErr result (λ place. StaysOpen (slice_range bytes.now from place)) }
 {
     let mut at = from;
     while at + 1 < bytes.len() {
@@ -47,10 +50,10 @@ fn line_end(bytes: &[u8], from: usize) -> usize
 fn comment_end(bytes: &[u8], at: usize) -> Result<usize, usize>
     requires within { at < length bytes.now }
     requires slash { slice_index bytes.now at ≡ 47 }
-    ensures gap { IfOk result (λ end. Gap (drop at bytes.now) (drop end bytes.now)) }
+    ensures gap { IfOk result (GapGoes bytes.now at) }
     ensures later { IfOk result (λ end. at < end) }
     ensures within { IfOk result (λ end. end ≤ length bytes.now) }
-    ensures place { IfErr result (λ place. place ≤ length bytes.now) }
+    ensures fails { IfErr result (CommentFails bytes.now at) }
 {
     if at + 1 == bytes.len() {
         return Err(at + 1);
@@ -72,10 +75,11 @@ fn is_blank_byte(byte: u8) -> bool
 /// The place behind the blank or the comment at a place, or that place where neither stands there.
 fn gap_piece_end(bytes: &[u8], at: usize) -> Result<usize, usize>
     requires { at < length bytes.now }
-    ensures gap { IfOk result (λ end. Gap (drop at bytes.now) (drop end bytes.now)) }
+    ensures gap { IfOk result (GapGoes bytes.now at) }
     ensures later { IfOk result (λ end. at ≤ end) }
     ensures within { IfOk result (λ end. end ≤ length bytes.now) }
-    ensures place { IfErr result (λ place. place ≤ length bytes.now) }
+    ensures stops { IfOk result (λ end. end ≡ at → begins_lexeme (drop at bytes.now) ≡ true) }
+    ensures fails { IfErr result (CommentFails bytes.now at) }
 {
     if is_blank_byte(bytes[at]) {
         return Ok(at + 1);
@@ -90,10 +94,11 @@ fn gap_piece_end(bytes: &[u8], at: usize) -> Result<usize, usize>
 /// The first place from one on at which no gap goes on, or the place at which a comment fails.
 pub fn skip_gap(bytes: &[u8], from: usize) -> Result<usize, usize>
     requires { from ≤ length bytes.now }
-    ensures gap { IfOk result (λ end. Gap (drop from bytes.now) (drop end bytes.now)) }
+    ensures gap { IfOk result (GapGoes bytes.now from) }
     ensures later { IfOk result (λ end. from ≤ end) }
     ensures within { IfOk result (λ end. end ≤ length bytes.now) }
-    ensures place { IfErr result (λ place. place ≤ length bytes.now) }
+    ensures stops { IfOk result (λ end. begins_lexeme (drop end bytes.now) ≡ true) }
+    ensures fails { IfErr result (GapFails bytes.now from) }
 {
     let mut at = from;
     while at < bytes.len() {
@@ -110,6 +115,7 @@ pub fn skip_gap(bytes: &[u8], from: usize) -> Result<usize, usize>
 pub fn word_end(bytes: &[u8], from: usize) -> usize
     requires { from ≤ length bytes.now }
     ensures ends { lengthens (drop result bytes.now) ≡ false }
+    ensures word { list_all stands_in_words (slice_range bytes.now from result) ≡ true }
     ensures later { from ≤ result }
     ensures within { result ≤ length bytes.now }
 {
@@ -123,9 +129,10 @@ pub fn word_end(bytes: &[u8], from: usize) -> usize
 /// The place of the first quote or line feed, or the end of the bytes.
 pub fn text_end(bytes: &[u8], from: usize) -> usize
     requires { from ≤ length bytes.now }
-    ensures text { TextGoes bytes.now from result }
+    ensures text { list_all stands_in_text (slice_range bytes.now from result) ≡ true }
     ensures later { from ≤ result }
     ensures within { result ≤ length bytes.now }
+    ensures ends { (result ≡ length bytes.now) ⊎ (stands_in_text (slice_index bytes.now result) ≡ false) }
 {
     let mut at = from;
     while at < bytes.len() && bytes[at] != b'"' && bytes[at] != b'\n' {
@@ -136,8 +143,7 @@ pub fn text_end(bytes: &[u8], from: usize) -> usize
 
 /// The length of the front that two texts share, in at most as many steps.
 pub fn shared_front(word: &[u8], other: &[u8]) -> usize
-    ensures first { result ≤ length word.now }
-    ensures second { result ≤ length other.now }
+    ensures { IsFront (λ w. bytes_eq w other.now) word.now result }
 {
     let mut at = 0;
     while at < word.len() && at < other.len() && word[at] == other[at] {

@@ -1,12 +1,13 @@
 //! Reading a lattice file: its blocks, then the lattice of each.
 
-ghost use Rattle.std.specs.Prelude.{◌≡◌, ◌≤◌, ◌<◌, ◌^◌, ◌-◌, length, drop, IfOk, IfErr};
+ghost use Rattle.std.specs.Prelude.{◌≡◌, ◌≤◌, ◌<◌, ◌^◌, ◌-◌, true, false, length, is_some, slice_index, IfOk, IfErr};
 ghost use Rattle.lattice_core.specs.Building.{AreBuilt};
 ghost use Rattle.lattice_file.specs.Blocks.{AreAllBuilt};
-ghost use Rattle.lattice_file.specs.Faults.{IsBlockFault, IsBuildFault, Reads, IsFileFault};
-ghost use Rattle.lattice_file.specs.Going.{LeadsBehind};
-ghost use Rattle.lattice_file.specs.Text.{IsLatticeText};
-ghost use Rattle.lattice_file.specs.Places.{IsPlaced};
+ghost use Rattle.lattice_file.specs.Faults.{IsBlockFault, IsBuildFault, Reads, IsFileFault, IsAnswerFor};
+ghost use Rattle.lattice_file.specs.Text.{IsLatticeText, stands_in_words};
+ghost use Rattle.lattice_file.specs.Steps.{TextLexeme, next};
+ghost use Rattle.lattice_file.specs.Extents.{LexemeGoes};
+ghost use Rattle.lattice_file.specs.Reading.{standing_of, IsLexemeFault, IsTextFault};
 
 use crate::blocks::{Block, Reader};
 use crate::lexemes::{is_word_byte, skip_gap, text_end, word_end};
@@ -70,35 +71,56 @@ impl From<AllocError> for TextFault {
     }
 }
 
-/// The place behind the lexeme at a place, which the reader takes.
-fn take_lexeme(reader: &mut Reader, bytes: &[u8], at: usize) -> Result<usize, TextFault>
-    requires { at < length bytes.now }
+/// The place behind the word at a place, which the reader takes.
+fn take_word(reader: &mut Reader, bytes: &[u8], at: usize) -> Result<usize, TextFault>
+    requires within { at < length bytes.now }
+    requires word { stands_in_words (slice_index bytes.now at) ≡ true }
     ensures later { IfOk result (λ end. at < end) }
     ensures within { IfOk result (λ end. end ≤ length bytes.now) }
-    ensures leads { IfOk result (λ end. LeadsBehind reader.old reader.new (drop at bytes.now) (drop end bytes.now)) }
-    ensures place { IfErr result (IsPlaced (length bytes.now)) }
+    ensures goes { IfOk result (LexemeGoes (standing_of reader.old) (standing_of reader.new) bytes.now at) }
+    ensures fails { IfErr result (IsLexemeFault reader.old bytes.now at) }
 {
-    if is_word_byte(bytes[at]) {
-        let end = word_end(bytes, at + 1);
-        let word = &bytes[at..end];
-        let front = reader.word_front(word);
-        if front < word.len() {
-            return Err(TextFault::At(at + front));
-        }
-        return if reader.take_word(word)? {
-            Ok(end)
-        } else {
-            Err(TextFault::At(end))
-        };
+    let end = word_end(bytes, at);
+    let word = &bytes[at..end];
+    let front = reader.word_front(word);
+    if front < word.len() {
+        return Err(TextFault::At(at + front));
     }
-    if bytes[at] == b'"' && reader.wants_text() {
-        let end = text_end(bytes, at + 1);
-        if end == bytes.len() || bytes[end] != b'"' {
-            return Err(TextFault::At(end));
-        }
-        reader.take_text();
-        return Ok(end + 1);
+    if reader.take_word(word)? {
+        Ok(end)
+    } else {
+        Err(TextFault::At(end))
     }
+}
+
+/// The place behind the colour text at a place, which the reader takes.
+fn take_text(reader: &mut Reader, bytes: &[u8], at: usize) -> Result<usize, TextFault>
+    requires within { at < length bytes.now }
+    requires quote { slice_index bytes.now at ≡ 34 }
+    requires wanted { is_some (next (standing_of reader.old) TextLexeme) ≡ true }
+    ensures later { IfOk result (λ end. at < end) }
+    ensures within { IfOk result (λ end. end ≤ length bytes.now) }
+    ensures goes { IfOk result (LexemeGoes (standing_of reader.old) (standing_of reader.new) bytes.now at) }
+    ensures fails { IfErr result (IsLexemeFault reader.old bytes.now at) }
+{
+    let end = text_end(bytes, at + 1);
+    if end == bytes.len() || bytes[end] != b'"' {
+        return Err(TextFault::At(end));
+    }
+    reader.take_text();
+    Ok(end + 1)
+}
+
+/// The place behind the sign at a place, which the reader takes.
+fn take_sign(reader: &mut Reader, bytes: &[u8], at: usize) -> Result<usize, TextFault>
+    requires within { at < length bytes.now }
+    requires no_word { stands_in_words (slice_index bytes.now at) ≡ false }
+    requires no_text { slice_index bytes.now at ≡ 34 → is_some (next (standing_of reader.old) TextLexeme) ≡ false }
+    ensures later { IfOk result (λ end. at < end) }
+    ensures within { IfOk result (λ end. end ≤ length bytes.now) }
+    ensures goes { IfOk result (LexemeGoes (standing_of reader.old) (standing_of reader.new) bytes.now at) }
+    ensures fails { IfErr result (IsLexemeFault reader.old bytes.now at) }
+{
     if reader.take_sign(bytes[at])? {
         Ok(at + 1)
     } else {
@@ -106,10 +128,27 @@ fn take_lexeme(reader: &mut Reader, bytes: &[u8], at: usize) -> Result<usize, Te
     }
 }
 
+/// The place behind the lexeme at a place, which the reader takes.
+fn take_lexeme(reader: &mut Reader, bytes: &[u8], at: usize) -> Result<usize, TextFault>
+    requires { at < length bytes.now }
+    ensures later { IfOk result (λ end. at < end) }
+    ensures within { IfOk result (λ end. end ≤ length bytes.now) }
+    ensures goes { IfOk result (LexemeGoes (standing_of reader.old) (standing_of reader.new) bytes.now at) }
+    ensures fails { IfErr result (IsLexemeFault reader.old bytes.now at) }
+{
+    if is_word_byte(bytes[at]) {
+        return take_word(reader, bytes, at);
+    }
+    if bytes[at] == b'"' && reader.wants_text() {
+        return take_text(reader, bytes, at);
+    }
+    take_sign(reader, bytes, at)
+}
+
 /// The blocks of a text, in one pass over it.
 fn read_blocks(alloc: Global, bytes: &[u8]) -> Result<Vec<Block>, TextFault>
     ensures text { IfOk result (λ blocks. IsLatticeText blocks.items bytes.now) }
-    ensures place { IfErr result (IsPlaced (length bytes.now)) }
+    ensures first { IfErr result (IsTextFault bytes.now) }
 {
     let mut reader = Reader::new(alloc);
     let mut at = 0;
@@ -154,13 +193,28 @@ fn build_all(alloc: Global, blocks: Vec<Block>) -> Result<Lattices, LatticeFileF
     Ok(all)
 }
 
+/// The lattices of the blocks of a file, or the first reason why there are none.
+fn lattices_of(alloc: Global, blocks: Vec<Block>) -> Result<Lattices, LatticeFileFault>
+    ensures { IsAnswerFor blocks.items result }
+{
+    if blocks.len() > 16 {
+        return Err(LatticeFileFault::TooManyLattices);
+    }
+    let all = build_all(alloc, blocks)?;
+    if let Some(name) = first_shared(&all) {
+        return Err(LatticeFileFault::SharedName(Name::new(name.to_vec(alloc)?)));
+    }
+    Ok(all)
+}
+
 /// The lattices of a file, in time and memory linear in it, or the first reason why it does not read: where it is no
 /// text of blocks, then that there are over 16 of them, then the first block that makes no lattice, then the first name
-/// that an earlier block has.
+/// that an earlier block has. Bytes are a text of one list of blocks at most, so memory aside the answer is one.
 pub fn read_lattices(alloc: Global, bytes: &[u8]) -> Result<Lattices, LatticeFileFault>
     requires { length bytes.now < 2 ^ 32 - 1 }
     ensures read { IfOk result (Reads bytes.now) }
     ensures refused { IfErr result (IsFileFault bytes.now) }
+    ensures only { (blocks : _) → IsLatticeText blocks bytes.now → IsAnswerFor blocks result }
 {
     let blocks = match read_blocks(alloc, bytes) {
         Ok(blocks) => blocks,
@@ -170,12 +224,5 @@ pub fn read_lattices(alloc: Global, bytes: &[u8]) -> Result<Lattices, LatticeFil
             return Err(LatticeFileFault::Grammar { line, column });
         }
     };
-    if blocks.len() > 16 {
-        return Err(LatticeFileFault::TooManyLattices);
-    }
-    let all = build_all(alloc, blocks)?;
-    if let Some(name) = first_shared(&all) {
-        return Err(LatticeFileFault::SharedName(Name::new(name.to_vec(alloc)?)));
-    }
-    Ok(all)
+    lattices_of(alloc, blocks)
 }

@@ -149,6 +149,82 @@ fn each_text_reads_or_fails_at_its_place(rt: HostRuntime) -> Result<(), Fail> {
 }
 
 #[test]
+fn a_place_is_the_byte_with_which_no_text_begins_any_more(rt: HostRuntime) -> Result<(), Fail> {
+    let alloc = rt.alloc();
+    let cases = [
+        ("   ", "0"),
+        ("part ial", "at 1:5"),
+        ("part/", "at 1:5"),
+        ("partial/", "at 1:9"),
+        ("partial/x", "at 1:9"),
+        ("partial //", "at 1:11"),
+        ("partial // order\n", "at 2:1"),
+        ("/* a */ /", "at 1:10"),
+        ("/* a * /", "at 1:9"),
+        ("// a\n/", "at 2:2"),
+        ("partial order {$", "at 1:17"),
+        ("partial order {$ a", "at 1:17"),
+        ("partial order {$_a", "at 1:17"),
+        ("partial order {const$a[", "at 1:21"),
+        ("partial order {co]", "at 1:18"),
+        ("partial order {level", "at 1:16"),
+        ("partial order {partial", "at 1:16"),
+        ("partial order {$a[up", "at 1:19"),
+        ("partial order {$a[level level", "at 1:25"),
+        ("partial order {$a[level==", "at 1:25"),
+        ("partial order {$a[level=ref,l", "at 1:29"),
+        ("partial order {$a[level=ref,]", "at 1:29"),
+        ("partial order {$a[level=ref,sign=v", "at 1:34"),
+        ("partial order {$a[sign=po]", "at 1:26"),
+        ("partial order {$a[sign=en", "at 1:25"),
+        ("partial order {$a[sign=posx", "at 1:27"),
+        ("partial order {$a[write=y]", "at 1:26"),
+        ("partial order {$a[deref=ye", "at 1:27"),
+        ("partial order {$a[color=yes", "at 1:25"),
+        ("partial order {$a[color=\"a\"b", "at 1:28"),
+        ("partial order {$a[color=\"a\nb\"", "at 1:27"),
+        ("partial order {$a[level=\"ref\"", "at 1:25"),
+        ("partial order {$a[color=\"\",color=", "at 1:28"),
+        ("partial order {$a[write=yes,deref=yes,w", "at 1:39"),
+        ("partial order {$a[sign = eq,,", "at 1:29"),
+        ("partial order {$a<$b}", "at 1:21"),
+        ("partial order {$a[sign=eq]}}", "at 1:28"),
+        ("partial order {$a[sign=eq]};", "at 1:28"),
+        ("partial order{$a[sign=eq]$b[sign=eq]$a<$b}", "1"),
+        ("partial order {$a < $a $a[sign=eq]}", "1"),
+    ];
+    for (text, want) in cases {
+        if text.len() < 1000 {
+            let outcome = shown(alloc, read_lattices(alloc, text.as_bytes()))?;
+            assert_eq!(rt; outcome.as_slice(), want.as_bytes());
+        }
+    }
+    Ok(())
+}
+
+#[test]
+fn a_chain_of_64_reads_and_65_entries_are_too_many(rt: HostRuntime) -> Result<(), Fail> {
+    let alloc = rt.alloc();
+    for count in 64..66 {
+        let mut text = Vec::new(alloc);
+        text.extend_from_slice(b"partial order {$e0[sign=eq]")?;
+        for elem in 1..count {
+            let below = elem - 1;
+            text.extend_from_slice(format!(in alloc;
+                " $e{elem}[sign=eq] $e{below}<$e{elem}"
+            )?.as_bytes())?;
+        }
+        text.extend_from_slice(b"}")?;
+        if text.len() < 10000 {
+            let outcome = shown(alloc, read_lattices(alloc, text.as_slice()))?;
+            let want = if count == 64 { "1" } else { "block 1 too many" };
+            assert_eq!(rt; outcome.as_slice(), want.as_bytes());
+        }
+    }
+    Ok(())
+}
+
+#[test]
 fn seventeen_blocks_are_too_many(rt: HostRuntime) -> Result<(), Fail> {
     let alloc = rt.alloc();
     let mut text = Vec::new(alloc);

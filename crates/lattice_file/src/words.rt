@@ -1,8 +1,11 @@
 //! The words of a lattice file, and how far a word can be one of them.
 
-ghost use Rattle.std.specs.Prelude.{◌≡◌, ◌≤◌, true, false, length, codes, IfSome};
-ghost use Rattle.lattice_file.specs.Text.{no_attribute, has_attribute, attribute_word, Gives, IsLevel, IsSign, is_letter, is_name_byte, begins_with_dollar, is_element_name};
+ghost use Rattle.std.specs.Prelude.{◌≡◌, ◌≤◌, ◌<◌, ◌⊎◌, [], ◌∷◌, true, false, length, take, is_some, Some, slice_index};
 ghost use Rattle.std.specs.List.{list_all};
+ghost use Rattle.lattice_file.specs.Text.{no_attribute, has_attribute, attribute_word, is_letter, is_name_byte, begins_with_dollar, is_element_name};
+ghost use Rattle.lattice_file.specs.Steps.{map_some, if_named, attribute_named, level_named, sign_named, with_value, is_full};
+ghost use Rattle.lattice_file.specs.Extents.{IsFront};
+ghost use Rattle.lattice_file.specs.declared.words.Attribute.TheVariants.{Write as WriteAttribute, Deref as DerefAttribute};
 
 use crate::lexemes::shared_front;
 use lattice_core::{Level, Sign};
@@ -55,98 +58,174 @@ impl Given {
     }
 
     /// Whether no other attribute can follow.
-    pub fn is_full(&self) -> bool {
+    pub fn is_full(&self) -> bool
+        ensures { result ≡ is_full self.now }
+    {
         self.level.is_some() && self.sign.is_some() && self.color && self.write && self.deref
+    }
+
+    /// How far a word can be the name of this attribute, if it is not given yet.
+    fn front_of(&self, word: &[u8], attribute: Attribute) -> usize
+        ensures { IsFront (λ w. is_some (if_named self.now w attribute)) word.now result }
+    {
+        if self.has(attribute) {
+            0
+        } else {
+            shared_front(word, attribute.word())
+        }
     }
 
     /// How far a word can be the name of an attribute that is not given yet.
     pub fn name_front(&self, word: &[u8]) -> usize
-        ensures { result ≤ length word.now }
+        ensures { IsFront (λ w. is_some (attribute_named self.now w)) word.now result }
     {
-        let mut most = 0;
-        for attribute in [
-            Attribute::Level,
-            Attribute::Sign,
-            Attribute::Color,
-            Attribute::Write,
-            Attribute::Deref,
-        ] {
-            if !self.has(attribute) {
-                most = most.max(shared_front(word, attribute.word()));
-            }
+        let write_or_deref = longer(
+            self.front_of(word, Attribute::Write),
+            self.front_of(word, Attribute::Deref),
+        );
+        let no_level_or_sign = longer(self.front_of(word, Attribute::Color), write_or_deref);
+        let no_level = longer(self.front_of(word, Attribute::Sign), no_level_or_sign);
+        longer(self.front_of(word, Attribute::Level), no_level)
+    }
+
+    /// This attribute, if a word is its name and it is not given yet.
+    fn if_named(&self, word: &[u8], attribute: Attribute) -> Option<Attribute>
+        ensures { result ≡ if_named self.now word.now attribute }
+    {
+        if word == attribute.word() && !self.has(attribute) {
+            Some(attribute)
+        } else {
+            None
         }
-        most
     }
 
     /// The attribute of a name, if it is not given yet.
     pub fn named(&self, word: &[u8]) -> Option<Attribute>
-        ensures word { IfSome result (λ attribute. word.now ≡ attribute_word attribute) }
-        ensures new { IfSome result (λ attribute. has_attribute self.now attribute ≡ false) }
+        ensures { result ≡ attribute_named self.now word.now }
     {
-        let attribute = match word {
-            b"level" => Attribute::Level,
-            b"sign" => Attribute::Sign,
-            b"color" => Attribute::Color,
-            b"write" => Attribute::Write,
-            b"deref" => Attribute::Deref,
-            _ => return None,
-        };
-        if self.has(attribute) {
-            None
-        } else {
-            Some(attribute)
-        }
+        let write_or_deref = self
+            .if_named(word, Attribute::Write)
+            .or(self.if_named(word, Attribute::Deref));
+        let no_level_or_sign = self.if_named(word, Attribute::Color).or(write_or_deref);
+        let no_level = self.if_named(word, Attribute::Sign).or(no_level_or_sign);
+        self.if_named(word, Attribute::Level).or(no_level)
     }
 
     /// The attributes with a word as the value of one, if it has such a value.
     pub fn give(self, attribute: Attribute, word: &[u8]) -> Option<Given>
-        ensures { IfSome result (Gives attribute word.now self) }
+        ensures { result ≡ with_value attribute self word.now }
+    {
+        match attribute {
+            Attribute::Level => self.with_level(level_of(word)),
+            Attribute::Sign => self.with_sign(sign_of(word)),
+            Attribute::Color => None,
+            Attribute::Write => self.with_write(word),
+            Attribute::Deref => self.with_deref(word),
+        }
+    }
+
+    fn with_level(self, level: Option<Level>) -> Option<Given>
+        ensures { result ≡ map_some (λ level. record self { level = Some level }) level }
     {
         let mut given = self;
-        match attribute {
-            Attribute::Level => given.level = Some(level_of(word)?),
-            Attribute::Sign => given.sign = Some(sign_of(word)?),
-            Attribute::Color => return None,
-            Attribute::Write => given.write = yes(word)?,
-            Attribute::Deref => given.deref = yes(word)?,
+        match level {
+            Some(level) => {
+                given.level = Some(level);
+                Some(given)
+            }
+            None => None,
         }
+    }
+
+    fn with_sign(self, sign: Option<Sign>) -> Option<Given>
+        ensures { result ≡ map_some (λ sign. record self { sign = Some sign }) sign }
+    {
+        let mut given = self;
+        match sign {
+            Some(sign) => {
+                given.sign = Some(sign);
+                Some(given)
+            }
+            None => None,
+        }
+    }
+
+    fn with_write(self, word: &[u8]) -> Option<Given>
+        ensures { result ≡ with_value WriteAttribute self word.now }
+    {
+        let mut given = self;
+        if word != b"yes".as_slice() {
+            return None;
+        }
+        given.write = true;
+        Some(given)
+    }
+
+    fn with_deref(self, word: &[u8]) -> Option<Given>
+        ensures { result ≡ with_value DerefAttribute self word.now }
+    {
+        let mut given = self;
+        if word != b"yes".as_slice() {
+            return None;
+        }
+        given.deref = true;
         Some(given)
     }
 }
 
 fn level_of(word: &[u8]) -> Option<Level>
-    ensures { IfSome result (IsLevel word.now) }
+    ensures { result ≡ level_named word.now }
 {
-    match word {
-        b"ref" => Some(Level::Ref),
-        b"value" => Some(Level::Value),
-        _ => None,
+    if word == b"ref".as_slice() {
+        Some(Level::Ref)
+    } else if word == b"value".as_slice() {
+        Some(Level::Value)
+    } else {
+        None
     }
 }
 
 fn sign_of(word: &[u8]) -> Option<Sign>
-    ensures { IfSome result (IsSign word.now) }
+    ensures { result ≡ sign_named word.now }
 {
-    match word {
-        b"pos" => Some(Sign::Pos),
-        b"neg" => Some(Sign::Neg),
-        b"eq" => Some(Sign::Eq),
-        _ => None,
+    if word == b"pos".as_slice() {
+        Some(Sign::Pos)
+    } else if word == b"neg".as_slice() {
+        Some(Sign::Neg)
+    } else if word == b"eq".as_slice() {
+        Some(Sign::Eq)
+    } else {
+        None
     }
 }
 
-fn yes(word: &[u8]) -> Option<bool>
-    ensures { IfSome result (λ value. (word.now ≡ codes "yes") × (value ≡ true)) }
+/// The longer of two fronts.
+fn longer(one: usize, other: usize) -> usize
+    ensures first { one ≤ result }
+    ensures second { other ≤ result }
+    ensures which { (result ≡ one) ⊎ (result ≡ other) }
 {
-    match word {
-        b"yes" => Some(true),
-        _ => None,
-    }
+    if one < other { other } else { one }
+}
+
+fn level_front(word: &[u8]) -> usize
+    ensures { IsFront (λ w. is_some (level_named w)) word.now result }
+{
+    longer(shared_front(word, b"ref"), shared_front(word, b"value"))
+}
+
+fn sign_front(word: &[u8]) -> usize
+    ensures { IsFront (λ w. is_some (sign_named w)) word.now result }
+{
+    let neg_or_eq = longer(shared_front(word, b"neg"), shared_front(word, b"eq"));
+    longer(shared_front(word, b"pos"), neg_or_eq)
 }
 
 impl Attribute {
     /// The attribute's name.
-    fn word(self) -> &'static [u8] {
+    fn word(self) -> &'static [u8]
+        ensures { result.now ≡ attribute_word self }
+    {
         match self {
             Attribute::Level => b"level",
             Attribute::Sign => b"sign",
@@ -158,13 +237,11 @@ impl Attribute {
 
     /// How far a word can be a value of the attribute.
     pub fn value_front(self, word: &[u8]) -> usize
-        ensures { result ≤ length word.now }
+        ensures { (given : Given) → IsFront (λ w. is_some (with_value self given w)) word.now result }
     {
         match self {
-            Attribute::Level => shared_front(word, b"ref").max(shared_front(word, b"value")),
-            Attribute::Sign => shared_front(word, b"pos")
-                .max(shared_front(word, b"neg"))
-                .max(shared_front(word, b"eq")),
+            Attribute::Level => level_front(word),
+            Attribute::Sign => sign_front(word),
             Attribute::Color => 0,
             Attribute::Write | Attribute::Deref => shared_front(word, b"yes"),
         }
@@ -211,18 +288,55 @@ pub fn is_name(word: &[u8]) -> bool
         || word == b"restrict".as_slice()
 }
 
-/// How far a word can be the name of an element.
-pub fn name_front(word: &[u8]) -> usize
-    ensures { result ≤ length word.now }
+/// The length of the row of letters, digits and `_` that begins a word.
+fn name_end(word: &[u8]) -> usize
+    ensures within { result ≤ length word.now }
+    ensures name { list_all is_name_byte (take result word.now) ≡ true }
+    ensures ends { result < length word.now → is_name_byte (slice_index word.now result) ≡ false }
+{
+    let mut at = 0;
+    while at < word.len() && is_byte_of_names(word[at]) {
+        at += 1;
+    }
+    at
+}
+
+/// How far a word of one byte can be `$`, a letter, then letters, digits and `_`.
+fn short_dollar_front(dollar: u8) -> usize
+    ensures { IsFront begins_with_dollar (dollar ∷ []) result }
+{
+    if dollar == b'$' { 1 } else { 0 }
+}
+
+/// How far a word of two bytes at least can be `$`, a letter, then letters, digits and `_`.
+fn long_dollar_front(dollar: u8, letter: u8, more: &[u8]) -> usize
+    ensures { IsFront begins_with_dollar (dollar ∷ letter ∷ more.now) result }
+{
+    if dollar != b'$' {
+        return 0;
+    }
+    if !is_letter_byte(letter) {
+        return 1;
+    }
+    name_end(more) + 2
+}
+
+/// How far a word can be `$`, a letter, then letters, digits and `_`.
+fn dollar_front(word: &[u8]) -> usize
+    ensures { IsFront begins_with_dollar word.now result }
 {
     match word {
-        [b'$', b'A'..=b'Z' | b'a'..=b'z', rest @ ..] => match rest.iter().position(|b| *b == b'$') {
-            Some(at) => at + 2,
-            None => word.len(),
-        },
-        [b'$', ..] => 1,
-        _ => shared_front(word, b"const")
-            .max(shared_front(word, b"volatile"))
-            .max(shared_front(word, b"restrict")),
+        [] => 0,
+        [dollar] => short_dollar_front(*dollar),
+        [dollar, letter, more @ ..] => long_dollar_front(*dollar, *letter, more),
     }
+}
+
+/// How far a word can be the name of an element.
+pub fn name_front(word: &[u8]) -> usize
+    ensures { IsFront is_element_name word.now result }
+{
+    let dollar_or_const = longer(dollar_front(word), shared_front(word, b"const"));
+    let no_restrict = longer(dollar_or_const, shared_front(word, b"volatile"));
+    longer(no_restrict, shared_front(word, b"restrict"))
 }

@@ -1,8 +1,13 @@
-use Rattle.std.proofs.Common.{◌≤◌, ◌-◌, length}
+use Rattle.std.proofs.Common.{◌≡◌, ℕ, ◌<◌, ◌≤◌, ◌-◌, true, length, get_or}
+use Rattle.lattice_file.specs.Text.{stands_in_words}
 use Rattle.lattice_file.proofs.lexemes.word_end.Given as goal
 
 abbrev pub invariant-loop-at : goal.invariant-loop-at
-invariant-loop-at l = (l.from ≤ l.at) × (l.at ≤ length l.bytes)
+invariant-loop-at l = record {
+  later : l.from ≤ l.at;
+  within : l.at ≤ length l.bytes;
+  inside : (k : ℕ) → l.from ≤ k → k < l.at → stands_in_words (get_or l.bytes k 0) ≡ true;
+}
 
 abbrev pub decreases-loop-at : goal.decreases-loop-at
 decreases-loop-at l = length l.bytes - l.at

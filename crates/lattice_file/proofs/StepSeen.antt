@@ -1,0 +1,147 @@
+-- What goes on from where a reader stands begins with a lexeme that may come, or ends outside the blocks.
+use Rattle.std.proofs.Common.{◌≡◌, ℕ, ◌<◌, Bool, true, false, ◌&&◌, List, [], ◌∷◌, ◌++◌, length, refl, sym, ◌∙◌, ap, Some, append_assoc, append-nil}
+use Rattle.std.specs.Prelude.{codes, is_some}
+use Rattle.lattice_core.specs.declared.Entry.{Entry}
+use Rattle.lattice_core.specs.declared.Pair.{Pair}
+use Rattle.lattice_file.specs.declared.words.Attribute.{Attribute}
+use Rattle.lattice_file.specs.declared.words.Attribute.TheVariants as attributes
+use Rattle.lattice_file.specs.declared.words.Given.{Given}
+use Rattle.lattice_file.specs.declared.blocks.Stage.{Stage}
+use Rattle.lattice_file.specs.declared.blocks.Stage.TheVariants as stages
+use Rattle.lattice_file.specs.Blocks.{BlockView}
+use Rattle.lattice_file.specs.Text.{Gap, TakesValue, Word, Color, Attributes, Last, More, Items, Close, EntryItem, LineItem, IsLatticeText, End, NextBlock, attribute_word, has_attribute, entry_of, no_attribute}
+use Rattle.lattice_file.specs.Going.{Draft, Goes, GoesOnItems, GoesBehindAttribute, EndEntry, Comma, Bracket, Below}
+use Rattle.lattice_file.specs.Steps.{Lexeme, WordLexeme, SignLexeme, TextLexeme, Standing, GoesFrom, is_full, is_nonempty, with_block, with_entry, next}
+use Rattle.lattice_file.proofs.LexemeUnique.{Takes}
+use Rattle.lattice_file.proofs.StepLeads.{At, word_takes, sign_takes, text_takes, named_new, is_value, long_nonempty}
+
+pub data Seen (old : Standing) (rest : List ℕ) (all : List BlockView) : Type 0 where
+  AtEnd : old.stage ≡ stages.Outside → Gap rest [] → all ≡ old.draft.blocks → Seen old rest all
+  Further : (lexeme : Lexeme) (new : Standing) (after : List ℕ) → next old lexeme ≡ Some new → Takes lexeme rest after → GoesFrom new after all → Seen old rest all
+
+sees_outside : (given : Given) (draft : Draft) (rest : List ℕ) (all more : List BlockView) → IsLatticeText more rest → all ≡ draft.blocks ++ more → Seen (At stages.Outside given draft) rest all
+sees_outside given draft rest all more (End _ gap) is = AtEnd refl gap (is ∙ append-nil draft.blocks)
+sees_outside given draft rest all more (NextBlock block blocks _ b1 b2 b3 behind partial order sign items filled others) is =
+    Further (WordLexeme (codes "partial")) (At stages.Order given draft) b1 refl (word_takes (codes "partial") rest b1 partial) (
+      b2,
+      order,
+      record {
+        behind = b3;
+        sign = sign;
+        items = record { more_entries = block.entries; more_pairs = block.pairs; more = blocks; behind = behind; items = items; filled = filled; others = others; is = is };
+      },
+    )
+
+sees_items : (given : Given) (draft : Draft) (rest behind : List ℕ) (all more : List BlockView) (more_entries : List Entry) (more_pairs : List Pair) → Items more_entries more_pairs rest behind →
+    0 < length (draft.entries ++ more_entries) → IsLatticeText more behind → all ≡ draft.blocks ++ record { entries = draft.entries ++ more_entries; pairs = draft.pairs ++ more_pairs } ∷ more →
+    Seen (At stages.Items given draft) rest all
+sees_items given draft rest behind all more more_entries more_pairs (Close _ _ sign) filled others is =
+    let long : is_nonempty draft.entries ≡ true = long_nonempty draft.entries (rw (append-nil draft.entries) at filled) in
+    let block : BlockView = record { entries = draft.entries; pairs = draft.pairs } in
+    let same : all ≡ (draft.blocks ++ block ∷ []) ++ more =
+    is ∙ ap (λ (p : List Entry × List Pair). draft.blocks ++ record { entries = p.0; pairs = p.1 } ∷ more) (both (append-nil draft.entries) (append-nil draft.pairs)) ∙ sym (append_assoc draft.blocks (block ∷ []) more) in
+    Further (SignLexeme 125) (At stages.Outside given (with_block draft)) behind (rw long refl) (sign_takes 125 rest behind sign) (more, others, same)
+  where
+    both : {A B : Type 0} {a a' : A} {b b' : B} → a ≡ a' → b ≡ b' → (let p : A × B = (a, b) in p) ≡ (let p : A × B = (a', b') in p)
+    both e f = cc
+sees_items given draft rest behind all more more_entries more_pairs (EntryItem name with entries pairs _ b1 b2 b3 _ named word sign attributes items) filled others is =
+    let entry : Entry = entry_of name with in
+    let same : (draft.entries ++ entry ∷ []) ++ entries ≡ draft.entries ++ (entry ∷ entries) = append_assoc draft.entries (entry ∷ []) entries in
+    Further (WordLexeme name) (At stages.Named given (record draft { name = name })) b1 (rw named refl) (word_takes name rest b1 word)
+    (Bracket b2 sign (record {
+      end = with;
+      behind = b3;
+      attributes = attributes;
+      items = record {
+        more_entries = entries;
+        more_pairs = pairs;
+        more = more;
+        behind = behind;
+        items = items;
+        filled = rw same filled;
+        others = others;
+        is = is ∙ ap (λ (es : List Entry). draft.blocks ++ record { entries = es; pairs = draft.pairs ++ pairs } ∷ more) (sym same);
+      };
+    }))
+sees_items given draft rest behind all more more_entries more_pairs (LineItem low high entries pairs _ b1 b2 b3 _ named named_high word sign word_high items) filled others is =
+    let pair : Pair = record { low = low; high = high } in
+    let same : (draft.pairs ++ pair ∷ []) ++ pairs ≡ draft.pairs ++ (pair ∷ pairs) = append_assoc draft.pairs (pair ∷ []) pairs in
+    Further (WordLexeme low) (At stages.Named given (record draft { name = low })) b1 (rw named refl) (word_takes low rest b1 word)
+    (Below b2 sign (record {
+      high = high;
+      behind = b3;
+      named = named_high;
+      word = word_high;
+      items = record {
+        more_entries = entries;
+        more_pairs = pairs;
+        more = more;
+        behind = behind;
+        items = items;
+        filled = filled;
+        others = others;
+        is = is ∙ ap (λ (ps : List Pair). draft.blocks ++ record { entries = draft.entries ++ entries; pairs = ps } ∷ more) (sym same);
+      };
+    }))
+
+sees_attributes : (given end : Given) (draft : Draft) (rest behind : List ℕ) (all : List BlockView) → Attributes given end rest behind →
+    GoesOnItems (draft.entries ++ entry_of draft.name end ∷ []) draft.pairs draft.blocks behind all → Seen (At stages.Attribute given draft) rest all
+sees_attributes given end draft rest behind all (Last attribute _ _ _ b1 b2 b3 _ free word equals value sign) items =
+    Further (WordLexeme (attribute_word attribute)) (At (stages.Equals attribute) given draft) b1 (rw (named_new given attribute free) refl) (word_takes (attribute_word attribute) rest b1 word)
+    (b2, equals, record { then = end; behind = b3; value = value; attributes = EndEntry behind sign items })
+sees_attributes given end draft rest behind all (More attribute _ then _ _ b1 b2 b3 b4 _ free word equals value sign others) items =
+    Further (WordLexeme (attribute_word attribute)) (At (stages.Equals attribute) given draft) b1 (rw (named_new given attribute free) refl) (word_takes (attribute_word attribute) rest b1 word)
+    (b2, equals, record { then = then; behind = b3; value = value; attributes = Comma b4 sign (record { end = end; behind = behind; attributes = others; items = items }) })
+
+sees_value : (attribute : Attribute) (given then : Given) (draft : Draft) (rest behind : List ℕ) (all : List BlockView) → TakesValue attribute given then rest behind →
+    GoesBehindAttribute then draft behind all → Seen (At (stages.Value attribute) given draft) rest all
+sees_value attribute given then draft rest behind all (Word _ word _ _ _ _ gives takes) goes =
+    Further (WordLexeme word) (At stages.Attributed then draft) behind (rw (is_value attribute given then word gives) refl) (word_takes word rest behind takes) goes
+sees_value attribute given then draft rest behind all (Color _ _ _ takes) goes =
+    Further TextLexeme (At stages.Attributed (record given { color = true }) draft) behind refl (text_takes rest behind takes) goes
+
+free_full : (given : Given) (attribute : Attribute) → has_attribute given attribute ≡ false → is_full given ≡ false
+free_full given attributes.Level e = rw e refl
+free_full given attributes.Sign e = by (is_some given.level)
+  where
+    by : (a : Bool) → (a && is_some given.sign && given.color && given.write && given.deref) ≡ false
+    by true = rw e refl
+    by false = refl
+free_full given attributes.Color e = by (is_some given.level && is_some given.sign)
+  where
+    by : (a : Bool) → (a && given.color && given.write && given.deref) ≡ false
+    by true = rw e refl
+    by false = refl
+free_full given attributes.Write e = by (is_some given.level && is_some given.sign && given.color)
+  where
+    by : (a : Bool) → (a && given.write && given.deref) ≡ false
+    by true = rw e refl
+    by false = refl
+free_full given attributes.Deref e = by (is_some given.level && is_some given.sign && given.color && given.write)
+  where
+    by : (a : Bool) → (a && given.deref) ≡ false
+    by true = e
+    by false = refl
+
+attributes_free : (given end : Given) (rest behind : List ℕ) → Attributes given end rest behind → is_full given ≡ false
+attributes_free given end rest behind (Last attribute _ _ _ b1 b2 b3 _ free word equals value sign) = free_full given attribute free
+attributes_free given end rest behind (More attribute _ then _ _ b1 b2 b3 b4 _ free word equals value sign others) = free_full given attribute free
+
+sees_at : (stage : Stage) (given : Given) (draft : Draft) (rest : List ℕ) (all : List BlockView) → Goes stage given draft rest all → Seen (At stage given draft) rest all
+sees_at stages.Outside given draft rest all (more, text, is) = sees_outside given draft rest all more text is
+sees_at stages.Order given draft rest all (behind, word, goes) = Further (WordLexeme (codes "order")) (At stages.Open given draft) behind refl (word_takes (codes "order") rest behind word) goes
+sees_at stages.Open given draft rest all goes = Further (SignLexeme 123) (At stages.Items given (record draft { entries = []; pairs = [] })) goes.behind refl (sign_takes 123 rest goes.behind goes.sign) goes.items
+sees_at stages.Items given draft rest all goes = sees_items given draft rest goes.behind all goes.more goes.more_entries goes.more_pairs goes.items goes.filled goes.others goes.is
+sees_at stages.Named given draft rest all (Bracket behind sign goes) = Further (SignLexeme 91) (At stages.Attribute no_attribute draft) behind refl (sign_takes 91 rest behind sign) goes
+sees_at stages.Named given draft rest all (Below behind sign goes) = Further (SignLexeme 60) (At stages.High given draft) behind refl (sign_takes 60 rest behind sign) goes
+sees_at stages.High given draft rest all goes =
+    Further (WordLexeme goes.high) (At stages.Items given (record draft { pairs = draft.pairs ++ record { low = draft.name; high = goes.high } ∷ [] })) goes.behind (rw goes.named refl) (word_takes goes.high rest goes.behind goes.word) goes.items
+sees_at stages.Attribute given draft rest all goes = sees_attributes given goes.end draft rest goes.behind all goes.attributes goes.items
+sees_at (stages.Equals attribute) given draft rest all (behind, sign, goes) = Further (SignLexeme 61) (At (stages.Value attribute) given draft) behind refl (sign_takes 61 rest behind sign) goes
+sees_at (stages.Value attribute) given draft rest all goes = sees_value attribute given goes.then draft rest goes.behind all goes.value goes.attributes
+sees_at stages.Attributed given draft rest all (EndEntry behind sign goes) = Further (SignLexeme 93) (At stages.Items given (with_entry given draft)) behind refl (sign_takes 93 rest behind sign) goes
+sees_at stages.Attributed given draft rest all (Comma behind sign goes) =
+    Further (SignLexeme 44) (At stages.Attribute given draft) behind (rw (attributes_free given goes.end behind goes.behind goes.attributes) refl) (sign_takes 44 rest behind sign) goes
+
+pub sees : (old : Standing) (rest : List ℕ) (all : List BlockView) → GoesFrom old rest all → Seen old rest all
+sees old rest all goes = sees_at old.stage old.given old.draft rest all goes

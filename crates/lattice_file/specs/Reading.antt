@@ -1,0 +1,25 @@
+-- Where a reader stands, and when a text fails.
+use Rattle.std.specs.Prelude.{ℕ, List}
+use Rattle.lattice_file.specs.declared.blocks.Reader.{Reader}
+use Rattle.lattice_file.specs.declared.reading.TextFault.{TextFault}
+use Rattle.lattice_file.specs.declared.reading.TextFault.TheVariants.{At, NoMemory}
+use Rattle.lattice_file.specs.Going.{Draft}
+use Rattle.lattice_file.specs.Steps.{Standing}
+use Rattle.lattice_file.specs.Extents.{LexemeFails}
+use Rattle.lattice_file.specs.Begins.{IsFirstBad}
+
+abbrev pub draft_of : Reader → Draft
+draft_of reader = record { name = reader.name; entries = reader.entries.items; pairs = reader.pairs.items; blocks = reader.blocks.items }
+
+abbrev pub standing_of : Reader → Standing
+standing_of reader = record { stage = reader.stage; given = reader.given; draft = draft_of reader }
+
+-- the place at which a lexeme fails, or memory ran out
+abbrev pub IsLexemeFault : Reader → List ℕ → ℕ → TextFault → Type 0
+IsLexemeFault reader bytes at (At place) = LexemeFails (standing_of reader) bytes at place
+IsLexemeFault reader bytes at NoMemory = Unit {0}
+
+-- the first place up to which no text begins so, or memory ran out
+abbrev pub IsTextFault : List ℕ → TextFault → Type 0
+IsTextFault bytes (At place) = IsFirstBad bytes place
+IsTextFault bytes NoMemory = Unit {0}

@@ -1,0 +1,138 @@
+-- The words, signs and colour texts of a lattice text, and where its reader stands behind each of them.
+use Rattle.std.specs.Prelude.{◌≡◌, ℕ, Bool, true, false, ◌&&◌, List, [], ◌∷◌, ◌++◌, nat_eq, codes, Option, Some, None, is_some, not}
+use Rattle.std.specs.List.{list_all}
+use Rattle.std.specs.Str.{bytes_eq}
+use Rattle.std.specs.Option.{option_or}
+use Rattle.lattice_core.specs.declared.Entry.{Entry}
+use Rattle.lattice_core.specs.declared.Level.{Level}
+use Rattle.lattice_core.specs.declared.Sign.{Sign}
+use Rattle.lattice_core.specs.declared.Level.TheVariants.{Ref, Value}
+use Rattle.lattice_core.specs.declared.Sign.TheVariants.{Pos, Neg, Eq}
+use Rattle.lattice_file.specs.declared.words.Attribute.{Attribute}
+use Rattle.lattice_file.specs.declared.words.Attribute.TheVariants as attributes
+use Rattle.lattice_file.specs.declared.words.Given.{Given}
+use Rattle.lattice_file.specs.declared.blocks.Stage.{Stage}
+use Rattle.lattice_file.specs.declared.blocks.Stage.TheVariants as stages
+use Rattle.lattice_file.specs.Blocks.{BlockView}
+use Rattle.lattice_file.specs.Text.{lengthens, stands_in_text, is_element_name, entry_of, no_attribute, attribute_word, has_attribute}
+use Rattle.lattice_file.specs.Going.{Draft, Goes}
+
+pub data Lexeme : Type 0 where
+  WordLexeme : List ℕ → Lexeme
+  SignLexeme : ℕ → Lexeme
+  TextLexeme : Lexeme
+
+-- bytes are a lexeme and the rest behind it
+abbrev pub Spells : Lexeme → List ℕ → List ℕ → Type 0
+Spells (WordLexeme word) bytes rest = (bytes ≡ word ++ rest) × (lengthens rest ≡ false)
+Spells (SignLexeme sign) bytes rest = bytes ≡ sign ∷ rest
+Spells TextLexeme bytes rest = (text : List ℕ) × (bytes ≡ 34 ∷ text ++ 34 ∷ rest) × (list_all stands_in_text text ≡ true)
+
+-- what may come next, the attributes of an entry, and what is read
+pub record Standing : Type 0 where
+  pub stage : Stage
+  pub given : Given
+  pub draft : Draft
+
+-- the rest is what a text of all these blocks has behind here
+abbrev pub GoesFrom : Standing → List ℕ → List BlockView → Type 0
+GoesFrom standing rest all = Goes standing.stage standing.given standing.draft rest all
+
+abbrev pub only_if : {A : Type 0} → Bool → A → Option A
+only_if true to = Some to
+only_if false to = None
+
+abbrev pub map_some : {A B : Type 0} → (A → B) → Option A → Option B
+map_some f (Some one) = Some (f one)
+map_some f None = None
+
+-- this attribute, if a word is its name and it is not given yet
+abbrev pub if_named : Given → List ℕ → Attribute → Option Attribute
+if_named given word attribute = only_if (bytes_eq word (attribute_word attribute) && not (has_attribute given attribute)) attribute
+
+-- the attribute of a name, if it is not given yet
+abbrev pub attribute_named : Given → List ℕ → Option Attribute
+attribute_named given word =
+    option_or (if_named given word attributes.Level) (option_or (if_named given word attributes.Sign)
+    (option_or (if_named given word attributes.Color) (option_or (if_named given word attributes.Write) (if_named given word attributes.Deref))))
+
+abbrev pub level_named : List ℕ → Option Level
+level_named word = option_or (only_if (bytes_eq word (codes "ref")) Ref) (only_if (bytes_eq word (codes "value")) Value)
+
+abbrev pub sign_named : List ℕ → Option Sign
+sign_named word = option_or (only_if (bytes_eq word (codes "pos")) Pos) (option_or (only_if (bytes_eq word (codes "neg")) Neg) (only_if (bytes_eq word (codes "eq")) Eq))
+
+-- the attributes with a word as the value of one
+abbrev pub with_value : Attribute → Given → List ℕ → Option Given
+with_value attributes.Level given word = map_some (λ level. record given { level = Some level }) (level_named word)
+with_value attributes.Sign given word = map_some (λ sign. record given { sign = Some sign }) (sign_named word)
+with_value attributes.Color given word = None
+with_value attributes.Write given word = only_if (bytes_eq word (codes "yes")) (record given { write = true })
+with_value attributes.Deref given word = only_if (bytes_eq word (codes "yes")) (record given { deref = true })
+
+-- no attribute is left
+abbrev pub is_full : Given → Bool
+is_full given = is_some given.level && is_some given.sign && given.color && given.write && given.deref
+
+abbrev pub is_nonempty : List Entry → Bool
+is_nonempty [] = false
+is_nonempty (entry ∷ entries) = true
+
+-- where a reader stands behind a word, if the word may come
+abbrev pub next_by_word : Stage → Given → Draft → List ℕ → Option Standing
+next_by_word stages.Outside given draft word = only_if (bytes_eq word (codes "partial")) (record { stage = stages.Order; given = given; draft = draft })
+next_by_word stages.Order given draft word = only_if (bytes_eq word (codes "order")) (record { stage = stages.Open; given = given; draft = draft })
+next_by_word stages.Open given draft word = None
+next_by_word stages.Items given draft word = only_if (is_element_name word) (record { stage = stages.Named; given = given; draft = record draft { name = word } })
+next_by_word stages.Named given draft word = None
+next_by_word stages.High given draft word = only_if (is_element_name word)
+    (record { stage = stages.Items; given = given; draft = record draft { pairs = draft.pairs ++ record { low = draft.name; high = word } ∷ [] } })
+next_by_word stages.Attribute given draft word = map_some (λ attribute. record { stage = stages.Equals attribute; given = given; draft = draft }) (attribute_named given word)
+next_by_word (stages.Equals attribute) given draft word = None
+next_by_word (stages.Value attribute) given draft word = map_some (λ then. record { stage = stages.Attributed; given = then; draft = draft }) (with_value attribute given word)
+next_by_word stages.Attributed given draft word = None
+
+-- a block more, of the entries and the order lines that are read
+abbrev pub with_block : Draft → Draft
+with_block draft = record { name = draft.name; entries = []; pairs = []; blocks = draft.blocks ++ record { entries = draft.entries; pairs = draft.pairs } ∷ [] }
+
+abbrev pub with_entry : Given → Draft → Draft
+with_entry given draft = record draft { entries = draft.entries ++ entry_of draft.name given ∷ [] }
+
+-- where a reader stands behind a block
+abbrev pub behind_block : Standing → Standing
+behind_block standing = record { stage = stages.Outside; given = standing.given; draft = with_block standing.draft }
+
+-- and behind an entry
+abbrev pub behind_entry : Standing → Standing
+behind_entry standing = record { stage = stages.Items; given = standing.given; draft = with_entry standing.given standing.draft }
+
+-- and so behind a sign
+abbrev pub next_by_sign : Stage → Given → Draft → ℕ → Option Standing
+next_by_sign stages.Outside given draft sign = None
+next_by_sign stages.Order given draft sign = None
+next_by_sign stages.Open given draft sign = only_if (nat_eq sign 123) (record { stage = stages.Items; given = given; draft = record draft { entries = []; pairs = [] } })
+next_by_sign stages.Items given draft sign = only_if (nat_eq sign 125 && is_nonempty draft.entries) (record { stage = stages.Outside; given = given; draft = with_block draft })
+next_by_sign stages.Named given draft sign = option_or
+    (only_if (nat_eq sign 91) (record { stage = stages.Attribute; given = no_attribute; draft = draft }))
+    (only_if (nat_eq sign 60) (record { stage = stages.High; given = given; draft = draft }))
+next_by_sign stages.High given draft sign = None
+next_by_sign stages.Attribute given draft sign = None
+next_by_sign (stages.Equals attribute) given draft sign = only_if (nat_eq sign 61) (record { stage = stages.Value attribute; given = given; draft = draft })
+next_by_sign (stages.Value attribute) given draft sign = None
+next_by_sign stages.Attributed given draft sign = option_or
+    (only_if (nat_eq sign 44 && not (is_full given)) (record { stage = stages.Attribute; given = given; draft = draft }))
+    (only_if (nat_eq sign 93) (record { stage = stages.Items; given = given; draft = with_entry given draft }))
+
+-- and so behind a colour text
+abbrev pub next_by_text : Stage → Given → Draft → Option Standing
+next_by_text (stages.Value attributes.Color) given draft = Some (record { stage = stages.Attributed; given = record given { color = true }; draft = draft })
+next_by_text _ given draft = None
+
+abbrev pub next_by : Stage → Given → Draft → Lexeme → Option Standing
+next_by stage given draft (WordLexeme word) = next_by_word stage given draft word
+next_by stage given draft (SignLexeme sign) = next_by_sign stage given draft sign
+next_by stage given draft TextLexeme = next_by_text stage given draft
+
+abbrev pub next : Standing → Lexeme → Option Standing
+next standing lexeme = next_by standing.stage standing.given standing.draft lexeme
