@@ -7,6 +7,4 @@
 mod assigned;
 mod copies;
 mod strings;
-#[cfg(test)]
-mod tests;
 pub mod unfolding;

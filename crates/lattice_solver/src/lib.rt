@@ -4,7 +4,3 @@
 pub mod phases;
 pub mod rounds;
 pub mod solver;
-#[cfg(test)]
-mod systems;
-#[cfg(test)]
-mod tests;

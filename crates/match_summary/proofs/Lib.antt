@@ -1,3 +1,4 @@
+mod Counting
 mod Followed
 mod Growth
 mod Matched

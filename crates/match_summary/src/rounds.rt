@@ -1,6 +1,6 @@
 //! The closure by rounds over all constraints.
 
-ghost use Rattle.std.specs.Prelude.{◌≡◌, ℕ, ◌<◌, ◌⊎◌, ◌↔◌, [], ◌∷◌, ◌++◌, length, IsTrue, IfOk, OnOk, false};
+ghost use Rattle.std.specs.Prelude.{◌≡◌, ℕ, ◌<◌, ◌⊎◌, ◌↔◌, [], ◌∷◌, ◌++◌, length, IsTrue, IfOk, OnOk, false, true};
 ghost use Rattle.std.specs.List.{Contains};
 ghost use Rattle.flow_graph.specs.System.{Stands};
 ghost use Rattle.flow_graph.specs.declared.constraint.Link.TheVariants.{Enter, Leave};
@@ -52,13 +52,12 @@ pub fn summarise(
 {
     let ends = inner_ends(alloc, graph, lattice)?;
     let mut known = Summaries::new(alloc);
-    for _ in 0..u64::MAX {
+    loop {
         let more = round(graph, lattice, ends.as_slice(), &mut known)?;
         if !more {
             return Ok(known);
         }
     }
-    Err(NoMemory)
 }
 
 /// The variables that an `Enter` of the lattice leads to, each once.
@@ -120,6 +119,7 @@ fn round(
     requires lattice { lattice < 16 }
     requires good { IsGood graph.now lattice known.old }
     ensures good { IsGood graph.now lattice known.new }
+    ensures longer { IfOk result (λ more. more ≡ true → length known.old < length known.new) }
     ensures closed { IfOk result (λ more. more ≡ false → IsClosed graph.now lattice ends.now known.new) }
 {
     let count = known.len();
