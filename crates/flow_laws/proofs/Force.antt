@@ -1,5 +1,5 @@
 -- Each assignment that rises is raised along a path.
-use Rattle.std.proofs.Common.{◌≡◌, ℕ, ◌+◌, ◌≤◌, max, true, false, List, [], ◌∷◌, length, refl, sym, ◌∙◌, ap, subst, arith, inl, inr}
+use Rattle.std.proofs.Common.{◌≡◌, ℕ, ◌+◌, ◌≤◌, true, false, List, [], ◌∷◌, length, refl, sym, ◌∙◌, ap, subst, arith, inl, inr}
 use Rattle.qual_base.specs.declared.places.Owner.TheVariants.{Function}
 use Rattle.lattice_core.specs.Order.{Order, leq, IsOrder}
 use Rattle.flow_graph.specs.declared.constraint.Link.TheVariants.{Bound, Enter, Leave}

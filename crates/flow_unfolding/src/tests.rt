@@ -6,7 +6,8 @@ ghost use Rattle.flow_graph.specs.System.{IsWithin};
 use crate::unfolding::is_met;
 use flow_graph::constraint::{Constraint, Link, Site};
 use flow_graph::graph::FlowGraph;
-use lattice_core::{Entry, Lattice, Level, Name, Pair, Sign};
+use lattice_core::{Entry, Lattice, Lattices, Level, Name, Pair, Sign};
+use path_checker::{check, read_report};
 use qual_base::ids::{Elem, FuncId, LatticeNo, Numbered, SiteId, TokenId, UnitNo, VarId};
 use qual_base::places::{Owner, Span};
 use std::alloc::{AllocError, Global};
@@ -302,6 +303,65 @@ static CASES: [Case; 7] = [
     },
 ];
 
+// A function that calls itself at its one site: 0 is entered as 1 and so on to 6, a flow leads from 6 to 13, and 13 is
+// left as 12 and so on to 7. The path takes six calls that are open at once, and its main path has five steps.
+static NESTED: Case = Case {
+    name: "calls nested in one another",
+    owners: &[Some(0); 14],
+    sites: &[(0, Some(0))],
+    rows: &[
+        Const(1, 0),
+        Enter(0, 0, 1),
+        Enter(0, 1, 2),
+        Enter(0, 2, 3),
+        Enter(0, 3, 4),
+        Enter(0, 4, 5),
+        Enter(0, 5, 6),
+        Le(6, 13),
+        Leave(0, 13, 12),
+        Leave(0, 12, 11),
+        Leave(0, 11, 10),
+        Leave(0, 10, 9),
+        Leave(0, 9, 8),
+        Leave(0, 8, 7),
+        Bound(7, 0),
+    ],
+    met: [true, true, true, true],
+};
+
+// 1 and 3 steps in each of 5 sub-paths, and 5 in the main path
+static NESTED_PROOF: &str = "rejected
+error
+sub 1
+  7 
+sub 2
+  6 
+  sub 1
+  8 
+sub 3
+  5 
+  sub 2
+  9 
+sub 4
+  4 
+  sub 3
+  10 
+sub 5
+  3 
+  sub 4
+  11 
+sub 6
+  2 
+  sub 5
+  12 
+path
+  0 
+  1 
+  sub 6
+  13 
+  14 
+";
+
 /// The owner of a number.
 fn owner_of(number: Option<u32>) -> Owner {
     match number {
@@ -413,6 +473,24 @@ fn systems_are_met_at_their_depths(rt: HostRuntime) -> Result<(), Fail> {
     let lattice = two(&rt, rt.alloc())?;
     for case in &CASES {
         compare(&rt, rt.alloc(), &lattice, case)?;
+    }
+    Ok(())
+}
+
+#[test]
+fn a_path_proof_needs_the_depth_of_its_sub_paths(rt: HostRuntime) -> Result<(), Fail> {
+    let alloc = rt.alloc();
+    let graph = graph_of(&rt, alloc, &NESTED)?;
+    let proofs = read_report(alloc, NESTED_PROOF.as_bytes(), graph.len())?;
+    assert_eq!(rt; proofs.len(), 1);
+    let mut lattices = Lattices::new(alloc);
+    lattices.push(two(&rt, alloc)?)?;
+    assert!(rt; check(&graph, &lattices, &proofs[0]).is_ok());
+    let lattice = two(&rt, alloc)?;
+    compare(&rt, alloc, &lattice, &NESTED)?;
+    for (depth, met) in [(5, true), (6, false), (21, false)] {
+        let found = is_met(alloc, &graph, LatticeNo::new(0), &lattice, depth)?;
+        assert_eq!(rt; found, met, "at depth {depth}");
     }
     Ok(())
 }
