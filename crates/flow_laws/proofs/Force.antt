@@ -1,15 +1,16 @@
 -- Each assignment that rises is raised along a path.
-use Rattle.std.proofs.Common.{◌≡◌, ℕ, ◌+◌, ◌≤◌, max, true, List, [], ◌∷◌, length, refl, sym, ◌∙◌, ap, subst, arith, inl, inr}
+use Rattle.std.proofs.Common.{◌≡◌, ℕ, ◌+◌, ◌≤◌, true, false, List, [], ◌∷◌, length, refl, sym, ◌∙◌, ap, subst, arith, inl, inr}
 use Rattle.qual_base.specs.declared.places.Owner.TheVariants.{Function}
 use Rattle.lattice_core.specs.Order.{Order, leq, IsOrder}
-use Rattle.flow_graph.specs.declared.constraint.Link.TheVariants.{Enter, Leave}
+use Rattle.flow_graph.specs.declared.constraint.Link.TheVariants.{Bound, Enter, Leave}
 use Rattle.flow_graph.specs.System.{System, owner_of, Stands, IsWellOwned}
 use Rattle.flow_graph.specs.CallStrings.{IsCopy, either}
 use Rattle.flow_graph.specs.Unfolding.{Assignment, at, seen_from, Rises}
-use Rattle.flow_graph.specs.Paths.{Matches, stay, longer, Part, flow, group, Returning, start, flows, returns, grouped, anew, Calling, calls, calls_on, flows_on, grouped_on}
+use Rattle.flow_graph.specs.Paths.{Matches, stay, longer, Part, flow, group, Returning, start, flows, returns, grouped, anew, Calling, calls, calls_on, flows_on, grouped_on, Lead}
+use Rattle.flow_laws.proofs.Depths.{depth_inside, depth_of_part, open_calls, depth_returning, depth_calling, depth_of}
 use Rattle.flow_laws.specs.Refuting.{LeadsForce, PathsRefute, ExceededIsRefuted}
 use Rattle.flow_laws.proofs.Leads.{root}
-use Rattle.flow_laws.proofs.Owners.{seen_is, seen_twice, copy_on, flow_to, flow_from, start_owner, end_owner, entering, leaving, same_function, same_outer}
+use Rattle.flow_laws.proofs.Owners.{seen_is, seen_twice, seen_within, copy_on, flow_to, flow_from, start_owner, end_owner, entering, leaving, same_function, same_outer}
 
 module _ (sys : System) (lattice : ℕ) (order : Order) (owned : IsWellOwned sys) (ordered : IsOrder order) where
   -- what a path inside a function raises in each copy, at each depth that leaves room for its groups
@@ -28,102 +29,89 @@ module _ (sys : System) (lattice : ℕ) (order : Order) (owned : IsWellOwned sys
       ordered.through (at sys map u sites) (at sys map b (s ∷ sites)) (at sys map v sites) to_end (rises.leave m s b v sites st2 home (omega arith))
 
   mutual
-    raises : (f u v : ℕ) → Matches sys lattice f u v → (room : ℕ) × Raises u v room
-    raises f u v (stay _ _ is) = (0, λ depth map sites rises copy fits. ordered.same (at sys map u sites) (rises.elements u (seen_from (owner_of sys u) sites)))
-    raises f u v (longer _ _ x _ m p) =
-        let before = raises f u x m in
-        let last = part_raises f x v p (end_owner sys lattice f u x m) in (
-          max before.0 last.0,
-          λ depth map sites rises copy fits.
-              let same : owner_of sys u ≡ owner_of sys x = start_owner sys lattice f u x m ∙ sym (end_owner sys lattice f u x m) in
-              ordered.through (at sys map u sites) (at sys map x sites) (at sys map v sites)
-              (before.1 depth map sites rises copy (omega arith))
-              (last.1 depth map sites rises (subst (λ o. IsCopy sys depth o sites) same copy) (omega arith)),
-        )
+    raises : (f u v : ℕ) (p : Matches sys lattice f u v) → Raises u v (depth_inside sys lattice f u v p)
+    raises f u v (stay _ _ is) depth map sites rises copy fits = ordered.same (at sys map u sites) (rises.elements u (seen_from (owner_of sys u) sites))
+    raises f u v (longer _ _ x _ m p) depth map sites rises copy fits =
+        let same : owner_of sys u ≡ owner_of sys x = start_owner sys lattice f u x m ∙ sym (end_owner sys lattice f u x m) in
+        ordered.through (at sys map u sites) (at sys map x sites) (at sys map v sites)
+        (raises f u x m depth map sites rises copy (omega arith))
+        (part_raises f x v p (end_owner sys lattice f u x m) depth map sites rises (subst (λ o. IsCopy sys depth o sites) same copy) (omega arith))
 
-    part_raises : (f x v : ℕ) → Part sys lattice f x v → owner_of sys x ≡ Function f → (room : ℕ) × Raises x v room
-    part_raises f x v (flow _ _ _ n st is) own =
-        (0, λ depth map sites rises copy fits. rises.le n x v sites st (subst (λ o. IsCopy sys depth (either o (owner_of sys v)) sites) (sym own) (subst (λ o. IsCopy sys depth o sites) own copy)))
-    part_raises f x v (group _ _ a b _ s g n m st q st2 is) own =
-        let inside = raises g a b q in (inside.0 + 1, group_raises n m s x a b v inside.0 st inside.1 st2)
+    part_raises : (f x v : ℕ) (p : Part sys lattice f x v) → owner_of sys x ≡ Function f → Raises x v (depth_of_part sys lattice f x v p)
+    part_raises f x v (flow _ _ _ n st is) own depth map sites rises copy fits =
+        rises.le n x v sites st (subst (λ o. IsCopy sys depth (either o (owner_of sys v)) sites) (sym own) (subst (λ o. IsCopy sys depth o sites) own copy))
+    part_raises f x v (group _ _ a b _ s g n m st q st2 is) own depth map sites rises copy fits =
+        group_raises n m s x a b v (depth_inside sys lattice g a b q) st (raises g a b q) st2 depth map sites rises copy fits
 
   -- a path that has no open call raises each copy of its end, at each depth that leaves room
   abbrev ForcesAll : ℕ → ℕ → ℕ → Type 0
   ForcesAll e v room = (depth : ℕ) (map : Assignment) (sites : List ℕ) → Rises sys lattice order depth map → IsCopy sys depth (owner_of sys v) sites → length sites + room ≤ depth →
       leq order e (at sys map v sites) ≡ true
 
-  -- another raises one copy
+  -- another raises one copy, at each depth that is no lower than its own
   abbrev ForcesOne : ℕ → ℕ → ℕ → List ℕ → Type 0
-  ForcesOne e v room sites = (depth : ℕ) → length sites + room ≤ depth →
+  ForcesOne e v least sites = (depth : ℕ) → least ≤ depth →
       IsCopy sys depth (owner_of sys v) sites × ((map : Assignment) → Rises sys lattice order depth map → leq order e (at sys map v sites) ≡ true)
 
-  mutual
-    forces : (e v : ℕ) → Returning sys lattice e v → (room : ℕ) × ForcesAll e v room
-    forces e v (start _ n st) = (0, λ depth map sites rises copy fits. rises.const n e v sites st copy)
-    forces e v (flows u _ n p st) =
-        let before = forces e u p in (
-          before.0,
-          λ depth map sites rises copy fits.
-              let from = flow_to sys depth (owner_of sys u) (owner_of sys v) sites (same_function sys lattice owned n u v st) copy in
-              let same : at sys map v from.0 ≡ at sys map v sites = ap (map v) from.3 in
-              let seen : at sys map u (seen_from (owner_of sys u) from.0) ≡ at sys map u from.0 = ap (map u) (seen_is sys depth (owner_of sys u) (seen_from (owner_of sys u) from.0) from.2) in
-              ordered.through e (at sys map u from.0) (at sys map v sites)
-              (subst (λ x. leq order e x ≡ true) seen (before.1 depth map (seen_from (owner_of sys u) from.0) rises from.2 (omega (arith, from.4))))
-              (subst (λ x. leq order (at sys map u from.0) x ≡ true) same (rises.le n u v from.0 st from.1)),
-        )
-    forces e v (returns u _ s n p st) =
-        let before = forces e u p in (
-          before.0 + 1,
-          λ depth map sites rises copy fits.
-              let deeper = copy_on sys depth (owner_of sys v) (owner_of sys u) s sites copy (leaving sys lattice owned n s u v st) (omega arith) in
-              ordered.through e (at sys map u (s ∷ sites)) (at sys map v sites)
-              (before.1 depth map (s ∷ sites) rises deeper (omega arith)) (rises.leave n s u v sites st copy (omega arith)),
-        )
-    forces e v (grouped u a b _ s g n m p st q st2) =
-        let before = forces e u p in
-        let inside = raises g a b q in (
-          max before.0 (inside.0 + 1),
-          λ depth map sites rises copy fits.
-              let home : IsCopy sys depth (owner_of sys u) sites = subst (λ o. IsCopy sys depth o sites) (sym (same_outer sys lattice owned n m s u a b v st st2)) copy in
-              ordered.through e (at sys map u sites) (at sys map v sites) (before.1 depth map sites rises home (omega arith))
-              (group_raises n m s u a b v inside.0 st inside.1 st2 depth map sites rises home (omega arith)),
-        )
-    forces e v (anew _ c is) =
-        let before = forces_one e v c in (
-          length before.1 + before.0,
-          λ depth map sites rises copy fits.
-              let same : at sys map v before.1 ≡ at sys map v sites = rw is refl in
-              subst (λ x. leq order e x ≡ true) same ((before.2 depth (omega arith)).1 map rises),
-        )
+  -- the copy has one site for each call that is open, or fewer
+  abbrev Forced : (e v : ℕ) → Calling sys lattice e v → Type 0
+  Forced e v c = (sites : List ℕ) × (length sites ≤ open_calls sys lattice e v c) × (length sites ≤ depth_calling sys lattice e v c) × ForcesOne e v (depth_calling sys lattice e v c) sites
 
-    forces_one : (e v : ℕ) → Calling sys lattice e v → (room : ℕ) × (sites : List ℕ) × ForcesOne e v room sites
-    forces_one e v (calls u _ s n p st) =
-        let before = forces e u p in (
-          before.0,
-          s ∷ [],
-          λ depth fits. (
-            copy_on sys depth (owner_of sys u) (owner_of sys v) s [] (root sys depth (owner_of sys u)) (entering sys lattice owned n s u v st) (omega arith),
-            λ map rises. ordered.through e (at sys map u []) (at sys map v (s ∷ [])) (before.1 depth map [] rises (root sys depth (owner_of sys u)) (omega arith))
-                (rises.enter n s u v [] st (root sys depth (owner_of sys u)) (omega arith)),
-          ),
-        )
+  mutual
+    forces : (e v : ℕ) (p : Returning sys lattice e v) → ForcesAll e v (depth_returning sys lattice e v p)
+    forces e v (start _ n st) depth map sites rises copy fits = rises.const n e v sites st copy
+    forces e v (flows u _ n p st) depth map sites rises copy fits =
+        let from = flow_to sys depth (owner_of sys u) (owner_of sys v) sites (same_function sys lattice owned n u v st) copy in
+        let same : at sys map v from.0 ≡ at sys map v sites = ap (map v) from.3 in
+        let seen : at sys map u (seen_from (owner_of sys u) from.0) ≡ at sys map u from.0 = ap (map u) (seen_is sys depth (owner_of sys u) (seen_from (owner_of sys u) from.0) from.2) in
+        ordered.through e (at sys map u from.0) (at sys map v sites)
+        (subst (λ x. leq order e x ≡ true) seen (forces e u p depth map (seen_from (owner_of sys u) from.0) rises from.2 (omega (arith, from.4))))
+        (subst (λ x. leq order (at sys map u from.0) x ≡ true) same (rises.le n u v from.0 st from.1))
+    forces e v (returns u _ s n p st) depth map sites rises copy fits =
+        let deeper = copy_on sys depth (owner_of sys v) (owner_of sys u) s sites copy (leaving sys lattice owned n s u v st) (omega arith) in
+        ordered.through e (at sys map u (s ∷ sites)) (at sys map v sites)
+        (forces e u p depth map (s ∷ sites) rises deeper (omega arith)) (rises.leave n s u v sites st copy (omega arith))
+    forces e v (grouped u a b _ s g n m p st q st2) depth map sites rises copy fits =
+        let home : IsCopy sys depth (owner_of sys u) sites = subst (λ o. IsCopy sys depth o sites) (sym (same_outer sys lattice owned n m s u a b v st st2)) copy in
+        ordered.through e (at sys map u sites) (at sys map v sites) (forces e u p depth map sites rises home (omega arith))
+        (group_raises n m s u a b v (depth_inside sys lattice g a b q) st (raises g a b q) st2 depth map sites rises home (omega arith))
+    forces e v (anew _ c is) depth map sites rises copy fits =
+        let before = forces_one e v c in
+        let same : at sys map v before.0 ≡ at sys map v sites = rw is refl in
+        subst (λ x. leq order e x ≡ true) same ((before.3 depth (omega arith)).1 map rises)
+
+    forces_one : (e v : ℕ) (c : Calling sys lattice e v) → Forced e v c
+    forces_one e v (calls u _ s n p st) = (
+      s ∷ [],
+      omega arith,
+      omega arith,
+      λ depth fits. (
+        copy_on sys depth (owner_of sys u) (owner_of sys v) s [] (root sys depth (owner_of sys u)) (entering sys lattice owned n s u v st) (omega arith),
+        λ map rises. ordered.through e (at sys map u []) (at sys map v (s ∷ [])) (forces e u p depth map [] rises (root sys depth (owner_of sys u)) (omega arith))
+            (rises.enter n s u v [] st (root sys depth (owner_of sys u)) (omega arith)),
+      ),
+    )
     forces_one e v (calls_on u _ s n c st) =
-        let before = forces_one e u c in (
-          before.0,
-          s ∷ before.1,
+        let before = forces_one e u c in
+        let sites = before.0 in (
+          s ∷ sites,
+          omega (arith, before.1),
+          omega (arith, before.2),
           λ depth fits.
-              let one = before.2 depth (omega arith) in (
-                copy_on sys depth (owner_of sys u) (owner_of sys v) s before.1 one.0 (entering sys lattice owned n s u v st) (omega arith),
-                λ map rises. ordered.through e (at sys map u before.1) (at sys map v (s ∷ before.1)) (one.1 map rises) (rises.enter n s u v before.1 st one.0 (omega arith)),
+              let one = before.3 depth (omega arith) in (
+                copy_on sys depth (owner_of sys u) (owner_of sys v) s sites one.0 (entering sys lattice owned n s u v st) (omega (arith, before.2)),
+                λ map rises. ordered.through e (at sys map u sites) (at sys map v (s ∷ sites)) (one.1 map rises) (rises.enter n s u v sites st one.0 (omega (arith, before.2))),
               ),
         )
     forces_one e v (flows_on u _ n c st) =
         let before = forces_one e u c in
-        let sites = before.1 in (
-          before.0 + length sites,
+        let sites = before.0 in
+        let shorter = seen_within (owner_of sys v) sites in (
           seen_from (owner_of sys v) sites,
+          omega (arith, before.1, shorter),
+          omega (arith, before.2, shorter),
           λ depth fits.
-              let one = before.2 depth (omega arith) in
+              let one = before.3 depth (omega arith) in
               let on = flow_from sys depth (owner_of sys u) (owner_of sys v) sites (same_function sys lattice owned n u v st) one.0 in (
                 on.0,
                 λ map rises. subst (λ x. leq order e x ≡ true) (ap (map v) (sym (seen_twice (owner_of sys v) sites)))
@@ -132,30 +120,31 @@ module _ (sys : System) (lattice : ℕ) (order : Order) (owned : IsWellOwned sys
         )
     forces_one e v (grouped_on u a b _ s g n m c st q st2) =
         let before = forces_one e u c in
-        let inside = raises g a b q in (
-          max before.0 (inside.0 + 1),
+        let sites = before.0 in (
+          sites,
           before.1,
+          omega (arith, before.2),
           λ depth fits.
-              let one = before.2 depth (omega arith) in (
-                subst (λ o. IsCopy sys depth o before.1) (same_outer sys lattice owned n m s u a b v st st2) one.0,
-                λ map rises. ordered.through e (at sys map u before.1) (at sys map v before.1) (one.1 map rises)
-                    (group_raises n m s u a b v inside.0 st inside.1 st2 depth map before.1 rises one.0 (omega arith)),
+              let one = before.3 depth (omega arith) in (
+                subst (λ o. IsCopy sys depth o sites) (same_outer sys lattice owned n m s u a b v st st2) one.0,
+                λ map rises. ordered.through e (at sys map u sites) (at sys map v sites) (one.1 map rises)
+                    (group_raises n m s u a b v (depth_inside sys lattice g a b q) st (raises g a b q) st2 depth map sites rises one.0 (omega (arith, before.1))),
               ),
         )
 
 pub leads_force : LeadsForce
 leads_force sys lattice order owned ordered e v (inl p) =
-    let f = forces sys lattice order owned ordered e v p in
+    let depth = depth_returning sys lattice e v p in
     record {
-      depth = f.0;
+      depth = depth;
       sites = [];
-      copy = root sys f.0 (owner_of sys v);
-      above = λ map rises. f.1 f.0 map [] rises (root sys f.0 (owner_of sys v)) (omega arith);
+      copy = root sys depth (owner_of sys v);
+      above = λ map rises. forces sys lattice order owned ordered e v p depth map [] rises (root sys depth (owner_of sys v)) (omega arith);
     }
 leads_force sys lattice order owned ordered e v (inr c) =
     let f = forces_one sys lattice order owned ordered e v c in
-    let one = f.2 (length f.1 + f.0) (omega arith) in
-    record { depth = length f.1 + f.0; sites = f.1; copy = one.0; above = one.1 }
+    let one = f.3 (depth_calling sys lattice e v c) (omega arith) in
+    record { depth = depth_calling sys lattice e v c; sites = f.0; copy = one.0; above = one.1 }
 
 pub paths_refute : PathsRefute
 paths_refute sys lattice order owned ordered e v n b lead stands over =
@@ -167,6 +156,13 @@ paths_refute sys lattice order owned ordered e v n b lead stands over =
       depth = f.depth;
       unmet = λ map rises keeps. let both = ordered.through e (at sys map v f.sites) b (f.above map rises) (keeps b v f.sites stands f.copy) in cc;
     }
+
+-- at the depth of the path
+pub refuted_at : (sys : System) (lattice : ℕ) (order : Order) (owned : IsWellOwned sys) (ordered : IsOrder order) (e v n b : ℕ) (lead : Lead sys lattice e v) (stands : Stands sys lattice n (Bound v lattice b))
+    (over : leq order e b ≡ false) → (paths_refute sys lattice order owned ordered e v n b lead stands over).depth ≡ depth_of sys lattice e v lead
+unfolding paths_refute leads_force
+refuted_at sys lattice order owned ordered e v n b (inl p) stands over = refl
+refuted_at sys lattice order owned ordered e v n b (inr c) stands over = refl
 
 pub exceeded_is_refuted : ExceededIsRefuted
 exceeded_is_refuted sys lattice order n over accepted = let met = accepted over.depth in over.unmet met.0 met.1.rises (met.1.bound n)

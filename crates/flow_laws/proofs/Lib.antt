@@ -5,6 +5,7 @@ pub mod Links
 pub mod Leads
 pub mod NoCalls
 pub mod Owners
+pub mod Depths
 pub mod Force
 pub mod Rejected
 pub mod Reaching

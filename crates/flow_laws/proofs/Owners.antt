@@ -25,6 +25,10 @@ pub seen_twice : (owner : Owner) (sites : List ℕ) → seen_from owner (seen_fr
 seen_twice Nobody sites = refl
 seen_twice (Function f) sites = refl
 
+pub seen_within : (owner : Owner) (sites : List ℕ) → length (seen_from owner sites) ≤ length sites
+seen_within Nobody sites = omega arith
+seen_within (Function f) sites = omega arith
+
 pub string_of : (sys : System) (depth : ℕ) (owner : Owner) (sites : List ℕ) → IsCopy sys depth owner sites → IsCallString sys owner sites
 string_of sys depth Nobody sites h = subst (IsCallString sys Nobody) (sym h) tt
 string_of sys depth (Function f) sites h = h.0

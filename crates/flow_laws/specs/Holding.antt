@@ -1,14 +1,14 @@
 -- What a path proof that holds shows.
-use Rattle.std.specs.Prelude.{◌≡◌, ℕ, false, List, slice_get, Some}
+use Rattle.std.specs.Prelude.{◌≡◌, ℕ, ◌+◌, ◌≤◌, false, List, [], ◌∷◌, length, slice_get, Some}
 use Rattle.lattice_core.specs.Order.{Order, leq, IsOrder}
 use Rattle.flow_graph.specs.declared.constraint.Link.TheVariants.{Bound}
 use Rattle.flow_graph.specs.declared.proof.PathStep.{PathStep}
 use Rattle.flow_graph.specs.declared.proof.PathStep.TheVariants.{Take}
 use Rattle.flow_graph.specs.declared.proof.PathProof.{PathProof}
 use Rattle.flow_graph.specs.System.{System, Stands, IsWellOwned}
-use Rattle.flow_graph.specs.Unfolding.{NamesElements, IsExceeded, IsAccepted}
+use Rattle.flow_graph.specs.Unfolding.{Assignment, Meets, NamesElements, IsExceeded, IsAccepted}
 use Rattle.flow_graph.specs.Paths.{Lead}
-use Rattle.flow_graph.specs.PathProofs.{Holds, last_of}
+use Rattle.flow_graph.specs.PathProofs.{Holds, steps_of, last_of}
 use Rattle.flow_laws.specs.Rejected.{InEach}
 
 -- the last step of a path takes a bound of a lattice of the list, to which a constant leads that is not at or below it
@@ -47,6 +47,36 @@ abbrev pub HoldsRefutes : Type 0
 HoldsRefutes = (sys : System) (orders : List Order) (proof : PathProof) → IsWellOwned sys → NamesElements sys orders →
     InEach orders (λ lattice order. IsOrder order) →
     Holds sys orders proof → EndsInExceeded sys orders proof.main.items
+
+-- the steps of several paths
+abbrev pub steps_in : List (List PathStep) → ℕ
+steps_in [] = 0
+steps_in (steps ∷ paths) = length steps + steps_in paths
+
+-- the steps of the main path and of all sub-paths
+abbrev pub steps_in_proof : PathProof → ℕ
+steps_in_proof proof = length proof.main.items + steps_in (steps_of proof.subs.items)
+
+-- It is exceeded at a depth of at most that many.
+abbrev pub HoldsRefutesWithin : Type 0
+HoldsRefutesWithin = (sys : System) (orders : List Order) (proof : PathProof) → IsWellOwned sys → NamesElements sys orders →
+    InEach orders (λ lattice order. IsOrder order) →
+    Holds sys orders proof → (ends : EndsInExceeded sys orders proof.main.items) × (ends.exceeded.depth ≤ steps_in_proof proof)
+
+-- in some lattice of the list no assignment meets the unfolding at a depth of at most this
+pub record IsUnmetWithin (sys : System) (orders : List Order) (most : ℕ) : Type 0 where
+  pub lattice : ℕ
+  pub order : Order
+  pub there : slice_get orders lattice ≡ Some order
+  pub depth : ℕ
+  pub low : depth ≤ most
+  pub unmet : (map : Assignment) → Meets sys lattice order depth map → ⊥
+
+-- So the unfolding is not met at a depth of at most that many.
+abbrev pub HoldsIsUnmet : Type 0
+HoldsIsUnmet = (sys : System) (orders : List Order) (proof : PathProof) → IsWellOwned sys → NamesElements sys orders →
+    InEach orders (λ lattice order. IsOrder order) →
+    Holds sys orders proof → IsUnmetWithin sys orders (steps_in_proof proof)
 
 -- A program of which a path proof holds is not accepted.
 abbrev pub HoldsRejects : Type 0

@@ -19,6 +19,8 @@ mod drawn_three;
 #[cfg(test)]
 mod drawn_two;
 #[cfg(test)]
+mod nested;
+#[cfg(test)]
 mod tests;
 #[cfg(test)]
 mod worked;

@@ -6,6 +6,7 @@ ghost use Rattle.flow_graph.specs.System.{IsWellOwned};
 ghost use Rattle.flow_graph.specs.Unfolding.{NamesElements, IsAccepted};
 ghost use Rattle.flow_graph.specs.PathRules.{begins, ends, is_kept, rule_at};
 ghost use Rattle.flow_graph.specs.PathProofs.{edge_or, edge_at, look, line_of, first_of, last_of, of_step, through, ends_with_nobody, stays_in_call, first_failing, home_of, subs_fault, start_of, end_fault, main_fault, steps_of, fault_of, Holds};
+ghost use Rattle.flow_laws.specs.Holding.{steps_in_proof, IsUnmetWithin};
 ghost use Rattle.path_checker.specs.Orders.{orders_of, order_at, AreOrders};
 ghost use Rattle.path_checker.specs.Start.{start_fault};
 
@@ -17,7 +18,7 @@ use flow_graph::constraint::{Constraint, Link};
 use flow_graph::graph::FlowGraph;
 use flow_graph::place::{Path, Place, Seen};
 use flow_graph::proof::{BadStep, PathProof, PathStep, SubPath, Why};
-use flow_laws::holding::holds_rejects;
+use flow_laws::holding::{holds_is_unmet, holds_rejects};
 use lattice_core::Lattices;
 use qual_base::ids::{EdgeId, Elem, LatticeNo, Numbered, VarId};
 use qual_base::places::Owner;
@@ -383,12 +384,14 @@ fn first_fault(graph: &FlowGraph, lattices: &Lattices, proof: &PathProof) -> Opt
 pub fn check(graph: &FlowGraph, lattices: &Lattices, proof: &PathProof) -> Result<(), BadStep>
     ensures holds { IsOk result ↔ Holds graph.now (orders_of lattices.now) proof.now }
     ensures rejects { OnOk result (IsWellOwned graph.now → NamesElements graph.now (orders_of lattices.now) → AreOrders (orders_of lattices.now) → IsAccepted graph.now (orders_of lattices.now) → ⊥) }
+    ensures unmet { OnOk result (IsWellOwned graph.now → NamesElements graph.now (orders_of lattices.now) → AreOrders (orders_of lattices.now) → IsUnmetWithin graph.now (orders_of lattices.now) (steps_in_proof proof.now)) }
     ensures fails { IfErr result (λ bad. fault_of graph.now (orders_of lattices.now) proof.now ≡ Some bad) }
 {
     match first_fault(graph, lattices, proof) {
         Some(bad) => Err(bad),
         None => {
             holds_rejects();
+            holds_is_unmet();
             Ok(())
         }
     }
