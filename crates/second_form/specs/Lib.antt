@@ -1,0 +1,4 @@
+pub mod Source
+pub mod View
+pub mod Constraints
+pub mod Facts
