@@ -1,11 +1,11 @@
 mod Pieces
-mod Items
 mod Appended
+mod PlaceLemmas
+mod TokenLemmas
+mod VarLemmas
 mod FlatHolds
 mod FlatWithin
 mod ReportLemmas
-mod SourceFacts
-mod LatticeFacts
 mod Unreached
 mod Searching
 mod Reaching
