@@ -3,6 +3,8 @@ mod Appended
 mod PlaceLemmas
 mod TokenLemmas
 mod VarLemmas
+mod LatticeLemmas
+mod SceneFacts
 mod FlatHolds
 mod FlatWithin
 mod ReportLemmas

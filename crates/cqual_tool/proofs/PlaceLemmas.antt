@@ -65,8 +65,8 @@ module _ (bytes : List ℕ) (at from : ℕ) (inside : at ≤ length bytes) (line
       elim line.begins [
         | inl zero_is ↦ absurd (omega (arith, zero_is, h))
         | inr feed ↦
-          let place : at - 1 - (at - from) ≡ from - 1 = omega (arith, le, h) in
-          ap not (eq-eqb _ 10 (front_at (at - from) h ∙ ap (λ n. get_or bytes n 0) place ∙ feed))
+            let place : at - 1 - (at - from) ≡ from - 1 = omega (arith, le, h) in
+            ap not (eq-eqb _ 10 (front_at (at - from) h ∙ ap (λ n. get_or bytes n 0) place ∙ feed))
       ]
 
   column_is : before_in_line bytes at ≡ at - from

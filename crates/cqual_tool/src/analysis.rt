@@ -13,7 +13,7 @@ ghost use Rattle.cqual_tool.specs.Reports.{IsJudged, IsOver};
 ghost use Rattle.cqual_tool.specs.Outcome.{OfProgram, SourceLexes};
 
 use crate::answer::{Answer, malformed};
-use crate::reports::{accepted, rejected};
+use crate::reports::{accepted, rejected, solver_of};
 use crate::status::Status;
 use crate::texts::Scene;
 use c_lexer::tokens::Tokens;
@@ -39,11 +39,7 @@ fn solve(alloc: Global, graph: &FlowGraph, lattice: LatticeNo) -> Result<Solver,
 }
 
 /// The solution of each lattice, in order.
-fn solve_all(
-    alloc: Global,
-    graph: &FlowGraph,
-    lattices: &Lattices,
-) -> Result<Vec<Solver>, NoMemory>
+fn solve_all(alloc: Global, graph: &FlowGraph, lattices: &Lattices) -> Result<Vec<Solver>, NoMemory>
     ensures { IfOk result (λ solvers. AreSolutions graph.now lattices.now solvers.items) }
 {
     let mut solvers = Vec::new(alloc);
@@ -62,9 +58,12 @@ fn is_exceeded(scene: &Scene<'_>, graph: &FlowGraph, solvers: &[Solver]) -> bool
     ensures kept { OnFalse result (AreKept graph.now scene.now.lattices.now solvers.now) }
 {
     for n in 0..scene.lattices.len() {
-        let solver = &solvers[usize::from(n)];
-        let lattice = scene.lattices.get(LatticeNo::new(n));
-        if solver.first_exceeded(graph, lattice).is_some() {
+        let number = LatticeNo::new(n);
+        let solver = solver_of(solvers, number);
+        if solver
+            .first_exceeded(graph, scene.lattices.get(number))
+            .is_some()
+        {
             return true;
         }
     }

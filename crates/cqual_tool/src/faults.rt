@@ -50,11 +50,7 @@ fn put_two_named(
 }
 
 /// Why a block makes no lattice; nothing for want of memory.
-fn put_block_fault(
-    out: &mut Vec<u8>,
-    number: u32,
-    fault: &LatticeFault,
-) -> Result<(), AllocError>
+fn put_block_fault(out: &mut Vec<u8>, number: u32, fault: &LatticeFault) -> Result<(), AllocError>
     ensures { OnOk result (out.new.items ≡ out.old.items ++ block_text number fault.now) }
 {
     match fault {
@@ -83,12 +79,7 @@ fn block_refused(
 }
 
 /// The answer for a text that is none of blocks from a place on.
-fn grammar_refused(
-    alloc: Global,
-    file: &str,
-    line: u64,
-    column: u64,
-) -> Result<Answer, NoMemory>
+fn grammar_refused(alloc: Global, file: &str, line: u64, column: u64) -> Result<Answer, NoMemory>
     ensures { IfOk result (λ answer. (answer.status ≡ Statuses.Malformed) × (answer.text.items ≡ lattice_line file.now (Faults.Grammar line column))) }
 {
     let mut place = Vec::new(alloc);

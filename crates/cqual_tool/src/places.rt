@@ -42,12 +42,7 @@ fn file_of<'a>(file: &'a str, bytes: &'a [u8], spot: &Spot) -> &'a [u8]
 }
 
 /// FILE:LINE:COLUMN.
-pub fn put_at(
-    out: &mut Vec<u8>,
-    file: &[u8],
-    line: u64,
-    column: u64,
-) -> Result<(), AllocError>
+pub fn put_at(out: &mut Vec<u8>, file: &[u8], line: u64, column: u64) -> Result<(), AllocError>
     ensures { OnOk result (out.new.items ≡ out.old.items ++ at_text file.now line column) }
 {
     put(out, file)?;
@@ -58,12 +53,7 @@ pub fn put_at(
 }
 
 /// FILE:LINE:COLUMN of a spot in a unit with this name and these bytes.
-pub fn put_spot(
-    out: &mut Vec<u8>,
-    file: &str,
-    bytes: &[u8],
-    spot: &Spot,
-) -> Result<(), AllocError>
+pub fn put_spot(out: &mut Vec<u8>, file: &str, bytes: &[u8], spot: &Spot) -> Result<(), AllocError>
     ensures { OnOk result (out.new.items ≡ out.old.items ++ spot_text file.now bytes.now spot.now) }
 {
     put_at(out, file_of(file, bytes, spot), spot.line, spot.column)

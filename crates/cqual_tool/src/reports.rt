@@ -21,6 +21,14 @@ use lattice_solver::solver::Solver;
 use qual_base::ids::{EdgeId, Elem, LatticeNo, Numbered, VarId};
 use std::alloc::{AllocError, Global};
 
+/// The solver of a lattice.
+pub fn solver_of(solvers: &[Solver], lattice: LatticeNo) -> &Solver
+    requires { lattice < length solvers.now }
+    ensures { slice_get solvers.now lattice ≡ Some result.now }
+{
+    &solvers[usize::from(lattice.number())]
+}
+
 /// The line of a variable in a lattice, unless its least element is the bottom.
 fn put_line(
     out: &mut Vec<u8>,
@@ -59,8 +67,8 @@ fn put_var_lines(
     ensures { OnOk result ((lines : List ℕ) × (out.new.items ≡ out.old.items ++ lines) × VarLines (scene_of scene.now) graph.now var (length scene.now.lattices.now) lines) }
 {
     for n in 0..scene.lattices.len() {
-        let solver = &solvers[usize::from(n)];
-        put_line(out, scene, graph, solver, LatticeNo::new(n), var)?;
+        let number = LatticeNo::new(n);
+        put_line(out, scene, graph, solver_of(solvers, number), number, var)?;
     }
     Ok(())
 }
@@ -185,8 +193,10 @@ fn put_error_of(
     let Some(lattice) = lattice_of(&graph.constraint(number)) else {
         return Ok(());
     };
-    let solver = &solvers[usize::from(lattice.number())];
-    match solver.exceeded(graph, scene.lattices.get(lattice), number) {
+    let solver = solver_of(solvers, lattice);
+    let named = scene.lattices.get(lattice);
+    named.law();
+    match solver.exceeded(graph, named, number) {
         Some(elem) => put_exceeded(alloc, out, scene, graph, lattice, elem, number),
         None => Ok(()),
     }
