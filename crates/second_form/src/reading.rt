@@ -1,0 +1,311 @@
+//! Reading the items of a source.
+
+ghost use Rattle.std.specs.Prelude.{◌≡◌, ◌<◌, ◌≤◌, ◌+◌, ◌^◌, ◌↔◌, IsTrue, length, List, ℕ, Some, IfOk, OnOk, MatchOption, map};
+ghost use Rattle.c_lexer.specs.declared.kinds.TokenKind.{TokenKind as KindView};
+ghost use Rattle.c_lexer.specs.declared.kinds.TokenKind.TheVariants.{Name};
+ghost use Rattle.second_form.specs.Source.{AssignView, ItemView, Scope, no_names, Declares, Is, IsNewName, IsObject, IsAssign, AreAssigns, IsInt, IsHead, IsItem, AreItems, IsSource, declared_with, end_of};
+ghost use Rattle.second_form.specs.View.{assign_of, item_of, items_of};
+ghost use Rattle.second_form.specs.Reading.{AreAllWords};
+
+use crate::scope::Names;
+use crate::source_form::{Assign, Item, ObjectNo};
+use c_lexer::kinds::{Keyword, Punct, TokenKind};
+use c_lexer::tokens::Tokens;
+use qual_base::faults::NoMemory;
+use qual_base::ids::{NameId, Numbered, TokenId};
+use std::alloc::Global;
+
+/// The kind of token `at`, none past the last.
+fn kind_at(tokens: &Tokens, at: usize) -> Option<TokenKind>
+    ensures { result ≡ Rattle.second_form.specs.Source.kind_at tokens.now.tokens at }
+{
+    if at < tokens.len() as usize {
+        Some(tokens.kind(TokenId::new(at as u32)))
+    } else {
+        None
+    }
+}
+
+/// Whether token `at` is of this kind.
+fn is_at(tokens: &Tokens, at: usize, kind: TokenKind) -> bool
+    ensures { IsTrue result ↔ Is tokens.now.tokens at kind }
+{
+    kind_at(tokens, at) == Some(kind)
+}
+
+/// Whether token `at` is this keyword.
+fn has_keyword(tokens: &Tokens, at: usize, keyword: Keyword) -> bool
+    ensures { IsTrue result ↔ Is tokens.now.tokens at (KindView.Keyword keyword) }
+{
+    is_at(tokens, at, TokenKind::Keyword(keyword))
+}
+
+/// Whether token `at` is this operator or bracket.
+fn has_punct(tokens: &Tokens, at: usize, punct: Punct) -> bool
+    ensures { IsTrue result ↔ Is tokens.now.tokens at (KindView.Punct punct) }
+{
+    is_at(tokens, at, TokenKind::Punct(punct))
+}
+
+/// The name that token `at` is.
+fn name_at(tokens: &Tokens, at: usize) -> Option<NameId>
+    ensures { MatchOption result
+        ((name : ℕ) → Is tokens.now.tokens at (Name name) → ⊥)
+        (λ name. Is tokens.now.tokens at (Name name)) }
+{
+    match kind_at(tokens, at) {
+        Some(TokenKind::Name(name)) => Some(name),
+        _ => None,
+    }
+}
+
+/// Whether token `at` is a name that is not declared yet.
+fn is_new_name(tokens: &Tokens, names: &Names, at: usize) -> bool
+    ensures { IsTrue result ↔ IsNewName tokens.now.tokens names.now at }
+{
+    match name_at(tokens, at) {
+        Some(name) => !names.declares(name),
+        None => false,
+    }
+}
+
+/// The object that token `at` names.
+fn object_named(tokens: &Tokens, names: &Names, at: usize) -> Option<usize>
+    ensures { MatchOption result
+        ((number : ℕ) → IsObject tokens.now.tokens names.now at number → ⊥)
+        (λ number. IsObject tokens.now.tokens names.now at number) }
+{
+    match name_at(tokens, at) {
+        Some(name) => names.object(name),
+        None => None,
+    }
+}
+
+/// Whether a kind of token is that of a qualifier word.
+fn is_word(kind: TokenKind) -> bool
+    ensures { result ≡ Rattle.second_form.specs.Source.is_word kind }
+{
+    match kind {
+        TokenKind::Qual(_, _) => true,
+        TokenKind::Keyword(keyword) => is_qualifier(keyword),
+        _ => false,
+    }
+}
+
+/// Whether a keyword is a type qualifier (C99, 6.7.3).
+fn is_qualifier(keyword: Keyword) -> bool
+    ensures { result ≡ Rattle.second_form.specs.Source.is_word (KindView.Keyword keyword) }
+{
+    matches!(keyword, Keyword::Const | Keyword::Volatile | Keyword::Restrict)
+}
+
+/// Whether token `at` is a qualifier word.
+fn is_word_at(tokens: &Tokens, at: usize) -> bool
+    ensures { IsTrue result ↔ ((kind : KindView) × Is tokens.now.tokens at kind × (Rattle.second_form.specs.Source.is_word kind ≡ true)) }
+{
+    match kind_at(tokens, at) {
+        Some(kind) => is_word(kind),
+        None => false,
+    }
+}
+
+/// The first token from `start` on that is no qualifier word.
+fn words_end(tokens: &Tokens, start: usize) -> usize
+    requires { start ≤ length tokens.now.tokens }
+    ensures { AreAllWords tokens.now.tokens start result }
+{
+    let _count = tokens.len();
+    let mut at = start;
+    while is_word_at(tokens, at) {
+        at += 1;
+    }
+    at
+}
+
+/// The name of the object whose declaration begins at a token.
+fn int_at(tokens: &Tokens, names: &Names, at: usize) -> Option<usize>
+    requires { at ≤ length tokens.now.tokens }
+    ensures { MatchOption result
+        ((name : ℕ) → IsInt tokens.now.tokens names.now at name → ⊥)
+        (λ name. IsInt tokens.now.tokens names.now at name) }
+{
+    let _count = tokens.len();
+    let type_at = words_end(tokens, at);
+    if has_keyword(tokens, type_at, Keyword::Int)
+        && is_new_name(tokens, names, type_at + 1)
+        && has_punct(tokens, type_at + 2, Punct::Semicolon)
+    {
+        Some(type_at + 1)
+    } else {
+        None
+    }
+}
+
+/// Whether `void name(void) {` stands at a token.
+fn is_head(tokens: &Tokens, names: &Names, at: usize) -> bool
+    requires { at ≤ 2 ^ 32 }
+    ensures { IsTrue result ↔ IsHead tokens.now.tokens names.now at }
+{
+    has_keyword(tokens, at, Keyword::Void)
+        && is_new_name(tokens, names, at + 1)
+        && has_punct(tokens, at + 2, Punct::OpenParen)
+        && has_keyword(tokens, at + 3, Keyword::Void)
+        && has_punct(tokens, at + 4, Punct::CloseParen)
+        && has_punct(tokens, at + 5, Punct::OpenBrace)
+}
+
+/// The statement at a token.
+fn assign_at(tokens: &Tokens, names: &Names, at: usize) -> Option<Assign>
+    requires early { at ≤ length tokens.now.tokens }
+    requires few { length names.now.objects ≤ at }
+    ensures { MatchOption result
+        ((assign : AssignView) → IsAssign tokens.now.tokens names.now at assign → ⊥)
+        (λ assign. IsAssign tokens.now.tokens names.now at (assign_of assign)) }
+{
+    let _count = tokens.len();
+    let into = object_named(tokens, names, at)?;
+    if !has_punct(tokens, at + 1, Punct::Equal) {
+        return None;
+    }
+    let from = object_named(tokens, names, at + 2)?;
+    if !has_punct(tokens, at + 3, Punct::Semicolon) {
+        return None;
+    }
+    Some(Assign {
+        target: TokenId::new(at as u32),
+        into: ObjectNo::new(into as u32),
+        value: TokenId::new((at + 2) as u32),
+        from: ObjectNo::new(from as u32),
+    })
+}
+
+/// The statements from a token on, up to the closing brace.
+fn assigns_at(
+    alloc: Global,
+    tokens: &Tokens,
+    names: &Names,
+    start: usize,
+) -> Result<Option<Vec<Assign>>, NoMemory>
+    requires early { start ≤ length tokens.now.tokens }
+    requires few { length names.now.objects ≤ start }
+    ensures { IfOk result (λ found. MatchOption found
+        ((assigns : List AssignView) → AreAssigns tokens.now.tokens names.now start assigns → ⊥)
+        (λ assigns. AreAssigns tokens.now.tokens names.now start (map assign_of assigns.items))) }
+{
+    let _count = tokens.len();
+    let mut assigns = Vec::new(alloc);
+    let mut at = start;
+    while !has_punct(tokens, at, Punct::CloseBrace) {
+        match assign_at(tokens, names, at) {
+            Some(assign) => assigns.push(assign)?,
+            None => return Ok(None),
+        }
+        at += 4;
+    }
+    Ok(Some(assigns))
+}
+
+/// The statements of the function at a token.
+fn function_at(
+    alloc: Global,
+    tokens: &Tokens,
+    names: &Names,
+    at: usize,
+) -> Result<Option<Vec<Assign>>, NoMemory>
+    requires early { at ≤ length tokens.now.tokens }
+    requires few { length names.now.objects ≤ at }
+    ensures { IfOk result (λ found. MatchOption found
+        ((assigns : List AssignView) → IsHead tokens.now.tokens names.now at → AreAssigns tokens.now.tokens names.now (at + 6) assigns → ⊥)
+        (λ assigns. IsHead tokens.now.tokens names.now at × AreAssigns tokens.now.tokens names.now (at + 6) (map assign_of assigns.items))) }
+{
+    let _count = tokens.len();
+    if is_head(tokens, names, at) {
+        assigns_at(alloc, tokens, names, at + 6)
+    } else {
+        Ok(None)
+    }
+}
+
+/// The item at a token.
+fn item_at(
+    alloc: Global,
+    tokens: &Tokens,
+    names: &Names,
+    at: usize,
+) -> Result<Option<Item>, NoMemory>
+    requires early { at ≤ length tokens.now.tokens }
+    requires few { length names.now.objects ≤ at }
+    ensures { IfOk result (λ found. MatchOption found
+        ((item : ItemView) → IsItem tokens.now.tokens names.now at item → ⊥)
+        (λ item. IsItem tokens.now.tokens names.now at (item_of item))) }
+{
+    let _count = tokens.len();
+    match int_at(tokens, names, at) {
+        Some(name) => {
+            let first = TokenId::new(at as u32);
+            let name = TokenId::new(name as u32);
+            Ok(Some(Item::Object { first, name }))
+        }
+        None => match function_at(alloc, tokens, names, at)? {
+            Some(assigns) => {
+                let name = TokenId::new((at + 1) as u32);
+                Ok(Some(Item::Function { name, assigns }))
+            }
+            None => Ok(None),
+        },
+    }
+}
+
+/// The number of the token after an item.
+fn end(item: &Item) -> usize
+    requires { end_of (item_of item.now) < 2 ^ 33 }
+    ensures { result ≡ end_of (item_of item.now) }
+{
+    match item {
+        Item::Object { name, .. } => name.number() as usize + 2,
+        Item::Function { name, assigns } => name.number() as usize + 6 + 4 * assigns.len(),
+    }
+}
+
+/// Adds the name of an item.
+fn declare(names: &mut Names, tokens: &Tokens, item: &Item) -> Result<(), NoMemory>
+    requires { (at : ℕ) × IsItem tokens.now.tokens names.old at (item_of item.now) }
+    ensures { OnOk result (names.new ≡ declared_with tokens.now.tokens names.old (item_of item.now)) }
+{
+    match item {
+        Item::Object { name, .. } => match name_at(tokens, name.number() as usize) {
+            Some(name) => names.add_object(name),
+            None => Ok(()),
+        },
+        Item::Function { name, .. } => match name_at(tokens, name.number() as usize) {
+            Some(name) => names.add_function(name),
+            None => Ok(()),
+        },
+    }
+}
+
+/// The items that the tokens are, or none where they are of another form. Linear time and memory.
+pub fn read_items(alloc: Global, tokens: &Tokens) -> Result<Option<Vec<Item>>, NoMemory>
+    ensures { IfOk result (λ found. MatchOption found
+        ((items : List ItemView) → IsSource tokens.now.tokens items → ⊥)
+        (λ items. IsSource tokens.now.tokens (items_of items.items))) }
+{
+    let mut items = Vec::new(alloc);
+    let mut names = Names::new(alloc);
+    let mut at = 0;
+    while !is_at(tokens, at, TokenKind::End) {
+        match item_at(alloc, tokens, &names, at)? {
+            Some(item) => {
+                declare(&mut names, tokens, &item)?;
+                at = end(&item);
+                items.push(item)?;
+            }
+            None => return Ok(None),
+        }
+    }
+    if at + 1 == tokens.len() as usize {
+        Ok(Some(items))
+    } else {
+        Ok(None)
+    }
+}
