@@ -1,6 +1,6 @@
 //! The constraints of a source.
 
-ghost use Rattle.std.specs.Prelude.{◌≡◌, ℕ, ◌<◌, ◌≤◌, ◌+◌, ◌*◌, ◌^◌, ◌++◌, [], ◌∷◌, All, IfOk, IfSome, OnOk, IsErrOf, length, map, option_map, slice_get, Some};
+ghost use Rattle.std.specs.Prelude.{◌≡◌, ℕ, ◌<◌, ◌≤◌, ◌+◌, ◌-◌, ◌*◌, ◌^◌, ◌++◌, [], ◌∷◌, All, IfOk, IfSome, OnOk, IsErrOf, length, map, option_map, slice_get, Some};
 ghost use Rattle.std.specs.List.{flat_map};
 ghost use Rattle.lattice_core.specs.View.{LatticeView};
 ghost use Rattle.flow_graph.specs.declared.constraint.Link.TheVariants.{Le, Const, Bound};
@@ -39,35 +39,37 @@ fn contents_of(object: u32) -> VarId
     VarId::new(2 * object + 1)
 }
 
-/// The tokens of the source from one to another.
-fn span_from(from: TokenId, to: TokenId) -> Span
-    ensures { result ≡ span_from from to }
+/// Adds a constraint in the lattices of a mask, from one token of the source to another.
+fn add(
+    graph: &mut FlowGraph,
+    link: Link,
+    lattices: u16,
+    from: TokenId,
+    to: TokenId,
+) -> Result<(), GraphFault>
+    requires { IsWithin (length graph.old.sites) link }
+    ensures added { OnOk result (Adds graph.old graph.new (record { link = link; lattices = lattices; span = span_from from to } ∷ [])) }
+    ensures too_many { IsErrOf result GraphFault.TooMany → OverLimit graph.old 1 }
 {
-    Span {
+    let span = Span {
         unit: UnitNo::new(1),
         from,
         to,
-    }
-}
-
-/// Adds a constant or a bound, which stands in its own lattice alone.
-fn add_in(
-    graph: &mut FlowGraph,
-    lattice: LatticeNo,
-    link: Link,
-    span: Span,
-) -> Result<(), GraphFault>
-    requires lattice { lattice < 16 }
-    requires link { IsWithin (length graph.old.sites) link }
-    ensures added { OnOk result (Adds graph.old graph.new (in_lattice lattice link span ∷ [])) }
-    ensures too_many { IsErrOf result GraphFault.TooMany → OverLimit graph.old 1 }
-{
+    };
     graph.add(Constraint {
         link,
-        lattices: 1u16 << lattice.number(),
+        lattices,
         span,
     })?;
     Ok(())
+}
+
+/// The mask of one lattice.
+fn mask_of(lattice: LatticeNo) -> u16
+    requires { lattice < 16 }
+    ensures { result ≡ 2 ^ lattice }
+{
+    1u16 << lattice.number()
 }
 
 /// Adds what a word of an element gives at a variable, by the element's sign.
@@ -85,13 +87,13 @@ fn add_by_sign(
     ensures added { OnOk result (Adds graph.old graph.new (by_sign sign lattice elem var (span_from word word))) }
     ensures too_many { IsErrOf result GraphFault.TooMany → OverLimit graph.old (length (by_sign sign lattice elem var (span_from word word))) }
 {
-    let span = span_from(word, word);
+    let mask = mask_of(lattice);
     match sign {
-        Sign::Pos => add_in(graph, lattice, Link::Const(lattice, elem, var), span),
-        Sign::Neg => add_in(graph, lattice, Link::Bound(var, lattice, elem), span),
+        Sign::Pos => add(graph, Link::Const(lattice, elem, var), mask, word, word),
+        Sign::Neg => add(graph, Link::Bound(var, lattice, elem), mask, word, word),
         Sign::Eq => {
-            add_in(graph, lattice, Link::Const(lattice, elem, var), span)?;
-            add_in(graph, lattice, Link::Bound(var, lattice, elem), span)
+            add(graph, Link::Const(lattice, elem, var), mask, word, word)?;
+            add(graph, Link::Bound(var, lattice, elem), mask, word, word)
         }
     }
 }
@@ -130,17 +132,17 @@ fn add_at_level(
     graph: &mut FlowGraph,
     entry: &Entry,
     level: Level,
-    meaning: (LatticeNo, Elem),
+    lattice: LatticeNo,
+    elem: Elem,
     var: VarId,
     word: TokenId,
 ) -> Result<(), GraphFault>
-    requires lattice { meaning.0 < 16 }
-    requires elem { meaning.1 < 64 }
+    requires lattice { lattice < 16 }
+    requires elem { elem < 64 }
     requires var { var < 2 ^ 24 }
-    ensures added { OnOk result (Adds graph.old graph.new (of_entry (Some entry.now) level var (record { token = word; lattice = meaning.0; elem = meaning.1 }))) }
-    ensures too_many { IsErrOf result GraphFault.TooMany → OverLimit graph.old (length (of_entry (Some entry.now) level var (record { token = word; lattice = meaning.0; elem = meaning.1 }))) }
+    ensures added { OnOk result (Adds graph.old graph.new (of_entry (Some entry.now) level var (record { token = word; lattice = lattice; elem = elem }))) }
+    ensures too_many { IsErrOf result GraphFault.TooMany → OverLimit graph.old (length (of_entry (Some entry.now) level var (record { token = word; lattice = lattice; elem = elem }))) }
 {
-    let (lattice, elem) = meaning;
     if same_level(entry.level, level) {
         add_by_sign(graph, entry.sign, lattice, elem, var, word)
     } else {
@@ -148,22 +150,22 @@ fn add_at_level(
     }
 }
 
-/// Adds what a word gives at a variable of a level, by its meaning: a lattice and an element of it.
+/// Adds what a word of an element of a lattice gives at a variable of a level.
 fn annotate(
     graph: &mut FlowGraph,
     lattices: &Lattices,
     level: Level,
     var: VarId,
     word: TokenId,
-    meaning: (LatticeNo, Elem),
+    lattice: LatticeNo,
+    elem: Elem,
 ) -> Result<(), GraphFault>
     requires var { var < 2 ^ 24 }
-    ensures added { OnOk result (Adds graph.old graph.new (of_mark lattices.now level var (record { token = word; lattice = meaning.0; elem = meaning.1 }))) }
-    ensures too_many { IsErrOf result GraphFault.TooMany → OverLimit graph.old (length (of_mark lattices.now level var (record { token = word; lattice = meaning.0; elem = meaning.1 }))) }
+    ensures added { OnOk result (Adds graph.old graph.new (of_mark lattices.now level var (record { token = word; lattice = lattice; elem = elem }))) }
+    ensures too_many { IsErrOf result GraphFault.TooMany → OverLimit graph.old (length (of_mark lattices.now level var (record { token = word; lattice = lattice; elem = elem }))) }
 {
-    let (lattice, elem) = meaning;
     match entry_at(lattices, lattice, elem) {
-        Some(entry) => add_at_level(graph, entry, level, (lattice, elem), var, word),
+        Some(entry) => add_at_level(graph, entry, level, lattice, elem, var, word),
         None => Ok(()),
     }
 }
@@ -183,7 +185,7 @@ fn annotate_by_token(
     ensures too_many { IsErrOf result GraphFault.TooMany → OverLimit graph.old (length (of_token lattices.now tokens.now level var at)) }
 {
     match tokens.mark_of(at) {
-        Some(meaning) => annotate(graph, lattices, level, var, at, meaning),
+        Some((lattice, elem)) => annotate(graph, lattices, level, var, at, lattice, elem),
         None => Ok(()),
     }
 }
@@ -241,16 +243,23 @@ fn bound_by_entry(
     lattice: LatticeNo,
     elem: Elem,
     var: VarId,
-    span: Span,
+    from: TokenId,
+    to: TokenId,
 ) -> Result<(), GraphFault>
     requires lattice { lattice < 16 }
     requires elem { elem < 64 }
     requires var { var < 2 ^ 24 }
-    ensures added { OnOk result (Adds graph.old graph.new (of_writer lattice var span elem entry.now)) }
-    ensures too_many { IsErrOf result GraphFault.TooMany → OverLimit graph.old (length (of_writer lattice var span elem entry.now)) }
+    ensures added { OnOk result (Adds graph.old graph.new (of_writer lattice var (span_from from to) elem entry.now)) }
+    ensures too_many { IsErrOf result GraphFault.TooMany → OverLimit graph.old (length (of_writer lattice var (span_from from to) elem entry.now)) }
 {
     if entry.write {
-        add_in(graph, lattice, Link::Bound(var, lattice, elem), span)
+        add(
+            graph,
+            Link::Bound(var, lattice, elem),
+            mask_of(lattice),
+            from,
+            to,
+        )
     } else {
         Ok(())
     }
@@ -262,18 +271,19 @@ fn bound_by_lattice(
     lattice: &Lattice,
     at: LatticeNo,
     var: VarId,
-    span: Span,
+    from: TokenId,
+    to: TokenId,
 ) -> Result<(), GraphFault>
     requires at { at < 16 }
     requires var { var < 2 ^ 24 }
-    ensures added { OnOk result (Adds graph.old graph.new (of_writers at var span lattice.now)) }
-    ensures too_many { IsErrOf result GraphFault.TooMany → OverLimit graph.old (length (of_writers at var span lattice.now)) }
+    ensures added { OnOk result (Adds graph.old graph.new (of_writers at var (span_from from to) lattice.now)) }
+    ensures too_many { IsErrOf result GraphFault.TooMany → OverLimit graph.old (length (of_writers at var (span_from from to) lattice.now)) }
 {
     lattice.law();
     let mut elem = 0;
     while elem < lattice.size() {
         let one = Elem::new(elem);
-        bound_by_entry(graph, lattice.entry(one), at, one, var, span)?;
+        bound_by_entry(graph, lattice.entry(one), at, one, var, from, to)?;
         elem += 1;
     }
     Ok(())
@@ -284,16 +294,17 @@ fn bound_written(
     graph: &mut FlowGraph,
     lattices: &Lattices,
     var: VarId,
-    span: Span,
+    from: TokenId,
+    to: TokenId,
 ) -> Result<(), GraphFault>
     requires var { var < 2 ^ 24 }
-    ensures added { OnOk result (Adds graph.old graph.new (write_bounds 0 lattices.now var span)) }
-    ensures too_many { IsErrOf result GraphFault.TooMany → OverLimit graph.old (length (write_bounds 0 lattices.now var span)) }
+    ensures added { OnOk result (Adds graph.old graph.new (write_bounds 0 lattices.now var (span_from from to))) }
+    ensures too_many { IsErrOf result GraphFault.TooMany → OverLimit graph.old (length (write_bounds 0 lattices.now var (span_from from to))) }
 {
     let mut at = 0;
     while at < lattices.len() {
         let one = LatticeNo::new(at);
-        bound_by_lattice(graph, lattices.get(one), one, var, span)?;
+        bound_by_lattice(graph, lattices.get(one), one, var, from, to)?;
         at += 1;
     }
     Ok(())
@@ -307,38 +318,19 @@ fn all_lattices(count: u8) -> u16
     ((1u32 << count) - 1) as u16
 }
 
-/// Adds a flow, which stands in every lattice.
-fn add_flow(
-    graph: &mut FlowGraph,
-    lattices: &Lattices,
-    from: VarId,
-    into: VarId,
-    span: Span,
-) -> Result<(), GraphFault>
-    requires from { from < 2 ^ 24 }
-    requires into { into < 2 ^ 24 }
-    ensures added { OnOk result (Adds graph.old graph.new (in_all (length lattices.now) (Le from into) span ∷ [])) }
-    ensures too_many { IsErrOf result GraphFault.TooMany → OverLimit graph.old 1 }
-{
-    graph.add(Constraint {
-        link: Link::Le(from, into),
-        lattices: all_lattices(lattices.len()),
-        span,
-    })?;
-    Ok(())
-}
-
 /// Adds what an assignment gives: the write bounds of the target's reference, then the flow between the contents.
 fn assign(graph: &mut FlowGraph, lattices: &Lattices, one: &Assign) -> Result<(), GraphFault>
     requires { IsNumbered (assign_of one.now) }
     ensures added { OnOk result (Adds graph.old graph.new (of_assign lattices.now (assign_of one.now))) }
     ensures too_many { IsErrOf result GraphFault.TooMany → OverLimit graph.old (length (of_assign lattices.now (assign_of one.now))) }
 {
-    let span = span_from(one.target, one.value);
+    let target = one.target;
+    let value = one.value;
     let into = one.into.number();
     let from = one.from.number();
-    bound_written(graph, lattices, reference_of(into), span)?;
-    add_flow(graph, lattices, contents_of(from), contents_of(into), span)
+    bound_written(graph, lattices, reference_of(into), target, value)?;
+    let flow = Link::Le(contents_of(from), contents_of(into));
+    add(graph, flow, all_lattices(lattices.len()), target, value)
 }
 
 /// Adds what assignments give, in order.

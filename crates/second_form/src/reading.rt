@@ -1,8 +1,10 @@
 //! Reading the items of a source.
 
-ghost use Rattle.std.specs.Prelude.{◌≡◌, ◌<◌, ◌≤◌, ◌+◌, ◌^◌, ◌↔◌, IsTrue, length, List, ℕ, Some, IfOk, OnOk, MatchOption, map};
+ghost use Rattle.std.specs.Prelude.{◌≡◌, ◌<◌, ◌≤◌, ◌+◌, ◌^◌, ◌↔◌, IsTrue, true, length, List, ℕ, Some, IfOk, OnOk, MatchOption, map};
 ghost use Rattle.c_lexer.specs.declared.kinds.TokenKind.{TokenKind as KindView};
 ghost use Rattle.c_lexer.specs.declared.kinds.TokenKind.TheVariants.{Name};
+ghost use Rattle.c_lexer.specs.declared.kinds.Keyword.TheVariants.{Int, Void};
+ghost use Rattle.c_lexer.specs.declared.kinds.Punct.TheVariants.{OpenParen, CloseParen, OpenBrace, CloseBrace, Semicolon, Equal};
 ghost use Rattle.second_form.specs.Source.{AssignView, ItemView, Scope, no_names, Declares, Is, IsNewName, IsObject, IsAssign, AreAssigns, IsInt, IsHead, IsItem, AreItems, IsSource, declared_with, end_of};
 ghost use Rattle.second_form.specs.View.{assign_of, item_of, items_of};
 ghost use Rattle.second_form.specs.Reading.{AreAllWords};
@@ -26,25 +28,92 @@ fn kind_at(tokens: &Tokens, at: usize) -> Option<TokenKind>
     }
 }
 
-/// Whether token `at` is of this kind.
-fn is_at(tokens: &Tokens, at: usize, kind: TokenKind) -> bool
-    ensures { IsTrue result ↔ Is tokens.now.tokens at kind }
+/// Whether token `at` is the keyword `int`.
+fn is_int(tokens: &Tokens, at: usize) -> bool
+    ensures { IsTrue result ↔ Is tokens.now.tokens at (KindView.Keyword Int) }
 {
-    kind_at(tokens, at) == Some(kind)
+    matches!(kind_at(tokens, at), Some(TokenKind::Keyword(Keyword::Int)))
 }
 
-/// Whether token `at` is this keyword.
-fn has_keyword(tokens: &Tokens, at: usize, keyword: Keyword) -> bool
-    ensures { IsTrue result ↔ Is tokens.now.tokens at (KindView.Keyword keyword) }
+/// Whether token `at` is the keyword `void`.
+fn is_void(tokens: &Tokens, at: usize) -> bool
+    ensures { IsTrue result ↔ Is tokens.now.tokens at (KindView.Keyword Void) }
 {
-    is_at(tokens, at, TokenKind::Keyword(keyword))
+    matches!(kind_at(tokens, at), Some(TokenKind::Keyword(Keyword::Void)))
 }
 
-/// Whether token `at` is this operator or bracket.
-fn has_punct(tokens: &Tokens, at: usize, punct: Punct) -> bool
-    ensures { IsTrue result ↔ Is tokens.now.tokens at (KindView.Punct punct) }
+/// Whether token `at` is `(`.
+fn is_open_paren(tokens: &Tokens, at: usize) -> bool
+    ensures { IsTrue result ↔ Is tokens.now.tokens at (KindView.Punct OpenParen) }
 {
-    is_at(tokens, at, TokenKind::Punct(punct))
+    matches!(
+        kind_at(tokens, at),
+        Some(TokenKind::Punct(Punct::OpenParen))
+    )
+}
+
+/// Whether token `at` is `)`.
+fn is_close_paren(tokens: &Tokens, at: usize) -> bool
+    ensures { IsTrue result ↔ Is tokens.now.tokens at (KindView.Punct CloseParen) }
+{
+    matches!(
+        kind_at(tokens, at),
+        Some(TokenKind::Punct(Punct::CloseParen))
+    )
+}
+
+/// Whether token `at` is `{`.
+fn is_open_brace(tokens: &Tokens, at: usize) -> bool
+    ensures { IsTrue result ↔ Is tokens.now.tokens at (KindView.Punct OpenBrace) }
+{
+    matches!(
+        kind_at(tokens, at),
+        Some(TokenKind::Punct(Punct::OpenBrace))
+    )
+}
+
+/// Whether token `at` is `}`.
+fn is_close_brace(tokens: &Tokens, at: usize) -> bool
+    ensures { IsTrue result ↔ Is tokens.now.tokens at (KindView.Punct CloseBrace) }
+{
+    matches!(
+        kind_at(tokens, at),
+        Some(TokenKind::Punct(Punct::CloseBrace))
+    )
+}
+
+/// Whether token `at` is `;`.
+fn is_semicolon(tokens: &Tokens, at: usize) -> bool
+    ensures { IsTrue result ↔ Is tokens.now.tokens at (KindView.Punct Semicolon) }
+{
+    matches!(
+        kind_at(tokens, at),
+        Some(TokenKind::Punct(Punct::Semicolon))
+    )
+}
+
+/// Whether token `at` is `=`.
+fn is_equal(tokens: &Tokens, at: usize) -> bool
+    ensures { IsTrue result ↔ Is tokens.now.tokens at (KindView.Punct Equal) }
+{
+    matches!(kind_at(tokens, at), Some(TokenKind::Punct(Punct::Equal)))
+}
+
+/// Whether token `at` is the end of the unit.
+fn is_end(tokens: &Tokens, at: usize) -> bool
+    ensures { IsTrue result ↔ Is tokens.now.tokens at KindView.End }
+{
+    matches!(kind_at(tokens, at), Some(TokenKind::End))
+}
+
+/// The name that a kind of token is.
+fn name_of(kind: &TokenKind) -> Option<NameId>
+    ensures { MatchOption result ((name : ℕ) → kind.now ≡ Name name → ⊥) (λ name. kind.now ≡ Name name) }
+{
+    match kind {
+        TokenKind::Name(name) => Some(*name),
+        _ => None,
+    }
 }
 
 /// The name that token `at` is.
@@ -54,8 +123,8 @@ fn name_at(tokens: &Tokens, at: usize) -> Option<NameId>
         (λ name. Is tokens.now.tokens at (Name name)) }
 {
     match kind_at(tokens, at) {
-        Some(TokenKind::Name(name)) => Some(name),
-        _ => None,
+        Some(kind) => name_of(&kind),
+        None => None,
     }
 }
 
@@ -96,7 +165,10 @@ fn is_word(kind: TokenKind) -> bool
 fn is_qualifier(keyword: Keyword) -> bool
     ensures { result ≡ Rattle.second_form.specs.Source.is_word (KindView.Keyword keyword) }
 {
-    matches!(keyword, Keyword::Const | Keyword::Volatile | Keyword::Restrict)
+    matches!(
+        keyword,
+        Keyword::Const | Keyword::Volatile | Keyword::Restrict
+    )
 }
 
 /// Whether token `at` is a qualifier word.
@@ -131,9 +203,9 @@ fn int_at(tokens: &Tokens, names: &Names, at: usize) -> Option<usize>
 {
     let _count = tokens.len();
     let type_at = words_end(tokens, at);
-    if has_keyword(tokens, type_at, Keyword::Int)
+    if is_int(tokens, type_at)
         && is_new_name(tokens, names, type_at + 1)
-        && has_punct(tokens, type_at + 2, Punct::Semicolon)
+        && is_semicolon(tokens, type_at + 2)
     {
         Some(type_at + 1)
     } else {
@@ -146,12 +218,12 @@ fn is_head(tokens: &Tokens, names: &Names, at: usize) -> bool
     requires { at ≤ 2 ^ 32 }
     ensures { IsTrue result ↔ IsHead tokens.now.tokens names.now at }
 {
-    has_keyword(tokens, at, Keyword::Void)
+    is_void(tokens, at)
         && is_new_name(tokens, names, at + 1)
-        && has_punct(tokens, at + 2, Punct::OpenParen)
-        && has_keyword(tokens, at + 3, Keyword::Void)
-        && has_punct(tokens, at + 4, Punct::CloseParen)
-        && has_punct(tokens, at + 5, Punct::OpenBrace)
+        && is_open_paren(tokens, at + 2)
+        && is_void(tokens, at + 3)
+        && is_close_paren(tokens, at + 4)
+        && is_open_brace(tokens, at + 5)
 }
 
 /// The statement at a token.
@@ -164,11 +236,11 @@ fn assign_at(tokens: &Tokens, names: &Names, at: usize) -> Option<Assign>
 {
     let _count = tokens.len();
     let into = object_named(tokens, names, at)?;
-    if !has_punct(tokens, at + 1, Punct::Equal) {
+    if !is_equal(tokens, at + 1) {
         return None;
     }
     let from = object_named(tokens, names, at + 2)?;
-    if !has_punct(tokens, at + 3, Punct::Semicolon) {
+    if !is_semicolon(tokens, at + 3) {
         return None;
     }
     Some(Assign {
@@ -195,7 +267,7 @@ fn assigns_at(
     let _count = tokens.len();
     let mut assigns = Vec::new(alloc);
     let mut at = start;
-    while !has_punct(tokens, at, Punct::CloseBrace) {
+    while !is_close_brace(tokens, at) {
         match assign_at(tokens, names, at) {
             Some(assign) => assigns.push(assign)?,
             None => return Ok(None),
@@ -293,7 +365,7 @@ pub fn read_items(alloc: Global, tokens: &Tokens) -> Result<Option<Vec<Item>>, N
     let mut items = Vec::new(alloc);
     let mut names = Names::new(alloc);
     let mut at = 0;
-    while !is_at(tokens, at, TokenKind::End) {
+    while !is_end(tokens, at) {
         match item_at(alloc, tokens, &names, at)? {
             Some(item) => {
                 declare(&mut names, tokens, &item)?;
