@@ -1,5 +1,5 @@
 -- Sets of names, and the lists that clauses see of them.
-use Rattle.std.proofs.Common.{◌≡◌, ℕ, zero, suc, ◌<◌, Bool, true, false, ◌||◌, List, [], ◌∷◌, ◌++◌, length, get_or, slice_get, Option, None, Some, is_some, MatchOption, refl, sym, ◌∙◌, ap, if◌then◌else◌, position, arith, Contains, IsTrue, tt}
+use Rattle.std.proofs.Common.{◌≡◌, ℕ, zero, suc, ◌<◌, Bool, true, false, ◌||◌, List, [], ◌∷◌, ◌++◌, length, get_or, slice_get, Option, None, Some, is_some, MatchOption, refl, sym, ◌∙◌, ap, if◌then◌else◌, position, arith, Contains, IsTrue}
 use Rattle.std.specs.Bool.{Decides}
 use Rattle.std.specs.List.{list_any}
 use Rattle.std.proofs.lemmas.List.Quantifiers.{position-Some}

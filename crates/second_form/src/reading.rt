@@ -7,7 +7,7 @@ ghost use Rattle.c_lexer.specs.declared.kinds.Keyword.TheVariants.{Int, Void};
 ghost use Rattle.c_lexer.specs.declared.kinds.Punct.TheVariants.{OpenParen, CloseParen, OpenBrace, CloseBrace, Semicolon, Equal};
 ghost use Rattle.second_form.specs.Source.{AssignView, ItemView, Scope, no_names, Declares, Is, IsNewName, IsObject, IsAssign, AreAssigns, IsInt, IsHead, IsItem, AreItems, IsSource, declared_with, end_of};
 ghost use Rattle.second_form.specs.View.{assign_of, item_of, items_of};
-ghost use Rattle.second_form.specs.Reading.{AreAllWords};
+ghost use Rattle.second_form.specs.Reading.{AreAllWords, IsNamedInt};
 
 use crate::scope::Names;
 use crate::source_form::{Assign, Item, ObjectNo};
@@ -194,6 +194,14 @@ fn words_end(tokens: &Tokens, start: usize) -> usize
     at
 }
 
+/// Whether `int name;` stands at a token.
+fn is_named_int(tokens: &Tokens, names: &Names, at: usize) -> bool
+    requires { at ≤ 2 ^ 32 }
+    ensures { IsTrue result ↔ IsNamedInt tokens.now.tokens names.now at }
+{
+    is_int(tokens, at) && is_new_name(tokens, names, at + 1) && is_semicolon(tokens, at + 2)
+}
+
 /// The name of the object whose declaration begins at a token.
 fn int_at(tokens: &Tokens, names: &Names, at: usize) -> Option<usize>
     requires { at ≤ length tokens.now.tokens }
@@ -203,10 +211,7 @@ fn int_at(tokens: &Tokens, names: &Names, at: usize) -> Option<usize>
 {
     let _count = tokens.len();
     let type_at = words_end(tokens, at);
-    if is_int(tokens, type_at)
-        && is_new_name(tokens, names, type_at + 1)
-        && is_semicolon(tokens, type_at + 2)
-    {
+    if is_named_int(tokens, names, type_at) {
         Some(type_at + 1)
     } else {
         None
@@ -339,20 +344,25 @@ fn end(item: &Item) -> usize
     }
 }
 
+/// The name that a token is which is known to be one.
+fn name_number(tokens: &Tokens, at: TokenId) -> NameId
+    requires { (name : ℕ) × Is tokens.now.tokens at (Name name) }
+    ensures { Is tokens.now.tokens at (Name result) }
+{
+    match name_at(tokens, at.number() as usize) {
+        Some(name) => name,
+        None => unreachable!(),
+    }
+}
+
 /// Adds the name of an item.
 fn declare(names: &mut Names, tokens: &Tokens, item: &Item) -> Result<(), NoMemory>
     requires { (at : ℕ) × IsItem tokens.now.tokens names.old at (item_of item.now) }
     ensures { OnOk result (names.new ≡ declared_with tokens.now.tokens names.old (item_of item.now)) }
 {
     match item {
-        Item::Object { name, .. } => match name_at(tokens, name.number() as usize) {
-            Some(name) => names.add_object(name),
-            None => Ok(()),
-        },
-        Item::Function { name, .. } => match name_at(tokens, name.number() as usize) {
-            Some(name) => names.add_function(name),
-            None => Ok(()),
-        },
+        Item::Object { name, .. } => names.add_object(name_number(tokens, *name)),
+        Item::Function { name, .. } => names.add_function(name_number(tokens, *name)),
     }
 }
 
