@@ -52,8 +52,8 @@ new_name ts scope n name false is h = (λ t. (name, is, λ d. absurd (let f = h.
 -- ---- words
 
 -- one word more
-pub words_more : (ts : List Token) (from at : ℕ) → AreWords ts from at → ((kind : TokenKind) × Is ts at kind × (is_word kind ≡ true)) → AreWords ts from (suc at)
-words_more ts from at words this n le lt = by_place (below_or_same n at lt)
+pub words_more : (ts : List Token) (from at : ℕ) → AreWords ts from at → ((kind : TokenKind) × Is ts at kind × (is_word kind ≡ true)) → AreWords ts from (at + 1)
+words_more ts from at words this n le lt = by_place (below_or_same n at (omega (arith, lt)))
   where
     below_or_same : (n at : ℕ) → n < suc at → (n < at) ⊎ (n ≡ at)
     below_or_same zero zero lt = inr refl

@@ -1,10 +1,10 @@
 -- Sets of names, and the lists that clauses see of them.
-use Rattle.std.proofs.Common.{◌≡◌, ℕ, zero, suc, ◌<◌, Bool, true, false, ◌||◌, List, [], ◌∷◌, ◌++◌, length, get_or, slice_get, Option, None, Some, is_some, MatchOption, refl, sym, ◌∙◌, ap, if◌then◌else◌, position, arith, Contains, IsTrue}
+use Rattle.std.proofs.Common.{◌≡◌, ℕ, zero, suc, ◌<◌, Bool, true, false, ◌||◌, List, [], ◌∷◌, ◌++◌, length, get_or, slice_get, Option, None, Some, is_some, MatchOption, refl, sym, ◌∙◌, ap, if◌then◌else◌, position, arith, Contains, IsTrue, IfSome}
 use Rattle.std.specs.Bool.{Decides}
 use Rattle.std.specs.List.{list_any}
 use Rattle.std.proofs.lemmas.List.Quantifiers.{position-Some}
 use Rattle.std.proofs.lemmas.Map.Views.{Contains-from_any}
-use Rattle.std.proofs.lemmas.Option.{slice_get-get_or}
+use Rattle.std.proofs.lemmas.Option.{slice_get-get_or, slice_get_within}
 use Rattle.indexmap.specs.IndexSet.{insert_key}
 
 module _ (eq : ℕ → ℕ → Bool) (decides : (x y : ℕ) → Decides (eq x y) (x ≡ y)) where
@@ -43,3 +43,8 @@ module _ (eq : ℕ → ℕ → Bool) (decides : (x y : ℕ) → Decides (eq x y)
       by_test : (b : Bool) → list_any (eq k) ks ≡ b → (if b then ks else (ks ++ k ∷ [])) ≡ ks ++ k ∷ []
       by_test true t = absurd (new (from_any ks k t))
       by_test false t = refl
+
+-- an index at which a name stands is one of the list
+pub within : {P : Type 0} (o : Option ℕ) (ks : List ℕ) (k : ℕ) → MatchOption o P (λ n. slice_get ks n ≡ Some k) → IfSome o (λ n. n < length ks)
+within None ks k h = tt
+within (Some n) ks k h = slice_get_within ks n k h

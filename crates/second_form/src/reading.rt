@@ -1,6 +1,6 @@
 //! Reading the items of a source.
 
-ghost use Rattle.std.specs.Prelude.{◌≡◌, ◌<◌, ◌≤◌, ◌+◌, ◌^◌, ◌↔◌, IsTrue, true, length, List, ℕ, Some, IfOk, OnOk, MatchOption, map};
+ghost use Rattle.std.specs.Prelude.{◌≡◌, ◌<◌, ◌≤◌, ◌+◌, ◌^◌, ◌↔◌, IsTrue, true, length, List, ℕ, Some, IfOk, IfSome, OnOk, MatchOption, map};
 ghost use Rattle.c_lexer.specs.declared.kinds.TokenKind.{TokenKind as KindView};
 ghost use Rattle.c_lexer.specs.declared.kinds.TokenKind.TheVariants.{Name};
 ghost use Rattle.c_lexer.specs.declared.kinds.Keyword.TheVariants.{Int, Void};
@@ -17,9 +17,18 @@ use qual_base::faults::NoMemory;
 use qual_base::ids::{NameId, Numbered, TokenId};
 use std::alloc::Global;
 
+/// How many tokens there are.
+fn count(tokens: &Tokens) -> usize
+    ensures count { result ≡ length tokens.now.tokens }
+    ensures few { result < 2 ^ 32 }
+{
+    tokens.len() as usize
+}
+
 /// The kind of token `at`, none past the last.
 fn kind_at(tokens: &Tokens, at: usize) -> Option<TokenKind>
-    ensures { result ≡ Rattle.second_form.specs.Source.kind_at tokens.now.tokens at }
+    ensures kind { result ≡ Rattle.second_form.specs.Source.kind_at tokens.now.tokens at }
+    ensures inside { IfSome result (λ _. at < length tokens.now.tokens) }
 {
     if at < tokens.len() as usize {
         Some(tokens.kind(TokenId::new(at as u32)))
@@ -118,9 +127,10 @@ fn name_of(kind: &TokenKind) -> Option<NameId>
 
 /// The name that token `at` is.
 fn name_at(tokens: &Tokens, at: usize) -> Option<NameId>
-    ensures { MatchOption result
+    ensures name { MatchOption result
         ((name : ℕ) → Is tokens.now.tokens at (Name name) → ⊥)
         (λ name. Is tokens.now.tokens at (Name name)) }
+    ensures inside { IfSome result (λ _. at < length tokens.now.tokens) }
 {
     match kind_at(tokens, at) {
         Some(kind) => name_of(&kind),
@@ -140,9 +150,11 @@ fn is_new_name(tokens: &Tokens, names: &Names, at: usize) -> bool
 
 /// The object that token `at` names.
 fn object_named(tokens: &Tokens, names: &Names, at: usize) -> Option<usize>
-    ensures { MatchOption result
+    ensures object { MatchOption result
         ((number : ℕ) → IsObject tokens.now.tokens names.now at number → ⊥)
         (λ number. IsObject tokens.now.tokens names.now at number) }
+    ensures within { IfSome result (λ number. number < length names.now.objects) }
+    ensures inside { IfSome result (λ _. at < length tokens.now.tokens) }
 {
     match name_at(tokens, at) {
         Some(name) => names.object(name),
@@ -186,7 +198,7 @@ fn words_end(tokens: &Tokens, start: usize) -> usize
     requires { start ≤ length tokens.now.tokens }
     ensures { AreAllWords tokens.now.tokens start result }
 {
-    let _count = tokens.len();
+    let _count = count(tokens);
     let mut at = start;
     while is_word_at(tokens, at) {
         at += 1;
@@ -209,7 +221,7 @@ fn int_at(tokens: &Tokens, names: &Names, at: usize) -> Option<usize>
         ((name : ℕ) → IsInt tokens.now.tokens names.now at name → ⊥)
         (λ name. IsInt tokens.now.tokens names.now at name) }
 {
-    let _count = tokens.len();
+    let _count = count(tokens);
     let type_at = words_end(tokens, at);
     if is_named_int(tokens, names, type_at) {
         Some(type_at + 1)
@@ -239,12 +251,16 @@ fn assign_at(tokens: &Tokens, names: &Names, at: usize) -> Option<Assign>
         ((assign : AssignView) → IsAssign tokens.now.tokens names.now at assign → ⊥)
         (λ assign. IsAssign tokens.now.tokens names.now at (assign_of assign)) }
 {
-    let _count = tokens.len();
-    let into = object_named(tokens, names, at)?;
+    let _count = count(tokens);
+    let Some(into) = object_named(tokens, names, at) else {
+        return None;
+    };
     if !is_equal(tokens, at + 1) {
         return None;
     }
-    let from = object_named(tokens, names, at + 2)?;
+    let Some(from) = object_named(tokens, names, at + 2) else {
+        return None;
+    };
     if !is_semicolon(tokens, at + 3) {
         return None;
     }
@@ -269,7 +285,7 @@ fn assigns_at(
         ((assigns : List AssignView) → AreAssigns tokens.now.tokens names.now start assigns → ⊥)
         (λ assigns. AreAssigns tokens.now.tokens names.now start (map assign_of assigns.items))) }
 {
-    let _count = tokens.len();
+    let _count = count(tokens);
     let mut assigns = Vec::new(alloc);
     let mut at = start;
     while !is_close_brace(tokens, at) {
@@ -295,7 +311,7 @@ fn function_at(
         ((assigns : List AssignView) → IsHead tokens.now.tokens names.now at → AreAssigns tokens.now.tokens names.now (at + 6) assigns → ⊥)
         (λ assigns. IsHead tokens.now.tokens names.now at × AreAssigns tokens.now.tokens names.now (at + 6) (map assign_of assigns.items))) }
 {
-    let _count = tokens.len();
+    let _count = count(tokens);
     if is_head(tokens, names, at) {
         assigns_at(alloc, tokens, names, at + 6)
     } else {
@@ -316,7 +332,7 @@ fn item_at(
         ((item : ItemView) → IsItem tokens.now.tokens names.now at item → ⊥)
         (λ item. IsItem tokens.now.tokens names.now at (item_of item))) }
 {
-    let _count = tokens.len();
+    let _count = count(tokens);
     match int_at(tokens, names, at) {
         Some(name) => {
             let first = TokenId::new(at as u32);
@@ -372,6 +388,7 @@ pub fn read_items(alloc: Global, tokens: &Tokens) -> Result<Option<Vec<Item>>, N
         ((items : List ItemView) → IsSource tokens.now.tokens items → ⊥)
         (λ items. IsSource tokens.now.tokens (items_of items.items))) }
 {
+    let _count = count(tokens);
     let mut items = Vec::new(alloc);
     let mut names = Names::new(alloc);
     let mut at = 0;

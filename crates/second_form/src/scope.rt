@@ -24,7 +24,7 @@ impl Model for Names {
 }
 
 impl Names {
-    ghost use Rattle.std.specs.Prelude.{◌≡◌, ◌++◌, [], ◌∷◌, ◌↔◌, IsTrue, OnOk, OnErr, MatchOption, slice_get, Some, Contains};
+    ghost use Rattle.std.specs.Prelude.{◌≡◌, ◌++◌, [], ◌∷◌, ◌↔◌, IsTrue, OnOk, OnErr, MatchOption, IfSome, slice_get, Some, Contains, ◌<◌, length};
     ghost use Rattle.second_form.specs.Source.{Scope, no_names, Declares};
 
     /// No names.
@@ -46,7 +46,8 @@ impl Names {
 
     /// The number of an object that has this name, or none: how many objects were declared before it.
     pub(crate) fn object(&self, name: NameId) -> Option<usize>
-        ensures { MatchOption result (Contains self.now.objects name → ⊥) (λ number. slice_get self.now.objects number ≡ Some name) }
+        ensures place { MatchOption result (Contains self.now.objects name → ⊥) (λ number. slice_get self.now.objects number ≡ Some name) }
+        ensures within { IfSome result (λ number. number < length self.now.objects) }
     {
         self.objects.get_index_of(&name)
     }
