@@ -45,6 +45,6 @@ module _ (eq : ℕ → ℕ → Bool) (decides : (x y : ℕ) → Decides (eq x y)
       by_test false t = refl
 
 -- an index at which a name stands is one of the list
-pub within : {P : Type 0} (o : Option ℕ) (ks : List ℕ) (k : ℕ) → MatchOption o P (λ n. slice_get ks n ≡ Some k) → IfSome o (λ n. n < length ks)
-within None ks k h = tt
-within (Some n) ks k h = slice_get_within ks n k h
+pub within : (P : Type 0) (o : Option ℕ) (ks : List ℕ) (k : ℕ) → MatchOption o P (λ n. slice_get ks n ≡ Some k) → IfSome o (λ n. n < length ks)
+within P None ks k h = tt
+within P (Some n) ks k h = slice_get_within ks n k h

@@ -9,7 +9,7 @@ use Rattle.second_form.proofs.reading.read_items.Goals as goal
 pub end-at-requires : goal.end-at-requires
 end-at-requires c =
     let h = item_end _ _ _ _ (MatchOption-at_some _ (λ item. IsItem c.args.tokens.now.tokens c.loop-alloc.names c.loop-alloc.at (item_of item)) _ c.in-Some.is c.in_ok-item.ensures) in
-    let l = c.count.ensures in omega (arith, h.1, l.count, l.few)
+    let l = c.count-count.ensures in omega (arith, h.1, l.count, l.few)
 
 pub loop-alloc-smaller : goal.loop-alloc-smaller
 loop-alloc-smaller c =

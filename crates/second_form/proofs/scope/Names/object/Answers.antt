@@ -12,4 +12,4 @@ returns-clause-place c =
 pub returns-clause-within : goal.returns-clause-within
 returns-clause-within c =
     let P : Scope → Type 0 = λ scope. IfSome c.get_index_of.result (λ number. number < length scope.objects) in
-    subst P c.self.view_is (within c.get_index_of.result c.self.inside.objects.keys c.args.name (placed _ Decides-eqb c.get_index_of.result c.self.inside.objects.keys c.args.name c.get_index_of.ensures.index c.get_index_of.ensures.found))
+    subst P c.self.view_is (within _ c.get_index_of.result c.self.inside.objects.keys c.args.name (placed _ Decides-eqb c.get_index_of.result c.self.inside.objects.keys c.args.name c.get_index_of.ensures.index c.get_index_of.ensures.found))
