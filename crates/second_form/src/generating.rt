@@ -2,6 +2,7 @@
 
 ghost use Rattle.std.specs.Prelude.{◌≡◌, ℕ, ◌<◌, ◌≤◌, ◌+◌, ◌-◌, ◌*◌, ◌^◌, ◌++◌, [], ◌∷◌, All, IfOk, IfSome, OnOk, IsErrOf, length, map, option_map, slice_get, Some};
 ghost use Rattle.std.specs.List.{flat_map};
+ghost use Rattle.lattice_core.specs.Order.{size};
 ghost use Rattle.lattice_core.specs.View.{LatticeView};
 ghost use Rattle.flow_graph.specs.declared.constraint.Link.TheVariants.{Le, Const, Bound};
 ghost use Rattle.flow_graph.specs.System.{IsWithin, IsWellOwned};
@@ -403,6 +404,18 @@ fn constraints(
     Ok(graph)
 }
 
+/// What is true of every lattice of a file: its elements are its entries. It takes at most 16 steps.
+fn law(lattices: &Lattices)
+    ensures { (n : ℕ) (view : LatticeView) → slice_get lattices.now n ≡ Some view → size view.order ≡ length view.entries }
+{
+    let mut at = 0;
+    while at < lattices.len() {
+        let lattice = lattices.get(LatticeNo::new(at));
+        lattice.law();
+        at += 1;
+    }
+}
+
 /// The constraints of a source, in order. Linear in the source and, for each assignment, in the sizes of the lattices.
 pub fn generate(
     alloc: Global,
@@ -420,6 +433,7 @@ pub fn generate(
     ensures named { IfOk result (λ graph. AreNamed lattices.now tokens.now (length (Rattle.second_form.specs.Constraints.object_tokens (items_of items.now))) graph) }
     ensures elements { IfOk result (λ graph. (lattice : ℕ) (view : LatticeView) → slice_get lattices.now lattice ≡ Some view → NamesElementsIn graph lattice view.order) }
 {
+    law(lattices);
     constraints(alloc, lattices, tokens, items)
 }
 
