@@ -8,3 +8,5 @@ pub mod laws;
 pub mod reading;
 mod scope;
 pub mod source_form;
+#[cfg(test)]
+mod tests;
