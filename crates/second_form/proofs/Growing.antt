@@ -1,7 +1,8 @@
 -- Constraints that are added in turn.
 use Rattle.std.proofs.Common.{◌≡◌, ℕ, zero, suc, ◌+◌, ◌-◌, ◌<◌, ◌≤◌, Bool, true, false, List, [], ◌∷◌, ◌++◌, length, map, drop, get_or, slice_get, Option, Some, None, refl, sym, ◌∙◌, ap, subst, arith, append_assoc, length-append, if◌then◌else◌}
+use Rattle.std.specs.Prelude.{All}
 use Rattle.std.specs.List.{flat_map}
-use Rattle.std.proofs.lemmas.List.{append-nil, map-append}
+use Rattle.std.proofs.lemmas.List.{append-nil, map-append, length-map, get_or-map}
 use Rattle.std.proofs.lemmas.Grind.{flat_map-append}
 use Rattle.qual_base.specs.declared.places.Span.{Span}
 use Rattle.lattice_core.specs.declared.Level.{Level}
@@ -16,7 +17,7 @@ use Rattle.second_form.specs.declared.source_form.Item.{Item}
 use Rattle.second_form.specs.Source.{AssignView, ItemView, kind_at}
 use Rattle.second_form.specs.View.{assign_of, item_of, items_of}
 use Rattle.second_form.specs.Constraints.{in_lattice, writers_from, write_bounds, of_mark, mark_at, marks_from, of_assign, of_item, objects_with, constraints_of, object_token, object_tokens}
-use Rattle.second_form.specs.Adding.{Adds, OverLimit, of_token, of_writer, of_writers, IsNumberedItem, AreNumbered}
+use Rattle.second_form.specs.Adding.{Adds, OverLimit, of_token, of_writer, of_writers, IsNumbered, IsNumberedItem, AreNumbered}
 
 -- what a graph has by now and what is still to come are what it had and the whole
 pub record Goes (old now : System) (rest whole : List Constraint) : Type 0 where
@@ -143,3 +144,11 @@ assigns_as lattices assigns i one lt is =
     let P : Assign → Type 0 = λ a. flat_map (of_assign lattices) (map assign_of (drop i assigns)) ≡ of_assign lattices (assign_of a) ++ flat_map (of_assign lattices) (map assign_of (drop (i + 1) assigns)) in
     let Next : ℕ → Type 0 = λ m. flat_map (of_assign lattices) (map assign_of (drop i assigns)) ≡ of_assign lattices (assign_of (get_or assigns i one)) ++ flat_map (of_assign lattices) (map assign_of (drop m assigns)) in
     subst P (sym is) (subst Next next (assigns_at lattices assigns i one lt))
+
+-- the statement that is read is numbered
+pub numbered_one : (assigns : List Assign) (i : ℕ) (one : Assign) → All IsNumbered (map assign_of assigns) → i < length assigns → one ≡ get_or assigns i one → IsNumbered (assign_of one)
+numbered_one assigns i one all lt is =
+    let l = length-map assigns assign_of in
+    let there : get_or (map assign_of assigns) i (assign_of one) ≡ assign_of one = get_or-map assign_of assigns i one (assign_of one) lt ∙ ap assign_of (sym is) in
+    let P : AssignView → Type 0 = λ a. IsNumbered a in
+    subst P there (all i (assign_of one) (omega (arith, lt, l)))

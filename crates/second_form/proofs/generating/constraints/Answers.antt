@@ -14,7 +14,7 @@ numbered tokens objects items i item within is all =
     subst Numbered (sym is) (numbered_at tokens objects items i item within all)
 
 pub add_item-requires : goal.add_item-requires
-add_item-requires c = (numbered _ _ _ _ _ c.loop-item-test.true c.item-item.is c.loop-item.invariant.numbered).0
+add_item-requires c = (numbered (length c.args.tokens.now.tokens) c.loop-item.objects c.args.items.now c.loop-item.item-index _ c.loop-item-test.true c.item-item.is c.loop-item.invariant.numbered).0
 
 pub objects_after-objects-requires : goal.objects_after-objects-requires
-objects_after-objects-requires c = (_, (numbered _ _ _ _ _ c.loop-item-test.true c.item-item.is c.loop-item.invariant.numbered).0)
+objects_after-objects-requires c = (length c.args.tokens.now.tokens, (numbered (length c.args.tokens.now.tokens) c.loop-item.objects c.args.items.now c.loop-item.item-index _ c.loop-item-test.true c.item-item.is c.loop-item.invariant.numbered).0)

@@ -12,21 +12,21 @@ use Rattle.second_form.proofs.SystemFacts.{numbered, flat, owned, named, element
 use Rattle.second_form.proofs.generating.generate.Goals as goal
 
 pub constraints-requires : goal.constraints-requires
-constraints-requires c = numbered c.requires.marked.words _ _ c.requires.marked.spelled c.requires.small c.requires.source
+constraints-requires c = numbered c.requires.marked.words c.args.tokens.now (items_of c.args.items.now) c.requires.marked.spelled c.requires.small c.requires.source
 
 pub returns-clause-flat : goal.returns-clause-flat
-returns-clause-flat c = IfOk-weaker c.constraints.result _ _ (λ graph is. let P : System → Type 0 = λ sys. IsFlat sys in subst P (sym is) (flat _ _ _ c.requires.source)) c.constraints.ensures.graph
+returns-clause-flat c = IfOk-weaker c.constraints.result _ _ (λ graph is. let P : System → Type 0 = λ sys. IsFlat sys in subst P (sym is) (flat c.args.lattices.now c.args.tokens.now (items_of c.args.items.now) c.requires.source)) c.constraints.ensures.graph
 
 pub returns-clause-owned : goal.returns-clause-owned
-returns-clause-owned c = IfOk-weaker c.constraints.result _ _ (λ graph is. let P : System → Type 0 = λ sys. IsWellOwned sys in subst P (sym is) (owned _ _ _ c.requires.source)) c.constraints.ensures.graph
+returns-clause-owned c = IfOk-weaker c.constraints.result _ _ (λ graph is. let P : System → Type 0 = λ sys. IsWellOwned sys in subst P (sym is) (owned c.args.lattices.now c.args.tokens.now (items_of c.args.items.now) c.requires.source)) c.constraints.ensures.graph
 
 pub returns-clause-named : goal.returns-clause-named
 returns-clause-named c =
     let P : System → Type 0 = λ sys. AreNamed c.args.lattices.now c.args.tokens.now (length (object_tokens (items_of c.args.items.now))) sys in
-    IfOk-weaker c.constraints.result _ _ (λ graph is. subst P (sym is) (named _ _ _ c.requires.source)) c.constraints.ensures.graph
+    IfOk-weaker c.constraints.result _ _ (λ graph is. subst P (sym is) (named c.args.lattices.now c.args.tokens.now (items_of c.args.items.now) c.requires.source)) c.constraints.ensures.graph
 
 pub returns-clause-elements : goal.returns-clause-elements
 returns-clause-elements c =
     let P : System → Type 0 = λ sys. (lattice : ℕ) (view : LatticeView) → slice_get c.args.lattices.now lattice ≡ Some view → NamesElementsIn sys lattice view.order in
     IfOk-weaker c.constraints.result _ _
-    (λ graph is. subst P (sym is) (λ lattice view there. elements _ _ _ c.requires.source lattice view there (c.law.ensures lattice view there))) c.constraints.ensures.graph
+    (λ graph is. subst P (sym is) (λ lattice view there. elements c.args.lattices.now c.args.tokens.now (items_of c.args.items.now) c.requires.source lattice view there (c.law.ensures lattice view there))) c.constraints.ensures.graph
