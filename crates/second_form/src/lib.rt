@@ -3,4 +3,10 @@
 
 #![tactic(auto)]
 
+pub mod generating;
+pub mod laws;
+pub mod reading;
+mod scope;
 pub mod source_form;
+#[cfg(test)]
+mod tests;
