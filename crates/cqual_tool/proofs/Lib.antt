@@ -1,11 +1,13 @@
 mod Pieces
-mod Items
 mod Appended
+mod PlaceLemmas
+mod TokenLemmas
+mod VarLemmas
+mod LatticeLemmas
+mod SceneFacts
 mod FlatHolds
 mod FlatWithin
 mod ReportLemmas
-mod SourceFacts
-mod LatticeFacts
 mod Unreached
 mod Searching
 mod Reaching

@@ -6,7 +6,8 @@ use Rattle.std.specs.declared.vec.Vec.{Vec}
 use Rattle.std.specs.Io.KnownBytes.{Appends}
 use Rattle.qual_base.specs.Outside.{content_of, Records}
 use Rattle.lattice_core.specs.View.{LatticeView}
-use Rattle.first_form.specs.declared.source_form.SourceForm.{SourceForm}
+use Rattle.c_lexer.specs.Tokens.{Lexed}
+use Rattle.second_form.specs.Source.{ItemView}
 use Rattle.cqual_tool.specs.declared.status.Status.{Status}
 use Rattle.cqual_tool.specs.declared.status.Status.TheVariants.{Accepted, Rejected, NotYet, Malformed, BadWords, ReadFault, WriteFault, NoMemory}
 use Rattle.cqual_tool.specs.Words.{FileNames, meaning_of}
@@ -15,7 +16,13 @@ use Rattle.cqual_tool.specs.Sending.{AppendsFront, Sends}
 use Rattle.qual_base.specs.Counts.{Rose}
 use Rattle.std.specs.Option.{option_map}
 use Rattle.cqual_tool.specs.Reports.{IsJudged, JudgedAccepted, JudgedRejected}
-use Rattle.cqual_tool.specs.Outcome.{OfProgram, PastLimit, Judged, SourceRead, WithoutMeaning, IsDecided, StartsFor, NoFile, InOrder, SourceIsOther, LatticeIsOther, LatticeReads, OfSource, SourceTooLarge, SourceNotYet, OfFiles, LatticeTooLarge, LatticeNotYet, LatticeRead, Outcome, WithMeaning, IsAnswer, RecordsAll, Starts, LatticeAlone, ThenSource, source_limit, lattice_limit}
+use Rattle.std.proofs.Common.{◌≢◌, Ok, Err, IfOk, arith}
+use Rattle.std.specs.declared.result.Result.{Result}
+use Rattle.lattice_file.specs.Faults.{Reads, IsFileFault}
+use Rattle.lattice_file.specs.declared.reading.LatticeFileFault.{LatticeFileFault}
+use Rattle.lattice_file.specs.declared.reading.LatticeFileFault.TheVariants.{NoMemory as OutOfMemory}
+use Rattle.cqual_tool.specs.Faults.{lattice_line}
+use Rattle.cqual_tool.specs.Outcome.{OfProgram, PastLimit, Judged, WithoutMeaning, IsDecided, StartsFor, NoFile, InOrder, LatticesRead, LatticesFail, OfFiles, LatticeTooLarge, LatticeRefused, Outcome, WithMeaning, IsAnswer, RecordsAll, lattice_limit}
 
 -- an outcome at equal statuses and texts
 pub at_equal : (Is : Status → List ℕ → Type 0) (one other : Status) (text same : List ℕ) → one ≡ other → text ≡ same → Is other same → Is one text
@@ -51,16 +58,11 @@ when_told (Some all) p f = f all p
 pub none_found : (size : ℕ) (content : List ℕ) (limit : ℕ) (found : Option (Vec ℕ Global)) → MatchOption found (limit < size) (λ bytes. bytes.items ≡ content) → found ≡ None → limit < size
 none_found size content limit found is none = let Found : Option (Vec ℕ Global) → Type 0 = λ o. MatchOption o (limit < size) (λ bytes. bytes.items ≡ content) in subst Found none is
 
--- what is judged or read is decided
-pub decided_program : (file : List ℕ) (lattice : LatticeView) (source : SourceForm) (status : Status) (text : List ℕ) → OfProgram file lattice source status text → IsDecided status
-decided_program file lattice source _ _ (PastLimit many) = tt
-decided_program file lattice source _ _ (Judged _ _ few (JudgedAccepted _ report)) = tt
-decided_program file lattice source _ _ (Judged _ _ few (JudgedRejected _ report)) = tt
-
-pub decided_source : (file : List ℕ) (lattice : LatticeView) (bytes : List ℕ) (status : Status) (text : List ℕ) → OfSource file lattice bytes status text → IsDecided status
-decided_source file lattice bytes _ _ (SourceTooLarge large) = tt
-decided_source file lattice bytes _ _ (SourceNotYet other) = tt
-decided_source file lattice bytes _ _ (SourceRead source status text reads is) = decided_program file lattice source status text is
+-- what is judged is decided
+pub decided_program : (file : List ℕ) (lattices : List LatticeView) (lexed : Lexed) (items : List ItemView) (status : Status) (text : List ℕ) → OfProgram file lattices lexed items status text → IsDecided status
+decided_program file lattices lexed items _ _ (PastLimit many) = tt
+decided_program file lattices lexed items _ _ (Judged _ _ few (JudgedAccepted _ report)) = tt
+decided_program file lattices lexed items _ _ (Judged _ _ few (JudgedRejected _ report)) = tt
 
 pub decided_as : (one other : Status) → one ≡ other → IsDecided other → IsDecided one
 decided_as one other same is = subst IsDecided (sym same) is
@@ -75,10 +77,10 @@ module _ (named : FileNames) (all : List (List ℕ × List ℕ)) where
       OfFiles named (content_of all named.lattice) (content_of all named.source) status text
   lattice_too_large status text is words large = at_equal (OfFiles named (content_of all named.lattice) (content_of all named.source)) status Malformed text _ is words (LatticeTooLarge large)
 
-  pub lattice_other : (status : Status) (text bytes : List ℕ) → status ≡ NotYet → text ≡ not_yet_line named.lattice → bytes ≡ content_of all named.lattice → LatticeIsOther bytes →
+  pub lattice_refused : (status : Status) (text : List ℕ) (fault : LatticeFileFault) → status ≡ Malformed → text ≡ lattice_line named.lattice fault → LatticesFail (content_of all named.lattice) fault →
       OfFiles named (content_of all named.lattice) (content_of all named.source) status text
-  lattice_other status text bytes is words content other =
-      at_equal (OfFiles named (content_of all named.lattice) (content_of all named.source)) status NotYet text _ is words (LatticeNotYet (subst LatticeIsOther content other))
+  lattice_refused status text fault is words fails =
+      at_equal (OfFiles named (content_of all named.lattice) (content_of all named.source)) status Malformed text _ is words (LatticeRefused fault fails)
 
 -- what is sent of a decided answer
 module _ (words : List (List ℕ)) (old new : Option (List ℕ)) (status given : Status) (text : List ℕ) (sends : Sends old new status text given) (decided : IsDecided status) where
@@ -144,3 +146,24 @@ pub both_told : {P Q R : List (List ℕ × List ℕ) → Type 0} (told : Option 
     ((all : List (List ℕ × List ℕ)) → P all → Q all → R all) → IfSome told R
 both_told None p q f = tt
 both_told (Some all) p q f = f all p q
+
+-- two things that hold of an answer
+pub both_ok : {T E : Type 0} {P Q R : T → Type 0} (r : Result T E) → IfOk r P → IfOk r Q → ((x : T) → P x → Q x → R x) → IfOk r R
+both_ok (Ok x) p q f = f x p q
+both_ok (Err e) p q f = tt
+
+-- what was taken of the lattice file is within its limit
+module _ (found : Option (Vec ℕ Global)) (bytes : Vec ℕ Global) (taken content : List ℕ) (some : found ≡ Some bytes) (limit : IfSome found (λ b. length b.items ≤ lattice_limit))
+    (lent : taken ≡ bytes.items) (whole : bytes.items ≡ content) where
+  short : length content ≤ lattice_limit
+  short =
+      let Within : Option (Vec ℕ Global) → Type 0 = λ o. IfSome o (λ b. length b.items ≤ lattice_limit) in
+      let Short : List ℕ → Type 0 = λ b. length b ≤ lattice_limit in
+      let own : length bytes.items ≤ lattice_limit = subst Within some limit in
+      subst Short whole own
+
+  pub lattices_read : (lattices : List LatticeView) → Reads taken lattices → LatticesRead content lattices
+  lattices_read lattices read = let Read : List ℕ → Type 0 = λ b. Reads b lattices in record { within = short; read = subst Read (lent ∙ whole) read }
+
+  pub lattices_fail : (fault : LatticeFileFault) → IsFileFault taken fault → fault ≢ OutOfMemory → LatticesFail content fault
+  lattices_fail fault refused reason = let Refused : List ℕ → Type 0 = λ b. IsFileFault b fault in record { within = short; refused = subst Refused (lent ∙ whole) refused; reason = reason }

@@ -2,7 +2,7 @@ pub mod Words
 pub mod Sending
 pub mod Texts
 pub mod Scenes
-pub mod Program
+pub mod Faults
 pub mod FlatPaths
 pub mod Reports
 pub mod Outcome

@@ -1,18 +1,25 @@
 -- What the tool answers and writes, for the words and the contents of the files.
-use Rattle.std.specs.Prelude.{◌≡◌, ℕ, ◌<◌, ◌≤◌, List, [], ◌∷◌, ◌++◌, length, map, Some, None, codes, IfSome, Option}
+use Rattle.std.specs.Prelude.{◌≡◌, ◌≢◌, ℕ, ◌<◌, ◌≤◌, List, [], ◌∷◌, ◌++◌, length, map, Some, None, codes, IfSome, Option}
 use Rattle.qual_base.specs.Outside.{content_of}
-use Rattle.lattice_core.specs.declared.Entry.{Entry}
+use Rattle.lattice_core.specs.Names.{words_of}
 use Rattle.lattice_core.specs.View.{LatticeView}
-use Rattle.lattice_core.specs.Building.{AreBuilt}
-use Rattle.flow_graph.specs.System.{System}
-use Rattle.first_form.specs.LatticeText.{Block, IsLatticeForm, entries_of, pair_of}
-use Rattle.first_form.specs.SourceText.{IsSourceForm}
-use Rattle.first_form.specs.declared.source_form.SourceForm.{SourceForm}
+use Rattle.lattice_file.specs.Faults.{Reads, IsFileFault}
+use Rattle.lattice_file.specs.declared.reading.LatticeFileFault.{LatticeFileFault}
+use Rattle.lattice_file.specs.declared.reading.LatticeFileFault.TheVariants.{NoMemory as OutOfMemory}
+use Rattle.qual_base.specs.Words.{MeansTheSame}
+use Rattle.c_lexer.specs.Reading.{Meanings}
+use Rattle.c_lexer.specs.Tokens.{Lexed}
+use Rattle.c_lexer.specs.Refusals.{IsRefusal}
+use Rattle.c_lexer.specs.declared.lex.LexFault.{LexFault}
+use Rattle.c_lexer.specs.declared.lex.LexFault.TheVariants.{NoMemory as NoRoom}
+use Rattle.second_form.specs.Source.{ItemView, IsSource}
+use Rattle.second_form.specs.Constraints.{system_of, object_tokens}
+use Rattle.second_form.specs.Facts.{IsMarkedBy}
 use Rattle.cqual_tool.specs.declared.status.Status.{Status}
 use Rattle.cqual_tool.specs.declared.status.Status.TheVariants.{Accepted, Rejected, NotYet, Malformed, BadWords, ReadFault, WriteFault, NoMemory}
 use Rattle.cqual_tool.specs.Words.{FileNames, meaning_of}
-use Rattle.cqual_tool.specs.Program.{system_of, object_tokens}
 use Rattle.cqual_tool.specs.Texts.{Scene, usage_line, not_yet_line, malformed_line}
+use Rattle.cqual_tool.specs.Faults.{lattice_line, lex_line}
 use Rattle.cqual_tool.specs.Reports.{IsJudged}
 
 -- the most bytes that a lattice file and a source may have, and the most constraints of a program
@@ -25,53 +32,60 @@ source_limit = 16777216
 abbrev pub constraint_limit : ℕ
 constraint_limit = 67108864
 
--- the bytes are within the limit and read as a block, whose entries and order line make the lattice
-pub record LatticeReads (bytes : List ℕ) (lattice : LatticeView) : Type 0 where
+-- the bytes are within the limit and read as these lattices
+pub record LatticesRead (bytes : List ℕ) (lattices : List LatticeView) : Type 0 where
   pub within : length bytes ≤ lattice_limit
-  pub block : Block
-  pub form : IsLatticeForm bytes block
-  pub built : AreBuilt (entries_of block) (pair_of block ∷ []) lattice
+  pub read : Reads bytes lattices
 
--- the bytes are within the limit, but have not the form of a block
-pub record LatticeIsOther (bytes : List ℕ) : Type 0 where
+-- the bytes are within the limit and have this fault
+pub record LatticesFail (bytes : List ℕ) (fault : LatticeFileFault) : Type 0 where
   pub within : length bytes ≤ lattice_limit
-  pub other : (block : Block) → IsLatticeForm bytes block → ⊥
+  pub refused : IsFileFault bytes fault
+  pub reason : fault ≢ OutOfMemory
 
-abbrev pub names_of : List Entry → List (List ℕ)
-names_of entries = map (λ (entry : Entry). entry.name) entries
-
--- the bytes are within the limit and read as the source
-pub record SourceReads (entries : List Entry) (bytes : List ℕ) (source : SourceForm) : Type 0 where
+-- the bytes are within the limit, and spell these tokens where words mean what the names of the lattices do
+pub record SourceLexes (lattices : List LatticeView) (bytes : List ℕ) (lexed : Lexed) : Type 0 where
   pub within : length bytes ≤ source_limit
-  pub form : IsSourceForm (names_of entries) bytes source
+  pub unit : lexed.unit ≡ 1
+  pub bytes_are : lexed.bytes ≡ bytes
+  pub marks : IsMarkedBy lattices lexed
 
--- the bytes are within the limit, but have not the form of a source
-pub record SourceIsOther (entries : List Entry) (bytes : List ℕ) : Type 0 where
+-- the bytes are within the limit, and stop to spell tokens at the place of this fault
+pub record SourceFails (lattices : List LatticeView) (bytes : List ℕ) (fault : LexFault) : Type 0 where
   pub within : length bytes ≤ source_limit
-  pub other : (source : SourceForm) → IsSourceForm (names_of entries) bytes source → ⊥
+  pub words : Meanings
+  pub mean : MeansTheSame words (words_of lattices)
+  pub refused : IsRefusal 1 words bytes fault
+  pub reason : fault ≢ NoRoom
 
 -- what the texts name of a source
-abbrev pub scene_in : List ℕ → List Entry → SourceForm → Scene
-scene_in file entries source = record { file = file; lexed = source.lexemes; entries = entries; objects = object_tokens source.items.items }
+abbrev pub scene_in : List ℕ → List LatticeView → Lexed → List ItemView → Scene
+scene_in file lattices lexed items = record { file = file; lexed = lexed; lattices = lattices; objects = object_tokens items }
 
--- The status and the whole text for a lattice and a source that were read.
-pub data OfProgram (file : List ℕ) (lattice : LatticeView) (source : SourceForm) : Status → List ℕ → Type 0 where
-  PastLimit : constraint_limit < length (system_of lattice.entries source.items.items).constraints → OfProgram file lattice source Malformed (malformed_line file (codes "G1"))
-  Judged : (status : Status) (text : List ℕ) → length (system_of lattice.entries source.items.items).constraints ≤ constraint_limit →
-      IsJudged (scene_in file lattice.entries source) (system_of lattice.entries source.items.items) lattice.order status text → OfProgram file lattice source status text
+-- The status and the whole text for lattices and a source that were read.
+pub data OfProgram (file : List ℕ) (lattices : List LatticeView) (lexed : Lexed) (items : List ItemView) : Status → List ℕ → Type 0 where
+  PastLimit : constraint_limit < length (system_of lattices lexed items).constraints → OfProgram file lattices lexed items Malformed (malformed_line file (codes "G1"))
+  Judged : (status : Status) (text : List ℕ) → length (system_of lattices lexed items).constraints ≤ constraint_limit →
+      IsJudged (scene_in file lattices lexed items) (system_of lattices lexed items) status text → OfProgram file lattices lexed items status text
 
--- The status and the whole text for a lattice that was read and the bytes of a source.
-pub data OfSource (file : List ℕ) (lattice : LatticeView) (bytes : List ℕ) : Status → List ℕ → Type 0 where
-  SourceTooLarge : source_limit < length bytes → OfSource file lattice bytes Malformed (malformed_line file (codes "F2"))
-  SourceNotYet : SourceIsOther lattice.entries bytes → OfSource file lattice bytes NotYet (not_yet_line file)
-  SourceRead : (source : SourceForm) (status : Status) (text : List ℕ) → SourceReads lattice.entries bytes source → OfProgram file lattice source status text →
-      OfSource file lattice bytes status text
+-- The status and the whole text for lattices that were read and the tokens of a source.
+pub data OfTokens (file : List ℕ) (lattices : List LatticeView) (lexed : Lexed) : Status → List ℕ → Type 0 where
+  SourceNotYet : ((items : List ItemView) → IsSource lexed.tokens items → ⊥) → OfTokens file lattices lexed NotYet (not_yet_line file)
+  SourceRead : (items : List ItemView) (status : Status) (text : List ℕ) → IsSource lexed.tokens items → OfProgram file lattices lexed items status text →
+      OfTokens file lattices lexed status text
+
+-- The status and the whole text for lattices that were read and the bytes of a source.
+pub data OfSource (file : List ℕ) (lattices : List LatticeView) (bytes : List ℕ) : Status → List ℕ → Type 0 where
+  SourceTooLarge : source_limit < length bytes → OfSource file lattices bytes Malformed (malformed_line file (codes "F2"))
+  SourceUnspelled : (fault : LexFault) → SourceFails lattices bytes fault → OfSource file lattices bytes Malformed (lex_line file bytes fault)
+  SourceSpelled : (lexed : Lexed) (status : Status) (text : List ℕ) → SourceLexes lattices bytes lexed → OfTokens file lattices lexed status text →
+      OfSource file lattices bytes status text
 
 -- The status and the whole text for two files that are named, by the bytes of each.
 pub data OfFiles (named : FileNames) (lattice_bytes source_bytes : List ℕ) : Status → List ℕ → Type 0 where
   LatticeTooLarge : lattice_limit < length lattice_bytes → OfFiles named lattice_bytes source_bytes Malformed (malformed_line named.lattice (codes "F2"))
-  LatticeNotYet : LatticeIsOther lattice_bytes → OfFiles named lattice_bytes source_bytes NotYet (not_yet_line named.lattice)
-  LatticeRead : (lattice : LatticeView) (status : Status) (text : List ℕ) → LatticeReads lattice_bytes lattice → OfSource named.source lattice source_bytes status text →
+  LatticeRefused : (fault : LatticeFileFault) → LatticesFail lattice_bytes fault → OfFiles named lattice_bytes source_bytes Malformed (lattice_line named.lattice fault)
+  LatticeRead : (lattices : List LatticeView) (status : Status) (text : List ℕ) → LatticesRead lattice_bytes lattices → OfSource named.source lattices source_bytes status text →
       OfFiles named lattice_bytes source_bytes status text
 
 -- The status and the whole text for the words and the files, of which each is a name and its bytes.
@@ -104,7 +118,7 @@ RecordsAll (Some old) (Some new) names = new ≡ old ++ names
 -- The files that are started, in order: the lattice file, and the source only where the lattice file has read.
 pub data Starts (named : FileNames) (files : Option (List (List ℕ × List ℕ))) : List (List ℕ) → Type 0 where
   LatticeAlone : Starts named files (named.lattice ∷ [])
-  ThenSource : IfSome files (λ all. (lattice : LatticeView) × LatticeReads (content_of all named.lattice) lattice) → Starts named files (named.lattice ∷ named.source ∷ [])
+  ThenSource : IfSome files (λ all. (lattices : List LatticeView) × LatticesRead (content_of all named.lattice) lattices) → Starts named files (named.lattice ∷ named.source ∷ [])
 
 -- words without a meaning start no file
 pub data StartsFor (words : List (List ℕ)) (files : Option (List (List ℕ × List ℕ))) : List (List ℕ) → Type 0 where

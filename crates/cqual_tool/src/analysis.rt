@@ -1,92 +1,122 @@
-//! From a lattice and a source to a status and a report.
+//! From lattices and the items of a source to a status and a report.
 
-ghost use Rattle.std.specs.Prelude.{◌≡◌, ◌≤◌, ◌^◌, ℕ, List, IfOk, length};
-ghost use Rattle.first_form.specs.SourceText.{IsSourceForm};
+ghost use Rattle.std.specs.Prelude.{◌≡◌, ◌≤◌, ◌<◌, ◌*◌, ◌^◌, ℕ, IfOk, length, slice_get, Some, IsTrue};
+ghost use Rattle.std.specs.Bool.{OnTrue, OnFalse};
 ghost use Rattle.flow_graph.specs.System.{IsWellOwned};
+ghost use Rattle.flow_graph.specs.Unfolding.{IsExceeded};
 ghost use Rattle.flow_laws.specs.Flat.{IsFlat};
-ghost use Rattle.flow_laws.specs.Least.{NamesElementsIn};
-ghost use Rattle.cqual_tool.specs.Scenes.{scene_of, IsShown, HasObjects};
-ghost use Rattle.cqual_tool.specs.Program;
-ghost use Rattle.cqual_tool.specs.Reports.{IsJudged};
-ghost use Rattle.cqual_tool.specs.Outcome.{OfProgram, SourceReads};
+ghost use Rattle.lattice_solver.specs.Solution.{IsKept};
+ghost use Rattle.second_form.specs.Source.{IsSource};
+ghost use Rattle.second_form.specs.View.{items_of};
+ghost use Rattle.cqual_tool.specs.Scenes.{scene_of, IsShown, IsSolution, AreSolutions, AreKept, HasObjects};
+ghost use Rattle.cqual_tool.specs.Reports.{IsJudged, IsOver};
+ghost use Rattle.cqual_tool.specs.Outcome.{OfProgram, SourceLexes};
 
 use crate::answer::{Answer, malformed};
-use crate::generating::generate;
-use crate::reports::{accepted, rejected};
+use crate::reports::{accepted, rejected, solver_of};
 use crate::status::Status;
 use crate::texts::Scene;
-use first_form::source_form::{Item, SourceForm};
+use c_lexer::tokens::Tokens;
 use flow_graph::graph::{FlowGraph, GraphFault};
-use lattice_core::Lattice;
+use lattice_core::Lattices;
 use lattice_solver::solver::Solver;
 use match_summary::rounds::summarise;
 use qual_base::faults::NoMemory;
-use qual_base::ids::{LatticeNo, TokenId};
-use std::alloc::{AllocError, Global};
+use qual_base::ids::LatticeNo;
+use second_form::generating::{generate, object_tokens};
+use second_form::source_form::Item;
+use std::alloc::Global;
 
-/// The tokens of the objects' names, in order.
-fn object_tokens(alloc: Global, items: &[Item]) -> Result<Vec<TokenId>, AllocError>
-    ensures { IfOk result (λ tokens. tokens.items ≡ Program.object_tokens items.now) }
+/// The solution of a lattice.
+fn solve(alloc: Global, graph: &FlowGraph, lattice: LatticeNo) -> Result<Solver, NoMemory>
+    requires { lattice < 16 }
+    ensures { IfOk result (IsSolution graph.now lattice) }
 {
-    let mut tokens = Vec::new(alloc);
-    for item in items {
-        if let Item::Object { mark: _, name } = item {
-            tokens.push(*name)?;
+    let summaries = summarise(alloc, graph, lattice)?;
+    let mut solver = Solver::new(alloc, graph, &summaries, lattice)?;
+    solver.run(graph, &summaries);
+    Ok(solver)
+}
+
+/// The solution of each lattice, in order.
+fn solve_all(alloc: Global, graph: &FlowGraph, lattices: &Lattices) -> Result<Vec<Solver>, NoMemory>
+    ensures { IfOk result (λ solvers. AreSolutions graph.now lattices.now solvers.items) }
+{
+    let mut solvers = Vec::new(alloc);
+    for n in 0..lattices.len() {
+        solvers.push(solve(alloc, graph, LatticeNo::new(n))?)?;
+    }
+    Ok(solvers)
+}
+
+/// Whether a bound of some lattice is exceeded. Linear in the constraints and the lattices.
+fn is_exceeded(scene: &Scene<'_>, graph: &FlowGraph, solvers: &[Solver]) -> bool
+    requires shown { IsShown scene.now graph.now }
+    requires owned { IsWellOwned graph.now }
+    requires solutions { AreSolutions graph.now scene.now.lattices.now solvers.now }
+    ensures over { OnTrue result ((n : ℕ) × IsOver (scene_of scene.now) graph.now n) }
+    ensures kept { OnFalse result (AreKept graph.now scene.now.lattices.now solvers.now) }
+{
+    for n in 0..scene.lattices.len() {
+        let number = LatticeNo::new(n);
+        let solver = solver_of(solvers, number);
+        if solver
+            .first_exceeded(graph, scene.lattices.get(number))
+            .is_some()
+        {
+            return true;
         }
     }
-    Ok(tokens)
+    false
 }
 
 /// What is written of a program whose constraints are there.
 fn judge(alloc: Global, scene: &Scene<'_>, graph: &FlowGraph) -> Result<Answer, NoMemory>
-    requires few { length scene.now.objects.now ≤ 2 ^ 24 }
+    requires few { 2 * length scene.now.objects.now ≤ 2 ^ 24 }
     requires objects { HasObjects scene.now }
     requires shown { IsShown scene.now graph.now }
     requires flat { IsFlat graph.now }
     requires owned { IsWellOwned graph.now }
-    requires named { NamesElementsIn graph.now 0 scene.now.lattice.now.order }
-    ensures { IfOk result (λ answer. IsJudged (scene_of scene.now) graph.now scene.now.lattice.now.order answer.status answer.text.items) }
+    ensures { IfOk result (λ answer. IsJudged (scene_of scene.now) graph.now answer.status answer.text.items) }
 {
-    let lattice = LatticeNo::new(0);
-    let summaries = summarise(alloc, graph, lattice)?;
-    let mut solver = Solver::new(alloc, graph, &summaries, lattice)?;
-    solver.run(graph, &summaries);
-    if solver.first_exceeded(graph, scene.lattice).is_some() {
-        let text = rejected(alloc, scene, graph, &solver)?;
+    let solvers = solve_all(alloc, graph, scene.lattices)?;
+    if is_exceeded(scene, graph, &solvers) {
+        let text = rejected(alloc, scene, graph, &solvers)?;
         return Ok(Answer {
             status: Status::Rejected,
             text,
         });
     }
-    let text = accepted(alloc, scene, graph, &solver)?;
+    let text = accepted(alloc, scene, graph, &solvers)?;
     Ok(Answer {
         status: Status::Accepted,
         text,
     })
 }
 
-/// The answer for a lattice and a source that were read.
+/// The answer for lattices and a source that were read.
 pub fn analyse(
     alloc: Global,
     file: &str,
-    lattice: &Lattice,
-    source: &SourceForm,
+    lattices: &Lattices,
+    tokens: &Tokens,
+    items: &[Item],
 ) -> Result<Answer, NoMemory>
-    requires { (bytes : List ℕ) × SourceReads lattice.now.entries bytes source.now }
-    ensures { IfOk result (λ answer. OfProgram file.now lattice.now source.now answer.status answer.text.items) }
+    requires source { IsSource tokens.now.tokens (items_of items.now) }
+    requires lexes { (bytes : _) × SourceLexes lattices.now bytes tokens.now }
+    ensures { IfOk result (λ answer. OfProgram file.now lattices.now tokens.now (items_of items.now) answer.status answer.text.items) }
 {
-    lattice.law();
-    let graph = match generate(alloc, lattice, source) {
+    let graph = match generate(alloc, lattices, tokens, items) {
         Ok(graph) => graph,
-        Err(GraphFault::TooMany) => return Ok(malformed(alloc, file, "G1")?),
+        Err(GraphFault::TooMany) => return Ok(malformed(alloc, file, b"G1")?),
         Err(GraphFault::NoMemory) => return Err(NoMemory),
     };
     graph.law();
-    let objects = object_tokens(alloc, &source.items)?;
+    let objects = object_tokens(alloc, tokens, items)?;
     let scene = Scene {
         file,
-        lexemes: &source.lexemes,
-        lattice,
+        tokens,
+        lattices,
         objects: &objects,
     };
     judge(alloc, &scene, &graph)

@@ -2,7 +2,9 @@
 
 ghost use Rattle.std.specs.Prelude.{◌≡◌, ℕ, ◌++◌, [], ◌∷◌, IfOk, codes};
 ghost use Rattle.cqual_tool.specs.Texts.{not_yet_line, malformed_line};
+ghost use Rattle.cqual_tool.specs.Faults.{placed_line};
 
+use crate::places::put;
 use crate::status::Status;
 use std::alloc::{AllocError, Global};
 
@@ -13,7 +15,7 @@ pub struct Answer {
     pub text: Vec<u8>,
 }
 
-/// The line of a file whose form is not built yet.
+/// The line of a source whose form is not built yet.
 pub fn not_yet(alloc: Global, file: &str) -> Result<Answer, AllocError>
     ensures { IfOk result (λ answer. (answer.status ≡ Status.NotYet) × (answer.text.items ≡ not_yet_line file.now)) }
 {
@@ -24,13 +26,32 @@ pub fn not_yet(alloc: Global, file: &str) -> Result<Answer, AllocError>
     })
 }
 
-/// The line of a file that is past a limit.
-pub fn malformed(alloc: Global, file: &str, code: &str) -> Result<Answer, AllocError>
-    ensures { IfOk result (λ answer. (answer.status ≡ Status.Malformed) × (answer.text.items ≡ malformed_line file.now code.now)) }
+/// The line of a fault, by where it is: a file, or a place in one.
+fn fault_line(alloc: Global, place: &[u8], code: &[u8]) -> Result<Answer, AllocError>
+    ensures { IfOk result (λ answer. (answer.status ≡ Status.Malformed) × (answer.text.items ≡ malformed_line place.now code.now)) }
 {
-    let text = format!(in alloc; "malformed {file}: {code}\n")?;
+    let mut text = Vec::new(alloc);
+    put(&mut text, b"malformed ")?;
+    put(&mut text, place)?;
+    put(&mut text, b": ")?;
+    put(&mut text, code)?;
+    put(&mut text, b"\n")?;
     Ok(Answer {
         status: Status::Malformed,
-        text: text.into_bytes(),
+        text,
     })
+}
+
+/// The line of a fault of a whole file.
+pub fn malformed(alloc: Global, file: &str, code: &[u8]) -> Result<Answer, AllocError>
+    ensures { IfOk result (λ answer. (answer.status ≡ Status.Malformed) × (answer.text.items ≡ malformed_line file.now code.now)) }
+{
+    fault_line(alloc, file.as_bytes(), code)
+}
+
+/// The line of a fault at a place that is written already.
+pub fn placed(alloc: Global, place: &[u8], code: &[u8]) -> Result<Answer, AllocError>
+    ensures { IfOk result (λ answer. (answer.status ≡ Status.Malformed) × (answer.text.items ≡ placed_line place.now code.now)) }
+{
+    fault_line(alloc, place, code)
 }

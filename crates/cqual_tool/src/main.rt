@@ -3,8 +3,8 @@
 
 mod analysis;
 mod answer;
-mod generating;
-mod lattices;
+mod faults;
+mod places;
 mod reading;
 mod reports;
 mod running;

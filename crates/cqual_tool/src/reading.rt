@@ -3,23 +3,26 @@
 ghost use Rattle.std.specs.Prelude.{◌≡◌, ◌<◌, ◌≤◌, ℕ, List, IfOk, IfSome, IsErrOf, MatchOption, length, map, codes};
 ghost use Rattle.qual_base.specs.Counts.{GoesOn, Rose};
 ghost use Rattle.qual_base.specs.Outside.{content_of, Records};
+ghost use Rattle.lattice_core.specs.View.{LatticeView};
 ghost use Rattle.cqual_tool.specs.declared.status.Status.TheVariants as Statuses;
 ghost use Rattle.cqual_tool.specs.Texts.{not_yet_line, malformed_line};
 ghost use Rattle.cqual_tool.specs.Words.{names_in};
-ghost use Rattle.cqual_tool.specs.Outcome.{LatticeIsOther, LatticeReads, OfSource, OfFiles, IsDecided, RecordsAll, Starts, names_of, lattice_limit, source_limit};
+ghost use Rattle.cqual_tool.specs.Outcome.{SourceLexes, OfTokens, OfSource, OfFiles, IsDecided, RecordsAll, Starts, LatticesRead, lattice_limit, source_limit};
 
 use crate::analysis::analyse;
 use crate::answer::{Answer, malformed, not_yet};
-use crate::lattices::build;
+use crate::faults::{lattice_refused, source_refused};
 use crate::words::Named;
-use first_form::lattice_form::read_lattice;
-use first_form::reading::read_source;
-use lattice_core::Lattice;
+use c_lexer::lex::lex;
+use c_lexer::tokens::Tokens;
+use lattice_core::Lattices;
+use lattice_file::read_lattices;
 use qual_base::faults::NoMemory;
-use qual_base::ids::Elem;
+use qual_base::ids::{Numbered, UnitNo};
 use qual_base::outside::Files;
 use qual_base::taking::{TakeFault, take_all};
-use std::alloc::{AllocError, Global};
+use second_form::reading::read_items;
+use std::alloc::Global;
 
 /// The most bytes that a lattice file may have.
 const LATTICE_LIMIT: usize = 1_048_576;
@@ -68,51 +71,6 @@ fn taken<F: Files>(
     }
 }
 
-/// The names of a lattice's elements, in order.
-fn names(alloc: Global, lattice: &Lattice) -> Result<Vec<&[u8]>, AllocError>
-    ensures { IfOk result (λ names. map (λ name. name.now) names.items ≡ names_of lattice.now.entries) }
-{
-    lattice.law();
-    let mut names = Vec::new(alloc);
-    for n in 0..lattice.size() {
-        names.push(lattice.name_of(Elem::new(n)))?;
-    }
-    Ok(names)
-}
-
-/// The answer for the bytes of a source.
-fn of_source(alloc: Global, file: &str, lattice: &Lattice, bytes: &[u8]) -> Result<Answer, NoMemory>
-    requires { length bytes.now ≤ source_limit }
-    ensures outcome { IfOk result (λ answer. OfSource file.now lattice.now bytes.now answer.status answer.text.items) }
-    ensures decided { IfOk result (λ answer. IsDecided answer.status) }
-{
-    lattice.law();
-    let names = names(alloc, lattice)?;
-    match read_source(alloc, &names, bytes)? {
-        Some(source) => analyse(alloc, file, lattice, &source),
-        None => other_form(alloc, file),
-    }
-}
-
-/// Takes the source, where the lattice file has read, and answers.
-fn take_source<F: Files>(
-    alloc: Global,
-    file: &str,
-    lattice: &Lattice,
-    files: &mut F,
-) -> Result<Answer, Stop>
-    ensures outcome { IfOk result (λ answer. IfSome (F.contents files.old) (λ all. OfSource file.now lattice.now (content_of all file.now) answer.status answer.text.items)) }
-    ensures decided { IfOk result (λ answer. IsDecided answer.status) }
-    ensures read_fault { IsErrOf result Stop.ReadFault → Rose (F.faults files.old) (F.faults files.new) }
-    ensures count { GoesOn (F.faults files.old) (F.faults files.new) }
-    ensures started { Records (F.started files.old) (F.started files.new) file.now }
-{
-    match taken(alloc, files, file, SOURCE_LIMIT)? {
-        Some(bytes) => Ok(of_source(alloc, file, lattice, &bytes)?),
-        None => Ok(too_large(alloc, file)?),
-    }
-}
-
 /// The answer for a file of another form.
 fn other_form(alloc: Global, file: &str) -> Result<Answer, NoMemory>
     ensures { IfOk result (λ answer. (answer.status ≡ Statuses.NotYet) × (answer.text.items ≡ not_yet_line file.now)) }
@@ -124,17 +82,60 @@ fn other_form(alloc: Global, file: &str) -> Result<Answer, NoMemory>
 fn too_large(alloc: Global, file: &str) -> Result<Answer, NoMemory>
     ensures { IfOk result (λ answer. (answer.status ≡ Statuses.Malformed) × (answer.text.items ≡ malformed_line file.now (codes "F2"))) }
 {
-    Ok(malformed(alloc, file, "F2")?)
+    Ok(malformed(alloc, file, b"F2")?)
 }
 
-/// The lattice that the bytes are, if they have the form.
-fn lattice_in(alloc: Global, bytes: &[u8]) -> Result<Option<Lattice>, NoMemory>
-    requires { length bytes.now ≤ lattice_limit }
-    ensures { IfOk result (λ found. MatchOption found (LatticeIsOther bytes.now) (LatticeReads bytes.now)) }
+/// The answer for the tokens of a source.
+fn of_tokens(
+    alloc: Global,
+    file: &str,
+    lattices: &Lattices,
+    tokens: &Tokens,
+) -> Result<Answer, NoMemory>
+    requires { (bytes : List ℕ) × SourceLexes lattices.now bytes tokens.now }
+    ensures outcome { IfOk result (λ answer. OfTokens file.now lattices.now tokens.now answer.status answer.text.items) }
+    ensures decided { IfOk result (λ answer. IsDecided answer.status) }
 {
-    match read_lattice(alloc, bytes)? {
-        Some(form) => Ok(Some(build(alloc, form)?)),
-        None => Ok(None),
+    match read_items(alloc, tokens)? {
+        Some(items) => analyse(alloc, file, lattices, tokens, &items),
+        None => other_form(alloc, file),
+    }
+}
+
+/// The answer for the bytes of a source.
+fn of_source(
+    alloc: Global,
+    file: &str,
+    lattices: &Lattices,
+    bytes: &[u8],
+) -> Result<Answer, NoMemory>
+    requires { length bytes.now ≤ source_limit }
+    ensures outcome { IfOk result (λ answer. OfSource file.now lattices.now bytes.now answer.status answer.text.items) }
+    ensures decided { IfOk result (λ answer. IsDecided answer.status) }
+{
+    let words = lattices.words(alloc)?;
+    match lex(alloc, UnitNo::new(1), bytes, &words) {
+        Ok(tokens) => of_tokens(alloc, file, lattices, &tokens),
+        Err(fault) => source_refused(alloc, file, bytes, &fault),
+    }
+}
+
+/// Takes the source, where the lattice file has read, and answers.
+fn take_source<F: Files>(
+    alloc: Global,
+    file: &str,
+    lattices: &Lattices,
+    files: &mut F,
+) -> Result<Answer, Stop>
+    ensures outcome { IfOk result (λ answer. IfSome (F.contents files.old) (λ all. OfSource file.now lattices.now (content_of all file.now) answer.status answer.text.items)) }
+    ensures decided { IfOk result (λ answer. IsDecided answer.status) }
+    ensures read_fault { IsErrOf result Stop.ReadFault → Rose (F.faults files.old) (F.faults files.new) }
+    ensures count { GoesOn (F.faults files.old) (F.faults files.new) }
+    ensures started { Records (F.started files.old) (F.started files.new) file.now }
+{
+    match taken(alloc, files, file, SOURCE_LIMIT)? {
+        Some(bytes) => Ok(of_source(alloc, file, lattices, &bytes)?),
+        None => Ok(too_large(alloc, file)?),
     }
 }
 
@@ -148,9 +149,9 @@ pub fn answer<F: Files>(alloc: Global, named: Named<'_>, files: &mut F) -> Resul
     ensures started { (names : List (List ℕ)) × RecordsAll (F.started files.old) (F.started files.new) names × Starts (names_in named.entry) (F.contents files.old) names }
 {
     match taken(alloc, files, named.lattice, LATTICE_LIMIT)? {
-        Some(bytes) => match lattice_in(alloc, &bytes)? {
-            Some(lattice) => take_source(alloc, named.source, &lattice, files),
-            None => Ok(other_form(alloc, named.lattice)?),
+        Some(bytes) => match read_lattices(alloc, &bytes) {
+            Ok(lattices) => take_source(alloc, named.source, &lattices, files),
+            Err(fault) => Ok(lattice_refused(alloc, named.lattice, &fault)?),
         },
         None => Ok(too_large(alloc, named.lattice)?),
     }

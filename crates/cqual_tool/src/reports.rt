@@ -1,20 +1,19 @@
 //! The two reports of a program.
 
-ghost use Rattle.std.specs.Prelude.{◌≡◌, ◌<◌, ◌++◌, ◌↔◌, ◌≤◌, ◌^◌, ℕ, List, IfOk, OnOk, length, All};
+ghost use Rattle.std.specs.Prelude.{◌≡◌, ◌<◌, ◌++◌, ◌*◌, ◌≤◌, ◌^◌, ℕ, List, IfOk, OnOk, MatchOption, length, slice_get, Some, All};
+ghost use Rattle.lattice_core.specs.View.{LatticeView};
 ghost use Rattle.flow_graph.specs.declared.constraint.Link.TheVariants.{Bound};
 ghost use Rattle.flow_graph.specs.System.{IsWellOwned};
-ghost use Rattle.flow_graph.specs.Paths.{Lead};
-ghost use Rattle.flow_graph.specs.Unfolding.{IsExceeded};
 ghost use Rattle.flow_laws.specs.Flat.{IsFlat};
-ghost use Rattle.flow_laws.specs.Least.{NamesElementsIn};
-ghost use Rattle.lattice_solver.specs.Solution.{HasElement, IsSolved, IsKept};
+ghost use Rattle.lattice_solver.specs.Solution.{IsKept};
 ghost use Rattle.cqual_tool.specs.Texts.{steps_text};
-ghost use Rattle.cqual_tool.specs.Scenes.{scene_of, HasVar, HasElem, IsShown, IsOverBound, HasObjects};
-ghost use Rattle.cqual_tool.specs.Reports.{IsLine, Lines, IsError, IsErrorOf, Errors, IsAcceptedReport, IsRejectedReport};
+ghost use Rattle.cqual_tool.specs.Scenes.{scene_of, HasVar, IsShown, IsLineIn, AreSolutions, IsSolution, AreKept, HasObjects, IsOverIn, IsNoBound};
+ghost use Rattle.cqual_tool.specs.Reports.{orders_of, IsOver, VarLines, Lines, IsError, IsErrorOf, Errors, IsAcceptedReport, IsRejectedReport};
 ghost use Rattle.cqual_tool.specs.FlatPaths.{takes};
 
+use crate::places::put;
 use crate::search::shortest;
-use crate::texts::{Scene, put, put_error, put_step, put_value};
+use crate::texts::{Scene, put_error, put_step, put_value};
 use flow_graph::constraint::{Constraint, Link};
 use flow_graph::graph::FlowGraph;
 use flow_laws::laws::exceeded_is_refuted;
@@ -22,62 +21,93 @@ use lattice_solver::solver::Solver;
 use qual_base::ids::{EdgeId, Elem, LatticeNo, Numbered, VarId};
 use std::alloc::{AllocError, Global};
 
-/// The line of an object, unless its least element is the bottom.
+/// The solver of a lattice.
+pub fn solver_of(solvers: &[Solver], lattice: LatticeNo) -> &Solver
+    requires { lattice < length solvers.now }
+    ensures { slice_get solvers.now lattice ≡ Some result.now }
+{
+    &solvers[usize::from(lattice.number())]
+}
+
+/// The line of a variable in a lattice, unless its least element is the bottom.
 fn put_line(
     out: &mut Vec<u8>,
     scene: &Scene<'_>,
     graph: &FlowGraph,
     solver: &Solver,
+    number: LatticeNo,
     var: VarId,
 ) -> Result<(), AllocError>
     requires var { HasVar scene.now var }
-    requires lattice { solver.now.lattice ≡ 0 }
-    requires kept { IsKept graph.now solver.now scene.now.lattice.now.order }
-    ensures { OnOk result ((line : List ℕ) × (out.new.items ≡ out.old.items ++ line) × IsLine (scene_of scene.now) graph.now scene.now.lattice.now.order var line) }
+    requires there { number < length scene.now.lattices.now }
+    requires lattice { solver.now.lattice ≡ number }
+    requires kept { (view : LatticeView) → slice_get scene.now.lattices.now number ≡ Some view → IsKept graph.now solver.now view.order }
+    ensures { OnOk result ((line : List ℕ) × (out.new.items ≡ out.old.items ++ line) × IsLineIn (scene_of scene.now) graph.now number var line) }
 {
-    scene.lattice.law();
-    let elem = solver.value(scene.lattice, var);
-    if elem == scene.lattice.bottom() {
+    let lattice = scene.lattices.get(number);
+    lattice.law();
+    let elem = solver.value(lattice, var);
+    if elem == lattice.bottom() {
         return Ok(());
     }
-    put_value(out, scene, var, elem)
+    put_value(out, scene, number, var, elem)
 }
 
-/// The line of each object whose least element is not the bottom.
-fn put_lines(
+/// The lines of a variable in all lattices, in order.
+fn put_var_lines(
     out: &mut Vec<u8>,
     scene: &Scene<'_>,
     graph: &FlowGraph,
-    solver: &Solver,
+    solvers: &[Solver],
+    var: VarId,
 ) -> Result<(), AllocError>
-    requires few { length scene.now.objects.now ≤ 2 ^ 24 }
-    requires objects { HasObjects scene.now }
-    requires lattice { solver.now.lattice ≡ 0 }
-    requires kept { IsKept graph.now solver.now scene.now.lattice.now.order }
-    ensures { OnOk result ((lines : List ℕ) × (out.new.items ≡ out.old.items ++ lines) × Lines (scene_of scene.now) graph.now scene.now.lattice.now.order (length scene.now.objects.now) lines) }
+    requires var { HasVar scene.now var }
+    requires solutions { AreSolutions graph.now scene.now.lattices.now solvers.now }
+    requires kept { AreKept graph.now scene.now.lattices.now solvers.now }
+    ensures { OnOk result ((lines : List ℕ) × (out.new.items ≡ out.old.items ++ lines) × VarLines (scene_of scene.now) graph.now var (length scene.now.lattices.now) lines) }
 {
-    for n in 0..scene.objects.len() as u32 {
-        put_line(out, scene, graph, solver, VarId::new(n))?;
+    for n in 0..scene.lattices.len() {
+        let number = LatticeNo::new(n);
+        put_line(out, scene, graph, solver_of(solvers, number), number, var)?;
     }
     Ok(())
 }
 
-/// The accepted report. Linear in the objects but for their places.
+/// The lines of all variables, in order.
+fn put_lines(
+    out: &mut Vec<u8>,
+    scene: &Scene<'_>,
+    graph: &FlowGraph,
+    solvers: &[Solver],
+) -> Result<(), AllocError>
+    requires few { 2 * length scene.now.objects.now ≤ 2 ^ 24 }
+    requires objects { HasObjects scene.now }
+    requires solutions { AreSolutions graph.now scene.now.lattices.now solvers.now }
+    requires kept { AreKept graph.now scene.now.lattices.now solvers.now }
+    ensures { OnOk result ((lines : List ℕ) × (out.new.items ≡ out.old.items ++ lines) × Lines (scene_of scene.now) graph.now (2 * length scene.now.objects.now) lines) }
+{
+    for n in 0..2 * scene.objects.len() as u32 {
+        put_var_lines(out, scene, graph, solvers, VarId::new(n))?;
+    }
+    Ok(())
+}
+
+/// The accepted report: linear in variables and lattices, but for the places of the lines.
 pub fn accepted(
     alloc: Global,
     scene: &Scene<'_>,
     graph: &FlowGraph,
-    solver: &Solver,
+    solvers: &[Solver],
 ) -> Result<Vec<u8>, AllocError>
-    requires few { length scene.now.objects.now ≤ 2 ^ 24 }
+    requires few { 2 * length scene.now.objects.now ≤ 2 ^ 24 }
     requires objects { HasObjects scene.now }
-    requires lattice { solver.now.lattice ≡ 0 }
-    requires kept { IsKept graph.now solver.now scene.now.lattice.now.order }
-    ensures { IfOk result (λ text. IsAcceptedReport (scene_of scene.now) graph.now scene.now.lattice.now.order text.items) }
+    requires solutions { AreSolutions graph.now scene.now.lattices.now solvers.now }
+    requires kept { AreKept graph.now scene.now.lattices.now solvers.now }
+    ensures { IfOk result (λ text. IsAcceptedReport (scene_of scene.now) graph.now text.items) }
 {
     let mut text = Vec::new(alloc);
     put(&mut text, b"accepted\n")?;
-    put_lines(&mut text, scene, graph, solver)?;
+    put_lines(&mut text, scene, graph, solvers)?;
     Ok(text)
 }
 
@@ -99,7 +129,17 @@ fn put_path(
     Ok(())
 }
 
-/// The element and the place of a bound.
+/// The lattice of a constraint that is a bound.
+fn lattice_of(constraint: &Constraint) -> Option<LatticeNo>
+    ensures { MatchOption result (IsNoBound constraint.now.link) (λ lattice. (v : ℕ) × (limit : ℕ) × (constraint.now.link ≡ Bound v lattice limit)) }
+{
+    match constraint.link {
+        Link::Bound(_, lattice, _) => Some(lattice),
+        _ => None,
+    }
+}
+
+/// The element of a bound.
 fn bound_of(constraint: &Constraint) -> Elem
     requires { (v : ℕ) × (lattice : ℕ) × (limit : ℕ) × (constraint.now.link ≡ Bound v lattice limit) }
     ensures { (v : ℕ) × (lattice : ℕ) × (constraint.now.link ≡ Bound v lattice result) }
@@ -116,24 +156,20 @@ fn put_exceeded(
     out: &mut Vec<u8>,
     scene: &Scene<'_>,
     graph: &FlowGraph,
+    lattice: LatticeNo,
     elem: Elem,
     bound: EdgeId,
 ) -> Result<(), AllocError>
     requires flat { IsFlat graph.now }
     requires shown { IsShown scene.now graph.now }
-    requires elem { HasElem scene.now elem }
-    requires over { IsOverBound graph.now scene.now.lattice.now.order bound elem }
-    ensures { OnOk result ((error : List ℕ) × (out.new.items ≡ out.old.items ++ error) × IsError (scene_of scene.now) graph.now scene.now.lattice.now.order bound error) }
+    requires over { IsOverIn scene.now.lattices.now graph.now lattice bound elem }
+    requires few { lattice < 16 }
+    ensures { OnOk result ((error : List ℕ) × (out.new.items ≡ out.old.items ++ error) × IsError (scene_of scene.now) graph.now bound error) }
 {
-    let path = shortest(alloc, graph, LatticeNo::new(0), elem, bound)?;
+    let path = shortest(alloc, graph, lattice, elem, bound)?;
     let constraint = graph.constraint(bound);
-    put_error(
-        out,
-        scene,
-        elem,
-        bound_of(&constraint),
-        constraint.span.from,
-    )?;
+    let limit = bound_of(&constraint);
+    put_error(out, scene, lattice, elem, limit, constraint.span.from)?;
     put(out, b"path\n")?;
     put_path(out, scene, graph, &path)
 }
@@ -144,21 +180,24 @@ fn put_error_of(
     out: &mut Vec<u8>,
     scene: &Scene<'_>,
     graph: &FlowGraph,
-    solver: &Solver,
+    solvers: &[Solver],
     number: EdgeId,
 ) -> Result<(), AllocError>
     requires flat { IsFlat graph.now }
     requires shown { IsShown scene.now graph.now }
-    requires lattice { solver.now.lattice ≡ 0 }
     requires owned { IsWellOwned graph.now }
-    requires solved { IsSolved graph.now solver.now }
-    requires reached { (v e : ℕ) → HasElement solver.now v e ↔ Lead graph.now 0 e v }
-    requires named { NamesElementsIn graph.now 0 scene.now.lattice.now.order }
+    requires solutions { AreSolutions graph.now scene.now.lattices.now solvers.now }
     requires number { number < length graph.now.constraints }
-    ensures { OnOk result ((error : List ℕ) × (out.new.items ≡ out.old.items ++ error) × IsErrorOf (scene_of scene.now) graph.now scene.now.lattice.now.order number error) }
+    ensures { OnOk result ((error : List ℕ) × (out.new.items ≡ out.old.items ++ error) × IsErrorOf (scene_of scene.now) graph.now number error) }
 {
-    match solver.exceeded(graph, scene.lattice, number) {
-        Some(elem) => put_exceeded(alloc, out, scene, graph, elem, number),
+    let Some(lattice) = lattice_of(&graph.constraint(number)) else {
+        return Ok(());
+    };
+    let solver = solver_of(solvers, lattice);
+    let named = scene.lattices.get(lattice);
+    named.law();
+    match solver.exceeded(graph, named, number) {
+        Some(elem) => put_exceeded(alloc, out, scene, graph, lattice, elem, number),
         None => Ok(()),
     }
 }
@@ -169,19 +208,16 @@ fn put_errors(
     out: &mut Vec<u8>,
     scene: &Scene<'_>,
     graph: &FlowGraph,
-    solver: &Solver,
+    solvers: &[Solver],
 ) -> Result<(), AllocError>
     requires flat { IsFlat graph.now }
     requires shown { IsShown scene.now graph.now }
-    requires lattice { solver.now.lattice ≡ 0 }
     requires owned { IsWellOwned graph.now }
-    requires solved { IsSolved graph.now solver.now }
-    requires reached { (v e : ℕ) → HasElement solver.now v e ↔ Lead graph.now 0 e v }
-    requires named { NamesElementsIn graph.now 0 scene.now.lattice.now.order }
-    ensures { OnOk result ((errors : List ℕ) × (out.new.items ≡ out.old.items ++ errors) × Errors (scene_of scene.now) graph.now scene.now.lattice.now.order (length graph.now.constraints) errors) }
+    requires solutions { AreSolutions graph.now scene.now.lattices.now solvers.now }
+    ensures { OnOk result ((errors : List ℕ) × (out.new.items ≡ out.old.items ++ errors) × Errors (scene_of scene.now) graph.now (length graph.now.constraints) errors) }
 {
     for n in 0..graph.len() {
-        put_error_of(alloc, out, scene, graph, solver, EdgeId::new(n))?;
+        put_error_of(alloc, out, scene, graph, solvers, EdgeId::new(n))?;
     }
     Ok(())
 }
@@ -191,21 +227,18 @@ pub fn rejected(
     alloc: Global,
     scene: &Scene<'_>,
     graph: &FlowGraph,
-    solver: &Solver,
+    solvers: &[Solver],
 ) -> Result<Vec<u8>, AllocError>
     requires flat { IsFlat graph.now }
     requires shown { IsShown scene.now graph.now }
-    requires lattice { solver.now.lattice ≡ 0 }
     requires owned { IsWellOwned graph.now }
-    requires solved { IsSolved graph.now solver.now }
-    requires reached { (v e : ℕ) → HasElement solver.now v e ↔ Lead graph.now 0 e v }
-    requires named { NamesElementsIn graph.now 0 scene.now.lattice.now.order }
-    requires exceeded { (n : ℕ) × IsExceeded graph.now 0 scene.now.lattice.now.order n }
-    ensures { IfOk result (λ text. IsRejectedReport (scene_of scene.now) graph.now scene.now.lattice.now.order text.items) }
+    requires solutions { AreSolutions graph.now scene.now.lattices.now solvers.now }
+    requires exceeded { (n : ℕ) × IsOver (scene_of scene.now) graph.now n }
+    ensures { IfOk result (λ text. IsRejectedReport (scene_of scene.now) graph.now text.items) }
 {
     exceeded_is_refuted();
     let mut text = Vec::new(alloc);
     put(&mut text, b"rejected\n")?;
-    put_errors(alloc, &mut text, scene, graph, solver)?;
+    put_errors(alloc, &mut text, scene, graph, solvers)?;
     Ok(text)
 }

@@ -9,9 +9,9 @@ pub enum Status {
     Accepted,
     /// It has none at some depth; the rejected report was written.
     Rejected,
-    /// A file has a form that is not built yet.
+    /// The source has a form that is not built yet.
     NotYet,
-    /// A file is past its limit, or the program has too many constraints.
+    /// A file is past its limit or does not read, or the program has too many constraints.
     Malformed,
     /// The words have no meaning.
     BadWords,

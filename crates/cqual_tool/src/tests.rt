@@ -14,6 +14,15 @@ static FLOW: &[u8] = b"$tainted int a; $untainted int b; void f(void) { b = a; }
 static REJECTED: &[u8] =
     b"rejected\nerror $tainted exceeds $untainted at s.c:1:17\npath\n  0 s.c:1:1 const $tainted in a@s.c:1:14.in\n  2 s.c:1:50 flow a@s.c:1:14.in to b@s.c:1:32.in\n  1 s.c:1:17 bound b@s.c:1:32.in by $untainted\n";
 
+static REFERENCES: &[u8] =
+    b"partial order {\n  $nonconst [level = ref, sign = neg, write = yes]\n  const [level = ref, sign = pos]\n  $nonconst < const\n}\n";
+
+static BOTH: &[u8] =
+    b"partial order {\n  $untainted [level = value, sign = neg]\n  $tainted [level = value, sign = pos]\n  $untainted < $tainted\n}\npartial order {\n  $nonconst [level = ref, sign = neg, write = yes]\n  const [level = ref, sign = pos]\n  $nonconst < const\n}\n";
+
+static DIAMOND: &[u8] =
+    b"partial order { $bot [sign = neg] $l [sign = eq] $r [sign = pos] $top [sign = neg] $bot < $l $bot < $r $l < $top $r < $top }";
+
 static USAGE: &[u8] =
     b"usage: cqual --lattice FILE [--prelude FILE] [--annotate | --check REPORT] SOURCE\n";
 
@@ -98,14 +107,219 @@ fn reports_and_lines_are_those_worked_out(rt: HostRuntime) -> Result<(), Fail> {
             b"accepted\na@s.c:1:9.in $lo\nb@s.c:1:20.in $lo\n",
         ),
         (LATTICE, b"long a;", Status::NotYet, b"not yet s.c\n"),
-        (b"partial order { }", FLOW, Status::NotYet, b"not yet l.q\n"),
-        (b"", b"", Status::NotYet, b"not yet l.q\n"),
+        (b"", b"int a;", Status::Accepted, b"accepted\n"),
+        (
+            LATTICE,
+            b"$tainted $untainted int z;",
+            Status::Rejected,
+            b"rejected\nerror $tainted exceeds $untainted at s.c:1:10\npath\n  0 s.c:1:1 const $tainted in z@s.c:1:25.in\n  1 s.c:1:10 bound z@s.c:1:25.in by $untainted\n",
+        ),
     ];
     for (lattice, source, status, text) in cases {
         let found = answer(rt.alloc(), &plain(lattice, source))?;
         assert_eq!(rt; found.0, status);
         assert_eq!(rt; found.1.as_slice(), text);
     }
+    Ok(())
+}
+
+#[test]
+fn each_lattice_has_its_own_lines(rt: HostRuntime) -> Result<(), Fail> {
+    let cases: [(&[u8], &[u8], Status, &[u8]); 5] = [
+        (
+            DIAMOND,
+            b"$l int a; $r int b; int c; void f(void) { c = a; c = b; }",
+            Status::Accepted,
+            b"accepted\na@s.c:1:8.in $l\nb@s.c:1:18.in $r\nc@s.c:1:25.in $top\n",
+        ),
+        (
+            DIAMOND,
+            b"$l int c; $r int b; void f(void) { c = b; }",
+            Status::Rejected,
+            b"rejected\nerror $r exceeds $l at s.c:1:1\npath\n  2 s.c:1:11 const $r in b@s.c:1:18.in\n  3 s.c:1:36 flow b@s.c:1:18.in to c@s.c:1:8.in\n  1 s.c:1:1 bound c@s.c:1:8.in by $l\n",
+        ),
+        (
+            REFERENCES,
+            b"const int a; void f(void) { a = a; }",
+            Status::Rejected,
+            b"rejected\nerror const exceeds $nonconst at s.c:1:29\npath\n  0 s.c:1:1 const const in a@s.c:1:11\n  1 s.c:1:29 bound a@s.c:1:11 by $nonconst\n",
+        ),
+        (
+            BOTH,
+            b"$tainted const int a; int b; void f(void) { b = a; }",
+            Status::Accepted,
+            b"accepted\na@s.c:1:20 const\na@s.c:1:20.in $tainted\nb@s.c:1:27.in $tainted\n",
+        ),
+        (
+            BOTH,
+            b"const $untainted int a; $tainted int b; void f(void) { a = b; }",
+            Status::Rejected,
+            b"rejected\nerror $tainted exceeds $untainted at s.c:1:7\npath\n  2 s.c:1:25 const $tainted in b@s.c:1:38.in\n  4 s.c:1:56 flow b@s.c:1:38.in to a@s.c:1:22.in\n  1 s.c:1:7 bound a@s.c:1:22.in by $untainted\nerror const exceeds $nonconst at s.c:1:56\npath\n  0 s.c:1:1 const const in a@s.c:1:22\n  3 s.c:1:56 bound a@s.c:1:22 by $nonconst\n",
+        ),
+    ];
+    for (lattice, source, status, text) in cases {
+        let found = answer(rt.alloc(), &plain(lattice, source))?;
+        assert_eq!(rt; found.0, status);
+        assert_eq!(rt; found.1.as_slice(), text);
+    }
+    Ok(())
+}
+
+#[test]
+fn a_linemarker_names_the_file_and_the_lines(rt: HostRuntime) -> Result<(), Fail> {
+    let cases: [(&[u8], Status, &[u8]); 4] = [
+        (
+            b"# 7 \"in.c\"\n$tainted int a; $untainted int b; void f(void) { b = a; }",
+            Status::Rejected,
+            b"rejected\nerror $tainted exceeds $untainted at in.c:7:17\npath\n  0 in.c:7:1 const $tainted in a@in.c:7:14.in\n  2 in.c:7:50 flow a@in.c:7:14.in to b@in.c:7:32.in\n  1 in.c:7:17 bound b@in.c:7:32.in by $untainted\n",
+        ),
+        (
+            b"\n# 3 \"p.h\" 1\n$tainted int a;\n# 9 \"\" 2\n  $tainted int b;\n",
+            Status::Accepted,
+            b"accepted\na@p.h:3:14.in $tainted\nb@s.c:9:16.in $tainted\n",
+        ),
+        (
+            b"# 12 \"p.h\"\nint a;\n  @",
+            Status::Malformed,
+            b"malformed p.h:13:3: X1\n",
+        ),
+        (
+            b"/* a\n comment */ $tainted /* int x; */ int a; // $odd\n",
+            Status::Accepted,
+            b"accepted\na@s.c:2:39.in $tainted\n",
+        ),
+    ];
+    for (source, status, text) in cases {
+        let found = answer(rt.alloc(), &plain(LATTICE, source))?;
+        assert_eq!(rt; found.0, status);
+        assert_eq!(rt; found.1.as_slice(), text);
+    }
+    Ok(())
+}
+
+#[test]
+fn a_source_that_does_not_lex_gives_its_first_fault(rt: HostRuntime) -> Result<(), Fail> {
+    let cases: [(&[u8], &[u8]); 5] = [
+        (b"char *s = \"ab", b"malformed s.c:1:11: X2\n"),
+        (b"int x = 1 @ 2;", b"malformed s.c:1:11: X1\n"),
+        (b"$odd int x;", b"malformed s.c:1:1: X3\n"),
+        (b"int x;\n/* $odd", b"malformed s.c:2:1: X2\n"),
+        (b"int x;\n  $tainted $odd @", b"malformed s.c:2:12: X3\n"),
+    ];
+    for (source, text) in cases {
+        let found = answer(rt.alloc(), &plain(LATTICE, source))?;
+        assert_eq!(rt; found.0, Status::Malformed);
+        assert_eq!(rt; found.1.as_slice(), text);
+    }
+    Ok(())
+}
+
+#[test]
+fn a_lattice_file_that_does_not_read_gives_its_first_fault(rt: HostRuntime) -> Result<(), Fail> {
+    let cases: [(&[u8], &[u8]); 8] = [
+        (
+            b"partial order { $a [level = value] $b [level = value] $c [level = value] $a < $b $a < $c }",
+            b"malformed l.q: L4 1 $b $c\n",
+        ),
+        (
+            b"partial order { $a [level = value] $b [level = value] $c [level = value] $a < $b $b < $a $a < $c }",
+            b"malformed l.q: L3 1 $a $b\n",
+        ),
+        (
+            b"partial order { $a [sign = eq] } partial order { $b [sign = eq] $b [sign = eq] }",
+            b"malformed l.q: L1 2 $b\n",
+        ),
+        (
+            b"partial order { $a [sign = eq] $a < $z }",
+            b"malformed l.q: L2 1 $z\n",
+        ),
+        (
+            b"partial order { $a [level = ref] $b [level = value] $a < $b }",
+            b"malformed l.q: L5 1 $a $b\n",
+        ),
+        (
+            b"partial order { $a [sign = eq] } partial order { $a [sign = eq] }",
+            b"malformed l.q: L9 $a\n",
+        ),
+        (b"partial order { }", b"malformed l.q:1:17: L7\n"),
+        (
+            b"partial order {\n  $a [sign = up]",
+            b"malformed l.q:2:14: L7\n",
+        ),
+    ];
+    for (lattice, text) in cases {
+        // The source is not started: there is none.
+        let call = Call {
+            words: &["--lattice", "l.q", "t.c"],
+            ..plain(lattice, FLOW)
+        };
+        let found = answer(rt.alloc(), &call)?;
+        assert_eq!(rt; found.0, Status::Malformed);
+        assert_eq!(rt; found.1.as_slice(), text);
+    }
+    Ok(())
+}
+
+/// So many blocks of one element each, with different names.
+fn blocks(alloc: Global, count: u32) -> Result<Vec<u8>, AllocError> {
+    let mut text = Vec::new(alloc);
+    for n in 0..count {
+        let block = format!(in alloc; "partial order {{ $e{n} [sign = eq] }}\n")?;
+        text.extend_from_slice(block.as_bytes())?;
+    }
+    Ok(text)
+}
+
+/// A block of so many elements, each below the next.
+fn chain(alloc: Global, count: u32) -> Result<Vec<u8>, AllocError> {
+    let mut text = Vec::new(alloc);
+    text.extend_from_slice(b"partial order {\n")?;
+    for n in 0..count {
+        let entry = format!(in alloc; "$e{n} [sign = pos]\n")?;
+        text.extend_from_slice(entry.as_bytes())?;
+    }
+    for n in 1..count {
+        let line = format!(in alloc; "$e{} < $e{n}\n", n - 1)?;
+        text.extend_from_slice(line.as_bytes())?;
+    }
+    text.extend_from_slice(b"}\n")?;
+    Ok(text)
+}
+
+#[test]
+fn lattice_files_have_limits(rt: HostRuntime) -> Result<(), Fail> {
+    let alloc = rt.alloc();
+    let mut spaces = LATTICE.to_vec(alloc)?;
+    while spaces.len() < 1_048_576 {
+        spaces.push(b' ')?;
+    }
+    let found = answer(alloc, &plain(&spaces, b"$tainted int a;"))?;
+    assert_eq!(rt; found.0, Status::Accepted);
+    assert_eq!(rt;
+        found.1.as_slice(),
+        b"accepted\na@s.c:1:14.in $tainted\n".as_slice()
+    );
+    spaces.push(b' ')?;
+    let found = answer(alloc, &plain(&spaces, b"$tainted int a;"))?;
+    assert_eq!(rt; found.0, Status::Malformed);
+    assert_eq!(rt; found.1.as_slice(), b"malformed l.q: F2\n".as_slice());
+
+    let found = answer(alloc, &plain(&blocks(alloc, 16)?, b"$e3 $e15 int a;"))?;
+    assert_eq!(rt; found.0, Status::Accepted);
+    assert_eq!(rt; found.1.as_slice(), b"accepted\n".as_slice());
+    let found = answer(alloc, &plain(&blocks(alloc, 17)?, b"int a;"))?;
+    assert_eq!(rt; found.0, Status::Malformed);
+    assert_eq!(rt; found.1.as_slice(), b"malformed l.q: L8\n".as_slice());
+
+    let found = answer(alloc, &plain(&chain(alloc, 64)?, b"$e63 int a;"))?;
+    assert_eq!(rt; found.0, Status::Accepted);
+    assert_eq!(rt;
+        found.1.as_slice(),
+        b"accepted\na@s.c:1:10.in $e63\n".as_slice()
+    );
+    let found = answer(alloc, &plain(&chain(alloc, 65)?, b"int a;"))?;
+    assert_eq!(rt; found.0, Status::Malformed);
+    assert_eq!(rt; found.1.as_slice(), b"malformed l.q: L6 1\n".as_slice());
     Ok(())
 }
 

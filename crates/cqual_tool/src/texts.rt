@@ -1,30 +1,24 @@
 //! The lines of the reports.
 
-ghost use Rattle.std.specs.Prelude.{◌≡◌, ◌<◌, ◌++◌, ℕ, OnOk, length, slice_get, Some, codes};
+ghost use Rattle.std.specs.Prelude.{◌≡◌, ◌++◌, ◌*◌, ◌+◌, ◌⊎◌, ℕ, OnOk, Some, codes};
 ghost use Rattle.std.specs.Fmt.{decimal};
-ghost use Rattle.cqual_tool.specs.Texts.{place_text, var_text, elem_text, link_text, constraint_text, value_line, error_line};
+ghost use Rattle.cqual_tool.specs.Texts.{place_text, name_text, var_text, elem_text, link_text, constraint_text, value_line, error_line};
 ghost use Rattle.cqual_tool.specs.Scenes.{scene_of, HasVar, HasElem, HasLink, HasToken};
 
-use first_form::lexemes::Lexemes;
+use crate::places::{put, put_decimal, put_spot};
+use c_lexer::tokens::Tokens;
 use flow_graph::constraint::{Constraint, Link};
-use lattice_core::Lattice;
-use qual_base::ids::{EdgeId, Elem, Numbered, TokenId, VarId};
+use lattice_core::Lattices;
+use qual_base::ids::{EdgeId, Elem, LatticeNo, Numbered, TokenId, VarId};
 use std::alloc::AllocError;
 
-/// What the lines name: the source's file name and lexemes, the lattice, and the token of each object's name.
+/// What the lines name: the source's file name and tokens, the lattices, and the token of each object's name.
 #[derive(Clone, Copy)]
 pub struct Scene<'a> {
     pub file: &'a str,
-    pub lexemes: &'a Lexemes,
-    pub lattice: &'a Lattice,
+    pub tokens: &'a Tokens,
+    pub lattices: &'a Lattices,
     pub objects: &'a [TokenId],
-}
-
-/// Puts bytes behind a text.
-pub fn put(out: &mut Vec<u8>, bytes: &[u8]) -> Result<(), AllocError>
-    ensures { OnOk result (out.new.items ≡ out.old.items ++ bytes.now) }
-{
-    out.extend_from_slice(bytes)
 }
 
 /// FILE:LINE:COLUMN of a token.
@@ -32,29 +26,46 @@ fn put_place(out: &mut Vec<u8>, scene: &Scene<'_>, token: TokenId) -> Result<(),
     requires { HasToken scene.now token }
     ensures { OnOk result (out.new.items ≡ out.old.items ++ place_text (scene_of scene.now) token) }
 {
-    let place = scene.lexemes.place(token);
-    let text = format!(in *out.allocator(); "{}:{}:{}", scene.file, place.line, place.column)?;
-    put(out, text.as_bytes())
+    let spot = scene.tokens.place_of(token);
+    put_spot(out, scene.file, scene.tokens.unit_bytes(), &spot)
 }
 
-/// NAME@FILE:LINE:COLUMN.in of a variable.
+/// NAME@FILE:LINE:COLUMN of a token.
+fn put_name(out: &mut Vec<u8>, scene: &Scene<'_>, token: TokenId) -> Result<(), AllocError>
+    requires { HasToken scene.now token }
+    ensures { OnOk result (out.new.items ≡ out.old.items ++ name_text (scene_of scene.now) token) }
+{
+    put(out, scene.tokens.bytes(token))?;
+    put(out, b"@")?;
+    put_place(out, scene, token)
+}
+
+/// A variable: the name of its object, with `.in` behind where it stands for what the object holds.
 fn put_var(out: &mut Vec<u8>, scene: &Scene<'_>, var: VarId) -> Result<(), AllocError>
     requires { HasVar scene.now var }
     ensures { OnOk result (out.new.items ≡ out.old.items ++ var_text (scene_of scene.now) var) }
 {
-    let token = scene.objects[var.number() as usize];
-    put(out, scene.lexemes.text(token))?;
-    put(out, b"@")?;
-    put_place(out, scene, token)?;
+    let number = var.number();
+    put_name(out, scene, scene.objects[(number / 2) as usize])?;
+    if number % 2 == 0 {
+        return Ok(());
+    }
     put(out, b".in")
 }
 
-/// The name of an element.
-fn put_elem(out: &mut Vec<u8>, scene: &Scene<'_>, elem: Elem) -> Result<(), AllocError>
-    requires { HasElem scene.now elem }
-    ensures { OnOk result (out.new.items ≡ out.old.items ++ elem_text (scene_of scene.now) elem) }
+/// The name of an element of a lattice.
+fn put_elem(
+    out: &mut Vec<u8>,
+    scene: &Scene<'_>,
+    lattice: LatticeNo,
+    elem: Elem,
+) -> Result<(), AllocError>
+    requires { HasElem scene.now lattice elem }
+    ensures { OnOk result (out.new.items ≡ out.old.items ++ elem_text (scene_of scene.now) lattice elem) }
 {
-    put(out, scene.lattice.name_of(elem))
+    let lattice = scene.lattices.get(lattice);
+    lattice.law();
+    put(out, lattice.name_of(elem))
 }
 
 /// Two variables, with a word before the first.
@@ -76,27 +87,39 @@ fn put_flow(
 }
 
 /// A constant in a variable.
-fn put_const(out: &mut Vec<u8>, scene: &Scene<'_>, elem: Elem, var: VarId) -> Result<(), AllocError>
-    requires elem { HasElem scene.now elem }
+fn put_const(
+    out: &mut Vec<u8>,
+    scene: &Scene<'_>,
+    lattice: LatticeNo,
+    elem: Elem,
+    var: VarId,
+) -> Result<(), AllocError>
+    requires elem { HasElem scene.now lattice elem }
     requires var { HasVar scene.now var }
-    ensures { OnOk result (out.new.items ≡ out.old.items ++ (codes "const " ++ elem_text (scene_of scene.now) elem ++ codes " in " ++ var_text (scene_of scene.now) var)) }
+    ensures { OnOk result (out.new.items ≡ out.old.items ++ (codes "const " ++ elem_text (scene_of scene.now) lattice elem ++ codes " in " ++ var_text (scene_of scene.now) var)) }
 {
     put(out, b"const ")?;
-    put_elem(out, scene, elem)?;
+    put_elem(out, scene, lattice, elem)?;
     put(out, b" in ")?;
     put_var(out, scene, var)
 }
 
 /// A bound of a variable.
-fn put_bound(out: &mut Vec<u8>, scene: &Scene<'_>, var: VarId, elem: Elem) -> Result<(), AllocError>
+fn put_bound(
+    out: &mut Vec<u8>,
+    scene: &Scene<'_>,
+    var: VarId,
+    lattice: LatticeNo,
+    elem: Elem,
+) -> Result<(), AllocError>
     requires var { HasVar scene.now var }
-    requires elem { HasElem scene.now elem }
-    ensures { OnOk result (out.new.items ≡ out.old.items ++ (codes "bound " ++ var_text (scene_of scene.now) var ++ codes " by " ++ elem_text (scene_of scene.now) elem)) }
+    requires elem { HasElem scene.now lattice elem }
+    ensures { OnOk result (out.new.items ≡ out.old.items ++ (codes "bound " ++ var_text (scene_of scene.now) var ++ codes " by " ++ elem_text (scene_of scene.now) lattice elem)) }
 {
     put(out, b"bound ")?;
     put_var(out, scene, var)?;
     put(out, b" by ")?;
-    put_elem(out, scene, elem)
+    put_elem(out, scene, lattice, elem)
 }
 
 /// What a constraint says.
@@ -106,8 +129,8 @@ fn put_link(out: &mut Vec<u8>, scene: &Scene<'_>, link: Link) -> Result<(), Allo
 {
     match link {
         Link::Le(from, to) => put_flow(out, scene, b"flow ", from, to),
-        Link::Const(_, elem, var) => put_const(out, scene, elem, var),
-        Link::Bound(var, _, elem) => put_bound(out, scene, var, elem),
+        Link::Const(lattice, elem, var) => put_const(out, scene, lattice, elem, var),
+        Link::Bound(var, lattice, elem) => put_bound(out, scene, var, lattice, elem),
         Link::Enter(_, from, to) => put_flow(out, scene, b"enter ", from, to),
         Link::Leave(_, from, to) => put_flow(out, scene, b"leave ", from, to),
     }
@@ -123,8 +146,9 @@ fn put_number(
     requires { HasToken scene.now token }
     ensures { OnOk result (out.new.items ≡ out.old.items ++ (codes "  " ++ decimal number ++ codes " " ++ place_text (scene_of scene.now) token ++ codes " ")) }
 {
-    let text = format!(in *out.allocator(); "  {} ", number.number())?;
-    put(out, text.as_bytes())?;
+    put(out, b"  ")?;
+    put_decimal(out, u64::from(number.number()))?;
+    put(out, b" ")?;
     put_place(out, scene, token)?;
     put(out, b" ")
 }
@@ -145,40 +169,42 @@ pub fn put_step(
     put(out, b"\n")
 }
 
-/// The line of a variable with its element.
+/// The line of a variable with its element in a lattice.
 pub fn put_value(
     out: &mut Vec<u8>,
     scene: &Scene<'_>,
+    lattice: LatticeNo,
     var: VarId,
     elem: Elem,
 ) -> Result<(), AllocError>
     requires var { HasVar scene.now var }
-    requires elem { HasElem scene.now elem }
-    ensures { OnOk result (out.new.items ≡ out.old.items ++ value_line (scene_of scene.now) var elem) }
+    requires elem { HasElem scene.now lattice elem }
+    ensures { OnOk result (out.new.items ≡ out.old.items ++ value_line (scene_of scene.now) lattice var elem) }
 {
     put_var(out, scene, var)?;
     put(out, b" ")?;
-    put_elem(out, scene, elem)?;
+    put_elem(out, scene, lattice, elem)?;
     put(out, b"\n")
 }
 
-/// The line of a bound that is exceeded by an element.
+/// The line of a bound of a lattice that an element exceeds.
 pub fn put_error(
     out: &mut Vec<u8>,
     scene: &Scene<'_>,
+    lattice: LatticeNo,
     elem: Elem,
     bound: Elem,
     token: TokenId,
 ) -> Result<(), AllocError>
-    requires elem { HasElem scene.now elem }
-    requires bound { HasElem scene.now bound }
+    requires elem { HasElem scene.now lattice elem }
+    requires bound { HasElem scene.now lattice bound }
     requires token { HasToken scene.now token }
-    ensures { OnOk result (out.new.items ≡ out.old.items ++ error_line (scene_of scene.now) elem bound token) }
+    ensures { OnOk result (out.new.items ≡ out.old.items ++ error_line (scene_of scene.now) lattice elem bound token) }
 {
     put(out, b"error ")?;
-    put_elem(out, scene, elem)?;
+    put_elem(out, scene, lattice, elem)?;
     put(out, b" exceeds ")?;
-    put_elem(out, scene, bound)?;
+    put_elem(out, scene, lattice, bound)?;
     put(out, b" at ")?;
     put_place(out, scene, token)?;
     put(out, b"\n")

@@ -1,8 +1,16 @@
+use Rattle.std.proofs.Common.{◌≡◌, List, sym, ◌∙◌, subst}
+use Rattle.lattice_solver.specs.Solution.{Solution}
+use Rattle.cqual_tool.specs.Scenes.{AreKept}
 use Rattle.cqual_tool.specs.Reports.{JudgedAccepted, JudgedRejected}
 use Rattle.cqual_tool.proofs.analysis.judge.Goals as goal
 
-pub returns-then-is_some : goal.returns-then-is_some
-returns-then-is_some c = JudgedRejected _ c.in_ok-text.ensures
+pub accepted-requires-clause-kept : goal.accepted-requires-clause-kept
+accepted-requires-clause-kept c =
+    let Kept : List Solution → Type 0 = λ solutions. AreKept c.args.graph.now c.args.scene.now.lattices.now solutions in
+    subst Kept (c.deref.ensures.value ∙ sym c.deref-2.ensures.value) c.if-is_exceeded.ensures.kept
+
+pub returns-then-is_exceeded : goal.returns-then-is_exceeded
+returns-then-is_exceeded c = JudgedRejected _ c.in_ok-text.ensures
 
 pub returns : goal.returns
 returns c = JudgedAccepted _ c.in_ok-text-2.ensures

@@ -1,5 +1,4 @@
-use Rattle.std.proofs.Common.{◌≡◌, ℕ, List, length, ◌<◌, IfSome, MatchOption, None, Some, subst}
-use Rattle.std.specs.declared.option.Option.{Option}
+use Rattle.std.proofs.Common.{length}
 use Rattle.qual_base.specs.Outside.{content_of}
 use Rattle.cqual_tool.specs.Outcome.{OfSource, SourceTooLarge}
 use Rattle.cqual_tool.proofs.Outcomes.{at_equal, when_told, none_found}
@@ -8,5 +7,5 @@ use Rattle.cqual_tool.proofs.reading.take_source.Goals as goal
 pub returns-in_ok-too_large-in-None-clause-outcome : goal.returns-in_ok-too_large-in-None-clause-outcome
 returns-in_ok-too_large-in-None-clause-outcome g c =
     when_told (g.F.Files.contents c.args.files.now) c.in_ok-bytes.ensures.whole (λ all found.
-    at_equal (OfSource c.args.file.now c.args.lattice.now (content_of all c.args.file.now)) _ _ _ _ c.in_ok-too_large-in-None.ensures.0 c.in_ok-too_large-in-None.ensures.1
+    at_equal (OfSource c.args.file.now c.args.lattices.now (content_of all c.args.file.now)) _ _ _ _ c.in_ok-too_large-in-None.ensures.0 c.in_ok-too_large-in-None.ensures.1
     (SourceTooLarge (none_found (length (content_of all c.args.file.now)) (content_of all c.args.file.now) 16777216 c.in_ok-bytes.field-0 found c.in-None.is)))

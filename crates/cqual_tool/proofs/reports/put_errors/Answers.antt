@@ -11,5 +11,5 @@ pub loop-n-preserved : goal.loop-n-preserved
 loop-n-preserved c =
     let before = c.loop-n.invariant in
     let error = c.in_ok-put_error_of.ensures in
-    let Error : ℕ → Type 0 = λ number. IsErrorOf (scene_of c.args.scene.now) c.args.graph.now c.args.scene.now.lattice.now.order number error.0 in
+    let Error : ℕ → Type 0 = λ number. IsErrorOf (scene_of c.args.scene.now) c.args.graph.now number error.0 in
     (before.0 ++ error.0, more_behind _ _ _ _ _ before.1 error.1, NextError _ _ _ before.2 (subst Error c.new.ensures error.2))

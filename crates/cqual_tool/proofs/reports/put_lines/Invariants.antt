@@ -4,4 +4,4 @@ use Rattle.cqual_tool.specs.Reports.{Lines}
 use Rattle.cqual_tool.proofs.reports.put_lines.Given as goal
 
 abbrev pub invariant-loop-n : goal.invariant-loop-n
-invariant-loop-n l = (lines : List ℕ) × (l.out.items ≡ l.fn.out.items ++ lines) × Lines (scene_of l.scene) l.graph l.scene.lattice.now.order l.n lines
+invariant-loop-n l = (lines : List ℕ) × (l.out.items ≡ l.fn.out.items ++ lines) × Lines (scene_of l.scene) l.graph l.n lines

@@ -1,0 +1,4 @@
+pub mod ScopeLemmas
+pub mod ReadingLemmas
+pub mod Growing
+pub mod SystemFacts
