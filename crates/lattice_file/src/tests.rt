@@ -208,11 +208,12 @@ fn a_chain_of_64_reads_and_65_entries_are_too_many(rt: HostRuntime) -> Result<()
     for count in 64..66 {
         let mut text = Vec::new(alloc);
         text.extend_from_slice(b"partial order {$e0[sign=eq]")?;
+        let mut below = 0;
         for elem in 1..count {
-            let below = elem - 1;
             text.extend_from_slice(format!(in alloc;
                 " $e{elem}[sign=eq] $e{below}<$e{elem}"
             )?.as_bytes())?;
+            below = elem;
         }
         text.extend_from_slice(b"}")?;
         if text.len() < 10000 {
