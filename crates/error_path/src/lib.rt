@@ -1,0 +1,2 @@
+//! Path proofs for exceeded bounds.
+#![tactic(auto)]
