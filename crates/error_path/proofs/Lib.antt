@@ -1,2 +1,3 @@
+mod Holding
 mod Passing
 mod Walking

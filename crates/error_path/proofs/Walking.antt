@@ -86,10 +86,10 @@ module _ (sys : System) (order : Order) (path : Path) (lattice elem : ℕ) where
   unfolding is_unmatched_enter begins_group
   call_group before after next s u a mask span begins = rw begins refl
 
-  quiet_and : (b c : Bool) → c ≡ false → (b && c) ≡ false
+  pub quiet_and : (b c : Bool) → c ≡ false → (b && c) ≡ false
   quiet_and b c is = rw is (and_false b)
 
-  nobody_quiet : (v : ℕ) (c : Bool) → is_nobodys (owner_of sys v) ≡ true → (not (is_nobodys (owner_of sys v)) && c) ≡ false
+  pub nobody_quiet : (v : ℕ) (c : Bool) → is_nobodys (owner_of sys v) ≡ true → (not (is_nobodys (owner_of sys v)) && c) ≡ false
   nobody_quiet v c is = rw is refl
 
   arrives_flow : (before : List Seen) (u v mask : ℕ) (span : Span) → Arrives before (edge (Le u v) mask span ∷ before) v

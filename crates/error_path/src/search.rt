@@ -263,7 +263,7 @@ fn settled(graph: &FlowGraph, at: VarId, phase: Phase) -> Phase {
 ///
 /// For each variable that it reaches it goes over all constraints, and for each `Enter` from it once more. An index of the
 /// constraints by their first variables takes its place where systems are large.
-pub fn search(
+pub fn reach(
     alloc: Global,
     graph: &FlowGraph,
     summaries: &Summaries,

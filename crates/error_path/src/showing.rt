@@ -1,6 +1,6 @@
 //! The path proof of an exceeded bound.
 
-use crate::search::{Cause, Reached, search};
+use crate::search::{Cause, Reached, reach};
 use crate::steps::{Pair, inner_ends, push_group, push_take};
 use crate::sub_paths::SubPaths;
 use flow_graph::constraint::Link;
@@ -73,7 +73,7 @@ pub fn show(
     let elem = solver
         .exceeded(graph, lattices.get(lattice), bound)
         .unwrap();
-    let (search, place) = search(alloc, graph, summaries, lattice, elem, target)?;
+    let (search, place) = reach(alloc, graph, summaries, lattice, elem, target)?;
     let mut subs = SubPaths::new(alloc);
     let mut steps = Vec::new(alloc);
     push_take(&mut steps, bound)?;

@@ -1,0 +1,39 @@
+-- What is promised of a path proof that is made.
+use Rattle.std.specs.Prelude.{◌≡◌, ℕ, List, [], ◌∷◌, slice_get, Some}
+use Rattle.lattice_core.specs.Order.{Order}
+use Rattle.flow_graph.specs.declared.constraint.Link.TheVariants.{Const}
+use Rattle.flow_graph.specs.declared.proof.PathStep.{PathStep}
+use Rattle.flow_graph.specs.declared.proof.PathStep.TheVariants.{Take}
+use Rattle.flow_graph.specs.declared.proof.PathProof.{PathProof}
+use Rattle.flow_graph.specs.System.{System, Stands}
+use Rattle.flow_graph.specs.PathProofs.{first_of, last_of, line_of, span_of, steps_of}
+use Rattle.lattice_solver.specs.Solution.{Solution, Exceeds}
+
+-- the last step takes the bound
+abbrev pub EndsWith : ℕ → PathProof → Type 0
+EndsWith bound proof = last_of proof.main.items ≡ Some (Take bound 0)
+
+-- the first step takes a constant of an element that exceeds the bound
+pub record BeginsOver (sys : System) (solution : Solution) (order : Order) (bound : ℕ) (proof : PathProof) : Type 0 where
+  pub element : ℕ
+  pub exceeds : Exceeds sys solution order bound element
+  pub number : ℕ
+  pub var : ℕ
+  pub constant : Stands sys solution.lattice number (Const solution.lattice element var)
+  pub first : first_of proof.main.items ≡ Some (Take number 0)
+
+-- no two of these sub-paths have the same first and last variables
+abbrev pub AreApart : System → List (List PathStep) → Type 0
+AreApart sys subs = (n m : ℕ) (one other : List PathStep) → slice_get subs n ≡ Some one → slice_get subs m ≡ Some other →
+    span_of sys (Some one) ≡ span_of sys (Some other) → n ≡ m
+
+-- the lines of these steps are 0
+abbrev pub HaveNoLines : List PathStep → Type 0
+HaveNoLines [] = Unit {0}
+HaveNoLines (s ∷ steps) = (line_of s ≡ 0) × HaveNoLines steps
+
+-- all lines are 0
+pub record HasNoLines (proof : PathProof) : Type 0 where
+  pub main : HaveNoLines proof.main.items
+  pub subs : (n : ℕ) (steps : List PathStep) → slice_get (steps_of proof.subs.items) n ≡ Some steps → HaveNoLines steps
+  pub end : proof.end ≡ 0
