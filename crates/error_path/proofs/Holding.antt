@@ -83,8 +83,8 @@ module _ (sys : System) (lattice : ℕ) (subs : List (List PathStep)) where
   pub sub_span : (u v : ℕ) (steps : List PathStep) → IsSub sys lattice subs u v steps → span_of sys (Some steps) ≡ Through u v
   sub_span u v steps sub =
       let last : of_step sys (last_of steps) ends ≡ Some v =
-          ap (λ xs. of_step sys (last_of xs) ends) sub.steps_are
-          ∙ part_end u sub.next v sub.front sub.rest sub.part (inside_end sub.function sub.next v sub.rest sub.more) in
+      ap (λ xs. of_step sys (last_of xs) ends) sub.steps_are
+      ∙ part_end u sub.next v sub.front sub.rest sub.part (inside_end sub.function sub.next v sub.rest sub.more) in
       ap (λ x. through x (of_step sys (last_of steps) ends)) (sub_begin u v steps sub) ∙ ap (λ x. through (Some u) x) last
 
   -- a sub-path fails no rule

@@ -1,5 +1,10 @@
 //! Steps of a path that is written from its end to its beginning.
 
+ghost use Rattle.std.specs.Prelude.{◌≡◌, ◌<◌, [], ◌∷◌, ◌++◌, OnOk, length};
+ghost use Rattle.flow_graph.specs.declared.proof.PathStep.TheVariants.{Take};
+ghost use Rattle.flow_graph.specs.PathRules.{link_ends};
+ghost use Rattle.error_path.specs.Made.{first_variable, group_steps, Fronts, IsInner};
+
 use flow_graph::constraint::Link;
 use flow_graph::graph::FlowGraph;
 use flow_graph::proof::PathStep;
@@ -14,7 +19,9 @@ pub struct Pair {
 }
 
 /// Adds a step. Constant time but for growth.
-fn push(steps: &mut Vec<PathStep>, step: PathStep) -> Result<(), NoMemory> {
+fn push(steps: &mut Vec<PathStep>, step: PathStep) -> Result<(), NoMemory>
+    ensures { OnOk result (Fronts (step ∷ []) steps.old.items steps.new.items) }
+{
     match steps.push(step) {
         Ok(()) => Ok(()),
         Err(_) => Err(NoMemory),
@@ -22,7 +29,9 @@ fn push(steps: &mut Vec<PathStep>, step: PathStep) -> Result<(), NoMemory> {
 }
 
 /// Adds a step that takes a constraint.
-pub fn push_take(steps: &mut Vec<PathStep>, edge: EdgeId) -> Result<(), NoMemory> {
+pub fn push_take(steps: &mut Vec<PathStep>, edge: EdgeId) -> Result<(), NoMemory>
+    ensures { OnOk result (Fronts (Take edge 0 ∷ []) steps.old.items steps.new.items) }
+{
     push(steps, PathStep::Take { edge, line: 0 })
 }
 
@@ -32,16 +41,28 @@ pub fn push_group(
     enter: EdgeId,
     number: Option<u32>,
     leave: EdgeId,
-) -> Result<(), NoMemory> {
+) -> Result<(), NoMemory>
+    ensures { OnOk result (Fronts (group_steps enter number leave) steps.old.items steps.new.items) }
+{
     push_take(steps, leave)?;
-    if let Some(number) = number {
-        push(steps, PathStep::Sub { number, line: 0 })?;
+    match number {
+        Some(number) => push_through(steps, enter, number),
+        None => push_take(steps, enter),
     }
+}
+
+/// Adds the number of a sub-path, and the `Enter` in front of it.
+fn push_through(steps: &mut Vec<PathStep>, enter: EdgeId, number: u32) -> Result<(), NoMemory>
+    ensures { OnOk result (Fronts (Take enter 0 ∷ Rattle.flow_graph.specs.declared.proof.PathStep.TheVariants.Sub number 0 ∷ []) steps.old.items steps.new.items) }
+{
+    push(steps, PathStep::Sub { number, line: 0 })?;
     push_take(steps, enter)
 }
 
 /// The variable where a link begins, and that of a constant.
-fn begin_of(link: Link) -> VarId {
+fn begin_of(link: Link) -> VarId
+    ensures { result ≡ first_variable link }
+{
     match link {
         Link::Le(from, _) => from,
         Link::Const(_, _, at) => at,
@@ -52,7 +73,9 @@ fn begin_of(link: Link) -> VarId {
 }
 
 /// The variable where a link ends.
-fn end_of(link: Link) -> VarId {
+fn end_of(link: Link) -> VarId
+    ensures { result ≡ link_ends link }
+{
     match link {
         Link::Le(_, to) => to,
         Link::Const(_, _, at) => at,
@@ -63,8 +86,15 @@ fn end_of(link: Link) -> VarId {
 }
 
 /// The variables inside a group: where its `Enter` ends and where its `Leave` begins.
-pub fn inner_ends(graph: &FlowGraph, enter: EdgeId, leave: EdgeId) -> Pair {
-    let from = end_of(graph.constraint(enter).link);
-    let to = begin_of(graph.constraint(leave).link);
-    Pair { from, to }
+pub fn inner_ends(graph: &FlowGraph, enter: EdgeId, leave: EdgeId) -> Pair
+    requires enter { enter < length graph.now.constraints }
+    requires leave { leave < length graph.now.constraints }
+    ensures { IsInner graph.now enter leave result }
+{
+    let first = graph.constraint(enter).link;
+    let last = graph.constraint(leave).link;
+    Pair {
+        from: end_of(first),
+        to: begin_of(last),
+    }
 }

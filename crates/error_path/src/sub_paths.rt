@@ -1,5 +1,16 @@
 //! Sub-paths that are made from the reasons of summaries, each pair of variables once.
 
+ghost use Rattle.std.specs.Prelude.{◌≡◌, ℕ, ◌<◌, ◌≤◌, [], ◌∷◌, ◌++◌, Some, None, OnOk, IfOk, length, reverse};
+ghost use Rattle.flow_graph.specs.declared.constraint.Link.TheVariants.{Enter, Leave};
+ghost use Rattle.flow_graph.specs.declared.proof.PathStep.TheVariants.{Sub};
+ghost use Rattle.flow_graph.specs.declared.place.Seen.TheVariants.{Through};
+ghost use Rattle.flow_graph.specs.System.{System, Stands};
+ghost use Rattle.flow_graph.specs.PathProofs.{look};
+ghost use Rattle.match_summary.specs.declared.reason.Summary.{Summary};
+ghost use Rattle.match_summary.specs.Summary.{AreOfOne, HasPair, Leads, Summarises};
+ghost use Rattle.error_path.specs.Parts.{IsSub};
+ghost use Rattle.error_path.specs.Made.{number_in, place_of, subs_in, Adds, AllJoined, Extends, IsMade};
+
 use crate::steps::{Pair, inner_ends, push_group, push_take};
 use flow_graph::graph::FlowGraph;
 use flow_graph::proof::{PathStep, SubPath};
@@ -7,30 +18,46 @@ use match_summary::places::Places;
 use match_summary::reason::Reason;
 use match_summary::summary::Summaries;
 use qual_base::faults::NoMemory;
-use qual_base::ids::{EdgeId, VarId};
+use qual_base::ids::{EdgeId, LatticeNo, VarId};
 use std::alloc::Global;
 
 /// The number of sub-paths that a proof may have.
 pub const MOST_SUB_PATHS: usize = 4_294_967_294;
 
-/// Sub-paths in the order in which they were finished, and the place of each by its first and last variable.
+/// Sub-paths in a lattice, in the order in which they were finished, and the place of each by its first and last variable.
 #[derive(Drop)]
 pub struct SubPaths {
+    lattice: LatticeNo,
     paths: Vec<SubPath>,
     places: Places,
 }
 
+/// The steps of a sub-path from its end to its beginning, and the pairs of its groups that have no sub-path yet. Where
+/// there are such the steps are not all there.
+#[derive(Drop)]
+struct Draft {
+    steps: Vec<PathStep>,
+    missing: Vec<Pair>,
+}
+
 impl SubPaths {
     /// No sub-paths. Takes no memory.
-    pub fn new(alloc: Global) -> Self {
+    pub fn new(alloc: Global, lattice: LatticeNo) -> Self
+        ensures made { (sys : System) → IsMade sys result }
+        ensures lattice { result.lattice ≡ lattice }
+    {
         SubPaths {
+            lattice,
             paths: Vec::new(alloc),
             places: Places::new(alloc),
         }
     }
 
     /// The number of the sub-path from a variable to another: they count from 1. Constant time.
-    fn number(&self, pair: Pair) -> Option<u32> {
+    fn number(&self, pair: Pair) -> Option<u32>
+        requires { (sys : System) × IsMade sys self.now }
+        ensures { result ≡ number_in self.now pair.from pair.to }
+    {
         match self.places.get(pair.from, pair.to) {
             Some(at) => Some(at as u32 + 1),
             None => None,
@@ -38,7 +65,10 @@ impl SubPaths {
     }
 
     /// Adds a sub-path from a variable to another. More than `MOST_SUB_PATHS` are answered as want of memory.
-    fn push(&mut self, pair: Pair, steps: Vec<PathStep>) -> Result<(), NoMemory> {
+    fn push(&mut self, pair: Pair, steps: Vec<PathStep>) -> Result<(), NoMemory>
+        ensures made { OnOk result ((sys : System) → IsMade sys self.old → IsSub sys self.old.lattice (subs_in self.old) pair.from pair.to steps.items → place_of self.old pair.from pair.to ≡ None → IsMade sys self.new) }
+        ensures extends { OnOk result (Extends self.old self.new) }
+    {
         let at = self.paths.len();
         if at >= MOST_SUB_PATHS {
             return Err(NoMemory);
@@ -58,7 +88,14 @@ impl SubPaths {
         graph: &FlowGraph,
         summaries: &Summaries,
         pair: Pair,
-    ) -> Result<u32, NoMemory> {
+    ) -> Result<u32, NoMemory>
+        requires made { IsMade graph.now self.old }
+        requires summaries { Summarises graph.now self.old.lattice summaries.now }
+        requires joined { HasPair summaries.now pair.from pair.to }
+        ensures made { OnOk result (IsMade graph.now self.new) }
+        ensures extends { OnOk result (Extends self.old self.new) }
+        ensures number { IfOk result (λ k. look graph.now (subs_in self.new) (Sub k 0) ≡ Through pair.from pair.to) }
+    {
         let mut waiting = Vec::new(alloc);
         for _ in 0..u64::MAX {
             if let Some(number) = self.number(pair) {
@@ -79,57 +116,86 @@ impl SubPaths {
         summaries: &Summaries,
         waiting: &mut Vec<Pair>,
         pair: Pair,
-    ) -> Result<(), NoMemory> {
+    ) -> Result<(), NoMemory>
+        requires made { IsMade graph.now self.old }
+        requires summaries { Summarises graph.now self.old.lattice summaries.now }
+        requires joined { HasPair summaries.now pair.from pair.to }
+        requires waiting { AllJoined summaries.now waiting.old.items }
+        ensures made { OnOk result (IsMade graph.now self.new) }
+        ensures extends { OnOk result (Extends self.old self.new) }
+        ensures waiting { OnOk result (AllJoined summaries.now waiting.new.items) }
+    {
         if self.number(pair).is_some() {
             return Ok(());
         }
-        let mut steps = Vec::new(alloc);
-        let mut missing = Vec::new(alloc);
-        self.follow(graph, summaries, pair, &mut steps, &mut missing)?;
-        if missing.is_empty() {
-            steps.reverse();
-            return self.push(pair, steps);
+        let draft = self.follow(alloc, graph, summaries, pair)?;
+        if !draft.missing.is_empty() {
+            return wait_for(waiting, pair, draft.missing.as_slice());
         }
-        wait(waiting, pair)?;
-        for other in missing.as_slice() {
-            wait(waiting, *other)?;
-        }
-        Ok(())
+        let mut steps = draft.steps;
+        steps.reverse();
+        self.push(pair, steps)
     }
 
-    /// Writes the steps from a pair's last variable to its first, and notes the pairs inside groups that have no sub-path.
+    /// Writes the steps of a pair from its last variable to its first.
     fn follow(
         &self,
+        alloc: Global,
         graph: &FlowGraph,
         summaries: &Summaries,
         pair: Pair,
-        steps: &mut Vec<PathStep>,
-        missing: &mut Vec<Pair>,
-    ) -> Result<(), NoMemory> {
+    ) -> Result<Draft, NoMemory>
+        requires made { IsMade graph.now self.now }
+        requires summaries { Summarises graph.now self.now.lattice summaries.now }
+        requires joined { HasPair summaries.now pair.from pair.to }
+        ensures sub { IfOk result (λ draft. draft.missing.items ≡ [] → IsSub graph.now self.now.lattice (subs_in self.now) pair.from pair.to (reverse draft.steps.items)) }
+        ensures missing { IfOk result (λ draft. AllJoined summaries.now draft.missing.items) }
+    {
+        let mut draft = Draft {
+            steps: Vec::new(alloc),
+            missing: Vec::new(alloc),
+        };
         let mut at = pair.to;
         for _ in 0..u64::MAX {
-            let why = summaries.why(pair.from, at).unwrap();
-            self.add_part(graph, &why, steps, missing)?;
-            at = why.before();
-            if at == pair.from {
-                return Ok(());
+            let before = self.add_part(graph, summaries, pair.from, at, &mut draft)?;
+            if before == pair.from {
+                return Ok(draft);
             }
+            at = before;
         }
         Err(NoMemory)
     }
 
-    /// Writes the part of a reason, or notes the pair inside it.
+    /// Writes the last part of a path from a variable to another, or notes the pair inside it. Answers where the part begins.
     fn add_part(
         &self,
         graph: &FlowGraph,
-        why: &Reason,
-        steps: &mut Vec<PathStep>,
-        missing: &mut Vec<Pair>,
-    ) -> Result<(), NoMemory> {
+        summaries: &Summaries,
+        from: VarId,
+        to: VarId,
+        draft: &mut Draft,
+    ) -> Result<VarId, NoMemory>
+        requires made { IsMade graph.now self.now }
+        requires summaries { Summarises graph.now self.now.lattice summaries.now }
+        requires joined { HasPair summaries.now from to }
+        ensures one { OnOk result (AreOfOne graph.now from to) }
+        ensures front { IfOk result (λ before. Leads summaries.now from before) }
+        ensures adds { IfOk result (λ before. Adds graph.now self.now.lattice (subs_in self.now) before to draft.old draft.new) }
+        ensures missing { OnOk result (AllJoined summaries.now draft.old.missing.items → AllJoined summaries.now draft.new.missing.items) }
+    {
+        let why = summaries.why(from, to).unwrap();
         match why {
-            Reason::Last(edge, _) => push_take(steps, *edge),
-            Reason::Group { enter, leave, .. } => {
-                self.add_group(graph, *enter, *leave, steps, missing)
+            Reason::Last(edge, before) => {
+                push_take(&mut draft.steps, edge)?;
+                Ok(before)
+            }
+            Reason::Group {
+                before,
+                enter,
+                leave,
+            } => {
+                self.add_group(graph, enter, leave, draft)?;
+                Ok(before)
             }
         }
     }
@@ -140,29 +206,49 @@ impl SubPaths {
         graph: &FlowGraph,
         enter: EdgeId,
         leave: EdgeId,
-        steps: &mut Vec<PathStep>,
-        missing: &mut Vec<Pair>,
-    ) -> Result<(), NoMemory> {
+        draft: &mut Draft,
+    ) -> Result<(), NoMemory>
+        requires made { IsMade graph.now self.now }
+        requires enter { enter < length graph.now.constraints }
+        requires leave { leave < length graph.now.constraints }
+        ensures adds { OnOk result ((s u a b v : ℕ) → Stands graph.now self.now.lattice enter (Enter s u a) → Stands graph.now self.now.lattice leave (Leave s b v) → Adds graph.now self.now.lattice (subs_in self.now) u v draft.old draft.new) }
+        ensures missing { OnOk result ((rows : Rattle.std.specs.Prelude.List Summary) (s u a b v : ℕ) → Stands graph.now self.now.lattice enter (Enter s u a) → Stands graph.now self.now.lattice leave (Leave s b v) → Leads rows a b → AllJoined rows draft.old.missing.items → AllJoined rows draft.new.missing.items) }
+    {
         let inner = inner_ends(graph, enter, leave);
         if inner.from == inner.to {
-            return push_group(steps, enter, None, leave);
+            return push_group(&mut draft.steps, enter, None, leave);
         }
         match self.number(inner) {
-            Some(number) => push_group(steps, enter, Some(number), leave),
-            None => wait(missing, inner),
+            Some(number) => push_group(&mut draft.steps, enter, Some(number), leave),
+            None => wait(&mut draft.missing, inner),
         }
     }
 
     /// The sub-paths in order.
-    pub fn into_paths(self) -> Vec<SubPath> {
+    pub fn into_paths(self) -> Vec<SubPath>
+        ensures { result.items ≡ self.entry.paths.items }
+    {
         self.paths
     }
 }
 
 /// Adds a pair to those that wait.
-fn wait(waiting: &mut Vec<Pair>, pair: Pair) -> Result<(), NoMemory> {
+fn wait(waiting: &mut Vec<Pair>, pair: Pair) -> Result<(), NoMemory>
+    ensures { OnOk result (waiting.new.items ≡ waiting.old.items ++ pair ∷ []) }
+{
     match waiting.push(pair) {
         Ok(()) => Ok(()),
         Err(_) => Err(NoMemory),
     }
+}
+
+/// Adds a pair, and those that it waits for behind it.
+fn wait_for(waiting: &mut Vec<Pair>, pair: Pair, missing: &[Pair]) -> Result<(), NoMemory>
+    ensures { OnOk result ((rows : Rattle.std.specs.Prelude.List Summary) → HasPair rows pair.from pair.to → AllJoined rows missing.now → AllJoined rows waiting.old.items → AllJoined rows waiting.new.items) }
+{
+    wait(waiting, pair)?;
+    for other in missing {
+        wait(waiting, *other)?;
+    }
+    Ok(())
 }
