@@ -1,3 +1,5 @@
 mod Holding
+mod Making
 mod Passing
+mod Resting
 mod Walking
