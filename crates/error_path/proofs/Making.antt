@@ -4,7 +4,7 @@ use Rattle.std.specs.List.{Contains}
 use Rattle.std.proofs.Math.Dec.{eqb-suc-zero}
 use Rattle.std.proofs.lemmas.Bool.{cases_eq}
 use Rattle.std.proofs.lemmas.List.{length-append, reverse-append}
-use Rattle.std.proofs.lemmas.List.Elements.{Contains-push_cases}
+use Rattle.std.proofs.lemmas.List.Elements.{Contains-push_cases, Contains-push, Contains-append_left}
 use Rattle.std.proofs.lemmas.Option.{slice_get_within}
 use Rattle.flow_graph.specs.declared.constraint.Link.TheVariants.{Le, Enter, Leave}
 use Rattle.flow_graph.specs.declared.proof.PathStep.{PathStep}
@@ -82,11 +82,10 @@ module _ (sys : System) where
     new_found : (x y n : ℕ) → x ≡ u → y ≡ v → new x y ≡ Some n → (n < length (subs ++ steps ∷ [])) × (look sys (subs ++ steps ∷ []) (Sub (n + 1) 0) ≡ Through x y)
     new_found x y n f t is =
         let at : n ≡ length subs = some_is n (length subs) (sym is ∙ ap (λ z. new z y) f ∙ ap (λ z. new u z) t ∙ here) in
-        let size = longer in
-        (
+        let size = longer in (
           omega (arith, at, size),
           look_at (subs ++ steps ∷ []) n ∙ ap (λ k. span_of sys (slice_get (subs ++ steps ∷ []) k)) at ∙ ap (span_of sys) (push_last subs steps) ∙ sub_span sys lattice subs u v steps sub
-          ∙ ap (λ z. Through z v) (sym f) ∙ ap (λ z. Through x z) (sym t),
+              ∙ ap (λ z. Through z v) (sym f) ∙ ap (λ z. Through x z) (sym t),
         )
 
     old_found : (x y n : ℕ) → (x ≡ u → y ≢ v) → new x y ≡ Some n → (n < length (subs ++ steps ∷ [])) × (look sys (subs ++ steps ∷ []) (Sub (n + 1) 0) ≡ Through x y)
@@ -158,3 +157,10 @@ joined_push rows pairs p all one q there = elim (Contains-push_cases pairs p q t
   | inl before ↦ all q before
   | inr same ↦ subst (λ (x : Pair). HasPair rows x.from x.to) same one
 ]
+
+-- pairs that are joined, without the last one
+pub joined_last : (rows : List Summary) (pairs : List Pair) (p : Pair) → AllJoined rows (pairs ++ p ∷ []) → HasPair rows p.from p.to
+joined_last rows pairs p all = all p (Contains-push pairs p)
+
+pub joined_rest : (rows : List Summary) (pairs : List Pair) (p : Pair) → AllJoined rows (pairs ++ p ∷ []) → AllJoined rows pairs
+joined_rest rows pairs p all q there = all q (Contains-append_left pairs (p ∷ []) q there)

@@ -53,3 +53,8 @@ pub rests_by : (sys : System) (lattice : ℕ) (rows : List Summary) → Summaris
 rests_by sys lattice rows all u v o why some is =
     let Found : Option Reason → Type 0 = λ x. IfSome x (λ w. Contains rows (record { from = u; to = v; why = w })) in
     rests sys lattice rows all (record { from = u; to = v; why = why }) (subst Found is some)
+
+-- what leads from a variable of a function stays in the function
+pub leads_owner : (sys : System) (lattice : ℕ) (rows : List Summary) → Summarises sys lattice rows → (u v f : ℕ) → Leads rows u v → owner_of sys u ≡ Function f → owner_of sys v ≡ Function f
+leads_owner sys lattice rows all u v f (inl same) o = ap (owner_of sys) (sym same) ∙ o
+leads_owner sys lattice rows all u v f (inr pair) o = let one = (rests sys lattice rows all _ pair.1).inside in one.2 ∙ sym one.1 ∙ o

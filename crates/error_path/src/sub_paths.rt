@@ -54,9 +54,9 @@ impl SubPaths {
     }
 
     /// The number of the sub-path from a variable to another: they count from 1. Constant time.
-    fn number(&self, pair: Pair) -> Option<u32>
+    fn number(&self, pair: &Pair) -> Option<u32>
         requires { (sys : System) × IsMade sys self.now }
-        ensures { result ≡ number_in self.now pair.from pair.to }
+        ensures { result ≡ number_in self.now pair.now.from pair.now.to }
     {
         match self.places.get(pair.from, pair.to) {
             Some(at) => Some(at as u32 + 1),
@@ -87,22 +87,22 @@ impl SubPaths {
         alloc: Global,
         graph: &FlowGraph,
         summaries: &Summaries,
-        pair: Pair,
+        pair: &Pair,
     ) -> Result<u32, NoMemory>
         requires made { IsMade graph.now self.old }
         requires summaries { Summarises graph.now self.old.lattice summaries.now }
-        requires joined { HasPair summaries.now pair.from pair.to }
+        requires joined { HasPair summaries.now pair.now.from pair.now.to }
         ensures made { OnOk result (IsMade graph.now self.new) }
         ensures extends { OnOk result (Extends self.old self.new) }
-        ensures number { IfOk result (λ k. look graph.now (subs_in self.new) (Sub k 0) ≡ Through pair.from pair.to) }
+        ensures number { IfOk result (λ k. look graph.now (subs_in self.new) (Sub k 0) ≡ Through pair.now.from pair.now.to) }
     {
         let mut waiting = Vec::new(alloc);
         for _ in 0..u64::MAX {
             if let Some(number) = self.number(pair) {
                 return Ok(number);
             }
-            let next = waiting.pop().unwrap_or(pair);
-            self.make_next(alloc, graph, summaries, &mut waiting, next)?;
+            let next = next_of(&mut waiting, pair);
+            self.make_next(alloc, graph, summaries, &mut waiting, &next)?;
         }
         Err(NoMemory)
     }
@@ -115,11 +115,11 @@ impl SubPaths {
         graph: &FlowGraph,
         summaries: &Summaries,
         waiting: &mut Vec<Pair>,
-        pair: Pair,
+        pair: &Pair,
     ) -> Result<(), NoMemory>
         requires made { IsMade graph.now self.old }
         requires summaries { Summarises graph.now self.old.lattice summaries.now }
-        requires joined { HasPair summaries.now pair.from pair.to }
+        requires joined { HasPair summaries.now pair.now.from pair.now.to }
         requires waiting { AllJoined summaries.now waiting.old.items }
         ensures made { OnOk result (IsMade graph.now self.new) }
         ensures extends { OnOk result (Extends self.old self.new) }
@@ -128,13 +128,14 @@ impl SubPaths {
         if self.number(pair).is_some() {
             return Ok(());
         }
-        let draft = self.follow(alloc, graph, summaries, pair)?;
-        if !draft.missing.is_empty() {
-            return wait_for(waiting, pair, draft.missing.as_slice());
+        let Draft { steps, missing } = self.follow(alloc, graph, summaries, pair)?;
+        if missing.is_empty() {
+            let mut steps = steps;
+            steps.reverse();
+            self.push(*pair, steps)
+        } else {
+            wait_for(waiting, *pair, missing.as_slice())
         }
-        let mut steps = draft.steps;
-        steps.reverse();
-        self.push(pair, steps)
     }
 
     /// Writes the steps of a pair from its last variable to its first.
@@ -143,12 +144,12 @@ impl SubPaths {
         alloc: Global,
         graph: &FlowGraph,
         summaries: &Summaries,
-        pair: Pair,
+        pair: &Pair,
     ) -> Result<Draft, NoMemory>
         requires made { IsMade graph.now self.now }
         requires summaries { Summarises graph.now self.now.lattice summaries.now }
-        requires joined { HasPair summaries.now pair.from pair.to }
-        ensures sub { IfOk result (λ draft. draft.missing.items ≡ [] → IsSub graph.now self.now.lattice (subs_in self.now) pair.from pair.to (reverse draft.steps.items)) }
+        requires joined { HasPair summaries.now pair.now.from pair.now.to }
+        ensures sub { IfOk result (λ draft. draft.missing.items ≡ [] → IsSub graph.now self.now.lattice (subs_in self.now) pair.now.from pair.now.to (reverse draft.steps.items)) }
         ensures missing { IfOk result (λ draft. AllJoined summaries.now draft.missing.items) }
     {
         let mut draft = Draft {
@@ -218,7 +219,7 @@ impl SubPaths {
         if inner.from == inner.to {
             return push_group(&mut draft.steps, enter, None, leave);
         }
-        match self.number(inner) {
+        match self.number(&inner) {
             Some(number) => push_group(&mut draft.steps, enter, Some(number), leave),
             None => wait(&mut draft.missing, inner),
         }
@@ -226,7 +227,7 @@ impl SubPaths {
 
     /// The sub-paths in order.
     pub fn into_paths(self) -> Vec<SubPath>
-        ensures { result.items ≡ self.entry.paths.items }
+        ensures { result.items ≡ self.paths.items }
     {
         self.paths
     }
@@ -251,4 +252,15 @@ fn wait_for(waiting: &mut Vec<Pair>, pair: Pair, missing: &[Pair]) -> Result<(),
         wait(waiting, *other)?;
     }
     Ok(())
+}
+
+/// Takes the last of the pairs that wait, or else another.
+fn next_of(waiting: &mut Vec<Pair>, pair: &Pair) -> Pair
+    ensures next { (rows : Rattle.std.specs.Prelude.List Summary) → HasPair rows pair.now.from pair.now.to → AllJoined rows waiting.old.items → HasPair rows result.from result.to }
+    ensures waiting { (rows : Rattle.std.specs.Prelude.List Summary) → AllJoined rows waiting.old.items → AllJoined rows waiting.new.items }
+{
+    match waiting.pop() {
+        Some(next) => next,
+        None => *pair,
+    }
 }

@@ -25,10 +25,10 @@ returns-clause-made c =
     let at : c.len-at.result ≡ length c.args.self.now.paths.items = search rules in
     on_ok_weaker c.insert.result
     (λ here sys made sub free.
-      let count = steps_count c.args.self.now.paths.items in
-      let room = c.if-at-ge-MOST_SUB_PATHS.false in
-      let subs = subs_in c.args.self.now in
-      let new = place_of (record { lattice = c.args.self.now.lattice; paths = c.push.new.self; places = c.insert.new.self }) in
-      subst (λ xs. AreMade sys c.args.self.now.lattice xs new) (sym (ap steps_of c.in-Ok.ensures.items ∙ steps_push c.args.self.now.paths.items _))
-      (made_push sys c.args.self.now.lattice subs (place_of c.args.self.now) new c.args.pair.from c.args.pair.to c.args.steps.items made sub free
-      (omega (arith, count, room, at)) (here ∙ ap (λ n. Some n) (at ∙ sym count)) c.insert.ensures.others)) c.insert.ensures.here
+    let count = steps_count c.args.self.now.paths.items in
+    let room = c.if-at-ge-MOST_SUB_PATHS.false in
+    let subs = subs_in c.args.self.now in
+    let new = place_of (record { lattice = c.args.self.now.lattice; paths = c.push.new.self; places = c.insert.new.self }) in
+    subst (λ xs. AreMade sys c.args.self.now.lattice xs new) (sym (ap steps_of c.in-Ok.ensures.items ∙ steps_push c.args.self.now.paths.items _))
+    (made_push sys c.args.self.now.lattice subs (place_of c.args.self.now) new c.args.pair.from c.args.pair.to c.args.steps.items made sub free
+    (omega (arith, count, room, at)) (here ∙ ap (λ n. Some n) (at ∙ sym count)) c.insert.ensures.others)) c.insert.ensures.here
