@@ -2,4 +2,5 @@ mod Holding
 mod Making
 mod Passing
 mod Resting
+mod Searching
 mod Walking

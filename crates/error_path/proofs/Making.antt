@@ -34,11 +34,11 @@ push_cases (z ∷ xs) x (suc n) y is = elim (push_cases xs x n y is) [
   | inr new ↦ inr (ap (λ k. suc k) new.0, new.1)
 ]
 
-push_last : {X : Type 0} (xs : List X) (x : X) → slice_get (xs ++ x ∷ []) (length xs) ≡ Some x
+pub push_last : {X : Type 0} (xs : List X) (x : X) → slice_get (xs ++ x ∷ []) (length xs) ≡ Some x
 push_last [] x = refl
 push_last (z ∷ xs) x = push_last xs x
 
-more_get : {X : Type 0} (xs more : List X) (n : ℕ) (y : X) → slice_get xs n ≡ Some y → slice_get (xs ++ more) n ≡ Some y
+pub more_get : {X : Type 0} (xs more : List X) (n : ℕ) (y : X) → slice_get xs n ≡ Some y → slice_get (xs ++ more) n ≡ Some y
 more_get [] more n y is = absurd cc
 more_get (x ∷ xs) more zero y is = is
 more_get (x ∷ xs) more (suc n) y is = more_get xs more n y is

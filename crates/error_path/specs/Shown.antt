@@ -1,12 +1,13 @@
 -- What is promised of a path proof that is made.
-use Rattle.std.specs.Prelude.{◌≡◌, ℕ, List, [], ◌∷◌, slice_get, Some}
+use Rattle.std.specs.Prelude.{◌≡◌, ℕ, List, [], ◌∷◌, slice_get, Option, Some, None}
 use Rattle.lattice_core.specs.Order.{Order}
 use Rattle.flow_graph.specs.declared.constraint.Link.TheVariants.{Const}
 use Rattle.flow_graph.specs.declared.proof.PathStep.{PathStep}
-use Rattle.flow_graph.specs.declared.proof.PathStep.TheVariants.{Take}
+use Rattle.flow_graph.specs.declared.proof.PathStep.TheVariants.{Take, Sub}
 use Rattle.flow_graph.specs.declared.proof.PathProof.{PathProof}
+use Rattle.flow_graph.specs.declared.place.Seen.TheVariants.{Through}
 use Rattle.flow_graph.specs.System.{System, Stands}
-use Rattle.flow_graph.specs.PathProofs.{first_of, last_of, line_of, span_of, steps_of}
+use Rattle.flow_graph.specs.PathProofs.{first_of, last_of, line_of, look, span_of, steps_of}
 use Rattle.lattice_solver.specs.Solution.{Solution, Exceeds}
 
 -- the last step takes the bound
@@ -37,3 +38,8 @@ pub record HasNoLines (proof : PathProof) : Type 0 where
   pub main : HaveNoLines proof.main.items
   pub subs : (n : ℕ) (steps : List PathStep) → slice_get (steps_of proof.subs.items) n ≡ Some steps → HaveNoLines steps
   pub end : proof.end ≡ 0
+
+-- nothing or the sub-path of a number leads from one variable to another
+abbrev pub IsJoinedBy : System → List (List PathStep) → Option ℕ → ℕ → ℕ → Type 0
+IsJoinedBy sys subs None u v = u ≡ v
+IsJoinedBy sys subs (Some k) u v = look sys subs (Sub k 0) ≡ Through u v

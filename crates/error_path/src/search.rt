@@ -72,7 +72,8 @@ impl Search {
     fn new(alloc: Global, graph: &FlowGraph) -> Result<Search, NoMemory>
         ensures good { IfOk result (λ search. (lattice elem : ℕ) (rows : List Summary) → IsGood graph.now lattice elem rows search) }
     {
-        let marks = Phases::new(alloc, graph.vars())?;
+        let mut marks = Phases::new(alloc, graph.vars())?;
+        marks.clear();
         Ok(Search {
             queue: Vec::new(alloc),
             marks,
