@@ -1,5 +1,5 @@
 -- How a search grows, and what stays true of it.
-use Rattle.std.proofs.Common.{◌≡◌, ◌≢◌, ℕ, zero, suc, ◌+◌, ◌<◌, ◌≤◌, List, [], ◌∷◌, ◌++◌, length, slice_get, Some, inl, inr, ◌⊎◌, bit_or, not, false, eqb, refl, sym, ◌∙◌, ap, subst, arith, append_assoc, append-nil}
+use Rattle.std.proofs.Common.{◌≡◌, ◌≢◌, ℕ, zero, suc, ◌+◌, ◌<◌, ◌≤◌, List, [], ◌∷◌, ◌++◌, length, slice_get, Option, Some, None, IfNone, inl, inr, ◌⊎◌, bit_or, not, false, eqb, refl, sym, ◌∙◌, ap, subst, arith, append_assoc, append-nil}
 use Rattle.std.specs.Int.{bit_at}
 use Rattle.std.proofs.lemmas.Option.{slice_get_within}
 use Rattle.std.proofs.lemmas.Bool.Decides.{nat_tests}
@@ -208,9 +208,9 @@ module _ (sys : System) (lattice elem : ℕ) (rows : List Summary) (search : Sea
   pub comes_around : (enter leave site inner last v : ℕ) → Stands sys lattice enter (Enter site u inner) → Stands sys lattice leave (Leave site last v) → Leads rows inner last →
       ComesBy sys lattice elem rows search.queue.items (length search.queue.items) (settled (owner_of sys v) p) v (Group place enter leave)
   comes_around enter leave site inner last v st ts joined =
-      let At : ℕ → Type 0 = λ w. Stands sys lattice enter (Enter site w inner) in
-      (
-        from_origin, record {
+      let At : ℕ → Type 0 = λ w. Stands sys lattice enter (Enter site w inner) in (
+        from_origin,
+        record {
           site = site;
           inner = inner;
           last = last;
@@ -218,7 +218,8 @@ module _ (sys : System) (lattice elem : ℕ) (rows : List Summary) (search : Sea
           leaves = ts;
           joined = joined;
           phase_is = ap (settled (owner_of sys v)) (sym origin.2);
-        })
+        },
+      )
 
 module _ (sys : System) (lattice n : ℕ) (constraint : Constraint) (link : Link) (there : slice_get sys.constraints n ≡ Some constraint) (is : constraint.link ≡ link) where
   pub stands_in : IsInLattice lattice constraint.link constraint.lattices → Stands sys lattice n link
@@ -233,3 +234,74 @@ module _ (sys : System) (lattice n : ℕ) (constraint : Constraint) (link : Link
 
 pub same_number : (a b : ℕ) → not (eqb a b) ≡ false → a ≡ b
 same_number a b is = grind (arith, nat_tests)
+
+-- a number of no constraint leads nowhere
+pub followed_past : (sys : System) (lattice : ℕ) (rows : List Summary) (search : Search) (p : Phase) (u n : ℕ) → length sys.constraints ≤ n → IsFollowed sys lattice rows search p u n
+followed_past sys lattice rows search p u n past =
+    let none = λ (link : Link) (st : Stands sys lattice n link). let lt = slice_get_within sys.constraints n st.constraint st.there in let no : ⊥ = omega (arith, past, lt) in no in
+    record {
+      flow = λ v st. absurd (none _ st);
+      back = λ s v first st. absurd (none _ st);
+      call = λ s a st. absurd (none _ st);
+      group = λ s a m b v st ts leads. absurd (none _ st);
+    }
+
+old_item : (queue more : List Reached) (n : ℕ) (r : Reached) → n < length queue → slice_get (queue ++ more) n ≡ Some r → slice_get queue n ≡ Some r
+old_item [] more n r within is = absurd (omega (arith, within))
+old_item (x ∷ queue) more zero r within is = is
+old_item (x ∷ queue) more (suc n) r within is = old_item queue more n r (omega (arith, within)) is
+
+-- a place of a queue that has not grown past it
+pub visited_on : (sys : System) (lattice : ℕ) (rows : List Summary) (old new : Search) (place : ℕ) → Grows old new → place < length old.queue.items →
+    IsVisited sys lattice rows old place → IsVisited sys lattice rows new place
+visited_on sys lattice rows old new place g within v r is n =
+    let item : slice_get old.queue.items place ≡ Some r = old_item old.queue.items g.more place r within (sym (ap (λ xs. slice_get xs place) g.is) ∙ is) in
+    followed_on sys lattice rows old new r.phase r.at n g (v r item n)
+
+pub enter_followed : (sys : System) (lattice : ℕ) (rows : List Summary) (search : Search) (p : Phase) (n : ℕ) (constraint : Constraint) (s u a : ℕ) →
+    slice_get sys.constraints n ≡ Some constraint → constraint.link ≡ Enter s u a → IsMarked search (settled (owner_of sys a) Second) a →
+    ((m b v : ℕ) → Stands sys lattice m (Leave s b v) → Leads rows a b → IsMarked search (settled (owner_of sys v) p) v) → IsFollowed sys lattice rows search p u n
+enter_followed sys lattice rows search p n constraint s u a there is mark groups = record {
+  flow = λ v st. let e = one_link sys lattice n constraint (Enter s u a) there is (Le u v) st in absurd cc;
+  back = λ t v first st. let e = one_link sys lattice n constraint (Enter s u a) there is (Leave t u v) st in absurd cc;
+  call = λ t b st.
+      let e = one_link sys lattice n constraint (Enter s u a) there is (Enter t u b) st in
+      let same : a ≡ b = cc in subst (λ x. IsMarked search (settled (owner_of sys x) Second) x) same mark;
+  group = λ t b m c v st ts leads.
+      let e = one_link sys lattice n constraint (Enter s u a) there is (Enter t u b) st in
+      let site : t ≡ s = cc in
+      let inner : b ≡ a = cc in
+      groups m c v (subst (λ x. Stands sys lattice m (Leave x c v)) site ts) (subst (λ x. Leads rows x c) inner leads);
+}
+
+some_reached : {x y : Reached} → Some x ≡ Some y → x ≡ y
+some_reached e = cc
+
+pub visited_here : (sys : System) (lattice : ℕ) (rows : List Summary) (old new : Search) (place : ℕ) (p : Phase) (u : ℕ) → Grows old new → StandsAt old place p u →
+    ((n : ℕ) → IsFollowed sys lattice rows new p u n) → IsVisited sys lattice rows new place
+visited_here sys lattice rows old new place p u g s done r is n =
+    let within = slice_get_within old.queue.items place s.0 s.1 in
+    let item : slice_get old.queue.items place ≡ Some r = old_item old.queue.items g.more place r within (sym (ap (λ xs. slice_get xs place) g.is) ∙ is) in
+    let same : s.0 ≡ r = some_reached (sym s.1 ∙ item) in
+    let Of : Phase → Type 0 = λ q. IsFollowed sys lattice rows new q r.at n in
+    let At : ℕ → Type 0 = λ w. IsFollowed sys lattice rows new p w n in
+    subst Of (sym s.2 ∙ ap (λ (x : Reached). x.phase) same) (subst At (sym s.3 ∙ ap (λ (x : Reached). x.at) same) (done n))
+
+pub missed_here : (old new : Search) (place : ℕ) (p : Phase) (u target : ℕ) → Grows old new → StandsAt old place p u → (u ≡ target → ⊥) → (r : Reached) →
+    slice_get new.queue.items place ≡ Some r → r.at ≡ target → ⊥
+missed_here old new place p u target g s other r is at =
+    let within = slice_get_within old.queue.items place s.0 s.1 in
+    let item : slice_get old.queue.items place ≡ Some r = old_item old.queue.items g.more place r within (sym (ap (λ xs. slice_get xs place) g.is) ∙ is) in
+    let same : s.0 ≡ r = some_reached (sym s.1 ∙ item) in
+    other (sym s.3 ∙ ap (λ (x : Reached). x.at) same ∙ at)
+
+pub missed_on : (old new : Search) (place : ℕ) (r : Reached) → Grows old new → place < length old.queue.items → slice_get new.queue.items place ≡ Some r →
+    slice_get old.queue.items place ≡ Some r
+missed_on old new place r g within is = old_item old.queue.items g.more place r within (sym (ap (λ xs. slice_get xs place) g.is) ∙ is)
+
+pub grows_length : (old new : Search) → Grows old new → length old.queue.items ≤ length new.queue.items
+grows_length old new g = let size = length-append old.queue.items g.more in let is = ap length g.is in omega (arith, size, is)
+
+pub none_weaker : {A B : Type 0} (o : Option ℕ) → (A → B) → IfNone o A → IfNone o B
+none_weaker None f a = f a
+none_weaker (Some n) f a = tt

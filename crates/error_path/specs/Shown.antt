@@ -9,6 +9,7 @@ use Rattle.flow_graph.specs.declared.place.Seen.TheVariants.{Through}
 use Rattle.flow_graph.specs.System.{System, Stands}
 use Rattle.flow_graph.specs.PathProofs.{first_of, last_of, line_of, look, span_of, steps_of}
 use Rattle.lattice_solver.specs.Solution.{Solution, Exceeds}
+use Rattle.error_path.specs.Parts.{AreSubs, IsPath}
 
 -- the last step takes the bound
 abbrev pub EndsWith : ℕ → PathProof → Type 0
@@ -43,3 +44,10 @@ pub record HasNoLines (proof : PathProof) : Type 0 where
 abbrev pub IsJoinedBy : System → List (List PathStep) → Option ℕ → ℕ → ℕ → Type 0
 IsJoinedBy sys subs None u v = u ≡ v
 IsJoinedBy sys subs (Some k) u v = look sys subs (Sub k 0) ≡ Through u v
+
+-- A path of a lattice from a constant of an element to a bound, with the sub-paths that it names.
+pub record IsShown (sys : System) (lattice elem bound : ℕ) (proof : PathProof) : Type 0 where
+  pub subs : AreSubs sys lattice (steps_of proof.subs.items)
+  pub path : IsPath sys lattice (steps_of proof.subs.items) elem bound proof.main.items
+  pub apart : AreApart sys (steps_of proof.subs.items)
+  pub end : proof.end ≡ 0

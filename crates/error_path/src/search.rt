@@ -71,6 +71,7 @@ impl Search {
     /// A search that has reached nothing: 16 bytes for each variable.
     fn new(alloc: Global, graph: &FlowGraph) -> Result<Search, NoMemory>
         ensures good { IfOk result (λ search. (lattice elem : ℕ) (rows : List Summary) → IsGood graph.now lattice elem rows search) }
+        ensures below { IfOk result (λ search. AllBelow graph.now (size_of search.marks)) }
     {
         let mut marks = Phases::new(alloc, graph.vars())?;
         marks.clear();
@@ -143,6 +144,7 @@ impl Search {
         requires below { AllBelow graph.now (size_of self.old.marks) }
         ensures good { OnOk result ((rows : List Summary) → IsGood graph.now lattice elem rows self.old → IsGood graph.now lattice elem rows self.new) }
         ensures started { OnOk result (AreStarted graph.now lattice elem self.new) }
+        ensures below { OnOk result (AllBelow graph.now (size_of self.new.marks)) }
     {
         for n in 0..graph.len() {
             self.start_at(graph, lattice, elem, EdgeId::new(n))?;
@@ -184,7 +186,7 @@ impl Search {
                 self.note(graph, to, origin.phase, cause)
             }
             Link::Leave(_, from, to) => {
-                if from != origin.at || origin.phase == Phase::Second {
+                if from != origin.at || !is_returning(origin.phase) {
                     return Ok(());
                 }
                 self.note(graph, to, Phase::First, cause)
@@ -199,7 +201,8 @@ impl Search {
                     site,
                     inner,
                 };
-                self.follow_groups(graph, summaries, lattice, origin, &call)
+                self.follow_groups(graph, summaries, lattice, origin, &call)?;
+                Ok(())
             }
             _ => Ok(()),
         }
@@ -290,6 +293,20 @@ impl Search {
         Ok(())
     }
 
+    /// A place of the queue with its variable and phase.
+    fn origin_at(&self, place: usize) -> Origin
+        requires { place < length self.now.queue.items }
+        ensures place { result.place ≡ place }
+        ensures stands { StandsAt self.now place result.phase result.at }
+    {
+        let reached = self.queue[place];
+        Origin {
+            place,
+            at: reached.at,
+            phase: reached.phase,
+        }
+    }
+
     /// Goes on from each place of the queue, until one is at the variable. Answers that place.
     fn run(
         &mut self,
@@ -307,15 +324,24 @@ impl Search {
     {
         let mut place = 0;
         while place < self.queue.len() {
-            let Reached { at, phase, .. } = self.queue[place];
-            if at == target {
+            let origin = self.origin_at(place);
+            if origin.at == target {
                 return Ok(Some(place));
             }
-            let origin = Origin { place, at, phase };
             self.visit(graph, summaries, lattice, &origin)?;
             place += 1;
         }
         Ok(None)
+    }
+}
+
+/// Whether no call is open in a phase.
+fn is_returning(phase: Phase) -> bool
+    ensures { IsTrue result ↔ (phase ≡ First) }
+{
+    match phase {
+        Phase::First => true,
+        Phase::Second => false,
     }
 }
 

@@ -19,6 +19,6 @@ returns-else-not-leads-clause-good c =
     let leaves = subst At site (stands_in c.args.graph.now c.args.lattice c.args.leave c.constraint-constraint.result (Leave c.in-Leave.site c.in-Leave.last c.in-Leave.to) c.constraint-constraint.ensures.there c.in-Leave.is (c.if-not-is_in.ensures.0 refl)) in
     on_ok_weaker c.note.result
     (λ on elem good. on c.args.graph.now c.args.lattice elem c.args.summaries.now
-      (comes_around c.args.graph.now c.args.lattice elem c.args.summaries.now c.args.self.now c.args.origin.now.place c.args.origin.now.phase c.args.origin.now.at c.requires.origin
-      c.args.call.now.enter c.args.leave c.args.call.now.site c.args.call.now.inner c.in-Leave.last c.in-Leave.to c.requires.call leaves (c.if-not-leads.ensures.0 refl)) good)
+    (comes_around c.args.graph.now c.args.lattice elem c.args.summaries.now c.args.self.now c.args.origin.now.place c.args.origin.now.phase c.args.origin.now.at c.requires.origin
+    c.args.call.now.enter c.args.leave c.args.call.now.site c.args.call.now.inner c.in-Leave.last c.in-Leave.to c.requires.call leaves (c.if-not-leads.ensures.0 refl)) good)
     c.note.ensures.good

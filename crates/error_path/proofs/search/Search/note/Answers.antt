@@ -30,7 +30,7 @@ returns-in-Ok-clause-good c = λ sys lattice elem rows comes good.
     record {
       sound = subst Sound (sym c.in-Ok.ensures.items) (sound_push sys lattice elem rows queue r good.sound (subst By (sym c.settled-phase.ensures) comes));
       listed = subst Listed (sym c.in-Ok.ensures.items) (listed_push c.args.self.now.marks c.raise.new.self queue r
-      (mark_cases c.args.self.now.marks c.raise.new.self c.settled-phase.result c.args.at c.raise.ensures.others) good.listed);
+          (mark_cases c.args.self.now.marks c.raise.new.self c.settled-phase.result c.args.at c.raise.ensures.others) good.listed);
       below = subst Below (sym c.raise.ensures.moves.size) good.below;
     }
 

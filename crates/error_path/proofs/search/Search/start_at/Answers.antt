@@ -19,8 +19,8 @@ returns-then-eq-2-clause-good c =
     let named : c.in-Const.named ≡ c.args.lattice = eqb-true _ _ (sym c.if-eq.ensures) in
     let mark : c.in-Const.mark ≡ c.args.elem = eqb-true _ _ (sym c.if-eq-2.ensures) in
     let is : c.constraint-link.result.link ≡ Const c.args.lattice c.args.elem c.in-Const.at =
-        c.in-Const.is ∙ ap (λ x. let l : Link = Const x c.in-Const.mark c.in-Const.at in l) named ∙ ap (λ x. let l : Link = Const c.args.lattice x c.in-Const.at in l) mark in
+    c.in-Const.is ∙ ap (λ x. let l : Link = Const x c.in-Const.mark c.in-Const.at in l) named ∙ ap (λ x. let l : Link = Const c.args.lattice x c.in-Const.at in l) mark in
     on_ok_weaker c.note.result
     (λ on rows good. on c.args.graph.now c.args.lattice c.args.elem rows
-      (record { constraint = c.constraint-link.result; there = c.constraint-link.ensures.there; link_is = is; carried = refl }, refl) good)
+    (record { constraint = c.constraint-link.result; there = c.constraint-link.ensures.there; link_is = is; carried = refl }, refl) good)
     c.note.ensures.good
