@@ -3,4 +3,5 @@ mod Making
 mod Passing
 mod Resting
 mod Searching
+mod Tracing
 mod Walking

@@ -2,5 +2,8 @@
 #![tactic(auto)]
 
 pub mod search;
+pub mod showing;
 pub mod steps;
 pub mod sub_paths;
+
+pub use showing::show;

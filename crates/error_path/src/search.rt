@@ -51,6 +51,13 @@ pub struct Search {
     marks: Phases,
 }
 
+/// A search, and the place of its queue that is at its target.
+#[derive(Drop)]
+pub struct Found {
+    pub search: Search,
+    pub place: Option<usize>,
+}
+
 /// A place of the queue with its variable and phase.
 #[derive(Clone, Copy)]
 struct Origin {
@@ -368,14 +375,14 @@ pub fn reach(
     lattice: LatticeNo,
     elem: Elem,
     target: VarId,
-) -> Result<(Search, Option<usize>), NoMemory>
+) -> Result<Found, NoMemory>
     requires lattice { lattice < 16 }
-    ensures good { IfOk result (λ found. IsGood graph.now lattice elem summaries.now found.0) }
-    ensures found { IfOk result (λ found. IfSome found.1 (λ n. IsReachedAt found.0 n target)) }
-    ensures none { IfOk result (λ found. Summarises graph.now lattice summaries.now → IfNone found.1 (Lead graph.now lattice elem target → ⊥)) }
+    ensures good { IfOk result (λ found. IsGood graph.now lattice elem summaries.now found.search) }
+    ensures found { IfOk result (λ found. IfSome found.place (λ n. IsReachedAt found.search n target)) }
+    ensures none { IfOk result (λ found. Summarises graph.now lattice summaries.now → IfNone found.place (Lead graph.now lattice elem target → ⊥)) }
 {
     let mut search = Search::new(alloc, graph)?;
     search.start(graph, lattice, elem)?;
     let place = search.run(graph, summaries, lattice, target)?;
-    Ok((search, place))
+    Ok(Found { search, place })
 }
