@@ -1,5 +1,13 @@
 -- A path that is followed back from a bound.
-use Rattle.std.proofs.Common.{◌≡◌, ℕ, ◌<◌, List, [], ◌∷◌, ◌++◌, length, reverse, slice_get, Option, Some, None, refl, sym, ◌∙◌, ap, subst}
+use Rattle.std.proofs.Common.{◌≡◌, ℕ, ◌<◌, max, false, inl, inr, ◌⊎◌, bit_or, IfSome, MatchOption, arith, List, [], ◌∷◌, ◌++◌, length, reverse, slice_get, Option, Some, None, refl, sym, ◌∙◌, ap, subst}
+use Rattle.std.specs.Int.{bit_at}
+use Rattle.std.proofs.lemmas.Bool.{cases_eq}
+use Rattle.std.proofs.lemmas.Nat.Bits.{bit_at_or}
+use Rattle.lattice_core.specs.Order.{Order, leq}
+use Rattle.flow_graph.specs.Paths.{Lead}
+use Rattle.flow_graph.specs.declared.constraint.Constraint.{Constraint}
+use Rattle.lattice_solver.specs.Phases.{set_of}
+use Rattle.lattice_solver.specs.Solution.{Solution, Exceeds, HasElement, IsSolved}
 use Rattle.flow_graph.specs.declared.constraint.Link.TheVariants.{Le, Const, Bound, Enter, Leave}
 use Rattle.flow_graph.specs.declared.proof.PathStep.{PathStep}
 use Rattle.flow_graph.specs.declared.proof.PathStep.TheVariants.{Take, Sub}
@@ -71,3 +79,43 @@ module _ (sys : System) (lattice : ℕ) (rows : List Summary) (enter leave : ℕ
       let From : ℕ → Type 0 = λ x. IsJoinedBy sys subs number x a.last in
       let To : ℕ → Type 0 = λ x. IsJoinedBy sys subs number pair.from x in
       subst From from_is (subst To to_is joined)
+
+-- what an answer says where it is there, and where it is not
+pub match_some : {A : Type 0} {B : ℕ → Type 0} (o : Option ℕ) (n : ℕ) → o ≡ Some n → MatchOption o A B → B n
+match_some {A} {B} o n is given = let Of : Option ℕ → Type 0 = λ x. MatchOption x A B in subst Of is given
+
+pub match_none : {A : Type 0} {B : ℕ → Type 0} (o : Option ℕ) → o ≡ None → MatchOption o A B → A
+match_none {A} {B} o is given = let Of : Option ℕ → Type 0 = λ x. MatchOption x A B in subst Of is given
+
+pub some_given : {B : ℕ → Type 0} (o : Option ℕ) (n : ℕ) → o ≡ Some n → IfSome o B → B n
+some_given {B} o n is given = let Of : Option ℕ → Type 0 = λ x. IfSome x B in subst Of is given
+
+pub some_reached : {x y : Reached} → Some x ≡ Some y → x ≡ y
+some_reached e = cc
+
+either_one : (a b : ℕ) → max a b ≡ 1 → (a ≡ 1) ⊎ (b ≡ 1)
+either_one a b is = elim (cases_eq a 1) [ inl e ↦ inl e | inr ne ↦ inr (omega (arith, is, ne)) ]
+
+-- an element of a union is in one of the two
+in_union : (a b e : ℕ) → bit_at (bit_or a b) e ≡ 1 → (bit_at a e ≡ 1) ⊎ (bit_at b e ≡ 1)
+in_union a b e is =
+    let most : max (bit_at a e) (bit_at b e) ≡ 1 = sym (bit_at_or a b e) ∙ is in either_one (bit_at a e) (bit_at b e) most
+
+-- an element that reaches a variable leads to it
+pub reached_leads : (sys : System) (solution : Solution) → IsSolved sys solution → (v e : ℕ) → HasElement solution v e → Lead sys solution.lattice e v
+reached_leads sys solution solved v e has = elim (in_union (set_of solution.phases First v) (set_of solution.phases Second v) e has) [
+  | inl first ↦ inl ((solved.exact First v e).0 first)
+  | inr second ↦ inr ((solved.exact Second v e).0 second)
+]
+
+-- each bound of a number is the one that the element exceeds
+pub bound_over : (sys : System) (solution : Solution) (order : Order) (bound elem : ℕ) → Exceeds sys solution order bound elem → (v limit : ℕ) →
+    Stands sys solution.lattice bound (Bound v solution.lattice limit) → leq order elem limit ≡ false
+bound_over sys solution order bound elem ex v limit st =
+    let same : ex.bound.constraint ≡ st.constraint = same_constraint (sym ex.bound.there ∙ st.there) in
+    let links : Bound ex.var solution.lattice ex.limit ≡ Bound v solution.lattice limit = sym ex.bound.link_is ∙ ap (λ (c : Constraint). c.link) same ∙ st.link_is in
+    let limits : ex.limit ≡ limit = cc in
+    subst (λ l. leq order elem l ≡ false) limits ex.over
+  where
+    same_constraint : {x y : Constraint} → Some x ≡ Some y → x ≡ y
+    same_constraint e = cc

@@ -1,6 +1,6 @@
 //! The path proof of an exceeded bound.
 
-ghost use Rattle.std.specs.Prelude.{◌≡◌, ℕ, ◌<◌, List, length, slice_get, Some, None, IfOk, OnOk, MatchOption, reverse};
+ghost use Rattle.std.specs.Prelude.{◌≡◌, ℕ, ◌<◌, List, length, slice_get, Some, None, IfOk, IfSome, OnOk, MatchOption, reverse};
 ghost use Rattle.lattice_core.specs.Order.{Order};
 ghost use Rattle.flow_graph.specs.declared.constraint.Link.TheVariants.{Bound};
 ghost use Rattle.flow_graph.specs.declared.proof.PathStep.TheVariants.{Sub};
@@ -69,6 +69,7 @@ fn trace_step(
     requires comes { (elem : ℕ) × (queue : List Reached) × (place : ℕ) × (q : Phase) × (v : ℕ) × ComesBy graph.now subs.old.lattice elem summaries.now queue place q v cause.now }
     ensures made { OnOk result (IsMade graph.now subs.new) }
     ensures extends { OnOk result (Extends subs.old subs.new) }
+    ensures earlier { IfOk result (λ next. (elem : ℕ) (queue : List Reached) (place : ℕ) (q : Phase) (v : ℕ) → ComesBy graph.now subs.old.lattice elem summaries.now queue place q v cause.now → IfSome next (λ from. Earlier queue from place)) }
     ensures traced { IfOk result (λ next. (elem bound : ℕ) (queue : List Reached) (place : ℕ) (q : Phase) (v : ℕ) → ComesBy graph.now subs.old.lattice elem summaries.now queue place q v cause.now → Onward graph.now subs.old.lattice (subs_in subs.old) bound q v (reverse steps.old.items) → MatchOption next (IsPath graph.now subs.old.lattice (subs_in subs.new) elem bound (reverse steps.new.items)) (λ from. (e : Earlier queue from place) × Onward graph.now subs.old.lattice (subs_in subs.new) bound e.it.phase e.it.at (reverse steps.new.items))) }
 {
     match cause {
@@ -104,6 +105,7 @@ fn trace(
     requires place { place < length reached.now }
     requires sound { (elem : ℕ) × AreSound graph.now subs.old.lattice elem summaries.now reached.now }
     ensures made { OnOk result (IsMade graph.now subs.new) }
+    ensures lattice { OnOk result (subs.new.lattice ≡ subs.old.lattice) }
     ensures path { OnOk result ((elem bound : ℕ) (r : Reached) → AreSound graph.now subs.old.lattice elem summaries.now reached.now → slice_get reached.now place ≡ Some r → Onward graph.now subs.old.lattice (subs_in subs.old) bound r.phase r.at (reverse steps.old.items) → IsPath graph.now subs.old.lattice (subs_in subs.new) elem bound (reverse steps.new.items)) }
 {
     let mut place = place;
@@ -127,6 +129,7 @@ struct Limit {
 fn limit_of(graph: &FlowGraph, bound: EdgeId) -> Limit
     requires { bound < length graph.now.constraints }
     ensures at { (v l e : ℕ) → Has graph.now bound (Bound v l e) → result.at ≡ v }
+    ensures low { result.lattice < 16 }
     ensures lattice { (v l e : ℕ) → Has graph.now bound (Bound v l e) → result.lattice ≡ l }
 {
     let link = graph.constraint(bound).link;

@@ -4,8 +4,8 @@ use Rattle.error_path.specs.Parts.{Onward}
 use Rattle.error_path.specs.Made.{subs_in, IsMade}
 use Rattle.error_path.proofs.showing.trace.Given as goal
 
-abbrev pub invariant-loop : goal.invariant-loop
-invariant-loop l = record {
+abbrev pub invariant-loop-from : goal.invariant-loop-from
+invariant-loop-from l = record {
   made : IsMade l.graph l.subs;
   lattice : l.subs.lattice ≡ l.fn.subs.lattice;
   place : l.place < length l.reached;
@@ -13,5 +13,5 @@ invariant-loop l = record {
       (r : Reached) → slice_get l.reached l.place ≡ Some r → Onward l.graph l.fn.subs.lattice (subs_in l.subs) bound r.phase r.at (reverse l.steps.items);
 }
 
-abbrev pub decreases-loop : goal.decreases-loop
-decreases-loop l = l.place
+abbrev pub decreases-loop-from : goal.decreases-loop-from
+decreases-loop-from l = l.place

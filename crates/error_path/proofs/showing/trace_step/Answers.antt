@@ -31,12 +31,22 @@ returns-in_ok-push_group-in-Group-clause-traced c = λ elem bound queue place q 
     let sys = c.args.graph.now in
     let lattice = c.args.subs.now.lattice in
     let here = comes_as sys lattice elem c.args.summaries.now queue place q v c.args.cause.now form c.in-Group.is comes in
-    let subs = subs_in c.number_of-number.new.subs in
+    let subs = subs_in c.number_of.new.subs in
     let Steps : List PathStep → Type 0 = λ xs. Onward sys lattice subs bound here.0.it.phase here.0.it.at xs in
     let Grown : List (List PathStep) → Type 0 = λ xs. Onward sys lattice xs bound q v (reverse c.args.steps.now.items) in
-    let grown = subst Grown (sym c.in_ok-number.ensures.extends.is) (onward_grown sys lattice (subs_in c.args.subs.now) c.in_ok-number.ensures.extends.more bound q v (reverse c.args.steps.now.items) on) in
+    let grown = subst Grown (sym c.in_ok-number-in-Group.ensures.extends.is) (onward_grown sys lattice (subs_in c.args.subs.now) c.in_ok-number-in-Group.ensures.extends.more bound q v (reverse c.args.steps.now.items) on) in
     (
       here.0, subst Steps (sym c.in_ok-push_group-in-Group.ensures)
-      (traced_group sys lattice subs bound c.in-Group.enter c.in-Group.leave here.0.it.phase here.0.it.at q v c.args.summaries.now (reverse c.args.steps.now.items) c.in_ok-number.number here.1
-      (around_joined sys lattice c.args.summaries.now c.in-Group.enter c.in-Group.leave here.0.it.phase here.0.it.at q v here.1 c.inner_ends-inner.result c.inner_ends-inner.ensures subs c.in_ok-number.number
-      c.in_ok-number.ensures.number) grown))
+      (traced_group sys lattice subs bound c.in-Group.enter c.in-Group.leave here.0.it.phase here.0.it.at q v c.args.summaries.now (reverse c.args.steps.now.items) c.in_ok-number-in-Group.number here.1
+      (around_joined sys lattice c.args.summaries.now c.in-Group.enter c.in-Group.leave here.0.it.phase here.0.it.at q v here.1 c.inner_ends-inner.result c.inner_ends-inner.ensures subs c.in_ok-number-in-Group.number
+      c.in_ok-number-in-Group.ensures.number) grown))
+
+pub returns-in_ok-push_take-in-Step-clause-earlier : goal.returns-in_ok-push_take-in-Step-clause-earlier
+returns-in_ok-push_take-in-Step-clause-earlier c = λ elem queue place q v comes.
+    let form : Cause = Step c.in-Step.from c.in-Step.edge in
+    (comes_as c.args.graph.now c.args.subs.now.lattice elem c.args.summaries.now queue place q v c.args.cause.now form c.in-Step.is comes).0
+
+pub returns-in_ok-push_group-in-Group-clause-earlier : goal.returns-in_ok-push_group-in-Group-clause-earlier
+returns-in_ok-push_group-in-Group-clause-earlier c = λ elem queue place q v comes.
+    let form : Cause = Group c.in-Group.from c.in-Group.enter c.in-Group.leave in
+    (comes_as c.args.graph.now c.args.subs.now.lattice elem c.args.summaries.now queue place q v c.args.cause.now form c.in-Group.is comes).0
