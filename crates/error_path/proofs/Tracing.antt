@@ -81,14 +81,14 @@ module _ (sys : System) (lattice : ℕ) (rows : List Summary) (enter leave : ℕ
       subst From from_is (subst To to_is joined)
 
 -- what an answer says where it is there, and where it is not
-pub match_some : {A : Type 0} {B : ℕ → Type 0} (o : Option ℕ) (n : ℕ) → o ≡ Some n → MatchOption o A B → B n
-match_some {A} {B} o n is given = let Of : Option ℕ → Type 0 = λ x. MatchOption x A B in subst Of is given
+pub match_some : (A : Type 0) (B : ℕ → Type 0) (o : Option ℕ) (n : ℕ) → o ≡ Some n → MatchOption o A B → B n
+match_some A B o n is given = let Of : Option ℕ → Type 0 = λ x. MatchOption x A B in subst Of is given
 
-pub match_none : {A : Type 0} {B : ℕ → Type 0} (o : Option ℕ) → o ≡ None → MatchOption o A B → A
-match_none {A} {B} o is given = let Of : Option ℕ → Type 0 = λ x. MatchOption x A B in subst Of is given
+pub match_none : (A : Type 0) (B : ℕ → Type 0) (o : Option ℕ) → o ≡ None → MatchOption o A B → A
+match_none A B o is given = let Of : Option ℕ → Type 0 = λ x. MatchOption x A B in subst Of is given
 
-pub some_given : {B : ℕ → Type 0} (o : Option ℕ) (n : ℕ) → o ≡ Some n → IfSome o B → B n
-some_given {B} o n is given = let Of : Option ℕ → Type 0 = λ x. IfSome x B in subst Of is given
+pub some_given : (B : ℕ → Type 0) (o : Option ℕ) (n : ℕ) → o ≡ Some n → IfSome o B → B n
+some_given B o n is given = let Of : Option ℕ → Type 0 = λ x. IfSome x B in subst Of is given
 
 pub some_reached : {x y : Reached} → Some x ≡ Some y → x ≡ y
 some_reached e = cc

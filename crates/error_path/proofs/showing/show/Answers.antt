@@ -17,14 +17,14 @@ show_from-requires-clause-lattice c = c.limit_of-limit.ensures.low
 
 pub show_from-requires-clause-summaries : goal.show_from-requires-clause-summaries
 show_from-requires-clause-summaries c =
-    let ex = some_given c.exceeded.result c.unwrap-elem.result c.unwrap-elem.ensures c.exceeded.ensures.element in
+    let ex = some_given _ c.exceeded.result c.unwrap-elem.result c.unwrap-elem.ensures c.exceeded.ensures.element in
     let lat = c.limit_of-limit.ensures.lattice ex.var c.args.solver.now.lattice ex.limit (has_of c.args.graph.now c.args.solver.now.lattice c.args.bound _ ex.bound) in
     let Of : ℕ → Type 0 = λ l. Summarises c.args.graph.now l c.args.summaries.now in
     subst Of (sym lat) c.requires.summaries
 
 pub show_from-requires-clause-bound : goal.show_from-requires-clause-bound
 show_from-requires-clause-bound c =
-    let ex = some_given c.exceeded.result c.unwrap-elem.result c.unwrap-elem.ensures c.exceeded.ensures.element in
+    let ex = some_given _ c.exceeded.result c.unwrap-elem.result c.unwrap-elem.ensures c.exceeded.ensures.element in
     let has = has_of c.args.graph.now c.args.solver.now.lattice c.args.bound _ ex.bound in
     let lat = c.limit_of-limit.ensures.lattice ex.var c.args.solver.now.lattice ex.limit has in
     let at = c.limit_of-limit.ensures.at ex.var c.args.solver.now.lattice ex.limit has in
@@ -34,7 +34,7 @@ show_from-requires-clause-bound c =
 
 pub show_from-requires-clause-lead : goal.show_from-requires-clause-lead
 show_from-requires-clause-lead c =
-    let ex = some_given c.exceeded.result c.unwrap-elem.result c.unwrap-elem.ensures c.exceeded.ensures.element in
+    let ex = some_given _ c.exceeded.result c.unwrap-elem.result c.unwrap-elem.ensures c.exceeded.ensures.element in
     let has = has_of c.args.graph.now c.args.solver.now.lattice c.args.bound _ ex.bound in
     let lat = c.limit_of-limit.ensures.lattice ex.var c.args.solver.now.lattice ex.limit has in
     let at = c.limit_of-limit.ensures.at ex.var c.args.solver.now.lattice ex.limit has in
@@ -44,7 +44,7 @@ show_from-requires-clause-lead c =
 
 pub returns-clause-holds : goal.returns-clause-holds
 returns-clause-holds c =
-    let ex = some_given c.exceeded.result c.unwrap-elem.result c.unwrap-elem.ensures c.exceeded.ensures.element in
+    let ex = some_given _ c.exceeded.result c.unwrap-elem.result c.unwrap-elem.ensures c.exceeded.ensures.element in
     let lat = c.limit_of-limit.ensures.lattice ex.var c.args.solver.now.lattice ex.limit (has_of c.args.graph.now c.args.solver.now.lattice c.args.bound _ ex.bound) in
     IfOk-weaker c.show_from.result _ _
     (λ proof is orders there.
@@ -61,7 +61,7 @@ returns-clause-ends c =
 
 pub returns-clause-begins : goal.returns-clause-begins
 returns-clause-begins c =
-    let ex = some_given c.exceeded.result c.unwrap-elem.result c.unwrap-elem.ensures c.exceeded.ensures.element in
+    let ex = some_given _ c.exceeded.result c.unwrap-elem.result c.unwrap-elem.ensures c.exceeded.ensures.element in
     let lat = c.limit_of-limit.ensures.lattice ex.var c.args.solver.now.lattice ex.limit (has_of c.args.graph.now c.args.solver.now.lattice c.args.bound _ ex.bound) in
     IfOk-weaker c.show_from.result _ _
     (λ proof is.

@@ -19,7 +19,7 @@ trace-requires-clause-made c = c.new-subs.ensures.made c.args.graph.now
 
 pub trace-requires-clause-place : goal.trace-requires-clause-place
 trace-requires-clause-place c =
-    let at = some_given c.in_ok-found.found.place c.unwrap-place.result c.unwrap-place.ensures c.in_ok-found.ensures.found in
+    let at = some_given _ c.in_ok-found.found.place c.unwrap-place.result c.unwrap-place.ensures c.in_ok-found.ensures.found in
     slice_get_within c.reached.result.now c.unwrap-place.result at.0 (ap (λ xs. slice_get xs c.unwrap-place.result) c.reached.ensures ∙ at.1)
 
 pub trace-requires-clause-sound : goal.trace-requires-clause-sound
@@ -33,7 +33,7 @@ returns c =
     let sys = c.args.graph.now in
     let to = c.args.limit.now.lattice in
     let from = c.new-subs.result.lattice in
-    let at = some_given c.in_ok-found.found.place c.unwrap-place.result c.unwrap-place.ensures c.in_ok-found.ensures.found in
+    let at = some_given _ c.in_ok-found.found.place c.unwrap-place.result c.unwrap-place.ensures c.in_ok-found.ensures.found in
     let Of : ℕ → Type 0 = λ l. AreSound sys l c.args.elem c.args.summaries.now c.in_ok-found.found.search.queue.items in
     let At : List Reached → Type 0 = λ xs. AreSound sys from c.args.elem c.args.summaries.now xs in
     let sound = subst At (sym c.reached.ensures) (subst Of (sym c.new-subs.ensures.lattice) c.in_ok-found.ensures.good.sound) in

@@ -24,7 +24,7 @@ loop-from-smaller c =
     let elem = c.requires.sound.0 in
     let Of : ℕ → Type 0 = λ l. ComesBy c.args.graph.now l elem c.args.summaries.now c.args.reached.now place r.phase r.at r.cause in
     let comes = subst Of (sym c.loop-from.invariant.lattice) (c.requires.sound.1 place r there) in
-    (some_given c.in_ok-from.field-0 c.in-Some.from c.in-Some.is (c.in_ok-from.ensures.earlier elem c.args.reached.now place r.phase r.at comes)).before
+    (some_given _ c.in_ok-from.field-0 c.in-Some.from c.in-Some.is (c.in_ok-from.ensures.earlier elem c.args.reached.now place r.phase r.at comes)).before
 
 pub loop-from-preserved : goal.loop-from-preserved
 loop-from-preserved c =
@@ -37,14 +37,14 @@ loop-from-preserved c =
     let elem = c.requires.sound.0 in
     let Of : ℕ → Type 0 = λ l. ComesBy sys l elem c.args.summaries.now c.args.reached.now place r0.phase r0.at r0.cause in
     let comes = subst Of (sym inv.lattice) (c.requires.sound.1 place r0 there) in
-    let earlier = some_given c.in_ok-from.field-0 c.in-Some.from c.in-Some.is (c.in_ok-from.ensures.earlier elem c.args.reached.now place r0.phase r0.at comes) in
+    let earlier = some_given _ c.in_ok-from.field-0 c.in-Some.from c.in-Some.is (c.in_ok-from.ensures.earlier elem c.args.reached.now place r0.phase r0.at comes) in
     record {
       made = c.in_ok-from.ensures.made;
       lattice = c.in_ok-from.ensures.extends.lattice ∙ inv.lattice;
       place = slice_get_within c.args.reached.now c.in-Some.from earlier.it earlier.there;
       onward = λ bound begun r is.
           let Old : ℕ → Type 0 = λ l. Onward sys l (subs_in c.loop-from.subs) bound r0.phase r0.at (reverse c.loop-from.steps.items) in
-          let step = match_some c.in_ok-from.field-0 c.in-Some.from c.in-Some.is
+          let step = match_some _ _ c.in_ok-from.field-0 c.in-Some.from c.in-Some.is
           (c.in_ok-from.ensures.traced elem bound c.args.reached.now place r0.phase r0.at comes (subst Old (sym inv.lattice) (inv.onward bound begun r0 there))) in
           let same : step.0.it ≡ r = some_reached (sym step.0.there ∙ is) in
           let New : Reached → Type 0 = λ x. Onward sys lattice (subs_in c.trace_step.new.subs) bound x.phase x.at (reverse c.trace_step.new.steps.items) in
@@ -67,6 +67,6 @@ returns-in-None-clause-path c = λ elem bound r sound is on.
     let At : Reached → Type 0 = λ x. Onward sys c.args.subs.now.lattice (subs_in c.args.subs.now) bound x.phase x.at (reverse c.args.steps.now.items) in
     let begun = inv.onward bound (λ x here. subst At (some_reached (sym is ∙ here)) on) r0 there in
     let Old : ℕ → Type 0 = λ l. Onward sys l (subs_in c.loop-from.subs) bound r0.phase r0.at (reverse c.loop-from.steps.items) in
-    let path = match_none c.in_ok-from.field-0 c.in-None.is (c.in_ok-from.ensures.traced elem bound c.args.reached.now place r0.phase r0.at comes (subst Old (sym inv.lattice) begun)) in
+    let path = match_none _ _ c.in_ok-from.field-0 c.in-None.is (c.in_ok-from.ensures.traced elem bound c.args.reached.now place r0.phase r0.at comes (subst Old (sym inv.lattice) begun)) in
     let In : ℕ → Type 0 = λ l. IsPath sys l (subs_in c.trace_step.new.subs) elem bound (reverse c.trace_step.new.steps.items) in
     subst In inv.lattice path
