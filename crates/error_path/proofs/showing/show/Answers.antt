@@ -48,10 +48,10 @@ returns-clause-holds c =
     let lat = c.limit_of-limit.ensures.lattice ex.var c.args.solver.now.lattice ex.limit (has_of c.args.graph.now c.args.solver.now.lattice c.args.bound _ ex.bound) in
     IfOk-weaker c.show_from.result _ _
     (λ proof is orders there.
-      let Of : ℕ → Type 0 = λ l. IsShown c.args.graph.now l c.unwrap-elem.result c.args.bound proof in
-      let shown = subst Of lat is in
-      path_holds c.args.graph.now c.args.solver.now.lattice (steps_of proof.subs.items) c.args.bound orders c.args.lattice.now.order c.unwrap-elem.result there c.requires.owned shown.subs
-      (bound_over c.args.graph.now c.args.solver.now c.args.lattice.now.order c.args.bound c.unwrap-elem.result ex) proof.main.items proof.end shown.path)
+    let Of : ℕ → Type 0 = λ l. IsShown c.args.graph.now l c.unwrap-elem.result c.args.bound proof in
+    let shown = subst Of lat is in
+    path_holds c.args.graph.now c.args.solver.now.lattice (steps_of proof.subs.items) c.args.bound orders c.args.lattice.now.order c.unwrap-elem.result there c.requires.owned shown.subs
+    (bound_over c.args.graph.now c.args.solver.now c.args.lattice.now.order c.args.bound c.unwrap-elem.result ex) proof.main.items proof.end shown.path)
     c.show_from.ensures
 
 pub returns-clause-ends : goal.returns-clause-ends
@@ -65,16 +65,16 @@ returns-clause-begins c =
     let lat = c.limit_of-limit.ensures.lattice ex.var c.args.solver.now.lattice ex.limit (has_of c.args.graph.now c.args.solver.now.lattice c.args.bound _ ex.bound) in
     IfOk-weaker c.show_from.result _ _
     (λ proof is.
-      let Of : ℕ → Type 0 = λ l. IsShown c.args.graph.now l c.unwrap-elem.result c.args.bound proof in
-      let shown = subst Of lat is in
-      record {
-        element = c.unwrap-elem.result;
-        exceeds = ex;
-        number = shown.path.start;
-        var = shown.path.from;
-        constant = shown.path.constant;
-        first = path_first c.args.graph.now c.args.solver.now.lattice (steps_of proof.subs.items) c.args.bound c.unwrap-elem.result proof.main.items shown.path;
-      })
+    let Of : ℕ → Type 0 = λ l. IsShown c.args.graph.now l c.unwrap-elem.result c.args.bound proof in
+    let shown = subst Of lat is in
+    record {
+      element = c.unwrap-elem.result;
+      exceeds = ex;
+      number = shown.path.start;
+      var = shown.path.from;
+      constant = shown.path.constant;
+      first = path_first c.args.graph.now c.args.solver.now.lattice (steps_of proof.subs.items) c.args.bound c.unwrap-elem.result proof.main.items shown.path;
+    })
     c.show_from.ensures
 
 pub returns-clause-lines : goal.returns-clause-lines

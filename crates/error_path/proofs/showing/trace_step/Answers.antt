@@ -20,10 +20,11 @@ pub returns-in_ok-push_take-in-Step-clause-traced : goal.returns-in_ok-push_take
 returns-in_ok-push_take-in-Step-clause-traced c = λ elem bound queue place q v comes on.
     let form : Cause = Step c.in-Step.from c.in-Step.edge in
     let here = comes_as c.args.graph.now c.args.subs.now.lattice elem c.args.summaries.now queue place q v c.args.cause.now form c.in-Step.is comes in
-    let Steps : List PathStep → Type 0 = λ xs. Onward c.args.graph.now c.args.subs.now.lattice (subs_in c.args.subs.now) bound here.0.it.phase here.0.it.at xs in
-    (
-      here.0, subst Steps (sym c.in_ok-push_take-in-Step.ensures)
-      (traced_step c.args.graph.now c.args.subs.now.lattice (subs_in c.args.subs.now) bound c.in-Step.edge here.0.it.phase here.0.it.at q v (reverse c.args.steps.now.items) here.1 on))
+    let Steps : List PathStep → Type 0 = λ xs. Onward c.args.graph.now c.args.subs.now.lattice (subs_in c.args.subs.now) bound here.0.it.phase here.0.it.at xs in (
+      here.0,
+      subst Steps (sym c.in_ok-push_take-in-Step.ensures)
+          (traced_step c.args.graph.now c.args.subs.now.lattice (subs_in c.args.subs.now) bound c.in-Step.edge here.0.it.phase here.0.it.at q v (reverse c.args.steps.now.items) here.1 on),
+    )
 
 pub returns-in_ok-push_group-in-Group-clause-traced : goal.returns-in_ok-push_group-in-Group-clause-traced
 returns-in_ok-push_group-in-Group-clause-traced c = λ elem bound queue place q v comes on.
@@ -34,12 +35,13 @@ returns-in_ok-push_group-in-Group-clause-traced c = λ elem bound queue place q 
     let subs = subs_in c.number_of.new.subs in
     let Steps : List PathStep → Type 0 = λ xs. Onward sys lattice subs bound here.0.it.phase here.0.it.at xs in
     let Grown : List (List PathStep) → Type 0 = λ xs. Onward sys lattice xs bound q v (reverse c.args.steps.now.items) in
-    let grown = subst Grown (sym c.in_ok-number-in-Group.ensures.extends.is) (onward_grown sys lattice (subs_in c.args.subs.now) c.in_ok-number-in-Group.ensures.extends.more bound q v (reverse c.args.steps.now.items) on) in
-    (
-      here.0, subst Steps (sym c.in_ok-push_group-in-Group.ensures)
-      (traced_group sys lattice subs bound c.in-Group.enter c.in-Group.leave here.0.it.phase here.0.it.at q v c.args.summaries.now (reverse c.args.steps.now.items) c.in_ok-number-in-Group.number here.1
-      (around_joined sys lattice c.args.summaries.now c.in-Group.enter c.in-Group.leave here.0.it.phase here.0.it.at q v here.1 c.inner_ends-inner.result c.inner_ends-inner.ensures subs c.in_ok-number-in-Group.number
-      c.in_ok-number-in-Group.ensures.number) grown))
+    let grown = subst Grown (sym c.in_ok-number-in-Group.ensures.extends.is) (onward_grown sys lattice (subs_in c.args.subs.now) c.in_ok-number-in-Group.ensures.extends.more bound q v (reverse c.args.steps.now.items) on) in (
+      here.0,
+      subst Steps (sym c.in_ok-push_group-in-Group.ensures)
+          (traced_group sys lattice subs bound c.in-Group.enter c.in-Group.leave here.0.it.phase here.0.it.at q v c.args.summaries.now (reverse c.args.steps.now.items) c.in_ok-number-in-Group.number here.1
+          (around_joined sys lattice c.args.summaries.now c.in-Group.enter c.in-Group.leave here.0.it.phase here.0.it.at q v here.1 c.inner_ends-inner.result c.inner_ends-inner.ensures subs c.in_ok-number-in-Group.number
+          c.in_ok-number-in-Group.ensures.number) grown),
+    )
 
 pub returns-in_ok-push_take-in-Step-clause-earlier : goal.returns-in_ok-push_take-in-Step-clause-earlier
 returns-in_ok-push_take-in-Step-clause-earlier c = λ elem queue place q v comes.
