@@ -2,7 +2,7 @@
 #![tactic(auto)]
 
 pub mod inside;
-mod places;
+pub mod places;
 pub mod reason;
 pub mod rounds;
 pub mod summary;

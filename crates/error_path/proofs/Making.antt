@@ -1,0 +1,166 @@
+-- Sub-paths that come behind others.
+use Rattle.std.proofs.Common.{◌≡◌, ◌≢◌, ℕ, zero, suc, ◌+◌, ◌-◌, ◌<◌, ◌≤◌, List, [], ◌∷◌, ◌++◌, length, reverse, slice_get, Option, Some, None, option_map, inl, inr, ◌⊎◌, refl, sym, ◌∙◌, ap, subst, arith}
+use Rattle.std.specs.List.{Contains}
+use Rattle.std.proofs.Math.Dec.{eqb-suc-zero}
+use Rattle.std.proofs.lemmas.Bool.{cases_eq}
+use Rattle.std.proofs.lemmas.List.{length-append, reverse-append}
+use Rattle.std.proofs.lemmas.List.Elements.{Contains-push_cases, Contains-push, Contains-append_left}
+use Rattle.std.proofs.lemmas.Option.{slice_get_within}
+use Rattle.flow_graph.specs.declared.constraint.Link.TheVariants.{Le, Enter, Leave}
+use Rattle.flow_graph.specs.declared.proof.PathStep.{PathStep}
+use Rattle.flow_graph.specs.declared.proof.PathStep.TheVariants.{Take, Sub}
+use Rattle.flow_graph.specs.declared.place.Seen.{Seen}
+use Rattle.flow_graph.specs.declared.place.Seen.TheVariants.{Through, NoSub}
+use Rattle.flow_graph.specs.System.{System, owner_of, Stands}
+use Rattle.flow_graph.specs.PathProofs.{look, span_of}
+use Rattle.lattice_solver.specs.declared.phases.Phase.{Phase}
+use Rattle.lattice_solver.specs.declared.phases.Phase.TheVariants.{First, Second}
+use Rattle.match_summary.specs.declared.reason.Summary.{Summary}
+use Rattle.match_summary.specs.Summary.{HasPair}
+use Rattle.error_path.specs.declared.steps.Pair.{Pair}
+use Rattle.error_path.specs.Parts.{settled, Part, Flow, Empty, Full, IsSub, AreSubs, None as NoSubs, Next, Onward, Ends, Along, Back, Into}
+use Rattle.error_path.specs.Made.{AllJoined, AreMade, Fronts, group_steps}
+use Rattle.error_path.specs.Shown.{AreApart}
+use Rattle.error_path.proofs.Holding.{sub_span}
+
+-- an item of a list with one more, by its place
+pub push_cases : {X : Type 0} (xs : List X) (x : X) (n : ℕ) (y : X) → slice_get (xs ++ x ∷ []) n ≡ Some y →
+    ((n < length xs) × (slice_get xs n ≡ Some y)) ⊎ ((n ≡ length xs) × (x ≡ y))
+push_cases [] x zero y is = inr (refl, cc)
+push_cases [] x (suc n) y is = absurd cc
+push_cases (z ∷ xs) x zero y is = inl (omega arith, is)
+push_cases (z ∷ xs) x (suc n) y is = elim (push_cases xs x n y is) [
+  | inl old ↦ let lt = old.0 in inl (omega arith, old.1)
+  | inr new ↦ inr (ap (λ k. suc k) new.0, new.1)
+]
+
+pub push_last : {X : Type 0} (xs : List X) (x : X) → slice_get (xs ++ x ∷ []) (length xs) ≡ Some x
+push_last [] x = refl
+push_last (z ∷ xs) x = push_last xs x
+
+pub more_get : {X : Type 0} (xs more : List X) (n : ℕ) (y : X) → slice_get xs n ≡ Some y → slice_get (xs ++ more) n ≡ Some y
+more_get [] more n y is = absurd cc
+more_get (x ∷ xs) more zero y is = is
+more_get (x ∷ xs) more (suc n) y is = more_get xs more n y is
+
+pub some_is : (n m : ℕ) → Some n ≡ Some m → n ≡ m
+some_is n m e = cc
+
+module _ (sys : System) where
+  span_more : (o : Option (List PathStep)) (subs more : List (List PathStep)) (n u v : ℕ) → slice_get subs n ≡ o → span_of sys o ≡ Through u v →
+      span_of sys (slice_get (subs ++ more) n) ≡ Through u v
+  span_more None subs more n u v is span = absurd cc
+  span_more (Some steps) subs more n u v is span = ap (span_of sys) (more_get subs more n steps is) ∙ span
+
+  look_next : (subs : List (List PathStep)) (n : ℕ) → look sys subs (Sub (suc n) 0) ≡ span_of sys (slice_get subs n)
+  look_next subs n = let less : suc n - 1 ≡ n = omega arith in rw (eqb-suc-zero n, less) refl
+
+  -- what a number names stays where more sub-paths come
+  pub look_more : (subs more : List (List PathStep)) (k u v : ℕ) → look sys subs (Sub k 0) ≡ Through u v → look sys (subs ++ more) (Sub k 0) ≡ Through u v
+  look_more subs more zero u v is = absurd cc
+  look_more subs more (suc n) u v is = look_next (subs ++ more) n ∙ span_more (slice_get subs n) subs more n u v refl (sym (look_next subs n) ∙ is)
+
+  look_at : (subs : List (List PathStep)) (n : ℕ) → look sys subs (Sub (n + 1) 0) ≡ span_of sys (slice_get subs n)
+  look_at subs n = let next : n + 1 ≡ suc n = omega arith in ap (λ k. look sys subs (Sub k 0)) next ∙ look_next subs n
+
+  pub made_none : (lattice : ℕ) (subs : List (List PathStep)) (place : ℕ → ℕ → Option ℕ) → subs ≡ [] → ((u v : ℕ) → place u v ≡ None) → AreMade sys lattice subs place
+  made_none lattice subs place is none =
+      let empty : AreMade sys lattice [] place = record {
+        good = NoSubs;
+        few = omega arith;
+        found = λ u v n some. let no : None ≡ Some n = sym (none u v) ∙ some in absurd cc;
+        named = λ n steps some. absurd cc;
+      } in
+      subst (λ xs. AreMade sys lattice xs place) (sym is) empty
+
+  module _ (lattice : ℕ) (subs : List (List PathStep)) (place new : ℕ → ℕ → Option ℕ) (u v : ℕ) (steps : List PathStep) (made : AreMade sys lattice subs place)
+      (sub : IsSub sys lattice subs u v steps) (free : place u v ≡ None) (room : length subs < 4294967294) (here : new u v ≡ Some (length subs))
+      (others : (x y : ℕ) → (x ≡ u → y ≢ v) → new x y ≡ place x y) where
+    longer : length (subs ++ steps ∷ []) ≡ length subs + 1
+    longer = length-append subs (steps ∷ [])
+
+    new_found : (x y n : ℕ) → x ≡ u → y ≡ v → new x y ≡ Some n → (n < length (subs ++ steps ∷ [])) × (look sys (subs ++ steps ∷ []) (Sub (n + 1) 0) ≡ Through x y)
+    new_found x y n f t is =
+        let at : n ≡ length subs = some_is n (length subs) (sym is ∙ ap (λ z. new z y) f ∙ ap (λ z. new u z) t ∙ here) in
+        let size = longer in (
+          omega (arith, at, size),
+          look_at (subs ++ steps ∷ []) n ∙ ap (λ k. span_of sys (slice_get (subs ++ steps ∷ []) k)) at ∙ ap (span_of sys) (push_last subs steps) ∙ sub_span sys lattice subs u v steps sub
+              ∙ ap (λ z. Through z v) (sym f) ∙ ap (λ z. Through x z) (sym t),
+        )
+
+    old_found : (x y n : ℕ) → (x ≡ u → y ≢ v) → new x y ≡ Some n → (n < length (subs ++ steps ∷ [])) × (look sys (subs ++ steps ∷ []) (Sub (n + 1) 0) ≡ Through x y)
+    old_found x y n other is =
+        let was = made.found x y n (sym (others x y other) ∙ is) in
+        let lt = was.0 in
+        let size = longer in
+        (omega (arith, lt, size), look_more subs (steps ∷ []) (n + 1) x y was.1)
+
+    old_named : (n x y : ℕ) → place x y ≡ Some n → new x y ≡ Some n
+    old_named n x y is = elim (cases_eq x u) [
+      | inr not ↦ others x y (λ e. absurd (not e)) ∙ is
+      | inl f ↦ elim (cases_eq y v) [
+        | inr not ↦ others x y (λ e. not) ∙ is
+        | inl t ↦ let no : None ≡ Some n = sym free ∙ ap (λ z. place z v) (sym f) ∙ ap (λ z. place x z) (sym t) ∙ is in absurd cc
+      ]
+    ]
+
+    pub made_push : AreMade sys lattice (subs ++ steps ∷ []) new
+    made_push = record {
+      good = Next subs u v steps made.good sub;
+      few = let size = longer in omega (arith, size, room);
+      found = λ x y n is. elim (cases_eq x u) [
+        | inr not ↦ old_found x y n (λ e. absurd (not e)) is
+        | inl f ↦ elim (cases_eq y v) [ inl t ↦ new_found x y n f t is | inr not ↦ old_found x y n (λ e. not) is ]
+      ];
+      named = λ n some is. elim (push_cases subs steps n some is) [
+        | inl old ↦ let was = made.named n some old.1 in (was.0, was.1, was.2, old_named n was.0 was.1 was.3)
+        | inr last ↦ (u, v, ap (λ xs. span_of sys (Some xs)) (sym last.1) ∙ sub_span sys lattice subs u v steps sub, here ∙ ap (λ k. Some k) (sym last.0))
+      ];
+    }
+
+  through_is : (u v x y : ℕ) → Through u v ≡ Through x y → (u ≡ x) × (v ≡ y)
+  through_is u v x y e = (cc, cc)
+
+  -- sub-paths that have places are apart
+  pub made_apart : (lattice : ℕ) (subs : List (List PathStep)) (place : ℕ → ℕ → Option ℕ) → AreMade sys lattice subs place → AreApart sys subs
+  made_apart lattice subs place made n m one other first second same =
+      let p = made.named n one first in
+      let q = made.named m other second in
+      let ends = through_is p.0 p.1 q.0 q.1 (sym p.2 ∙ same ∙ q.2) in
+      some_is n m (sym p.3 ∙ ap (λ z. place z p.1) ends.0 ∙ ap (λ z. place q.0 z) ends.1 ∙ q.3)
+
+  -- parts and main paths stay where more sub-paths come
+  module _ (lattice : ℕ) (subs more : List (List PathStep)) where
+    part_grown : (u v : ℕ) (front : List PathStep) → Part sys lattice subs u v front → Part sys lattice (subs ++ more) u v front
+    part_grown u v _ (Flow _ _ n st) = Flow u v n st
+    part_grown u v _ (Empty _ a _ s n m st ts) = Empty u a v s n m st ts
+    part_grown u v _ (Full _ a b _ s n m k st is ts) = Full u a b v s n m k st (look_more subs more k a b is) ts
+
+    pub onward_grown : (bound : ℕ) (p : Phase) (u : ℕ) (steps : List PathStep) → Onward sys lattice subs bound p u steps → Onward sys lattice (subs ++ more) bound p u steps
+    onward_grown bound p u _ (Ends _ _ limit st) = Ends p u limit st
+    onward_grown bound p u _ (Along _ _ v front rest part on) = Along p u v front rest (part_grown u v front part) (onward_grown bound _ v rest on)
+    onward_grown bound _ u _ (Back _ v s n rest st on) = Back u v s n rest st (onward_grown bound _ v rest on)
+    onward_grown bound p u _ (Into _ _ v s n rest st on) = Into p u v s n rest st (onward_grown bound _ v rest on)
+
+-- a number that a place gives
+pub number_place : (place : Option ℕ) (k : ℕ) → option_map (λ n. n + 1) place ≡ Some k → (n : ℕ) × (place ≡ Some n) × (k ≡ n + 1)
+number_place None k is = absurd cc
+number_place (Some n) k is = (n, refl, cc)
+
+pub no_number : (place : Option ℕ) → option_map (λ n. n + 1) place ≡ None → place ≡ None
+no_number None is = refl
+no_number (Some n) is = absurd cc
+
+-- pairs that are joined, and one more
+pub joined_push : (rows : List Summary) (pairs : List Pair) (p : Pair) → AllJoined rows pairs → HasPair rows p.from p.to → AllJoined rows (pairs ++ p ∷ [])
+joined_push rows pairs p all one q there = elim (Contains-push_cases pairs p q there) [
+  | inl before ↦ all q before
+  | inr same ↦ subst (λ (x : Pair). HasPair rows x.from x.to) same one
+]
+
+-- pairs that are joined, without the last one
+pub joined_last : (rows : List Summary) (pairs : List Pair) (p : Pair) → AllJoined rows (pairs ++ p ∷ []) → HasPair rows p.from p.to
+joined_last rows pairs p all = all p (Contains-push pairs p)
+
+pub joined_rest : (rows : List Summary) (pairs : List Pair) (p : Pair) → AllJoined rows (pairs ++ p ∷ []) → AllJoined rows pairs
+joined_rest rows pairs p all q there = all q (Contains-append_left pairs (p ∷ []) q there)

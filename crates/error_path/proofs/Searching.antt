@@ -1,0 +1,307 @@
+-- How a search grows, and what stays true of it.
+use Rattle.std.proofs.Common.{◌≡◌, ◌≢◌, ℕ, zero, suc, ◌+◌, ◌<◌, ◌≤◌, List, [], ◌∷◌, ◌++◌, length, slice_get, Option, Some, None, IfNone, inl, inr, ◌⊎◌, bit_or, not, false, eqb, refl, sym, ◌∙◌, ap, subst, arith, append_assoc, append-nil}
+use Rattle.std.specs.Int.{bit_at}
+use Rattle.std.proofs.lemmas.Option.{slice_get_within}
+use Rattle.std.proofs.lemmas.Bool.Decides.{nat_tests}
+use Rattle.flow_graph.specs.declared.constraint.Constraint.{Constraint}
+use Rattle.std.proofs.lemmas.Bool.{cases_eq}
+use Rattle.std.proofs.lemmas.List.{length-append}
+use Rattle.std.proofs.lemmas.Nat.Bits.{bit_at-zero, bit_at_or, bit_at-lt}
+use Rattle.qual_base.specs.declared.places.Owner.{Owner}
+use Rattle.qual_base.specs.declared.places.Owner.TheVariants.{Nobody, Function}
+use Rattle.flow_graph.specs.declared.constraint.Link.{Link}
+use Rattle.flow_graph.specs.declared.constraint.Link.TheVariants.{Le, Const, Enter, Leave}
+use Rattle.flow_graph.specs.System.{System, owner_of, AllBelow, IsInLattice, Stands, vars_of_link}
+use Rattle.flow_graph.specs.Paths.{Matches, stay, longer, Part, flow, group, Returning, Calling, Lead, start, flows, returns, grouped, anew, calls, calls_on, flows_on, grouped_on}
+use Rattle.match_summary.specs.declared.reason.Summary.{Summary}
+use Rattle.match_summary.specs.Summary.{Leads, IsInnerEnd, Summarises}
+use Rattle.lattice_solver.specs.declared.phases.Phase.{Phase}
+use Rattle.lattice_solver.specs.declared.phases.Phase.TheVariants.{First, Second}
+use Rattle.lattice_solver.specs.PhaseSets.{PhaseSets}
+use Rattle.lattice_solver.specs.Phases.{set_of, HasIn, size_of, room_of}
+use Rattle.error_path.specs.declared.search.Cause.{Cause}
+use Rattle.error_path.specs.declared.search.Cause.TheVariants.{Start, Step, Group}
+use Rattle.error_path.specs.declared.search.Reached.{Reached}
+use Rattle.error_path.specs.declared.search.Search.{Search}
+use Rattle.error_path.specs.Parts.{settled}
+use Rattle.error_path.specs.Reaching.{Earlier, LeadsBy, LeadsAround, ComesBy, AreSound, IsMarked, IsListed, IsGood, Grows, IsFollowed, IsVisited, AreStarted, StandsAt, IsClosed}
+use Rattle.error_path.proofs.Making.{push_cases, more_get, push_last}
+
+pub grows_same : (s : Search) → Grows s s
+grows_same s = record { more = []; is = sym (append-nil s.queue.items); kept = λ p v m. m; size = refl; room = omega arith }
+
+pub grows_then : (a b c : Search) → Grows a b → Grows b c → Grows a c
+grows_then a b c p q = record {
+  more = p.more ++ q.more;
+  is = q.is ∙ ap (λ xs. xs ++ q.more) p.is ∙ append_assoc a.queue.items p.more q.more;
+  kept = λ f v m. q.kept f v (p.kept f v m);
+  size = q.size ∙ p.size;
+  room = let one = p.room in let other = q.room in omega (arith, one, other);
+}
+
+pub stands_on : (old new : Search) (place : ℕ) (p : Phase) (v : ℕ) → Grows old new → StandsAt old place p v → StandsAt new place p v
+stands_on old new place p v g s = (s.0, ap (λ xs. slice_get xs place) g.is ∙ more_get old.queue.items g.more place s.0 s.1, s.2, s.3)
+
+pub below_on : (sys : System) (old new : Search) → Grows old new → AllBelow sys (size_of old.marks) → AllBelow sys (size_of new.marks)
+below_on sys old new g all = subst (λ k. AllBelow sys k) (sym g.size) all
+
+pub followed_on : (sys : System) (lattice : ℕ) (rows : List Summary) (old new : Search) (p : Phase) (u n : ℕ) → Grows old new → IsFollowed sys lattice rows old p u n → IsFollowed sys lattice rows new p u n
+followed_on sys lattice rows old new p u n g f = record {
+  flow = λ v st. g.kept _ v (f.flow v st);
+  back = λ s v first st. g.kept _ v (f.back s v first st);
+  call = λ s a st. g.kept _ a (f.call s a st);
+  group = λ s a m b v st ts leads. g.kept _ v (f.group s a m b v st ts leads);
+}
+
+abbrev earlier_more : (queue more : List Reached) (from place : ℕ) → Earlier queue from place → Earlier (queue ++ more) from place
+earlier_more queue more from place e = record { it = e.it; there = more_get queue more from e.it e.there; before = e.before }
+
+comes_more : (sys : System) (lattice elem : ℕ) (rows : List Summary) (queue more : List Reached) (place : ℕ) (q : Phase) (v : ℕ) (cause : Cause) →
+    ComesBy sys lattice elem rows queue place q v cause → ComesBy sys lattice elem rows (queue ++ more) place q v cause
+comes_more sys lattice elem rows queue more place q v (Start n) h = h
+comes_more sys lattice elem rows queue more place q v (Step from n) h = (earlier_more queue more from place h.0, h.1)
+comes_more sys lattice elem rows queue more place q v (Group from enter leave) h = (earlier_more queue more from place h.0, h.1)
+
+-- one more item
+pub sound_push : (sys : System) (lattice elem : ℕ) (rows : List Summary) (queue : List Reached) (r : Reached) → AreSound sys lattice elem rows queue →
+    ComesBy sys lattice elem rows queue (length queue) r.phase r.at r.cause → AreSound sys lattice elem rows (queue ++ r ∷ [])
+sound_push sys lattice elem rows queue r sound comes n other is = elim (push_cases queue r n other is) [
+  | inl old ↦ comes_more sys lattice elem rows queue (r ∷ []) n other.phase other.at other.cause (sound n other old.1)
+  | inr new ↦
+      let Comes : ℕ → Reached → Type 0 = λ k x. ComesBy sys lattice elem rows (queue ++ r ∷ []) k x.phase x.at x.cause in
+      let At : ℕ → Type 0 = λ k. Comes k r in
+      let Of : Reached → Type 0 = λ x. Comes n x in
+      subst Of new.1 (subst At (sym new.0) (comes_more sys lattice elem rows queue (r ∷ []) (length queue) r.phase r.at r.cause comes))
+]
+
+-- the mark of a variable
+pub mark_here : (old new : PhaseSets) (p : Phase) (v : ℕ) → set_of new p v ≡ bit_or (set_of old p v) 1 → HasIn new p v 0
+mark_here old new p v is =
+    let low : bit_at (set_of old p v) 0 < 2 = bit_at-lt (set_of old p v) 0 in
+    let one : bit_at 1 0 ≡ 1 = refl in
+    ap (λ s. bit_at s 0) is ∙ bit_at_or (set_of old p v) 1 0 ∙ omega (arith, low, one)
+
+same_phase : (p q : Phase) → (p ≡ q) ⊎ (p ≢ q)
+same_phase First First = inl refl
+same_phase First Second = inr (λ e. absurd cc)
+same_phase Second First = inr (λ e. absurd cc)
+same_phase Second Second = inl refl
+
+-- a mark is an old one or that of the variable
+pub mark_cases : (old new : PhaseSets) (phase : Phase) (at : ℕ) → ((p : Phase) (v : ℕ) → (p ≡ phase → v ≢ at) → set_of new p v ≡ set_of old p v) →
+    (p : Phase) (v : ℕ) → HasIn new p v 0 → HasIn old p v 0 ⊎ ((phase ≡ p) × (at ≡ v))
+mark_cases old new phase at others p v has = elim (same_phase p phase) [
+  | inr not ↦ inl (subst (λ s. bit_at s 0 ≡ 1) (others p v (λ e. absurd (not e))) has)
+  | inl same ↦ elim (cases_eq v at) [
+    | inr not ↦ inl (subst (λ s. bit_at s 0 ≡ 1) (others p v (λ e. not)) has)
+    | inl is ↦ inr (sym same, sym is)
+  ]
+]
+
+pub mark_kept : (old new : PhaseSets) (phase : Phase) (at : ℕ) → set_of new phase at ≡ bit_or (set_of old phase at) 1 →
+    ((p : Phase) (v : ℕ) → (p ≡ phase → v ≢ at) → set_of new p v ≡ set_of old p v) → (p : Phase) (v : ℕ) → HasIn old p v 0 → HasIn new p v 0
+mark_kept old new phase at here others p v has = elim (same_phase p phase) [
+  | inr not ↦ subst (λ s. bit_at s 0 ≡ 1) (sym (others p v (λ e. absurd (not e)))) has
+  | inl same ↦ elim (cases_eq v at) [
+    | inr not ↦ subst (λ s. bit_at s 0 ≡ 1) (sym (others p v (λ e. not))) has
+    | inl is ↦ subst (λ q. HasIn new q v 0) (sym same) (subst (λ w. HasIn new phase w 0) (sym is) (mark_here old new phase at here))
+  ]
+]
+
+pub listed_push : (old new : PhaseSets) (queue : List Reached) (r : Reached) → ((p : Phase) (v : ℕ) → HasIn new p v 0 → HasIn old p v 0 ⊎ ((r.phase ≡ p) × (r.at ≡ v))) →
+    ((p : Phase) (v : ℕ) → HasIn old p v 0 → IsListed queue p v) → (p : Phase) (v : ℕ) → HasIn new p v 0 → IsListed (queue ++ r ∷ []) p v
+listed_push old new queue r cases listed p v has = elim (cases p v has) [
+  | inl before ↦ let l = listed p v before in record { place = l.place; it = l.it; there = more_get queue (r ∷ []) l.place l.it l.there; phase_is = l.phase_is; at_is = l.at_is }
+  | inr here ↦ record { place = length queue; it = r; there = push_last queue r; phase_is = here.0; at_is = here.1 }
+]
+
+-- a search that was closed has reached all that a constant leads to
+module _ (sys : System) (lattice elem : ℕ) (rows : List Summary) (search : Search) (whole : Summarises sys lattice rows) (good : IsGood sys lattice elem rows search)
+    (begun : AreStarted sys lattice elem search) (visited : (place : ℕ) → IsVisited sys lattice rows search place) where
+  matches_leads : (g a b : ℕ) → IsInnerEnd sys lattice a → Matches sys lattice g a b → Leads rows a b
+  matches_leads g a b inner (stay _ _ o) = inl refl
+  matches_leads g a b inner (longer _ _ x _ m p) = inr (whole.whole a b inner (g, x, m, p))
+
+  from_mark : (p : Phase) (u : ℕ) → IsMarked search p u → (n : ℕ) → IsFollowed sys lattice rows search p u n
+  from_mark p u mark n =
+      let l = good.listed p u mark in
+      let Of : Phase → Type 0 = λ q. IsFollowed sys lattice rows search q u n in
+      let At : ℕ → Type 0 = λ w. IsFollowed sys lattice rows search l.it.phase w n in
+      subst Of l.phase_is (subst At l.at_is (visited l.place l.it l.there n))
+
+  -- the first phase is settled at each variable
+  settled_first : (v : ℕ) → IsMarked search (settled (owner_of sys v) First) v → IsMarked search First v
+  settled_first v mark = subst (λ p. IsMarked search p v) (first_is (owner_of sys v)) mark
+    where
+      first_is : (o : Owner) → settled o First ≡ First
+      first_is Nobody = refl
+      first_is (Function f) = refl
+
+  -- what a path with an open call leads to is marked in the second phase where the variable is a function's, or in the first
+  abbrev IsCalled : ℕ → Type 0
+  IsCalled v = IsMarked search First v ⊎ IsMarked search (settled (owner_of sys v) Second) v
+
+  either_phase : (o : Owner) (v : ℕ) → IsMarked search (settled o Second) v → IsMarked search First v ⊎ IsMarked search Second v
+  either_phase Nobody v mark = inl mark
+  either_phase (Function f) v mark = inr mark
+
+  called_in : (v : ℕ) → IsCalled v → IsMarked search First v ⊎ IsMarked search Second v
+  called_in v (inl mark) = inl mark
+  called_in v (inr mark) = either_phase (owner_of sys v) v mark
+
+  anew_in : (v : ℕ) → owner_of sys v ≡ Nobody → IsCalled v → IsMarked search First v
+  anew_in v nobody (inl mark) = mark
+  anew_in v nobody (inr mark) = let Settled : Owner → Type 0 = λ o. IsMarked search (settled o Second) v in subst Settled nobody mark
+
+  mutual
+    returning_in : (v : ℕ) → Returning sys lattice elem v → IsMarked search First v
+    returning_in v (start _ n st) = settled_first v (begun n v st)
+    returning_in v (flows u _ n p st) = settled_first v ((from_mark First u (returning_in u p) n).flow v st)
+    returning_in v (returns u _ s n p st) = settled_first v ((from_mark First u (returning_in u p) n).back s v refl st)
+    returning_in v (grouped u a b _ s g n m p st q ts) =
+        settled_first v ((from_mark First u (returning_in u p) n).group s a m b v st ts (matches_leads g a b (n, s, u, st) q))
+    returning_in v (anew _ p is) = anew_in v is (calling_in v p)
+
+    calling_in : (v : ℕ) → Calling sys lattice elem v → IsCalled v
+    calling_in v (calls u _ s n p st) = inr ((from_mark First u (returning_in u p) n).call s v st)
+    calling_in v (calls_on u _ s n p st) = elim (called_in u (calling_in u p)) [
+      | inl mark ↦ inr ((from_mark First u mark n).call s v st)
+      | inr mark ↦ inr ((from_mark Second u mark n).call s v st)
+    ]
+    calling_in v (flows_on u _ n p st) = elim (called_in u (calling_in u p)) [
+      | inl mark ↦ inl (settled_first v ((from_mark First u mark n).flow v st))
+      | inr mark ↦ inr ((from_mark Second u mark n).flow v st)
+    ]
+    calling_in v (grouped_on u a b _ s g n m p st q ts) = elim (called_in u (calling_in u p)) [
+      | inl mark ↦ inl (settled_first v ((from_mark First u mark n).group s a m b v st ts (matches_leads g a b (n, s, u, st) q)))
+      | inr mark ↦ inr ((from_mark Second u mark n).group s a m b v st ts (matches_leads g a b (n, s, u, st) q))
+    ]
+
+  lead_marked : (v : ℕ) → Lead sys lattice elem v → IsMarked search First v ⊎ IsMarked search Second v
+  lead_marked v (inl p) = inl (returning_in v p)
+  lead_marked v (inr p) = called_in v (calling_in v p)
+
+  missed_at : (p : Phase) (v : ℕ) → ((place : ℕ) (r : Reached) → slice_get search.queue.items place ≡ Some r → r.at ≡ v → ⊥) → IsMarked search p v → ⊥
+  missed_at p v missed mark = let l = good.listed p v mark in missed l.place l.it l.there l.at_is
+
+  pub none_leads : (v : ℕ) → ((place : ℕ) (r : Reached) → slice_get search.queue.items place ≡ Some r → r.at ≡ v → ⊥) → Lead sys lattice elem v → ⊥
+  none_leads v missed lead = elim (lead_marked v lead) [ inl mark ↦ missed_at First v missed mark | inr mark ↦ missed_at Second v missed mark ]
+
+-- at the start nothing is marked, and nothing stands in the queue
+pub unmarked : (sets : PhaseSets) (p : Phase) (v : ℕ) → set_of sets p v ≡ 0 → HasIn sets p v 0 → ⊥
+unmarked sets p v none mark = let zero_is : bit_at 0 0 ≡ 0 = bit_at-zero 0 in let one : bit_at 0 0 ≡ 1 = subst (λ s. bit_at s 0 ≡ 1) none mark in omega (arith, zero_is, one)
+
+pub nothing_at : (queue : List Reached) (n : ℕ) (r : Reached) → queue ≡ [] → slice_get queue n ≡ Some r → ⊥
+nothing_at queue n r none is = let none_at : slice_get [] n ≡ Some r = subst (λ (xs : List Reached). slice_get xs n ≡ Some r) none is in cc
+
+-- what comes from a place of the queue
+module _ (sys : System) (lattice elem : ℕ) (rows : List Summary) (search : Search) (place : ℕ) (p : Phase) (u : ℕ) (origin : StandsAt search place p u) where
+  abbrev from_origin : Earlier search.queue.items place (length search.queue.items)
+  from_origin = record { it = origin.0; there = origin.1; before = slice_get_within search.queue.items place origin.0 origin.1 }
+
+  pub comes_step : (n : ℕ) (q : Phase) (v : ℕ) → LeadsBy sys lattice n p u q v → ComesBy sys lattice elem rows search.queue.items (length search.queue.items) q v (Step place n)
+  comes_step n q v leads =
+      let Of : Phase → Type 0 = λ f. LeadsBy sys lattice n f origin.0.at q v in
+      let At : ℕ → Type 0 = λ w. LeadsBy sys lattice n p w q v in
+      (from_origin, subst Of (sym origin.2) (subst At (sym origin.3) leads))
+
+  pub comes_around : (enter leave site inner last v : ℕ) → Stands sys lattice enter (Enter site u inner) → Stands sys lattice leave (Leave site last v) → Leads rows inner last →
+      ComesBy sys lattice elem rows search.queue.items (length search.queue.items) (settled (owner_of sys v) p) v (Group place enter leave)
+  comes_around enter leave site inner last v st ts joined =
+      let At : ℕ → Type 0 = λ w. Stands sys lattice enter (Enter site w inner) in (
+        from_origin,
+        record {
+          site = site;
+          inner = inner;
+          last = last;
+          enters = subst At (sym origin.3) st;
+          leaves = ts;
+          joined = joined;
+          phase_is = ap (settled (owner_of sys v)) (sym origin.2);
+        },
+      )
+
+module _ (sys : System) (lattice n : ℕ) (constraint : Constraint) (link : Link) (there : slice_get sys.constraints n ≡ Some constraint) (is : constraint.link ≡ link) where
+  pub stands_in : IsInLattice lattice constraint.link constraint.lattices → Stands sys lattice n link
+  stands_in carried = record { constraint = constraint; there = there; link_is = is; carried = subst (λ l. IsInLattice lattice l constraint.lattices) is carried }
+
+  pub low_of : (vars : ℕ) → AllBelow sys vars → vars_of_link link ≤ vars
+  low_of vars below = below n link (record { constraint = constraint; there = there; link_is = is })
+
+  -- a constraint is one link
+  pub one_link : (other : Link) → Stands sys lattice n other → link ≡ other
+  one_link other st = let same : constraint ≡ st.constraint = cc in sym is ∙ ap (λ (c : Constraint). c.link) same ∙ st.link_is
+
+pub same_number : (a b : ℕ) → not (eqb a b) ≡ false → a ≡ b
+same_number a b is = grind (arith, nat_tests)
+
+-- a number of no constraint leads nowhere
+pub followed_past : (sys : System) (lattice : ℕ) (rows : List Summary) (search : Search) (p : Phase) (u n : ℕ) → length sys.constraints ≤ n → IsFollowed sys lattice rows search p u n
+followed_past sys lattice rows search p u n past =
+    let none = λ (link : Link) (st : Stands sys lattice n link). let lt = slice_get_within sys.constraints n st.constraint st.there in let no : ⊥ = omega (arith, past, lt) in no in
+    record {
+      flow = λ v st. absurd (none _ st);
+      back = λ s v first st. absurd (none _ st);
+      call = λ s a st. absurd (none _ st);
+      group = λ s a m b v st ts leads. absurd (none _ st);
+    }
+
+old_item : (queue more : List Reached) (n : ℕ) (r : Reached) → n < length queue → slice_get (queue ++ more) n ≡ Some r → slice_get queue n ≡ Some r
+old_item [] more n r within is = absurd (omega (arith, within))
+old_item (x ∷ queue) more zero r within is = is
+old_item (x ∷ queue) more (suc n) r within is = old_item queue more n r (omega (arith, within)) is
+
+-- a place of a queue that has not grown past it
+pub visited_on : (sys : System) (lattice : ℕ) (rows : List Summary) (old new : Search) (place : ℕ) → Grows old new → place < length old.queue.items →
+    IsVisited sys lattice rows old place → IsVisited sys lattice rows new place
+visited_on sys lattice rows old new place g within v r is n =
+    let item : slice_get old.queue.items place ≡ Some r = old_item old.queue.items g.more place r within (sym (ap (λ xs. slice_get xs place) g.is) ∙ is) in
+    followed_on sys lattice rows old new r.phase r.at n g (v r item n)
+
+pub enter_followed : (sys : System) (lattice : ℕ) (rows : List Summary) (search : Search) (p : Phase) (n : ℕ) (constraint : Constraint) (s u a : ℕ) →
+    slice_get sys.constraints n ≡ Some constraint → constraint.link ≡ Enter s u a → IsMarked search (settled (owner_of sys a) Second) a →
+    ((m b v : ℕ) → Stands sys lattice m (Leave s b v) → Leads rows a b → IsMarked search (settled (owner_of sys v) p) v) → IsFollowed sys lattice rows search p u n
+enter_followed sys lattice rows search p n constraint s u a there is mark groups = record {
+  flow = λ v st. let e = one_link sys lattice n constraint (Enter s u a) there is (Le u v) st in absurd cc;
+  back = λ t v first st. let e = one_link sys lattice n constraint (Enter s u a) there is (Leave t u v) st in absurd cc;
+  call = λ t b st.
+      let e = one_link sys lattice n constraint (Enter s u a) there is (Enter t u b) st in
+      let same : a ≡ b = cc in subst (λ x. IsMarked search (settled (owner_of sys x) Second) x) same mark;
+  group = λ t b m c v st ts leads.
+      let e = one_link sys lattice n constraint (Enter s u a) there is (Enter t u b) st in
+      let site : t ≡ s = cc in
+      let inner : b ≡ a = cc in
+      groups m c v (subst (λ x. Stands sys lattice m (Leave x c v)) site ts) (subst (λ x. Leads rows x c) inner leads);
+}
+
+some_reached : {x y : Reached} → Some x ≡ Some y → x ≡ y
+some_reached e = cc
+
+pub visited_here : (sys : System) (lattice : ℕ) (rows : List Summary) (old new : Search) (place : ℕ) (p : Phase) (u : ℕ) → Grows old new → StandsAt old place p u →
+    ((n : ℕ) → IsFollowed sys lattice rows new p u n) → IsVisited sys lattice rows new place
+visited_here sys lattice rows old new place p u g s done r is n =
+    let within = slice_get_within old.queue.items place s.0 s.1 in
+    let item : slice_get old.queue.items place ≡ Some r = old_item old.queue.items g.more place r within (sym (ap (λ xs. slice_get xs place) g.is) ∙ is) in
+    let same : s.0 ≡ r = some_reached (sym s.1 ∙ item) in
+    let Of : Phase → Type 0 = λ q. IsFollowed sys lattice rows new q r.at n in
+    let At : ℕ → Type 0 = λ w. IsFollowed sys lattice rows new p w n in
+    subst Of (sym s.2 ∙ ap (λ (x : Reached). x.phase) same) (subst At (sym s.3 ∙ ap (λ (x : Reached). x.at) same) (done n))
+
+pub missed_here : (old new : Search) (place : ℕ) (p : Phase) (u target : ℕ) → Grows old new → StandsAt old place p u → (u ≡ target → ⊥) → (r : Reached) →
+    slice_get new.queue.items place ≡ Some r → r.at ≡ target → ⊥
+missed_here old new place p u target g s other r is at =
+    let within = slice_get_within old.queue.items place s.0 s.1 in
+    let item : slice_get old.queue.items place ≡ Some r = old_item old.queue.items g.more place r within (sym (ap (λ xs. slice_get xs place) g.is) ∙ is) in
+    let same : s.0 ≡ r = some_reached (sym s.1 ∙ item) in
+    other (sym s.3 ∙ ap (λ (x : Reached). x.at) same ∙ at)
+
+pub missed_on : (old new : Search) (place : ℕ) (r : Reached) → Grows old new → place < length old.queue.items → slice_get new.queue.items place ≡ Some r →
+    slice_get old.queue.items place ≡ Some r
+missed_on old new place r g within is = old_item old.queue.items g.more place r within (sym (ap (λ xs. slice_get xs place) g.is) ∙ is)
+
+pub grows_length : (old new : Search) → Grows old new → length old.queue.items ≤ length new.queue.items
+grows_length old new g = let size = length-append old.queue.items g.more in let is = ap length g.is in omega (arith, size, is)
+
+pub none_weaker : {A B : Type 0} (o : Option ℕ) → (A → B) → IfNone o A → IfNone o B
+none_weaker None f a = f a
+none_weaker (Some n) f a = tt

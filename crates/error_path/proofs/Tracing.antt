@@ -1,0 +1,121 @@
+-- A path that is followed back from a bound.
+use Rattle.std.proofs.Common.{◌≡◌, ℕ, ◌<◌, max, false, inl, inr, ◌⊎◌, bit_or, IfSome, MatchOption, arith, List, [], ◌∷◌, ◌++◌, length, reverse, slice_get, Option, Some, None, refl, sym, ◌∙◌, ap, subst}
+use Rattle.std.specs.Int.{bit_at}
+use Rattle.std.proofs.lemmas.Bool.{cases_eq}
+use Rattle.std.proofs.lemmas.Nat.Bits.{bit_at_or}
+use Rattle.lattice_core.specs.Order.{Order, leq}
+use Rattle.flow_graph.specs.Paths.{Lead}
+use Rattle.flow_graph.specs.declared.constraint.Constraint.{Constraint}
+use Rattle.lattice_solver.specs.Phases.{set_of}
+use Rattle.lattice_solver.specs.Solution.{Solution, Exceeds, HasElement, IsSolved}
+use Rattle.flow_graph.specs.declared.constraint.Link.TheVariants.{Le, Const, Bound, Enter, Leave}
+use Rattle.flow_graph.specs.declared.proof.PathStep.{PathStep}
+use Rattle.flow_graph.specs.declared.proof.PathStep.TheVariants.{Take, Sub}
+use Rattle.flow_graph.specs.System.{System, owner_of, Stands}
+use Rattle.match_summary.specs.declared.reason.Summary.{Summary}
+use Rattle.match_summary.specs.Summary.{Leads}
+use Rattle.lattice_solver.specs.declared.phases.Phase.{Phase}
+use Rattle.lattice_solver.specs.declared.phases.Phase.TheVariants.{First, Second}
+use Rattle.error_path.specs.declared.search.Cause.{Cause}
+use Rattle.error_path.specs.declared.search.Cause.TheVariants.{Start, Step, Group}
+use Rattle.error_path.specs.declared.search.Reached.{Reached}
+use Rattle.error_path.specs.declared.steps.Pair.{Pair}
+use Rattle.error_path.specs.Parts.{settled, Flow, Empty, Full, Onward, Along, Back, Into, IsPath}
+use Rattle.error_path.specs.Made.{group_steps, Fronts, IsInner}
+use Rattle.error_path.specs.Reaching.{Earlier, LeadsBy, ByFlow, ByLeave, ByEnter, LeadsAround, ComesBy}
+use Rattle.error_path.specs.Shown.{IsJoinedBy}
+use Rattle.error_path.proofs.Resting.{has_of, within_of}
+
+module _ (sys : System) (lattice : ℕ) (subs : List (List PathStep)) (bound : ℕ) where
+  pub traced_step : (n : ℕ) (p : Phase) (u : ℕ) (q : Phase) (v : ℕ) (rest : List PathStep) → LeadsBy sys lattice n p u q v → Onward sys lattice subs bound q v rest →
+      Onward sys lattice subs bound p u (Take n 0 ∷ rest)
+  traced_step n p u q v rest (ByFlow _ _ _ _ _ st is) on = Along p u v (Take n 0 ∷ []) rest (Flow u v n st) (subst (λ f. Onward sys lattice subs bound f v rest) is on)
+  traced_step n _ u q v rest (ByLeave _ s _ _ _ st is) on = Back u v s n rest st (subst (λ f. Onward sys lattice subs bound f v rest) is on)
+  traced_step n p u q v rest (ByEnter _ s _ _ _ _ st is) on = Into p u v s n rest st (subst (λ f. Onward sys lattice subs bound f v rest) is on)
+
+  pub traced_group : (enter leave : ℕ) (p : Phase) (u : ℕ) (q : Phase) (v : ℕ) (rows : List Summary) (rest : List PathStep) (number : Option ℕ) (a : LeadsAround sys lattice rows enter leave p u q v) →
+      IsJoinedBy sys subs number a.inner a.last → Onward sys lattice subs bound q v rest → Onward sys lattice subs bound p u (group_steps enter number leave ++ rest)
+  traced_group enter leave p u q v rows rest None a same on =
+      let Back : ℕ → Type 0 = λ x. Stands sys lattice leave (Leave a.site x v) in
+      Along p u v (Take enter 0 ∷ Take leave 0 ∷ []) rest (Empty u a.inner v a.site enter leave a.enters (subst Back (sym same) a.leaves))
+      (subst (λ f. Onward sys lattice subs bound f v rest) a.phase_is on)
+  traced_group enter leave p u q v rows rest (Some k) a looks on =
+      Along p u v (Take enter 0 ∷ Sub k 0 ∷ Take leave 0 ∷ []) rest (Full u a.inner a.last v a.site enter leave k a.enters looks a.leaves)
+      (subst (λ f. Onward sys lattice subs bound f v rest) a.phase_is on)
+
+  pub traced_start : (n elem : ℕ) (q : Phase) (v : ℕ) (rest : List PathStep) → Stands sys lattice n (Const lattice elem v) → q ≡ settled (owner_of sys v) First →
+      Onward sys lattice subs bound q v rest → IsPath sys lattice subs elem bound (Take n 0 ∷ rest)
+  traced_start n elem q v rest st is on = record {
+    start = n;
+    from = v;
+    constant = st;
+    rest = rest;
+    onward = subst (λ f. Onward sys lattice subs bound f v rest) is on;
+    steps_are = refl;
+  }
+
+-- what a cause says of a variable, by the cause's form
+pub comes_as : (sys : System) (lattice elem : ℕ) (rows : List Summary) (queue : List Reached) (place : ℕ) (q : Phase) (v : ℕ) (cause other : Cause) → cause ≡ other →
+    ComesBy sys lattice elem rows queue place q v cause → ComesBy sys lattice elem rows queue place q v other
+comes_as sys lattice elem rows queue place q v cause other is comes = subst (λ x. ComesBy sys lattice elem rows queue place q v x) is comes
+
+-- the variables inside a group are those of its Enter and its Leave
+module _ (sys : System) (lattice : ℕ) (rows : List Summary) (enter leave : ℕ) (p : Phase) (u : ℕ) (q : Phase) (v : ℕ) (a : LeadsAround sys lattice rows enter leave p u q v) (pair : Pair)
+    (inner : IsInner sys enter leave pair) where
+  from_is : pair.from ≡ a.inner
+  from_is = inner.from a.site u a.inner (has_of sys lattice enter _ a.enters)
+
+  to_is : pair.to ≡ a.last
+  to_is = inner.to a.site a.last v (has_of sys lattice leave _ a.leaves)
+
+  pub around_leads : Leads rows pair.from pair.to
+  around_leads =
+      let From : ℕ → Type 0 = λ x. Leads rows x pair.to in
+      let To : ℕ → Type 0 = λ x. Leads rows a.inner x in
+      subst From (sym from_is) (subst To (sym to_is) a.joined)
+
+  pub around_joined : (subs : List (List PathStep)) (number : Option ℕ) → IsJoinedBy sys subs number pair.from pair.to → IsJoinedBy sys subs number a.inner a.last
+  around_joined subs number joined =
+      let From : ℕ → Type 0 = λ x. IsJoinedBy sys subs number x a.last in
+      let To : ℕ → Type 0 = λ x. IsJoinedBy sys subs number pair.from x in
+      subst From from_is (subst To to_is joined)
+
+-- what an answer says where it is there, and where it is not
+pub match_some : (A : Type 0) (B : ℕ → Type 0) (o : Option ℕ) (n : ℕ) → o ≡ Some n → MatchOption o A B → B n
+match_some A B o n is given = let Of : Option ℕ → Type 0 = λ x. MatchOption x A B in subst Of is given
+
+pub match_none : (A : Type 0) (B : ℕ → Type 0) (o : Option ℕ) → o ≡ None → MatchOption o A B → A
+match_none A B o is given = let Of : Option ℕ → Type 0 = λ x. MatchOption x A B in subst Of is given
+
+pub some_given : (B : ℕ → Type 0) (o : Option ℕ) (n : ℕ) → o ≡ Some n → IfSome o B → B n
+some_given B o n is given = let Of : Option ℕ → Type 0 = λ x. IfSome x B in subst Of is given
+
+pub some_reached : {x y : Reached} → Some x ≡ Some y → x ≡ y
+some_reached e = cc
+
+either_one : (a b : ℕ) → max a b ≡ 1 → (a ≡ 1) ⊎ (b ≡ 1)
+either_one a b is = elim (cases_eq a 1) [ inl e ↦ inl e | inr ne ↦ inr (omega (arith, is, ne)) ]
+
+-- an element of a union is in one of the two
+in_union : (a b e : ℕ) → bit_at (bit_or a b) e ≡ 1 → (bit_at a e ≡ 1) ⊎ (bit_at b e ≡ 1)
+in_union a b e is =
+    let most : max (bit_at a e) (bit_at b e) ≡ 1 = sym (bit_at_or a b e) ∙ is in either_one (bit_at a e) (bit_at b e) most
+
+-- an element that reaches a variable leads to it
+pub reached_leads : (sys : System) (solution : Solution) → IsSolved sys solution → (v e : ℕ) → HasElement solution v e → Lead sys solution.lattice e v
+reached_leads sys solution solved v e has = elim (in_union (set_of solution.phases First v) (set_of solution.phases Second v) e has) [
+  | inl first ↦ inl ((solved.exact First v e).0 first)
+  | inr second ↦ inr ((solved.exact Second v e).0 second)
+]
+
+-- each bound of a number is the one that the element exceeds
+pub bound_over : (sys : System) (solution : Solution) (order : Order) (bound elem : ℕ) → Exceeds sys solution order bound elem → (v limit : ℕ) →
+    Stands sys solution.lattice bound (Bound v solution.lattice limit) → leq order elem limit ≡ false
+bound_over sys solution order bound elem ex v limit st =
+    let same : ex.bound.constraint ≡ st.constraint = same_constraint (sym ex.bound.there ∙ st.there) in
+    let links : Bound ex.var solution.lattice ex.limit ≡ Bound v solution.lattice limit = sym ex.bound.link_is ∙ ap (λ (c : Constraint). c.link) same ∙ st.link_is in
+    let limits : ex.limit ≡ limit = cc in
+    subst (λ l. leq order elem l ≡ false) limits ex.over
+  where
+    same_constraint : {x y : Constraint} → Some x ≡ Some y → x ≡ y
+    same_constraint e = cc

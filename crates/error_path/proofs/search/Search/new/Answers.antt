@@ -1,0 +1,14 @@
+use Rattle.std.proofs.Common.{◌≡◌, ℕ, List, [], slice_get, sym, ◌∙◌, ap, subst}
+use Rattle.flow_graph.specs.System.{AllBelow}
+use Rattle.error_path.proofs.Searching.{unmarked, nothing_at}
+use Rattle.error_path.proofs.search.Search.new.Goals as goal
+
+pub returns-clause-good : goal.returns-clause-good
+returns-clause-good c = λ lattice elem rows. record {
+  sound = λ n r is. absurd (nothing_at c.new-2.result.items n r c.new-2.ensures.items is);
+  listed = λ p v mark. absurd (unmarked c.clear.new.self p v (c.clear.ensures.empty p v) mark);
+  below = let Of : ℕ → Type 0 = λ k. AllBelow c.args.graph.now k in subst Of (sym (c.clear.ensures.size ∙ c.in_ok-marks.ensures)) c.vars.ensures.above;
+}
+
+pub returns-clause-below : goal.returns-clause-below
+returns-clause-below c = let Of : ℕ → Type 0 = λ k. AllBelow c.args.graph.now k in subst Of (sym (c.clear.ensures.size ∙ c.in_ok-marks.ensures)) c.vars.ensures.above

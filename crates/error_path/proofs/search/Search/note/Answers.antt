@@ -1,0 +1,53 @@
+use Rattle.std.proofs.Common.{◌≡◌, ℕ, ◌+◌, List, [], ◌∷◌, length, sym, ◌∙◌, ap, subst, arith}
+use Rattle.std.proofs.lemmas.List.{length-append}
+use Rattle.lattice_solver.specs.declared.phases.Phase.{Phase}
+use Rattle.lattice_solver.specs.PhaseSets.{PhaseSets}
+use Rattle.lattice_solver.specs.Phases.{HasIn, size_of}
+use Rattle.flow_graph.specs.System.{AllBelow}
+use Rattle.error_path.specs.declared.search.Reached.{Reached}
+use Rattle.error_path.specs.Reaching.{AreSound, ComesBy, IsGood, IsListed}
+use Rattle.error_path.proofs.Searching.{sound_push, listed_push, mark_here, mark_cases, mark_kept}
+use Rattle.error_path.proofs.search.Search.note.Goals as goal
+
+pub returns-then-not-raise-clause-good : goal.returns-then-not-raise-clause-good
+returns-then-not-raise-clause-good c = λ sys lattice elem rows comes good.
+    let Of : PhaseSets → Type 0 = λ m. IsGood sys lattice elem rows (record { queue = c.args.self.now.queue; marks = m }) in
+    subst Of (sym c.if-not-raise.ensures.moves.same) good
+
+pub returns-then-not-raise-clause-there : goal.returns-then-not-raise-clause-there
+returns-then-not-raise-clause-there c =
+    let Of : Phase → Type 0 = λ p. HasIn c.raise.new.self p c.args.at 0 in
+    subst Of c.settled-phase.ensures (mark_here c.args.self.now.marks c.raise.new.self c.settled-phase.result c.args.at c.raise.ensures.here)
+
+pub returns-in-Ok-clause-good : goal.returns-in-Ok-clause-good
+returns-in-Ok-clause-good c = λ sys lattice elem rows comes good.
+    let r : Reached = record { at = c.args.at; phase = c.settled-phase.result; cause = c.args.cause } in
+    let queue = c.args.self.now.queue.items in
+    let By : Phase → Type 0 = λ p. ComesBy sys lattice elem rows queue (length queue) p c.args.at c.args.cause in
+    let Sound : List Reached → Type 0 = λ xs. AreSound sys lattice elem rows xs in
+    let Listed : List Reached → Type 0 = λ xs. (p : Phase) (v : ℕ) → HasIn c.raise.new.self p v 0 → IsListed xs p v in
+    let Below : ℕ → Type 0 = λ k. AllBelow sys k in
+    record {
+      sound = subst Sound (sym c.in-Ok.ensures.items) (sound_push sys lattice elem rows queue r good.sound (subst By (sym c.settled-phase.ensures) comes));
+      listed = subst Listed (sym c.in-Ok.ensures.items) (listed_push c.args.self.now.marks c.raise.new.self queue r
+          (mark_cases c.args.self.now.marks c.raise.new.self c.settled-phase.result c.args.at c.raise.ensures.others) good.listed);
+      below = subst Below (sym c.raise.ensures.moves.size) good.below;
+    }
+
+pub returns-in-Ok-clause-grows : goal.returns-in-Ok-clause-grows
+returns-in-Ok-clause-grows c =
+    let r : Reached = record { at = c.args.at; phase = c.settled-phase.result; cause = c.args.cause } in
+    let longer : length c.push.new.self.items ≡ length c.args.self.now.queue.items + 1 = ap length c.in-Ok.ensures.items ∙ length-append c.args.self.now.queue.items (r ∷ []) in
+    let less = c.if-not-raise.ensures.moves.less in
+    record {
+      more = r ∷ [];
+      is = c.in-Ok.ensures.items;
+      kept = mark_kept c.args.self.now.marks c.raise.new.self c.settled-phase.result c.args.at c.raise.ensures.here c.raise.ensures.others;
+      size = c.raise.ensures.moves.size;
+      room = omega (arith, longer, less);
+    }
+
+pub returns-in-Ok-clause-there : goal.returns-in-Ok-clause-there
+returns-in-Ok-clause-there c =
+    let Of : Phase → Type 0 = λ p. HasIn c.raise.new.self p c.args.at 0 in
+    subst Of c.settled-phase.ensures (mark_here c.args.self.now.marks c.raise.new.self c.settled-phase.result c.args.at c.raise.ensures.here)

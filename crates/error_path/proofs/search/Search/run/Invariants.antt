@@ -1,0 +1,17 @@
+use Rattle.std.proofs.Common.{◌≡◌, ℕ, ◌+◌, ◌-◌, ◌<◌, ◌≤◌, length, slice_get, Some}
+use Rattle.lattice_solver.specs.Phases.{room_of}
+use Rattle.error_path.specs.declared.search.Reached.{Reached}
+use Rattle.error_path.specs.Reaching.{Grows, IsGood, IsVisited}
+use Rattle.error_path.proofs.search.Search.run.Given as goal
+
+abbrev pub invariant-loop-place : goal.invariant-loop-place
+invariant-loop-place l = record {
+  good : (elem : ℕ) → IsGood l.graph l.lattice elem l.summaries l.fn.self → IsGood l.graph l.lattice elem l.summaries l.self;
+  grows : Grows l.fn.self l.self;
+  visited : (k : ℕ) → k < l.place → IsVisited l.graph l.lattice l.summaries l.self k;
+  missed : (k : ℕ) (r : Reached) → k < l.place → slice_get l.self.queue.items k ≡ Some r → r.at ≡ l.target → ⊥;
+  low : l.place ≤ length l.self.queue.items;
+}
+
+abbrev pub decreases-loop-place : goal.decreases-loop-place
+decreases-loop-place l = (room_of l.self.marks + length l.self.queue.items) - l.place

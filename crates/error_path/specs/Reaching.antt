@@ -1,0 +1,101 @@
+-- How a search reaches variables: a queue of those that were reached, each with how it was, and a mark for each of them.
+use Rattle.std.specs.Prelude.{◌≡◌, ℕ, ◌+◌, ◌<◌, ◌≤◌, List, ◌++◌, length, slice_get, Some}
+use Rattle.flow_graph.specs.declared.constraint.Link.TheVariants.{Le, Const, Enter, Leave}
+use Rattle.flow_graph.specs.System.{System, owner_of, Stands, AllBelow}
+use Rattle.match_summary.specs.declared.reason.Summary.{Summary}
+use Rattle.match_summary.specs.Summary.{Leads}
+use Rattle.lattice_solver.specs.declared.phases.Phase.{Phase}
+use Rattle.lattice_solver.specs.declared.phases.Phase.TheVariants.{First, Second}
+use Rattle.lattice_solver.specs.PhaseSets.{PhaseSets}
+use Rattle.lattice_solver.specs.Phases.{HasIn, room_of, size_of}
+use Rattle.error_path.specs.declared.search.Cause.{Cause}
+use Rattle.error_path.specs.declared.search.Cause.TheVariants.{Start, Step, Group}
+use Rattle.error_path.specs.declared.search.Reached.{Reached}
+use Rattle.error_path.specs.declared.search.Search.{Search}
+use Rattle.error_path.specs.Parts.{settled}
+
+-- a constraint leads from a variable in a phase to a variable in a phase
+pub data LeadsBy (sys : System) (lattice : ℕ) : ℕ → Phase → ℕ → Phase → ℕ → Type 0 where
+  ByFlow : (n u v : ℕ) (p q : Phase) → Stands sys lattice n (Le u v) → q ≡ settled (owner_of sys v) p → LeadsBy sys lattice n p u q v
+  ByLeave : (n s u v : ℕ) (q : Phase) → Stands sys lattice n (Leave s u v) → q ≡ settled (owner_of sys v) First → LeadsBy sys lattice n First u q v
+  ByEnter : (n s u v : ℕ) (p q : Phase) → Stands sys lattice n (Enter s u v) → q ≡ settled (owner_of sys v) Second → LeadsBy sys lattice n p u q v
+
+-- so does a group, inside which nothing or a summary leads from its Enter to its Leave
+pub record LeadsAround (sys : System) (lattice : ℕ) (rows : List Summary) (enter leave : ℕ) (p : Phase) (u : ℕ) (q : Phase) (v : ℕ) : Type 0 where
+  pub site : ℕ
+  pub inner : ℕ
+  pub last : ℕ
+  pub enters : Stands sys lattice enter (Enter site u inner)
+  pub leaves : Stands sys lattice leave (Leave site last v)
+  pub joined : Leads rows inner last
+  pub phase_is : q ≡ settled (owner_of sys v) p
+
+-- a place of a queue that comes before another
+pub record Earlier (queue : List Reached) (from place : ℕ) : Type 0 where
+  pub it : Reached
+  pub there : slice_get queue from ≡ Some it
+  pub before : from < place
+
+-- A variable was reached by a constant of the element at it, or from an earlier place of the queue.
+abbrev pub ComesBy : System → ℕ → ℕ → List Summary → List Reached → ℕ → Phase → ℕ → Cause → Type 0
+ComesBy sys lattice elem rows queue place q v (Start n) = Stands sys lattice n (Const lattice elem v) × (q ≡ settled (owner_of sys v) First)
+ComesBy sys lattice elem rows queue place q v (Step from n) = (e : Earlier queue from place) × LeadsBy sys lattice n e.it.phase e.it.at q v
+ComesBy sys lattice elem rows queue place q v (Group from enter leave) = (e : Earlier queue from place) × LeadsAround sys lattice rows enter leave e.it.phase e.it.at q v
+
+-- each item of the queue says how its variable was reached
+abbrev pub AreSound : System → ℕ → ℕ → List Summary → List Reached → Type 0
+AreSound sys lattice elem rows queue = (n : ℕ) (r : Reached) → slice_get queue n ≡ Some r → ComesBy sys lattice elem rows queue n r.phase r.at r.cause
+
+-- a variable is marked in a phase
+abbrev pub IsMarked : Search → Phase → ℕ → Type 0
+IsMarked search p v = HasIn search.marks p v 0
+
+-- a variable stands in a queue with a phase
+pub record IsListed (queue : List Reached) (p : Phase) (v : ℕ) : Type 0 where
+  pub place : ℕ
+  pub it : Reached
+  pub there : slice_get queue place ≡ Some it
+  pub phase_is : it.phase ≡ p
+  pub at_is : it.at ≡ v
+
+-- a queue is sound, has all that is marked, and there is a mark for each variable of a constraint
+pub record IsGood (sys : System) (lattice elem : ℕ) (rows : List Summary) (search : Search) : Type 0 where
+  pub sound : AreSound sys lattice elem rows search.queue.items
+  pub listed : (p : Phase) (v : ℕ) → IsMarked search p v → IsListed search.queue.items p v
+  pub below : AllBelow sys (size_of search.marks)
+
+-- a search after it went on: each item takes one of the marks that were left
+pub record Grows (old new : Search) : Type 0 where
+  pub more : List Reached
+  pub is : new.queue.items ≡ old.queue.items ++ more
+  pub kept : (p : Phase) (v : ℕ) → IsMarked old p v → IsMarked new p v
+  pub size : size_of new.marks ≡ size_of old.marks
+  pub room : room_of new.marks + length new.queue.items ≤ room_of old.marks + length old.queue.items
+
+-- all that a constraint leads to from a variable in a phase, by itself or as the first of a group, is marked
+pub record IsFollowed (sys : System) (lattice : ℕ) (rows : List Summary) (search : Search) (p : Phase) (u n : ℕ) : Type 0 where
+  pub flow : (v : ℕ) → Stands sys lattice n (Le u v) → IsMarked search (settled (owner_of sys v) p) v
+  pub back : (s v : ℕ) → p ≡ First → Stands sys lattice n (Leave s u v) → IsMarked search (settled (owner_of sys v) First) v
+  pub call : (s a : ℕ) → Stands sys lattice n (Enter s u a) → IsMarked search (settled (owner_of sys a) Second) a
+  pub group : (s a m b v : ℕ) → Stands sys lattice n (Enter s u a) → Stands sys lattice m (Leave s b v) → Leads rows a b → IsMarked search (settled (owner_of sys v) p) v
+
+-- all that the constraints lead to from a place of the queue is marked
+abbrev pub IsVisited : System → ℕ → List Summary → Search → ℕ → Type 0
+IsVisited sys lattice rows search place = (r : Reached) → slice_get search.queue.items place ≡ Some r → (n : ℕ) → IsFollowed sys lattice rows search r.phase r.at n
+
+-- all constants of an element are marked
+abbrev pub AreStarted : System → ℕ → ℕ → Search → Type 0
+AreStarted sys lattice elem search = (n v : ℕ) → Stands sys lattice n (Const lattice elem v) → IsMarked search (settled (owner_of sys v) First) v
+
+-- a place of the queue has this variable and this phase
+abbrev pub StandsAt : Search → ℕ → Phase → ℕ → Type 0
+StandsAt search place p v = (r : Reached) × (slice_get search.queue.items place ≡ Some r) × (r.phase ≡ p) × (r.at ≡ v)
+
+-- it has this variable
+abbrev pub IsReachedAt : Search → ℕ → ℕ → Type 0
+IsReachedAt search place v = (r : Reached) × (slice_get search.queue.items place ≡ Some r) × (r.at ≡ v)
+
+-- no item of the queue is at the variable, and from each all was marked
+pub record IsClosed (sys : System) (lattice : ℕ) (rows : List Summary) (search : Search) (target : ℕ) : Type 0 where
+  pub visited : (place : ℕ) → IsVisited sys lattice rows search place
+  pub missed : (place : ℕ) (r : Reached) → slice_get search.queue.items place ≡ Some r → r.at ≡ target → ⊥

@@ -1,0 +1,53 @@
+-- What is promised of a path proof that is made.
+use Rattle.std.specs.Prelude.{◌≡◌, ℕ, List, [], ◌∷◌, slice_get, Option, Some, None}
+use Rattle.lattice_core.specs.Order.{Order}
+use Rattle.flow_graph.specs.declared.constraint.Link.TheVariants.{Const}
+use Rattle.flow_graph.specs.declared.proof.PathStep.{PathStep}
+use Rattle.flow_graph.specs.declared.proof.PathStep.TheVariants.{Take, Sub}
+use Rattle.flow_graph.specs.declared.proof.PathProof.{PathProof}
+use Rattle.flow_graph.specs.declared.place.Seen.TheVariants.{Through}
+use Rattle.flow_graph.specs.System.{System, Stands}
+use Rattle.flow_graph.specs.PathProofs.{first_of, last_of, line_of, look, span_of, steps_of}
+use Rattle.lattice_solver.specs.Solution.{Solution, Exceeds}
+use Rattle.error_path.specs.Parts.{AreSubs, IsPath}
+
+-- the last step takes the bound
+abbrev pub EndsWith : ℕ → PathProof → Type 0
+EndsWith bound proof = last_of proof.main.items ≡ Some (Take bound 0)
+
+-- the first step takes a constant of an element that exceeds the bound
+pub record BeginsOver (sys : System) (solution : Solution) (order : Order) (bound : ℕ) (proof : PathProof) : Type 0 where
+  pub element : ℕ
+  pub exceeds : Exceeds sys solution order bound element
+  pub number : ℕ
+  pub var : ℕ
+  pub constant : Stands sys solution.lattice number (Const solution.lattice element var)
+  pub first : first_of proof.main.items ≡ Some (Take number 0)
+
+-- no two of these sub-paths have the same first and last variables
+abbrev pub AreApart : System → List (List PathStep) → Type 0
+AreApart sys subs = (n m : ℕ) (one other : List PathStep) → slice_get subs n ≡ Some one → slice_get subs m ≡ Some other →
+    span_of sys (Some one) ≡ span_of sys (Some other) → n ≡ m
+
+-- the lines of these steps are 0
+abbrev pub HaveNoLines : List PathStep → Type 0
+HaveNoLines [] = Unit {0}
+HaveNoLines (s ∷ steps) = (line_of s ≡ 0) × HaveNoLines steps
+
+-- all lines are 0
+pub record HasNoLines (proof : PathProof) : Type 0 where
+  pub main : HaveNoLines proof.main.items
+  pub subs : (n : ℕ) (steps : List PathStep) → slice_get (steps_of proof.subs.items) n ≡ Some steps → HaveNoLines steps
+  pub end : proof.end ≡ 0
+
+-- nothing or the sub-path of a number leads from one variable to another
+abbrev pub IsJoinedBy : System → List (List PathStep) → Option ℕ → ℕ → ℕ → Type 0
+IsJoinedBy sys subs None u v = u ≡ v
+IsJoinedBy sys subs (Some k) u v = look sys subs (Sub k 0) ≡ Through u v
+
+-- A path of a lattice from a constant of an element to a bound, with the sub-paths that it names.
+pub record IsShown (sys : System) (lattice elem bound : ℕ) (proof : PathProof) : Type 0 where
+  pub subs : AreSubs sys lattice (steps_of proof.subs.items)
+  pub path : IsPath sys lattice (steps_of proof.subs.items) elem bound proof.main.items
+  pub apart : AreApart sys (steps_of proof.subs.items)
+  pub end : proof.end ≡ 0

@@ -1,0 +1,388 @@
+//! A breadth-first search over pairs of a variable and a phase, forwards from the constants of an element.
+
+ghost use Rattle.std.specs.Prelude.{◌≡◌, ◌≢◌, ℕ, ◌<◌, ◌↔◌, List, length, slice_get, Some, IsTrue, IfOk, IfSome, IfNone, OnOk};
+ghost use Rattle.flow_graph.specs.declared.constraint.Link.TheVariants.{Le, Const, Enter, Leave};
+ghost use Rattle.flow_graph.specs.System.{System, AllBelow, Stands, owner_of};
+ghost use Rattle.flow_graph.specs.Paths.{Lead};
+ghost use Rattle.lattice_solver.specs.declared.phases.Phase.TheVariants.{First, Second};
+ghost use Rattle.lattice_solver.specs.Phases.{size_of};
+ghost use Rattle.match_summary.specs.declared.reason.Summary.{Summary};
+ghost use Rattle.match_summary.specs.Summary.{Leads, Summarises};
+ghost use Rattle.error_path.specs.Parts.{settled};
+ghost use Rattle.error_path.specs.Reaching.{AreStarted, ComesBy, Grows, IsClosed, IsFollowed, IsGood, IsMarked, IsReachedAt, StandsAt};
+
+use flow_graph::constraint::Link;
+use flow_graph::graph::FlowGraph;
+use lattice_solver::phases::{Phase, Phases};
+use match_summary::summary::Summaries;
+use qual_base::faults::NoMemory;
+use qual_base::ids::{EdgeId, Elem, LatticeNo, Numbered, SiteId, VarId};
+use qual_base::places::Owner;
+use std::alloc::Global;
+
+/// How a variable was first reached: by a constant at it, by a constraint from an earlier place of the queue, or by a
+/// group from one.
+#[derive(Clone, Copy, PartialEq, Eq, Debug)]
+pub enum Cause {
+    Start(EdgeId),
+    Step {
+        from: usize,
+        edge: EdgeId,
+    },
+    Group {
+        from: usize,
+        enter: EdgeId,
+        leave: EdgeId,
+    },
+}
+
+/// A variable that was reached in a phase, and how.
+#[derive(Clone, Copy, PartialEq, Eq, Debug)]
+pub struct Reached {
+    pub at: VarId,
+    pub phase: Phase,
+    pub cause: Cause,
+}
+
+/// What was reached in its order, and a mark for each variable and phase that is in it.
+#[derive(Drop)]
+pub struct Search {
+    queue: Vec<Reached>,
+    marks: Phases,
+}
+
+/// A search, and the place of its queue that is at its target.
+#[derive(Drop)]
+pub struct Found {
+    pub search: Search,
+    pub place: Option<usize>,
+}
+
+/// A place of the queue with its variable and phase.
+#[derive(Clone, Copy)]
+struct Origin {
+    place: usize,
+    at: VarId,
+    phase: Phase,
+}
+
+/// An `Enter` from a place of the queue: its number, its site, and the variable that it leads to.
+#[derive(Clone, Copy)]
+struct Call {
+    enter: EdgeId,
+    site: SiteId,
+    inner: VarId,
+}
+
+impl Search {
+    /// A search that has reached nothing: 16 bytes for each variable.
+    fn new(alloc: Global, graph: &FlowGraph) -> Result<Search, NoMemory>
+        ensures good { IfOk result (λ search. (lattice elem : ℕ) (rows : List Summary) → IsGood graph.now lattice elem rows search) }
+        ensures below { IfOk result (λ search. AllBelow graph.now (size_of search.marks)) }
+    {
+        let mut marks = Phases::new(alloc, graph.vars())?;
+        marks.clear();
+        Ok(Search {
+            queue: Vec::new(alloc),
+            marks,
+        })
+    }
+
+    /// What was reached, in its order.
+    pub fn reached(&self) -> &[Reached]
+        ensures { result.now ≡ self.now.queue.items }
+    {
+        self.queue.as_slice()
+    }
+
+    /// Notes that a variable is reached in a phase, if it was not before. At a variable of nobody the first phase starts
+    /// anew. Constant time but for growth.
+    fn note(
+        &mut self,
+        graph: &FlowGraph,
+        at: VarId,
+        phase: Phase,
+        cause: Cause,
+    ) -> Result<(), NoMemory>
+        requires { at < size_of self.old.marks }
+        ensures good { OnOk result ((sys : System) (lattice elem : ℕ) (rows : List Summary) → ComesBy sys lattice elem rows self.old.queue.items (length self.old.queue.items) (settled (owner_of graph.now at) phase) at cause → IsGood sys lattice elem rows self.old → IsGood sys lattice elem rows self.new) }
+        ensures grows { OnOk result (Grows self.old self.new) }
+        ensures there { OnOk result (IsMarked self.new (settled (owner_of graph.now at) phase) at) }
+    {
+        let phase = settled(graph, at, phase);
+        if !self.marks.raise(phase, at, 1) {
+            return Ok(());
+        }
+        match self.queue.push(Reached { at, phase, cause }) {
+            Ok(()) => Ok(()),
+            Err(_) => Err(NoMemory),
+        }
+    }
+
+    /// Starts at a constraint where that is a constant of the element.
+    fn start_at(
+        &mut self,
+        graph: &FlowGraph,
+        lattice: LatticeNo,
+        elem: Elem,
+        edge: EdgeId,
+    ) -> Result<(), NoMemory>
+        requires edge { edge < length graph.now.constraints }
+        requires below { AllBelow graph.now (size_of self.old.marks) }
+        ensures good { OnOk result ((rows : List Summary) → IsGood graph.now lattice elem rows self.old → IsGood graph.now lattice elem rows self.new) }
+        ensures grows { OnOk result (Grows self.old self.new) }
+        ensures done { OnOk result ((v : ℕ) → Stands graph.now lattice edge (Const lattice elem v) → IsMarked self.new (settled (owner_of graph.now v) First) v) }
+    {
+        let link = graph.constraint(edge).link;
+        match link {
+            Link::Const(named, mark, at) => {
+                if named == lattice && mark == elem {
+                    self.note(graph, at, Phase::First, Cause::Start(edge))
+                } else {
+                    Ok(())
+                }
+            }
+            _ => Ok(()),
+        }
+    }
+
+    /// Starts at each constant of the element.
+    fn start(&mut self, graph: &FlowGraph, lattice: LatticeNo, elem: Elem) -> Result<(), NoMemory>
+        requires below { AllBelow graph.now (size_of self.old.marks) }
+        ensures good { OnOk result ((rows : List Summary) → IsGood graph.now lattice elem rows self.old → IsGood graph.now lattice elem rows self.new) }
+        ensures started { OnOk result (AreStarted graph.now lattice elem self.new) }
+        ensures below { OnOk result (AllBelow graph.now (size_of self.new.marks)) }
+    {
+        for n in 0..graph.len() {
+            self.start_at(graph, lattice, elem, EdgeId::new(n))?;
+        }
+        Ok(())
+    }
+
+    /// Goes on along a constraint, and along the groups that begin with it, where it begins at the variable.
+    fn follow(
+        &mut self,
+        graph: &FlowGraph,
+        summaries: &Summaries,
+        lattice: LatticeNo,
+        origin: &Origin,
+        edge: EdgeId,
+    ) -> Result<(), NoMemory>
+        requires edge { edge < length graph.now.constraints }
+        requires lattice { lattice < 16 }
+        requires below { AllBelow graph.now (size_of self.old.marks) }
+        requires origin { StandsAt self.old origin.now.place origin.now.phase origin.now.at }
+        ensures good { OnOk result ((elem : ℕ) → IsGood graph.now lattice elem summaries.now self.old → IsGood graph.now lattice elem summaries.now self.new) }
+        ensures grows { OnOk result (Grows self.old self.new) }
+        ensures done { OnOk result (IsFollowed graph.now lattice summaries.now self.new origin.now.phase origin.now.at edge) }
+    {
+        let constraint = graph.constraint(edge);
+        if !constraint.is_in(lattice) {
+            return Ok(());
+        }
+        let link = constraint.link;
+        let cause = Cause::Step {
+            from: origin.place,
+            edge,
+        };
+        match link {
+            Link::Le(from, to) => {
+                if from != origin.at {
+                    return Ok(());
+                }
+                self.note(graph, to, origin.phase, cause)
+            }
+            Link::Leave(_, from, to) => {
+                if from != origin.at || !is_returning(origin.phase) {
+                    return Ok(());
+                }
+                self.note(graph, to, Phase::First, cause)
+            }
+            Link::Enter(site, from, inner) => {
+                if from != origin.at {
+                    return Ok(());
+                }
+                self.note(graph, inner, Phase::Second, cause)?;
+                let call = Call {
+                    enter: edge,
+                    site,
+                    inner,
+                };
+                self.follow_groups(graph, summaries, lattice, origin, &call)?;
+                Ok(())
+            }
+            _ => Ok(()),
+        }
+    }
+
+    /// Goes on along the groups of an `Enter`. Linear in the constraints.
+    fn follow_groups(
+        &mut self,
+        graph: &FlowGraph,
+        summaries: &Summaries,
+        lattice: LatticeNo,
+        origin: &Origin,
+        call: &Call,
+    ) -> Result<(), NoMemory>
+        requires lattice { lattice < 16 }
+        requires below { AllBelow graph.now (size_of self.old.marks) }
+        requires origin { StandsAt self.old origin.now.place origin.now.phase origin.now.at }
+        requires call { Stands graph.now lattice call.now.enter (Enter call.now.site origin.now.at call.now.inner) }
+        ensures good { OnOk result ((elem : ℕ) → IsGood graph.now lattice elem summaries.now self.old → IsGood graph.now lattice elem summaries.now self.new) }
+        ensures grows { OnOk result (Grows self.old self.new) }
+        ensures done { OnOk result ((m b v : ℕ) → Stands graph.now lattice m (Leave call.now.site b v) → Leads summaries.now call.now.inner b → IsMarked self.new (settled (owner_of graph.now v) origin.now.phase) v) }
+    {
+        for n in 0..graph.len() {
+            self.follow_group(graph, summaries, lattice, origin, call, EdgeId::new(n))?;
+        }
+        Ok(())
+    }
+
+    /// Goes on along the group of an `Enter` and a constraint, where that is a `Leave` of the same site to which nothing or
+    /// a summary leads.
+    fn follow_group(
+        &mut self,
+        graph: &FlowGraph,
+        summaries: &Summaries,
+        lattice: LatticeNo,
+        origin: &Origin,
+        call: &Call,
+        leave: EdgeId,
+    ) -> Result<(), NoMemory>
+        requires leave { leave < length graph.now.constraints }
+        requires lattice { lattice < 16 }
+        requires below { AllBelow graph.now (size_of self.old.marks) }
+        requires origin { StandsAt self.old origin.now.place origin.now.phase origin.now.at }
+        requires call { Stands graph.now lattice call.now.enter (Enter call.now.site origin.now.at call.now.inner) }
+        ensures good { OnOk result ((elem : ℕ) → IsGood graph.now lattice elem summaries.now self.old → IsGood graph.now lattice elem summaries.now self.new) }
+        ensures grows { OnOk result (Grows self.old self.new) }
+        ensures done { OnOk result ((b v : ℕ) → Stands graph.now lattice leave (Leave call.now.site b v) → Leads summaries.now call.now.inner b → IsMarked self.new (settled (owner_of graph.now v) origin.now.phase) v) }
+    {
+        let constraint = graph.constraint(leave);
+        if !constraint.is_in(lattice) {
+            return Ok(());
+        }
+        let link = constraint.link;
+        match link {
+            Link::Leave(site, last, to) => {
+                if site != call.site || !summaries.leads(call.inner, last) {
+                    return Ok(());
+                }
+                let cause = Cause::Group {
+                    from: origin.place,
+                    enter: call.enter,
+                    leave,
+                };
+                self.note(graph, to, origin.phase, cause)
+            }
+            _ => Ok(()),
+        }
+    }
+
+    /// Goes on from a place of the queue along each constraint.
+    fn visit(
+        &mut self,
+        graph: &FlowGraph,
+        summaries: &Summaries,
+        lattice: LatticeNo,
+        origin: &Origin,
+    ) -> Result<(), NoMemory>
+        requires lattice { lattice < 16 }
+        requires below { AllBelow graph.now (size_of self.old.marks) }
+        requires origin { StandsAt self.old origin.now.place origin.now.phase origin.now.at }
+        ensures good { OnOk result ((elem : ℕ) → IsGood graph.now lattice elem summaries.now self.old → IsGood graph.now lattice elem summaries.now self.new) }
+        ensures grows { OnOk result (Grows self.old self.new) }
+        ensures done { OnOk result ((n : ℕ) → IsFollowed graph.now lattice summaries.now self.new origin.now.phase origin.now.at n) }
+    {
+        for n in 0..graph.len() {
+            self.follow(graph, summaries, lattice, origin, EdgeId::new(n))?;
+        }
+        Ok(())
+    }
+
+    /// A place of the queue with its variable and phase.
+    fn origin_at(&self, place: usize) -> Origin
+        requires { place < length self.now.queue.items }
+        ensures place { result.place ≡ place }
+        ensures stands { StandsAt self.now place result.phase result.at }
+    {
+        let reached = self.queue[place];
+        Origin {
+            place,
+            at: reached.at,
+            phase: reached.phase,
+        }
+    }
+
+    /// Goes on from each place of the queue, until one is at the variable. Answers that place.
+    fn run(
+        &mut self,
+        graph: &FlowGraph,
+        summaries: &Summaries,
+        lattice: LatticeNo,
+        target: VarId,
+    ) -> Result<Option<usize>, NoMemory>
+        requires lattice { lattice < 16 }
+        requires below { AllBelow graph.now (size_of self.old.marks) }
+        ensures good { OnOk result ((elem : ℕ) → IsGood graph.now lattice elem summaries.now self.old → IsGood graph.now lattice elem summaries.now self.new) }
+        ensures grows { OnOk result (Grows self.old self.new) }
+        ensures found { IfOk result (λ place. IfSome place (λ n. IsReachedAt self.new n target)) }
+        ensures none { IfOk result (λ place. IfNone place (IsClosed graph.now lattice summaries.now self.new target)) }
+    {
+        let mut place = 0;
+        while place < self.queue.len() {
+            let origin = self.origin_at(place);
+            if origin.at == target {
+                return Ok(Some(place));
+            }
+            self.visit(graph, summaries, lattice, &origin)?;
+            place += 1;
+        }
+        Ok(None)
+    }
+}
+
+/// Whether no call is open in a phase.
+fn is_returning(phase: Phase) -> bool
+    ensures { IsTrue result ↔ (phase ≡ First) }
+{
+    match phase {
+        Phase::First => true,
+        Phase::Second => false,
+    }
+}
+
+/// The phase in which a path goes on from a variable.
+fn settled(graph: &FlowGraph, at: VarId, phase: Phase) -> Phase
+    ensures { result ≡ settled (owner_of graph.now at) phase }
+{
+    let owner = graph.owner(at);
+    match owner {
+        Owner::Nobody => Phase::First,
+        Owner::Function(_) => phase,
+    }
+}
+
+/// Reaches variables from the constants of an element until one is the target: the search and the place of its queue. None
+/// where no path leads there.
+///
+/// For each variable that it reaches it goes over all constraints, and for each `Enter` from it once more. An index of the
+/// constraints by their first variables takes its place where systems are large.
+pub fn reach(
+    alloc: Global,
+    graph: &FlowGraph,
+    summaries: &Summaries,
+    lattice: LatticeNo,
+    elem: Elem,
+    target: VarId,
+) -> Result<Found, NoMemory>
+    requires lattice { lattice < 16 }
+    ensures good { IfOk result (λ found. IsGood graph.now lattice elem summaries.now found.search) }
+    ensures found { IfOk result (λ found. IfSome found.place (λ n. IsReachedAt found.search n target)) }
+    ensures none { IfOk result (λ found. Summarises graph.now lattice summaries.now → IfNone found.place (Lead graph.now lattice elem target → ⊥)) }
+{
+    let mut search = Search::new(alloc, graph)?;
+    search.start(graph, lattice, elem)?;
+    let place = search.run(graph, summaries, lattice, target)?;
+    Ok(Found { search, place })
+}
