@@ -1,3 +1,5 @@
 pub mod Operations
 pub mod Joining
 pub mod Op
+pub mod Steps
+pub mod Building
