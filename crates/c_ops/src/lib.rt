@@ -6,4 +6,6 @@ pub mod joining;
 pub mod laws;
 pub mod list;
 pub mod op;
+#[cfg(test)]
+mod tests;
 pub(crate) mod waiting;
