@@ -7,16 +7,11 @@ use Rattle.c_tree.specs.Tree.{Expr, operation, cast, Operator, comma, assign, co
 use Rattle.c_tree.specs.Levels.{IsOperator, expr_level, operator_level, left_level, right_level}
 use Rattle.c_ops.specs.Operations.{Entry, Operations, appended, joined, in_order, IsLevelled, IsTreeOf, is_assign, is_untargeted, begins_side, is_bad, first_bad, bad_target}
 use Rattle.c_ops.specs.Joining.{Left, Stack, bottom, above, finished, Settled, settle_of, AreOperators, IsStack}
-use Rattle.c_ops.specs.Steps.{stack_from, stack_of, waits_after}
-use Rattle.c_ops.specs.Building.{IsTheTreeOf}
+use Rattle.c_ops.specs.Trees.{IsTheTreeOf, AreOperands, AllOperands, waits_after}
 use Rattle.c_ops.proofs.Levels.{left_most, level_left, level_most, in_order-leaf, leaf_levelled}
 use Rattle.c_ops.proofs.Settling.{settle_keeps, settle_all, accepts_leaf, finished_levelled}
 use Rattle.c_ops.proofs.Targets.{in_order-pushed, bad_target-pushed}
 use Rattle.c_ops.proofs.Unique.{one_tree}
-
-pub stack-snoc : (s : Stack) (xs : List Left) (l : Left) → stack_from s (xs ++ l ∷ []) ≡ above (stack_from s xs) l
-stack-snoc s [] l = refl
-stack-snoc s (x ∷ xs) l = stack-snoc (above s x) xs l
 
 pub record Progress (list : Operations) (s : Stack) (e : Expr) (k : List Entry) : Type 0 where
   pub same : appended (in_order (finished s e) []) k ≡ list
@@ -162,3 +157,19 @@ no_tree list n is e h = none_is (sym (tree_targets list e h) ∙ is)
   where
     none_is : None ≡ Some n → ⊥
     none_is h = absurd cc
+
+some_is : (n : ℕ) → Some n ≡ None → ⊥
+some_is n h = absurd cc
+
+-- the tree of what is left
+pub made : (list : Operations) (k : List Entry) (s : Stack) (e : Expr) → Progress list s e k → AllOperands k → bad_target list ≡ None → (tree : Expr) × IsTheTreeOf list tree
+made list [] s e p h is = (finished s e, (ends list s e p).0)
+made list (x ∷ k) s e p h is = by_test (λ p. made list k (waits_after x (settle_of (operator_level x.operator) s e)) x.operand p h.1 is) (is_untargeted x.operator (settle_of (operator_level x.operator) s e).last) refl
+  where
+    by_test : (Progress list (waits_after x (settle_of (operator_level x.operator) s e)) x.operand k → (tree : Expr) × IsTheTreeOf list tree) →
+        (b : Bool) → is_untargeted x.operator (settle_of (operator_level x.operator) s e).last ≡ b → (tree : Expr) × IsTheTreeOf list tree
+    by_test rest true t = absurd (some_is x.token (sym (fails list s e x k p t) ∙ is))
+    by_test rest false t = rest (goes_on list s e x k p h.0.1 h.0.0 t)
+
+pub has_tree : (list : Operations) → AreOperands list → bad_target list ≡ None → (tree : Expr) × IsTheTreeOf list tree
+has_tree list h is = made list list.rest bottom list.first (begins list h.first) h.rest is

@@ -1,5 +1,4 @@
 pub mod Operations
 pub mod Joining
 pub mod Op
-pub mod Steps
-pub mod Building
+pub mod Trees
