@@ -1,12 +1,12 @@
 -- What reading a list from left to right keeps.
 use Rattle.std.proofs.Common.{◌≡◌, ℕ, ◌≤◌, Bool, true, false, List, [], ◌∷◌, ◌++◌, Option, None, Some, refl, sym, ◌∙◌, ap, arith, inl, inr, append_assoc}
-use Rattle.std.specs.Prelude.{nat_le, ◌&&◌, not, if◌then◌else◌, ◌⊎◌}
+use Rattle.std.specs.Prelude.{nat_le, not, if◌then◌else◌, ◌⊎◌}
 use Rattle.std.proofs.lemmas.Bool.{leb-true, le-leb}
 use Rattle.std.proofs.lemmas.List.{append-nil}
 use Rattle.c_tree.specs.Tree.{Expr, operation, cast, Operator, comma, assign, cond, binary}
 use Rattle.c_tree.specs.Levels.{IsOperator, expr_level, operator_level, left_level, right_level}
-use Rattle.c_ops.specs.Operations.{Entry, Operations, appended, joined, in_order, IsLevelled, IsTreeOf, is_assign, is_untargeted, begins_side, is_bad, first_bad, bad_target}
-use Rattle.c_ops.specs.Joining.{Left, Stack, bottom, above, finished, Settled, settle_of, AreOperators, IsStack}
+use Rattle.c_ops.specs.Operations.{Entry, Operations, appended, joined, in_order, IsLevelled, IsTreeOf, is_untargeted, begins_side, is_bad, first_bad, bad_target}
+use Rattle.c_ops.specs.Joining.{Stack, bottom, above, finished, settle_of, AreOperators, IsStack}
 use Rattle.c_ops.specs.Trees.{IsTheTreeOf, AreOperands, AllOperands, waits_after}
 use Rattle.c_ops.proofs.Levels.{left_most, level_left, level_most, in_order-leaf, leaf_levelled}
 use Rattle.c_ops.proofs.Settling.{settle_keeps, settle_all, accepts_leaf, finished_levelled}

@@ -3,7 +3,7 @@ use Rattle.std.proofs.Common.{◌≡◌, ℕ, ◌≤◌, ◌<◌, Bool, true, fa
 use Rattle.std.specs.Prelude.{nat_le, ◌&&◌, not, if◌then◌else◌}
 use Rattle.c_tree.specs.Tree.{Expr, operation, Operator, comma, assign, cond, binary}
 use Rattle.c_tree.specs.Levels.{expr_level, operator_level, right_level}
-use Rattle.c_ops.specs.Operations.{Entry, Operations, appended, joined, in_order, is_assign, is_untargeted, begins_side, is_bad, first_bad, bad_target}
+use Rattle.c_ops.specs.Operations.{Entry, Operations, appended, joined, in_order, is_untargeted, begins_side, is_bad, first_bad, bad_target}
 use Rattle.c_ops.specs.Joining.{Stack, bottom, above, finished, Settled, settle_of}
 use Rattle.c_ops.proofs.Levels.{not_le, level_most, in_order-leaf}
 use Rattle.c_ops.proofs.Settling.{settle-kept, settle-joins, settle_keeps}

@@ -1,5 +1,5 @@
 -- Which lists have a tree.
-use Rattle.std.specs.Prelude.{◌≡◌, ℕ, ◌≤◌, List, [], ◌∷◌, Option, None, Some}
+use Rattle.std.specs.Prelude.{◌≡◌, ℕ, ◌≤◌, List, [], ◌∷◌, None, Some}
 use Rattle.c_tree.specs.Tree.{Expr}
 use Rattle.c_tree.specs.Levels.{IsOperator, expr_level}
 use Rattle.c_ops.specs.Operations.{Entry, Operations, IsTreeOf, bad_target}
