@@ -1,4 +1,4 @@
-use Rattle.std.proofs.Common.{◌≡◌, ℕ, refl}
+use Rattle.std.proofs.Common.{◌≡◌, refl}
 use Rattle.c_tree.specs.declared.initialiser.InitList as rust_init_list
 use Rattle.c_tree.specs.declared.declaration.Decl.TheViews as views
 use Rattle.c_tree.specs.View.{init_list_of}
