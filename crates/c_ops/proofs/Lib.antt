@@ -2,3 +2,4 @@ pub mod Levels
 pub mod Settling
 pub mod Unique
 pub mod Targets
+pub mod Progress

@@ -3,13 +3,10 @@ use Rattle.std.proofs.Common.{◌≡◌, ℕ, ◌≤◌, ◌<◌, Bool, true, fa
 use Rattle.std.specs.Prelude.{nat_le, ◌&&◌, not, if◌then◌else◌}
 use Rattle.c_tree.specs.Tree.{Expr, operation, Operator, comma, assign, cond, binary}
 use Rattle.c_tree.specs.Levels.{expr_level, operator_level, right_level}
-use Rattle.c_ops.specs.Operations.{Entry, Operations, joined, in_order, is_assign, begins_side, is_bad, first_bad, bad_target}
+use Rattle.c_ops.specs.Operations.{Entry, Operations, appended, joined, in_order, is_untargeted, begins_side, is_bad, first_bad, bad_target}
 use Rattle.c_ops.specs.Joining.{Stack, bottom, above, finished, Settled, settle_of}
 use Rattle.c_ops.proofs.Levels.{not_le, level_most, in_order-leaf}
 use Rattle.c_ops.proofs.Settling.{settle-kept, settle-joins, settle_keeps}
-
-abbrev pub appended : Operations → List Entry → Operations
-appended o k = record { first = o.first; rest = o.rest ++ k }
 
 in_order-append : (e : Expr) (k m : List Entry) → in_order e (k ++ m) ≡ appended (in_order e k) m
 in_order-append (operation a op token b) k m =
@@ -105,9 +102,6 @@ target_is (above s l) e = by_operator l.operator refl
     by_operator (assign p) is = ap (λ (r : Settled). nat_le 14 (expr_level r.last)) (settle-kept 1 (above s l) e (omega (arith, ap right_level is)))
     by_operator (cond m c) is = joins (omega (arith, ap right_level is))
     by_operator (binary p) is = joins (omega (arith, ap right_level is))
-
-abbrev pub is_untargeted : Operator → Expr → Bool
-is_untargeted op e = is_assign op && not (nat_le 14 (expr_level e))
 
 -- the first bad target, where one more operator comes
 pub bad_target-pushed : (s : Stack) (e : Expr) (op : Operator) (token : ℕ) (operand : Expr) → 13 ≤ expr_level e →

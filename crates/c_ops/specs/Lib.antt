@@ -1,3 +1,4 @@
 pub mod Operations
 pub mod Joining
 pub mod Op
+pub mod Trees

@@ -1,5 +1,5 @@
 -- Lists of operands and operators, and the trees of such a list.
-use Rattle.std.specs.Prelude.{◌≡◌, ℕ, ◌≤◌, nat_le, Bool, true, false, ◌&&◌, not, List, [], ◌∷◌, Option, None, Some, if◌then◌else◌}
+use Rattle.std.specs.Prelude.{◌≡◌, ℕ, ◌≤◌, nat_le, Bool, true, false, ◌&&◌, not, List, [], ◌∷◌, ◌++◌, Option, None, Some, if◌then◌else◌}
 use Rattle.c_tree.specs.Tree.{Expr, operation, Operator, comma, assign}
 use Rattle.c_tree.specs.Levels.{IsOperator, expr_level, left_level, right_level}
 
@@ -12,6 +12,10 @@ pub record Entry : Type 0 where
 pub record Operations : Type 0 where
   pub first : Expr
   pub rest : List Entry
+
+-- a list with more behind it
+abbrev pub appended : Operations → List Entry → Operations
+appended list k = record { first = list.first; rest = list.rest ++ k }
 
 -- an operator before a list
 abbrev pub joined : Operator → ℕ → Operations → List Entry
@@ -35,6 +39,10 @@ pub record IsTreeOf (list : Operations) (tree : Expr) : Type 0 where
 abbrev pub is_assign : Operator → Bool
 is_assign (assign p) = true
 is_assign _ = false
+
+-- an assignment to what is no unary form
+abbrev pub is_untargeted : Operator → Expr → Bool
+is_untargeted op e = is_assign op && not (nat_le 14 (expr_level e))
 
 -- whether the operand behind such an operator, or behind none, begins a left side of an assignment: only a comma or
 -- an assignment stands before one

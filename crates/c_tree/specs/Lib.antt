@@ -8,3 +8,4 @@ pub mod Specifiers
 pub mod WellFormed
 pub mod Unit
 pub mod Laws
+pub mod Ends

@@ -5,7 +5,7 @@ use Rattle.std.specs.Prelude.{◌≡◌, ◌≢◌, ℕ, ◌≤◌, All, Bool, t
 use Rattle.c_lexer.specs.declared.kinds.Punct.{Punct}
 use Rattle.c_lexer.specs.declared.kinds.Punct.TheVariants.{PlusPlus, MinusMinus, Ampersand, Star, Plus, Minus, Tilde, Bang}
 use Rattle.c_lexer.specs.declared.kinds.Keyword.{Keyword}
-use Rattle.c_lexer.specs.declared.kinds.Keyword.TheVariants.{Const, Volatile, Restrict, Goto, Inline, Sizeof, Alignof, Struct, Union}
+use Rattle.c_lexer.specs.declared.kinds.Keyword.TheVariants.{Const, Volatile, Restrict, Goto, Inline, Sizeof, Alignof, Struct, Union, Typedef, Extern, Static, Auto, Register}
 use Rattle.c_lexer.specs.declared.kinds.TokenKind.{TokenKind}
 use Rattle.c_lexer.specs.declared.kinds.TokenKind.TheVariants as kinds
 use Rattle.c_tree.specs.declared.lexeme.Lexeme.{Lexeme}
@@ -50,6 +50,15 @@ abbrev pub is_struct : Keyword → Bool
 is_struct Struct = true
 is_struct Union = true
 is_struct _ = false
+
+-- `_Thread_local` has a form of its own
+abbrev pub is_storage : Keyword → Bool
+is_storage Typedef = true
+is_storage Extern = true
+is_storage Static = true
+is_storage Auto = true
+is_storage Register = true
+is_storage _ = false
 
 abbrev pub is_qual : Keyword → Bool
 is_qual Const = true
@@ -253,7 +262,7 @@ module _ (all : List Lexeme) where
     AreSpecWords (more_words w ws) = IsSpecWord w × AreSpecWords ws
 
     pub IsSpecWord : SpecWord → Type 0
-    IsSpecWord (storage word) = Unit {0}
+    IsSpecWord (storage word) = is_storage word.keyword ≡ true
     IsSpecWord (thread keyword) = Unit {0}
     IsSpecWord (inline_word keyword) = Unit {0}
     IsSpecWord (noreturn keyword) = Unit {0}

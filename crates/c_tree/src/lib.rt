@@ -10,6 +10,7 @@
 
 pub mod declaration;
 pub mod declarator;
+pub mod ends;
 pub mod expression;
 pub mod initialiser;
 pub mod laws;
