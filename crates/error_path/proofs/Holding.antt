@@ -1,5 +1,5 @@
 -- A path with its sub-paths is a path proof that holds.
-use Rattle.std.proofs.Common.{◌≡◌, ℕ, zero, ◌-◌, Bool, true, false, List, [], ◌∷◌, ◌++◌, map, length, slice_get, Option, Some, None, unwrap_or, if◌then◌else◌, suc, arith, refl, sym, ◌∙◌, ap, subst, append_assoc, append-nil, ◌⊎◌, inl, inr}
+use Rattle.std.proofs.Common.{◌≡◌, ℕ, zero, ◌-◌, false, List, [], ◌∷◌, ◌++◌, map, length, slice_get, Option, Some, None, unwrap_or, if◌then◌else◌, suc, arith, refl, sym, ◌∙◌, ap, subst, append_assoc, append-nil, ◌⊎◌, inl, inr}
 use Rattle.qual_base.specs.declared.places.Owner.TheVariants.{Function}
 use Rattle.lattice_core.specs.Order.{Order, leq}
 use Rattle.flow_graph.specs.declared.constraint.Link.{Link}
@@ -10,18 +10,18 @@ use Rattle.flow_graph.specs.declared.proof.BadStep.{BadStep}
 use Rattle.flow_graph.specs.declared.proof.Why.{Why}
 use Rattle.flow_graph.specs.declared.proof.Why.TheVariants.{B1}
 use Rattle.flow_graph.specs.declared.place.Seen.{Seen}
-use Rattle.flow_graph.specs.declared.place.Seen.TheVariants.{Edge, Through}
+use Rattle.flow_graph.specs.declared.place.Seen.TheVariants.{Through}
 use Rattle.flow_graph.specs.declared.place.Path.{Path}
 use Rattle.flow_graph.specs.declared.place.Path.TheVariants.{Main, Sub as SubOf}
 use Rattle.flow_graph.specs.System.{System, owner_of, Stands, IsWellOwned}
 use Rattle.flow_graph.specs.PathRules.{begins, ends, is_bound, rule_at}
-use Rattle.flow_graph.specs.PathProofs.{first_failing, first_fault, main_fault, subs_fault, place, look, edge_or, edge_at, first_of, last_of, of_step, through, span_of, home_of, owner_at, start_of, fault_or, or_else, end_fault, ends_in_bound, no_order}
+use Rattle.flow_graph.specs.PathProofs.{first_failing, first_fault, main_fault, subs_fault, place, look, edge_at, first_of, last_of, of_step, through, span_of, home_of, owner_at, start_of, fault_or, or_else, end_fault, ends_in_bound, no_order}
 use Rattle.lattice_solver.specs.declared.phases.Phase.{Phase}
 use Rattle.lattice_solver.specs.declared.phases.Phase.TheVariants.{First, Second}
 use Rattle.error_path.specs.Parts.{settled, Part, Flow, Empty, Full, Inside, Done, More, IsSub, AreSubs, None as NoSubs, Next, Onward, Ends, Along, Back, Into, IsPath}
 use Rattle.error_path.specs.Shown.{HaveNoLines}
 use Rattle.error_path.proofs.Passing.{edge, start_passes}
-use Rattle.error_path.proofs.Walking.{seen, part_passes, inside_passes, follows_none, follows_const, call_const, quiet_and, nobody_quiet, onward_passes, Settles}
+use Rattle.error_path.proofs.Walking.{seen, inside_passes, follows_none, follows_const, call_const, quiet_and, onward_passes, Settles}
 
 last_more : {A : Type 0} (x y : A) (zs : List A) → last_of (x ∷ y ∷ zs) ≡ last_of (y ∷ zs)
 last_more x y zs =

@@ -1,25 +1,20 @@
 -- Sub-paths that come behind others.
-use Rattle.std.proofs.Common.{◌≡◌, ◌≢◌, ℕ, zero, suc, ◌+◌, ◌-◌, ◌<◌, ◌≤◌, List, [], ◌∷◌, ◌++◌, length, reverse, slice_get, Option, Some, None, option_map, inl, inr, ◌⊎◌, refl, sym, ◌∙◌, ap, subst, arith}
-use Rattle.std.specs.List.{Contains}
+use Rattle.std.proofs.Common.{◌≡◌, ◌≢◌, ℕ, zero, suc, ◌+◌, ◌-◌, ◌<◌, List, [], ◌∷◌, ◌++◌, length, slice_get, Option, Some, None, option_map, inl, inr, ◌⊎◌, refl, sym, ◌∙◌, ap, subst, arith}
 use Rattle.std.proofs.Math.Dec.{eqb-suc-zero}
 use Rattle.std.proofs.lemmas.Bool.{cases_eq}
-use Rattle.std.proofs.lemmas.List.{length-append, reverse-append}
+use Rattle.std.proofs.lemmas.List.{length-append}
 use Rattle.std.proofs.lemmas.List.Elements.{Contains-push_cases, Contains-push, Contains-append_left}
-use Rattle.std.proofs.lemmas.Option.{slice_get_within}
-use Rattle.flow_graph.specs.declared.constraint.Link.TheVariants.{Le, Enter, Leave}
 use Rattle.flow_graph.specs.declared.proof.PathStep.{PathStep}
-use Rattle.flow_graph.specs.declared.proof.PathStep.TheVariants.{Take, Sub}
-use Rattle.flow_graph.specs.declared.place.Seen.{Seen}
-use Rattle.flow_graph.specs.declared.place.Seen.TheVariants.{Through, NoSub}
-use Rattle.flow_graph.specs.System.{System, owner_of, Stands}
+use Rattle.flow_graph.specs.declared.proof.PathStep.TheVariants.{Sub}
+use Rattle.flow_graph.specs.declared.place.Seen.TheVariants.{Through}
+use Rattle.flow_graph.specs.System.{System}
 use Rattle.flow_graph.specs.PathProofs.{look, span_of}
 use Rattle.lattice_solver.specs.declared.phases.Phase.{Phase}
-use Rattle.lattice_solver.specs.declared.phases.Phase.TheVariants.{First, Second}
 use Rattle.match_summary.specs.declared.reason.Summary.{Summary}
 use Rattle.match_summary.specs.Summary.{HasPair}
 use Rattle.error_path.specs.declared.steps.Pair.{Pair}
-use Rattle.error_path.specs.Parts.{settled, Part, Flow, Empty, Full, IsSub, AreSubs, None as NoSubs, Next, Onward, Ends, Along, Back, Into}
-use Rattle.error_path.specs.Made.{AllJoined, AreMade, Fronts, group_steps}
+use Rattle.error_path.specs.Parts.{Part, Flow, Empty, Full, IsSub, None as NoSubs, Next, Onward, Ends, Along, Back, Into}
+use Rattle.error_path.specs.Made.{AllJoined, AreMade}
 use Rattle.error_path.specs.Shown.{AreApart}
 use Rattle.error_path.proofs.Holding.{sub_span}
 

@@ -1,19 +1,17 @@
 -- Steps that fail no rule.
-use Rattle.std.proofs.Common.{◌≡◌, ℕ, Bool, true, false, not, ◌&&◌, ◌||◌, ◌==◌, Option, Some, None, eq-eqb, refl, sym, ◌∙◌, ap, subst}
+use Rattle.std.proofs.Common.{◌≡◌, ℕ, Bool, true, false, not, ◌&&◌, ◌||◌, Option, Some, None, eq-eqb, refl}
 use Rattle.std.specs.Int.{bit_at}
 use Rattle.qual_base.specs.declared.places.Span.{Span}
 use Rattle.lattice_core.specs.Order.{Order, leq}
 use Rattle.flow_graph.specs.declared.constraint.Link.{Link}
 use Rattle.flow_graph.specs.declared.constraint.Link.TheVariants.{Le, Const, Bound, Enter, Leave}
-use Rattle.flow_graph.specs.declared.constraint.Constraint.{Constraint}
-use Rattle.flow_graph.specs.declared.proof.Why.{Why}
 use Rattle.flow_graph.specs.declared.place.Seen.{Seen}
 use Rattle.flow_graph.specs.declared.place.Seen.TheVariants.{Edge, Through}
 use Rattle.flow_graph.specs.declared.place.Path.{Path}
 use Rattle.flow_graph.specs.declared.place.Path.TheVariants.{Main}
 use Rattle.flow_graph.specs.declared.place.Place.{Place}
 use Rattle.flow_graph.specs.System.{System}
-use Rattle.flow_graph.specs.PathRules.{rule_at, fails_b1, fails_b2, fails_b3, is_headless, is_late_const, is_stray_bound, is_late_return, is_unmatched_in_sub, is_loose_sub, follows_bound, is_unmatched_leave, is_unmatched_enter, begins_group, is_after_sub, closes, is_bound, is_sub, is_main, is_there, holds_of, agree, differ, end_of, enters, leaves, site_entered, lacks}
+use Rattle.flow_graph.specs.PathRules.{rule_at, fails_b1, fails_b2, fails_b3, is_headless, is_late_const, is_stray_bound, is_late_return, is_unmatched_in_sub, is_loose_sub, follows_bound, is_unmatched_leave, is_unmatched_enter, begins_group, is_after_sub, closes, is_bound, is_sub, is_main, is_there, holds_of, agree, differ, end_of, leaves, site_entered, lacks}
 
 pub and_false : (a : Bool) → (a && false) ≡ false
 and_false true = refl

@@ -1,15 +1,15 @@
 -- What a summary rests on.
-use Rattle.std.proofs.Common.{◌≡◌, ℕ, ◌<◌, inl, inr, List, Option, Some, IfSome, length, take, slice_get, refl, sym, ◌∙◌, ap, subst, arith}
+use Rattle.std.proofs.Common.{◌≡◌, ℕ, ◌<◌, inl, inr, List, Option, Some, IfSome, length, take, slice_get, sym, ◌∙◌, ap, subst, arith}
 use Rattle.std.specs.List.{Contains}
 use Rattle.std.proofs.lemmas.List.{length-take, get_or-take}
-use Rattle.std.proofs.lemmas.Option.{slice_get_within, slice_get-get_or, get_or_from_slice_get}
+use Rattle.std.proofs.lemmas.Option.{slice_get_within, slice_get-get_or}
 use Rattle.qual_base.specs.declared.places.Owner.TheVariants.{Function}
 use Rattle.flow_graph.specs.declared.constraint.Link.{Link}
 use Rattle.flow_graph.specs.System.{System, owner_of, Has, Stands}
 use Rattle.match_summary.specs.declared.reason.Reason.{Reason}
 use Rattle.match_summary.specs.declared.reason.Reason.TheVariants.{Last, Group}
 use Rattle.match_summary.specs.declared.reason.Summary.{Summary}
-use Rattle.match_summary.specs.Summary.{HasPair, Leads, EndsAt, RestsOn, AreOfOne, Summarises}
+use Rattle.match_summary.specs.Summary.{HasPair, Leads, EndsAt, RestsOn, Summarises}
 
 contains_early : (rows : List Summary) (n : ℕ) (row : Summary) → Contains (take n rows) row → Contains rows row
 contains_early rows n row there =

@@ -1,5 +1,5 @@
 -- How a search grows, and what stays true of it.
-use Rattle.std.proofs.Common.{◌≡◌, ◌≢◌, ℕ, zero, suc, ◌+◌, ◌<◌, ◌≤◌, List, [], ◌∷◌, ◌++◌, length, slice_get, Option, Some, None, IfNone, inl, inr, ◌⊎◌, bit_or, not, false, eqb, refl, sym, ◌∙◌, ap, subst, arith, append_assoc, append-nil}
+use Rattle.std.proofs.Common.{◌≡◌, ◌≢◌, ℕ, zero, suc, ◌<◌, ◌≤◌, List, [], ◌∷◌, ◌++◌, length, slice_get, Option, Some, None, IfNone, inl, inr, ◌⊎◌, bit_or, not, false, eqb, refl, sym, ◌∙◌, ap, subst, arith, append_assoc, append-nil}
 use Rattle.std.specs.Int.{bit_at}
 use Rattle.std.proofs.lemmas.Option.{slice_get_within}
 use Rattle.std.proofs.lemmas.Bool.Decides.{nat_tests}
@@ -10,21 +10,21 @@ use Rattle.std.proofs.lemmas.Nat.Bits.{bit_at-zero, bit_at_or, bit_at-lt}
 use Rattle.qual_base.specs.declared.places.Owner.{Owner}
 use Rattle.qual_base.specs.declared.places.Owner.TheVariants.{Nobody, Function}
 use Rattle.flow_graph.specs.declared.constraint.Link.{Link}
-use Rattle.flow_graph.specs.declared.constraint.Link.TheVariants.{Le, Const, Enter, Leave}
+use Rattle.flow_graph.specs.declared.constraint.Link.TheVariants.{Le, Enter, Leave}
 use Rattle.flow_graph.specs.System.{System, owner_of, AllBelow, IsInLattice, Stands, vars_of_link}
-use Rattle.flow_graph.specs.Paths.{Matches, stay, longer, Part, flow, group, Returning, Calling, Lead, start, flows, returns, grouped, anew, calls, calls_on, flows_on, grouped_on}
+use Rattle.flow_graph.specs.Paths.{Matches, stay, longer, Returning, Calling, Lead, start, flows, returns, grouped, anew, calls, calls_on, flows_on, grouped_on}
 use Rattle.match_summary.specs.declared.reason.Summary.{Summary}
 use Rattle.match_summary.specs.Summary.{Leads, IsInnerEnd, Summarises}
 use Rattle.lattice_solver.specs.declared.phases.Phase.{Phase}
 use Rattle.lattice_solver.specs.declared.phases.Phase.TheVariants.{First, Second}
 use Rattle.lattice_solver.specs.PhaseSets.{PhaseSets}
-use Rattle.lattice_solver.specs.Phases.{set_of, HasIn, size_of, room_of}
+use Rattle.lattice_solver.specs.Phases.{set_of, HasIn, size_of}
 use Rattle.error_path.specs.declared.search.Cause.{Cause}
 use Rattle.error_path.specs.declared.search.Cause.TheVariants.{Start, Step, Group}
 use Rattle.error_path.specs.declared.search.Reached.{Reached}
 use Rattle.error_path.specs.declared.search.Search.{Search}
 use Rattle.error_path.specs.Parts.{settled}
-use Rattle.error_path.specs.Reaching.{Earlier, LeadsBy, LeadsAround, ComesBy, AreSound, IsMarked, IsListed, IsGood, Grows, IsFollowed, IsVisited, AreStarted, StandsAt, IsClosed}
+use Rattle.error_path.specs.Reaching.{Earlier, LeadsBy, ComesBy, AreSound, IsMarked, IsListed, IsGood, Grows, IsFollowed, IsVisited, AreStarted, StandsAt}
 use Rattle.error_path.proofs.Making.{push_cases, more_get, push_last}
 
 pub grows_same : (s : Search) → Grows s s

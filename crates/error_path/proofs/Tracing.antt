@@ -1,5 +1,5 @@
 -- A path that is followed back from a bound.
-use Rattle.std.proofs.Common.{◌≡◌, ℕ, ◌<◌, max, false, inl, inr, ◌⊎◌, bit_or, IfSome, MatchOption, arith, List, [], ◌∷◌, ◌++◌, length, reverse, slice_get, Option, Some, None, refl, sym, ◌∙◌, ap, subst}
+use Rattle.std.proofs.Common.{◌≡◌, ℕ, max, false, inl, inr, ◌⊎◌, bit_or, IfSome, MatchOption, arith, List, [], ◌∷◌, ◌++◌, Option, Some, None, refl, sym, ◌∙◌, ap, subst}
 use Rattle.std.specs.Int.{bit_at}
 use Rattle.std.proofs.lemmas.Bool.{cases_eq}
 use Rattle.std.proofs.lemmas.Nat.Bits.{bit_at_or}
@@ -8,7 +8,7 @@ use Rattle.flow_graph.specs.Paths.{Lead}
 use Rattle.flow_graph.specs.declared.constraint.Constraint.{Constraint}
 use Rattle.lattice_solver.specs.Phases.{set_of}
 use Rattle.lattice_solver.specs.Solution.{Solution, Exceeds, HasElement, IsSolved}
-use Rattle.flow_graph.specs.declared.constraint.Link.TheVariants.{Le, Const, Bound, Enter, Leave}
+use Rattle.flow_graph.specs.declared.constraint.Link.TheVariants.{Const, Bound, Leave}
 use Rattle.flow_graph.specs.declared.proof.PathStep.{PathStep}
 use Rattle.flow_graph.specs.declared.proof.PathStep.TheVariants.{Take, Sub}
 use Rattle.flow_graph.specs.System.{System, owner_of, Stands}
@@ -17,14 +17,13 @@ use Rattle.match_summary.specs.Summary.{Leads}
 use Rattle.lattice_solver.specs.declared.phases.Phase.{Phase}
 use Rattle.lattice_solver.specs.declared.phases.Phase.TheVariants.{First, Second}
 use Rattle.error_path.specs.declared.search.Cause.{Cause}
-use Rattle.error_path.specs.declared.search.Cause.TheVariants.{Start, Step, Group}
 use Rattle.error_path.specs.declared.search.Reached.{Reached}
 use Rattle.error_path.specs.declared.steps.Pair.{Pair}
 use Rattle.error_path.specs.Parts.{settled, Flow, Empty, Full, Onward, Along, Back, Into, IsPath}
-use Rattle.error_path.specs.Made.{group_steps, Fronts, IsInner}
-use Rattle.error_path.specs.Reaching.{Earlier, LeadsBy, ByFlow, ByLeave, ByEnter, LeadsAround, ComesBy}
+use Rattle.error_path.specs.Made.{group_steps, IsInner}
+use Rattle.error_path.specs.Reaching.{LeadsBy, ByFlow, ByLeave, ByEnter, LeadsAround, ComesBy}
 use Rattle.error_path.specs.Shown.{IsJoinedBy}
-use Rattle.error_path.proofs.Resting.{has_of, within_of}
+use Rattle.error_path.proofs.Resting.{has_of}
 
 module _ (sys : System) (lattice : ℕ) (subs : List (List PathStep)) (bound : ℕ) where
   pub traced_step : (n : ℕ) (p : Phase) (u : ℕ) (q : Phase) (v : ℕ) (rest : List PathStep) → LeadsBy sys lattice n p u q v → Onward sys lattice subs bound q v rest →

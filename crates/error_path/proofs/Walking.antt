@@ -1,27 +1,25 @@
 -- Paths of parts fail no rule.
-use Rattle.std.proofs.Common.{◌≡◌, ℕ, ◌-◌, Bool, true, false, not, ◌&&◌, ◌||◌, ◌==◌, List, [], ◌∷◌, ◌++◌, map, length, slice_get, Option, Some, None, suc, eq-eqb, arith, refl, sym, ◌∙◌, ap, subst, ◌⊎◌, inl, inr}
-use Rattle.std.specs.Int.{bit_at}
+use Rattle.std.proofs.Common.{◌≡◌, ℕ, Bool, true, false, not, ◌&&◌, ◌||◌, List, [], ◌∷◌, ◌++◌, map, slice_get, Option, Some, None, eq-eqb, refl, sym, ◌∙◌, ap, subst, ◌⊎◌, inl, inr}
 use Rattle.qual_base.specs.declared.places.Span.{Span}
 use Rattle.qual_base.specs.declared.places.Owner.{Owner}
 use Rattle.qual_base.specs.declared.places.Owner.TheVariants.{Nobody, Function}
 use Rattle.lattice_core.specs.Order.{Order, leq}
 use Rattle.flow_graph.specs.declared.constraint.Link.{Link}
 use Rattle.flow_graph.specs.declared.constraint.Link.TheVariants.{Le, Const, Bound, Enter, Leave}
-use Rattle.flow_graph.specs.declared.constraint.Constraint.{Constraint}
 use Rattle.flow_graph.specs.declared.proof.PathStep.{PathStep}
 use Rattle.flow_graph.specs.declared.proof.PathStep.TheVariants.{Take, Sub}
 use Rattle.flow_graph.specs.declared.proof.BadStep.{BadStep}
 use Rattle.flow_graph.specs.declared.proof.Why.{Why}
 use Rattle.flow_graph.specs.declared.place.Seen.{Seen}
-use Rattle.flow_graph.specs.declared.place.Seen.TheVariants.{Edge, Through}
+use Rattle.flow_graph.specs.declared.place.Seen.TheVariants.{Through}
 use Rattle.flow_graph.specs.declared.place.Path.{Path}
 use Rattle.flow_graph.specs.declared.place.Path.TheVariants.{Main, Sub as SubOf}
 use Rattle.flow_graph.specs.System.{System, owner_of, Has, Stands, IsWellOwned}
-use Rattle.flow_graph.specs.PathRules.{rule_at, is_main, is_there, begins_group, is_unmatched_enter, is_sub, agree, enters, leaves, lacks, differ, site_entered}
-use Rattle.flow_graph.specs.PathProofs.{first_failing, place, look, edge_or, first_of, second_of, fault_or, in_call_at, stays_in_call, is_nobodys}
+use Rattle.flow_graph.specs.PathRules.{rule_at, is_main, begins_group, is_unmatched_enter, is_sub, agree, leaves, lacks, site_entered}
+use Rattle.flow_graph.specs.PathProofs.{first_failing, place, look, edge_or, first_of, second_of, fault_or, in_call_at, is_nobodys}
 use Rattle.lattice_solver.specs.declared.phases.Phase.{Phase}
 use Rattle.lattice_solver.specs.declared.phases.Phase.TheVariants.{First, Second}
-use Rattle.error_path.specs.Parts.{settled, Part, Flow, Empty, Full, Inside, Done, More, IsSub, Onward, Ends, Along, Back, Into}
+use Rattle.error_path.specs.Parts.{settled, Part, Flow, Empty, Full, Inside, Done, More, Onward, Ends, Along, Back, Into}
 use Rattle.error_path.proofs.Passing.{and_false, edge, Follows, placed, flow_passes, group_passes, sub_passes, left_passes, closed_passes, back_passes, into_passes, bound_passes}
 
 -- what the step of a standing constraint names

@@ -1,7 +1,6 @@
-use Rattle.std.proofs.Common.{◌≡◌, ℕ, Option, Some, IfSome, sym, ap, subst}
+use Rattle.std.proofs.Common.{ℕ, sym, subst}
 use Rattle.std.proofs.lemmas.Result.{IfOk-weaker}
 use Rattle.flow_graph.specs.declared.constraint.Link.TheVariants.{Bound}
-use Rattle.flow_graph.specs.declared.proof.PathProof.{PathProof}
 use Rattle.flow_graph.specs.System.{Stands}
 use Rattle.flow_graph.specs.Paths.{Lead}
 use Rattle.flow_graph.specs.PathProofs.{steps_of}

@@ -1,4 +1,4 @@
-use Rattle.std.proofs.Common.{◌≡◌, ℕ, List, length, reverse, slice_get, get_or, Some, sym, ◌∙◌, subst}
+use Rattle.std.proofs.Common.{◌≡◌, ℕ, reverse, get_or, sym, ◌∙◌, subst}
 use Rattle.std.proofs.lemmas.Option.{slice_get-get_or, slice_get_within}
 use Rattle.error_path.specs.declared.search.Reached.{Reached}
 use Rattle.error_path.specs.Parts.{IsPath, Onward}

@@ -1,6 +1,5 @@
 use Rattle.std.proofs.Common.{List}
 use Rattle.match_summary.specs.declared.reason.Summary.{Summary}
-use Rattle.match_summary.specs.Summary.{HasPair}
 use Rattle.error_path.specs.Made.{AllJoined}
 use Rattle.error_path.proofs.sub_paths.wait_for.Given as goal
 

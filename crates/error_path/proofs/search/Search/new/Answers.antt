@@ -1,4 +1,4 @@
-use Rattle.std.proofs.Common.{◌≡◌, ℕ, List, [], slice_get, sym, ◌∙◌, ap, subst}
+use Rattle.std.proofs.Common.{ℕ, sym, ◌∙◌, subst}
 use Rattle.flow_graph.specs.System.{AllBelow}
 use Rattle.error_path.proofs.Searching.{unmarked, nothing_at}
 use Rattle.error_path.proofs.search.Search.new.Goals as goal

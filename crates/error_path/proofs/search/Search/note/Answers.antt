@@ -2,7 +2,7 @@ use Rattle.std.proofs.Common.{◌≡◌, ℕ, ◌+◌, List, [], ◌∷◌, leng
 use Rattle.std.proofs.lemmas.List.{length-append}
 use Rattle.lattice_solver.specs.declared.phases.Phase.{Phase}
 use Rattle.lattice_solver.specs.PhaseSets.{PhaseSets}
-use Rattle.lattice_solver.specs.Phases.{HasIn, size_of}
+use Rattle.lattice_solver.specs.Phases.{HasIn}
 use Rattle.flow_graph.specs.System.{AllBelow}
 use Rattle.error_path.specs.declared.search.Reached.{Reached}
 use Rattle.error_path.specs.Reaching.{AreSound, ComesBy, IsGood, IsListed}

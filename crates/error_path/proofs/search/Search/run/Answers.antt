@@ -1,7 +1,6 @@
-use Rattle.std.proofs.Common.{◌≡◌, ℕ, ◌+◌, ◌≤◌, length, slice_get, Some, inl, inr, subst, arith, sym, ap, ◌∙◌}
+use Rattle.std.proofs.Common.{◌≡◌, ℕ, slice_get, inl, inr, subst, arith, sym, ap, ◌∙◌}
 use Rattle.std.proofs.lemmas.Bool.{cases_lt, eqb-false}
 use Rattle.std.proofs.lemmas.Option.{slice_get_within}
-use Rattle.error_path.specs.declared.search.Reached.{Reached}
 use Rattle.error_path.specs.Reaching.{IsVisited, StandsAt}
 use Rattle.error_path.proofs.Searching.{below_on, grows_then, grows_length, visited_on, visited_here, missed_here, missed_on}
 use Rattle.error_path.proofs.search.Search.run.Goals as goal

@@ -1,4 +1,4 @@
-use Rattle.std.proofs.Common.{◌≡◌, ℕ, length, inl, inr, subst, arith, sym}
+use Rattle.std.proofs.Common.{◌≡◌, ℕ, length, inl, inr, subst, arith}
 use Rattle.std.proofs.lemmas.Bool.{cases_lt}
 use Rattle.error_path.specs.Reaching.{IsFollowed}
 use Rattle.error_path.proofs.Searching.{below_on, followed_on, followed_past, grows_then, stands_on}

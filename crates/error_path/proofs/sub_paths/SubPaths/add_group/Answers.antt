@@ -1,14 +1,12 @@
-use Rattle.std.proofs.Common.{◌≡◌, ℕ, ◌+◌, Some, None, inl, inr, sym, ◌∙◌, ap, subst}
+use Rattle.std.proofs.Common.{◌≡◌, ℕ, Some, None, inl, inr, sym, ◌∙◌, ap, subst}
 use Rattle.std.proofs.lemmas.Bool.{eqb-true, eqb-false}
 use Rattle.std.proofs.lemmas.Result.{on_ok_weaker}
-use Rattle.flow_graph.specs.declared.constraint.Link.TheVariants.{Enter, Leave}
+use Rattle.flow_graph.specs.declared.constraint.Link.TheVariants.{Leave}
 use Rattle.flow_graph.specs.declared.proof.PathStep.TheVariants.{Sub}
-use Rattle.flow_graph.specs.declared.place.Seen.{Seen}
 use Rattle.flow_graph.specs.declared.place.Seen.TheVariants.{Through}
 use Rattle.flow_graph.specs.System.{Stands}
 use Rattle.flow_graph.specs.PathProofs.{look}
 use Rattle.match_summary.specs.Summary.{HasPair}
-use Rattle.error_path.specs.declared.steps.Pair.{Pair}
 use Rattle.error_path.specs.Parts.{Empty, Full}
 use Rattle.error_path.specs.Made.{group_steps, place_of, subs_in, AllJoined}
 use Rattle.error_path.proofs.Making.{number_place, joined_push}

@@ -1,12 +1,10 @@
-use Rattle.std.proofs.Common.{◌≡◌, ℕ, List, [], ◌∷◌, inl, inr, reverse, sym, ◌∙◌, ap, subst, arith}
+use Rattle.std.proofs.Common.{◌≡◌, ℕ, List, [], inl, inr, reverse, sym, ◌∙◌, subst, arith}
 use Rattle.std.specs.List.{Contains}
 use Rattle.std.proofs.lemmas.Bool.{eqb-true, eqb-false}
-use Rattle.qual_base.specs.declared.places.Owner.TheVariants.{Function}
 use Rattle.flow_graph.specs.declared.proof.PathStep.{PathStep}
-use Rattle.match_summary.specs.Summary.{HasPair}
 use Rattle.error_path.specs.declared.steps.Pair.{Pair}
 use Rattle.error_path.specs.Parts.{Part, Inside, Done, More}
-use Rattle.error_path.specs.Made.{subs_in, AllJoined}
+use Rattle.error_path.specs.Made.{subs_in}
 use Rattle.error_path.proofs.Resting.{leads_owner}
 use Rattle.error_path.proofs.sub_paths.SubPaths.follow.Goals as goal
 

@@ -1,4 +1,4 @@
-use Rattle.std.proofs.Common.{map, ap, ◌∙◌}
+use Rattle.std.proofs.Common.{ap}
 use Rattle.flow_graph.specs.PathProofs.{steps_of}
 use Rattle.error_path.proofs.Making.{made_none}
 use Rattle.error_path.proofs.sub_paths.SubPaths.new.Goals as goal
