@@ -1,5 +1,5 @@
 -- Texts that grow at their end.
-use Rattle.std.proofs.Common.{◌≡◌, ℕ, List, [], ◌++◌, sym, ◌∙◌, ap, append_assoc, Ok, Err, OnOk}
+use Rattle.std.proofs.Common.{◌≡◌, ℕ, List, ◌++◌, ◌∙◌, ap, append_assoc, Ok, Err, OnOk}
 use Rattle.std.specs.declared.result.Result.{Result}
 
 -- what was put behind a text, and then more

@@ -1,11 +1,11 @@
 -- A path along flows, to a bound that its constant is not below, holds.
-use Rattle.std.proofs.Common.{◌≡◌, ℕ, ◌-◌, Bool, true, false, not, ◌&&◌, ◌||◌, ◌==◌, List, [], ◌∷◌, ◌++◌, map, length, slice_get, Some, None, unwrap_or, if◌then◌else◌, suc, eq-eqb, arith, refl, sym, ◌∙◌, ap, subst}
+use Rattle.std.proofs.Common.{◌≡◌, ℕ, ◌-◌, Bool, false, List, [], ◌∷◌, ◌++◌, map, length, slice_get, Some, None, unwrap_or, if◌then◌else◌, suc, eq-eqb, arith, refl, sym, ◌∙◌, ap, subst}
 use Rattle.std.specs.declared.option.Option.{Option}
 use Rattle.std.specs.Int.{bit_at}
 use Rattle.qual_base.specs.declared.places.Span.{Span}
 use Rattle.lattice_core.specs.Order.{Order, leq}
 use Rattle.flow_graph.specs.declared.constraint.Link.{Link}
-use Rattle.flow_graph.specs.declared.constraint.Link.TheVariants.{Le, Const, Bound, Enter, Leave}
+use Rattle.flow_graph.specs.declared.constraint.Link.TheVariants.{Le, Const, Bound}
 use Rattle.flow_graph.specs.declared.constraint.Constraint.{Constraint}
 use Rattle.flow_graph.specs.declared.proof.PathStep.{PathStep}
 use Rattle.flow_graph.specs.declared.proof.PathStep.TheVariants.{Take}
@@ -17,8 +17,8 @@ use Rattle.flow_graph.specs.declared.place.Seen.TheVariants.{Edge}
 use Rattle.flow_graph.specs.declared.place.Path.TheVariants.{Main}
 use Rattle.flow_graph.specs.declared.place.Place.{Place}
 use Rattle.flow_graph.specs.System.{System, Stands}
-use Rattle.flow_graph.specs.PathRules.{rule_at, fails_b1, fails_b2, fails_b3, is_headless, is_late_const, is_stray_bound, is_late_return, is_unmatched_in_sub, is_loose_sub, follows_bound, is_unmatched_leave, is_unmatched_enter, begins_group, is_after_sub, closes, is_bound_link, is_bound, link_ends}
-use Rattle.flow_graph.specs.PathProofs.{first_failing, first_fault, main_fault, place, place_with, look, edge_or, edge_at, first_of, second_of, last_of, start_of, fault_or, or_else, end_fault, ends_in_bound, no_order}
+use Rattle.flow_graph.specs.PathRules.{rule_at, fails_b1, fails_b2, fails_b3, is_headless, is_late_const, is_stray_bound, is_late_return, is_unmatched_in_sub, is_loose_sub, follows_bound, is_unmatched_leave, is_unmatched_enter, is_after_sub, is_bound_link, is_bound, link_ends}
+use Rattle.flow_graph.specs.PathProofs.{first_failing, first_fault, main_fault, place, look, edge_or, first_of, last_of, start_of, fault_or, or_else, end_fault, ends_in_bound, no_order}
 use Rattle.cqual_tool.specs.FlatPaths.{takes, Flows, Here, Flow, IsFlatPath}
 
 -- a constraint of this link

@@ -1,6 +1,5 @@
 -- Lattices by their numbers, and a solution for each.
-use Rattle.std.proofs.Common.{◌≡◌, ℕ, zero, suc, ◌<◌, ◌≤◌, List, [], ◌∷◌, length, Some, None, slice_get, refl, sym, ◌∙◌, ap, subst, arith}
-use Rattle.std.specs.declared.option.Option.{Option}
+use Rattle.std.proofs.Common.{◌≡◌, ℕ, zero, suc, ◌<◌, List, [], ◌∷◌, length, Some, slice_get, refl, sym, ◌∙◌, ap, subst, arith}
 use Rattle.std.specs.Option.{option_map}
 use Rattle.std.proofs.lemmas.Option.{slice_get-map, slice_get_within}
 use Rattle.lattice_core.specs.Order.{Order}
@@ -10,7 +9,7 @@ use Rattle.flow_graph.specs.declared.constraint.Link.{Link}
 use Rattle.flow_graph.specs.declared.constraint.Link.TheVariants.{Bound}
 use Rattle.flow_graph.specs.System.{System, Stands}
 use Rattle.flow_graph.specs.Unfolding.{IsAccepted, IsAcceptedIn, IsExceeded}
-use Rattle.lattice_solver.specs.Solution.{Solution, IsKept, Exceeds}
+use Rattle.lattice_solver.specs.Solution.{Solution, Exceeds}
 use Rattle.cqual_tool.specs.Texts.{Scene}
 use Rattle.cqual_tool.specs.declared.texts.Scene.{Scene as Lent}
 use Rattle.cqual_tool.specs.Scenes.{HasLink, HasElem, IsOverBound, IsSolution, AreSolutions, AreKept, IsNoBound}

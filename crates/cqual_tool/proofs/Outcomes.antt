@@ -1,5 +1,5 @@
 -- Answers and their outcomes.
-use Rattle.std.proofs.Common.{◌≡◌, ◌⊎◌, inl, inr, ℕ, zero, suc, ◌<◌, ◌≤◌, List, [], ◌∷◌, ◌++◌, length, map, take, slice_get, Some, None, codes, IfSome, MatchOption, refl, append_assoc, append-nil, sym, ◌∙◌, ap, subst}
+use Rattle.std.proofs.Common.{◌≡◌, inl, inr, ℕ, zero, suc, ◌<◌, ◌≤◌, List, [], ◌∷◌, ◌++◌, length, take, slice_get, Some, None, codes, IfSome, MatchOption, append_assoc, append-nil, sym, ◌∙◌, ap, subst}
 use Rattle.std.specs.declared.option.Option.{Option}
 use Rattle.std.specs.declared.alloc.Global.{Global}
 use Rattle.std.specs.declared.vec.Vec.{Vec}
@@ -9,20 +9,19 @@ use Rattle.lattice_core.specs.View.{LatticeView}
 use Rattle.c_lexer.specs.Tokens.{Lexed}
 use Rattle.second_form.specs.Source.{ItemView}
 use Rattle.cqual_tool.specs.declared.status.Status.{Status}
-use Rattle.cqual_tool.specs.declared.status.Status.TheVariants.{Accepted, Rejected, NotYet, Malformed, BadWords, ReadFault, WriteFault, NoMemory}
+use Rattle.cqual_tool.specs.declared.status.Status.TheVariants.{Malformed, BadWords, WriteFault}
 use Rattle.cqual_tool.specs.Words.{FileNames, meaning_of}
-use Rattle.cqual_tool.specs.Texts.{not_yet_line, malformed_line, usage_line}
+use Rattle.cqual_tool.specs.Texts.{malformed_line, usage_line}
 use Rattle.cqual_tool.specs.Sending.{AppendsFront, Sends}
-use Rattle.qual_base.specs.Counts.{Rose}
 use Rattle.std.specs.Option.{option_map}
-use Rattle.cqual_tool.specs.Reports.{IsJudged, JudgedAccepted, JudgedRejected}
-use Rattle.std.proofs.Common.{◌≢◌, Ok, Err, IfOk, arith}
+use Rattle.cqual_tool.specs.Reports.{JudgedAccepted, JudgedRejected}
+use Rattle.std.proofs.Common.{◌≢◌, Ok, Err, IfOk}
 use Rattle.std.specs.declared.result.Result.{Result}
 use Rattle.lattice_file.specs.Faults.{Reads, IsFileFault}
 use Rattle.lattice_file.specs.declared.reading.LatticeFileFault.{LatticeFileFault}
 use Rattle.lattice_file.specs.declared.reading.LatticeFileFault.TheVariants.{NoMemory as OutOfMemory}
 use Rattle.cqual_tool.specs.Faults.{lattice_line}
-use Rattle.cqual_tool.specs.Outcome.{OfProgram, PastLimit, Judged, WithoutMeaning, IsDecided, StartsFor, NoFile, InOrder, LatticesRead, LatticesFail, OfFiles, LatticeTooLarge, LatticeRefused, Outcome, WithMeaning, IsAnswer, RecordsAll, lattice_limit}
+use Rattle.cqual_tool.specs.Outcome.{OfProgram, PastLimit, Judged, WithoutMeaning, IsDecided, LatticesRead, LatticesFail, OfFiles, LatticeTooLarge, LatticeRefused, Outcome, WithMeaning, IsAnswer, RecordsAll, lattice_limit}
 
 -- an outcome at equal statuses and texts
 pub at_equal : (Is : Status → List ℕ → Type 0) (one other : Status) (text same : List ℕ) → one ≡ other → text ≡ same → Is other same → Is one text

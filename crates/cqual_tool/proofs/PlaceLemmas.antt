@@ -1,7 +1,6 @@
 -- The spot of a place, and the places of tokens.
-use Rattle.std.proofs.Common.{◌≡◌, ◌≢◌, ℕ, zero, suc, ◌+◌, ◌-◌, ◌<◌, ◌≤◌, ◌⊎◌, inl, inr, Bool, true, false, not, List, [], ◌∷◌, ◌++◌, length, take, drop, map, get_or, reverse, Some, None, unwrap_or, slice_get, if◌then◌else◌, refl, sym, ◌∙◌, ap, subst, arith}
-use Rattle.std.specs.Prelude.{nat_eq, nat_le, count_by, slice_index, slice_range}
-use Rattle.std.specs.List.{prefix_len}
+use Rattle.std.proofs.Common.{◌≡◌, ◌≢◌, ℕ, zero, suc, ◌+◌, ◌-◌, ◌<◌, ◌≤◌, inl, inr, Bool, true, false, not, List, [], ◌∷◌, length, take, get_or, reverse, Some, slice_get, if◌then◌else◌, refl, sym, ◌∙◌, ap, subst, arith}
+use Rattle.std.specs.Prelude.{nat_eq, nat_le, slice_range}
 use Rattle.std.proofs.lemmas.List.{length-reverse, get_or-reverse, length-take-le, get_or-take}
 use Rattle.std.proofs.lemmas.List.Sums.{prefix_len_is}
 use Rattle.std.proofs.lemmas.Bool.{le-leb, lt-leb, eq-eqb, ne_eqb}
@@ -9,7 +8,7 @@ use Rattle.qual_base.specs.declared.places.Spot.{Spot}
 use Rattle.c_lexer.specs.declared.places.Mark.{Mark}
 use Rattle.c_lexer.specs.Places.{no_mark, Governs, IsLineOf, IsSpot}
 use Rattle.c_lexer.specs.Places.Governs.{none, last}
-use Rattle.cqual_tool.specs.Texts.{governing, before_in_line, line_by, spot_by, spot_at, file_text, at_text, spot_text, start_of}
+use Rattle.cqual_tool.specs.Texts.{governing, before_in_line, line_by, spot_by, file_text, at_text, spot_text}
 
 -- ---- the linemarker that governs a place
 

@@ -1,20 +1,17 @@
 -- Reports from their parts.
-use Rattle.std.proofs.Common.{◌≡◌, ℕ, zero, suc, ◌<◌, ◌*◌, true, false, List, [], ◌∷◌, ◌++◌, length, slice_get, Some, None, codes, refl, sym, ◌∙◌, ap, subst, append_assoc, append-nil}
-use Rattle.lattice_core.specs.Order.{Order, size, leq, IsLattice, IsJoinOf}
+use Rattle.std.proofs.Common.{◌≡◌, ℕ, ◌*◌, List, [], ◌++◌, length, slice_get, Some, codes, refl, sym, ◌∙◌, ap, subst, append_assoc, append-nil}
+use Rattle.lattice_core.specs.Order.{Order, leq, IsLattice, IsJoinOf}
 use Rattle.flow_graph.specs.declared.constraint.Constraint.{Constraint}
-use Rattle.flow_graph.specs.declared.constraint.Link.{Link}
-use Rattle.flow_graph.specs.declared.constraint.Link.TheVariants.{Const, Bound}
-use Rattle.flow_graph.specs.declared.proof.PathStep.{PathStep}
-use Rattle.flow_graph.specs.declared.proof.PathStep.TheVariants.{Take}
-use Rattle.flow_graph.specs.System.{System, Stands}
-use Rattle.flow_graph.specs.Unfolding.{IsAccepted, IsAcceptedIn, IsExceeded, Printed}
+use Rattle.flow_graph.specs.declared.constraint.Link.TheVariants.{Bound}
+use Rattle.flow_graph.specs.System.{System}
+use Rattle.flow_graph.specs.Unfolding.{IsAccepted, Printed}
 use Rattle.flow_graph.specs.PathProofs.{first_of, last_of}
 use Rattle.flow_laws.specs.Refuting.{ExceededIsRefuted}
 use Rattle.lattice_solver.specs.Solution.{Solution, reached_at, IsKept}
 use Rattle.cqual_tool.specs.Texts.{Scene, line, value_line, error_line, subs_text, steps_text}
 use Rattle.cqual_tool.specs.Scenes.{IsOverBound, IsLineIn}
 use Rattle.cqual_tool.specs.FlatPaths.{takes, IsFlatPath}
-use Rattle.cqual_tool.specs.Reports.{orders_of, IsBottom, IsLine, AtBottom, Above, Lines, IsError, IsOver, Errors, IsAcceptedReport, IsRejectedReport}
+use Rattle.cqual_tool.specs.Reports.{orders_of, IsBottom, AtBottom, Above, Lines, IsError, IsOver, Errors, IsAcceptedReport, IsRejectedReport}
 use Rattle.cqual_tool.proofs.FlatHolds.{flat_holds, last_taken}
 
 some_is : {A : Type 0} {x y : A} → Some x ≡ Some y → x ≡ y

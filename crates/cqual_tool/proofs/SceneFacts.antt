@@ -1,12 +1,10 @@
 -- What a source gives the scene of its report.
-use Rattle.std.proofs.Common.{◌≡◌, ℕ, zero, suc, ◌+◌, ◌*◌, ◌<◌, ◌≤◌, ◌^◌, ◌⊎◌, inl, inr, List, [], ◌∷◌, ◌++◌, length, Some, None, slice_get, refl, sym, ◌∙◌, ap, subst, arith, length-append}
+use Rattle.std.proofs.Common.{◌≡◌, ℕ, zero, suc, ◌+◌, ◌*◌, ◌<◌, ◌⊎◌, inl, inr, List, [], ◌∷◌, ◌++◌, length, Some, None, slice_get, refl, sym, ◌∙◌, ap, subst, arith, length-append}
 use Rattle.std.proofs.Common.{true, false, MatchOption}
 use Rattle.std.specs.declared.option.Option.{Option}
 use Rattle.std.specs.Option.{is_some}
 use Rattle.std.proofs.lemmas.Bool.{cases_order}
-use Rattle.lattice_core.specs.Order.{Order}
 use Rattle.lattice_core.specs.View.{LatticeView}
-use Rattle.flow_graph.specs.declared.constraint.Constraint.{Constraint}
 use Rattle.flow_graph.specs.declared.constraint.Link.{Link}
 use Rattle.flow_graph.specs.declared.constraint.Link.TheVariants.{Le, Const, Bound, Enter, Leave}
 use Rattle.flow_graph.specs.System.{System}
@@ -16,7 +14,7 @@ use Rattle.c_lexer.specs.Reading.{Meanings}
 use Rattle.c_lexer.specs.Tokens.{IsSpelled}
 use Rattle.second_form.specs.Facts.{IsNamed, AreNamed, AreObjects}
 use Rattle.cqual_tool.specs.declared.texts.Scene.{Scene as Lent}
-use Rattle.cqual_tool.specs.Scenes.{HasVar, HasLink, HasObjects, IsShown, IsSolution}
+use Rattle.cqual_tool.specs.Scenes.{HasLink, HasObjects, IsShown, IsSolution}
 use Rattle.cqual_tool.proofs.LatticeLemmas.{item_at}
 use Rattle.cqual_tool.proofs.TokenLemmas.{starts_within}
 

@@ -1,5 +1,5 @@
 -- The places and the texts of tokens.
-use Rattle.std.proofs.Common.{◌≡◌, ℕ, zero, suc, ◌+◌, ◌<◌, ◌≤◌, ◌⊎◌, inl, inr, List, [], ◌∷◌, ◌++◌, length, map, Some, None, IfSome, unwrap_or, slice_get, refl, sym, ◌∙◌, ap, subst, arith}
+use Rattle.std.proofs.Common.{◌≡◌, ℕ, zero, suc, ◌<◌, ◌≤◌, ◌⊎◌, inl, inr, List, [], ◌∷◌, ◌++◌, length, Some, None, IfSome, unwrap_or, slice_get, refl, sym, ◌∙◌, ap, subst, arith}
 use Rattle.std.specs.Prelude.{slice_range}
 use Rattle.std.specs.declared.option.Option.{Option}
 use Rattle.std.specs.Option.{option_map}
@@ -8,7 +8,7 @@ use Rattle.qual_base.specs.declared.places.Spot.{Spot}
 use Rattle.c_lexer.specs.declared.token.Token.{Token}
 use Rattle.c_lexer.specs.declared.kinds.TokenKind.TheVariants.{End}
 use Rattle.c_lexer.specs.Places.{IsSpot}
-use Rattle.c_lexer.specs.Reading.{Meanings, Front, Reaches, Spells}
+use Rattle.c_lexer.specs.Reading.{Meanings, Front, Reaches}
 use Rattle.c_lexer.specs.Reading.Reaches.{begins, skips, takes}
 use Rattle.c_lexer.specs.Tokens.{Lexed, IsSpelled}
 use Rattle.cqual_tool.specs.Texts.{start_of, end_of, text_of, spot_at, spot_text}

@@ -1,5 +1,5 @@
 -- The texts of variables.
-use Rattle.std.proofs.Common.{◌≡◌, ℕ, zero, suc, ◌+◌, ◌*◌, ◌<◌, ◌≤◌, ◌⊎◌, inl, inr, List, [], ◌∷◌, ◌++◌, length, Some, None, codes, unwrap_or, slice_get, refl, sym, ◌∙◌, ap, subst, arith}
+use Rattle.std.proofs.Common.{◌≡◌, ℕ, zero, suc, ◌+◌, ◌*◌, ◌⊎◌, inl, inr, List, [], ◌∷◌, ◌++◌, Some, codes, unwrap_or, slice_get, ◌∙◌, ap, arith}
 use Rattle.std.proofs.Common.{◌/◌, ◌%◌, get_or}
 use Rattle.std.proofs.lemmas.Option.{get_or_from_slice_get}
 use Rattle.cqual_tool.specs.Texts.{Scene, name_text, vars_texts, var_text}

@@ -1,7 +1,6 @@
 -- The lines of faults of lattice files and of the tokens of sources.
-use Rattle.std.specs.Prelude.{◌≡◌, ℕ, List, [], ◌∷◌, ◌++◌, codes}
+use Rattle.std.specs.Prelude.{ℕ, List, [], ◌++◌, codes}
 use Rattle.std.specs.Fmt.{decimal}
-use Rattle.qual_base.specs.declared.places.Spot.{Spot}
 use Rattle.lattice_core.specs.declared.LatticeFault.{LatticeFault}
 use Rattle.lattice_core.specs.declared.LatticeFault.TheVariants.{TooMany, Repeated, UnknownName, LevelMix, Cycle, NotALattice, NoMemory}
 use Rattle.lattice_file.specs.declared.reading.LatticeFileFault.{LatticeFileFault}

@@ -1,5 +1,5 @@
 -- The two reports of a program.
-use Rattle.std.specs.Prelude.{◌≡◌, ◌≢◌, ℕ, ◌+◌, ◌*◌, ◌<◌, true, List, [], ◌∷◌, ◌++◌, length, map, slice_get, Some, None, codes}
+use Rattle.std.specs.Prelude.{◌≡◌, ℕ, ◌+◌, ◌*◌, ◌<◌, true, List, [], ◌++◌, length, map, slice_get, Some, None, codes}
 use Rattle.lattice_core.specs.Order.{Order, size, leq}
 use Rattle.lattice_core.specs.View.{LatticeView}
 use Rattle.flow_graph.specs.declared.constraint.Link.TheVariants.{Const, Bound}

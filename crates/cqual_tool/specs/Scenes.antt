@@ -5,7 +5,7 @@ use Rattle.flow_graph.specs.System.{System, Stands}
 use Rattle.flow_graph.specs.Paths.{Lead}
 use Rattle.flow_graph.specs.declared.constraint.Link.{Link}
 use Rattle.flow_graph.specs.declared.constraint.Link.TheVariants.{Le, Const, Bound, Enter, Leave}
-use Rattle.lattice_core.specs.Order.{Order, size, leq}
+use Rattle.lattice_core.specs.Order.{Order, leq}
 use Rattle.lattice_core.specs.View.{LatticeView}
 use Rattle.flow_laws.specs.Least.{NamesElementsIn}
 use Rattle.lattice_solver.specs.Solution.{Solution, HasElement, IsSolved, IsKept}

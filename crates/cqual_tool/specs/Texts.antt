@@ -1,9 +1,8 @@
 -- The lines that are written.
-use Rattle.std.specs.Prelude.{◌≡◌, ℕ, ◌+◌, ◌-◌, ◌*◌, List, [], ◌∷◌, ◌++◌, map, take, reverse, count_by, not, Option, Some, None, slice_get, slice_index, slice_range, unwrap_or, codes, Bool, true, false, nat_eq, nat_le, if◌then◌else◌}
+use Rattle.std.specs.Prelude.{ℕ, ◌+◌, List, [], ◌∷◌, ◌++◌, map, take, reverse, count_by, not, Option, Some, None, slice_get, slice_range, unwrap_or, codes, nat_eq, nat_le, if◌then◌else◌}
 use Rattle.std.specs.List.{flat_map, prefix_len}
 use Rattle.std.specs.Fmt.{decimal}
 use Rattle.qual_base.specs.declared.places.Spot.{Spot}
-use Rattle.lattice_core.specs.declared.Entry.{Entry}
 use Rattle.lattice_core.specs.Entries.{name_at}
 use Rattle.lattice_core.specs.View.{LatticeView}
 use Rattle.flow_graph.specs.declared.constraint.Link.{Link}

@@ -290,7 +290,7 @@ fn chain(alloc: Global, count: u32) -> Result<Vec<u8>, AllocError> {
 fn lattice_files_have_limits(rt: HostRuntime) -> Result<(), Fail> {
     let alloc = rt.alloc();
     let mut spaces = LATTICE.to_vec(alloc)?;
-    while spaces.len() < 1_048_576 {
+    for _ in LATTICE.len()..1_048_576 {
         spaces.push(b' ')?;
     }
     let found = answer(alloc, &plain(&spaces, b"$tainted int a;"))?;

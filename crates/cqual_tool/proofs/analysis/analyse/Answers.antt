@@ -1,8 +1,8 @@
-use Rattle.std.proofs.Common.{Err, ◌≡◌, ◌≤◌, ◌*◌, ◌∙◌, sym, ap, refl, subst, length, List, ℕ}
+use Rattle.std.proofs.Common.{Err, ◌≡◌, ◌≤◌, ◌∙◌, sym, ap, subst, length, List, ℕ}
 use Rattle.std.proofs.lemmas.Result.{IfOk-weaker}
 use Rattle.flow_graph.specs.System.{System}
 use Rattle.second_form.specs.View.{items_of}
-use Rattle.second_form.specs.Constraints.{system_of, object_tokens}
+use Rattle.second_form.specs.Constraints.{object_tokens}
 use Rattle.second_form.specs.Facts.{AreNamed, AreObjects}
 use Rattle.cqual_tool.specs.declared.texts.Scene.{Scene as Lent}
 use Rattle.cqual_tool.specs.Reports.{IsJudged}

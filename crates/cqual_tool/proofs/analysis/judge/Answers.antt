@@ -1,4 +1,4 @@
-use Rattle.std.proofs.Common.{◌≡◌, List, sym, ◌∙◌, subst}
+use Rattle.std.proofs.Common.{List, sym, ◌∙◌, subst}
 use Rattle.lattice_solver.specs.Solution.{Solution}
 use Rattle.cqual_tool.specs.Scenes.{AreKept}
 use Rattle.cqual_tool.specs.Reports.{JudgedAccepted, JudgedRejected}

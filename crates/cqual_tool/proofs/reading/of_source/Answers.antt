@@ -1,4 +1,4 @@
-use Rattle.std.proofs.Common.{◌≡◌, ◌≢◌, ℕ, List, ◌∙◌, subst}
+use Rattle.std.proofs.Common.{◌≢◌, ℕ, ◌∙◌, subst}
 use Rattle.std.proofs.lemmas.Result.{IfOk-weaker}
 use Rattle.c_lexer.specs.Refusals.{IsRefusal}
 use Rattle.c_lexer.specs.declared.lex.LexFault.TheVariants.{NoMemory as NoRoom}

@@ -1,4 +1,4 @@
-use Rattle.std.proofs.Common.{◌≡◌, List, ◌++◌, codes, ◌∙◌, ap}
+use Rattle.std.proofs.Common.{List, ◌++◌, codes, ◌∙◌, ap}
 use Rattle.cqual_tool.specs.Texts.{line}
 use Rattle.cqual_tool.specs.Scenes.{scene_of}
 use Rattle.cqual_tool.proofs.LatticeLemmas.{accepted_all}

@@ -1,8 +1,8 @@
-use Rattle.std.proofs.Common.{◌≡◌, ℕ, List, [], ◌++◌, Some, None, true, false, arith, refl, sym, ap, subst, append-nil}
+use Rattle.std.proofs.Common.{◌≡◌, ℕ, [], true, false, arith, refl, sym, subst, append-nil}
 use Rattle.flow_graph.specs.Unfolding.{IsExceeded}
 use Rattle.flow_laws.specs.Least.{NamesElementsIn}
 use Rattle.lattice_solver.specs.Solution.{Exceeds}
-use Rattle.cqual_tool.specs.Scenes.{scene_of, IsSolution}
+use Rattle.cqual_tool.specs.Scenes.{scene_of}
 use Rattle.cqual_tool.specs.Reports.{NotExceeded, Exceeded}
 use Rattle.cqual_tool.proofs.Appended.{on_ok}
 use Rattle.cqual_tool.proofs.LatticeLemmas.{none_over, same_over, over_bound, order_there}

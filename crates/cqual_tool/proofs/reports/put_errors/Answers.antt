@@ -1,6 +1,6 @@
-use Rattle.std.proofs.Common.{◌≡◌, ℕ, List, [], ◌++◌, refl, sym, subst, append-nil}
+use Rattle.std.proofs.Common.{ℕ, [], ◌++◌, sym, subst, append-nil}
 use Rattle.cqual_tool.specs.Scenes.{scene_of}
-use Rattle.cqual_tool.specs.Reports.{IsErrorOf, Errors, NoConstraint, NextError}
+use Rattle.cqual_tool.specs.Reports.{IsErrorOf, NoConstraint, NextError}
 use Rattle.cqual_tool.proofs.Appended.{more_behind}
 use Rattle.cqual_tool.proofs.reports.put_errors.Goals as goal
 

@@ -1,4 +1,4 @@
-use Rattle.std.proofs.Common.{◌≡◌, ℕ, List, [], ◌++◌, ◌<◌, length, All, codes, sym, ◌∙◌, ap, subst}
+use Rattle.std.proofs.Common.{ℕ, List, [], ◌++◌, ◌<◌, length, All, codes, sym, ◌∙◌, ap, subst}
 use Rattle.cqual_tool.specs.Texts.{line, error_line, subs_text, steps_text}
 use Rattle.cqual_tool.specs.Scenes.{scene_of}
 use Rattle.cqual_tool.specs.FlatPaths.{takes}

@@ -1,4 +1,4 @@
-use Rattle.std.proofs.Common.{◌≡◌, ℕ, List, [], ◌++◌, arith, refl, sym, append-nil}
+use Rattle.std.proofs.Common.{[], arith, sym, append-nil}
 use Rattle.cqual_tool.specs.Texts.{value_line}
 use Rattle.cqual_tool.specs.Scenes.{scene_of}
 use Rattle.cqual_tool.proofs.Appended.{on_ok}

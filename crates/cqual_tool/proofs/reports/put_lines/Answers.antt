@@ -1,6 +1,6 @@
-use Rattle.std.proofs.Common.{◌≡◌, ℕ, List, [], ◌++◌, length, refl, sym, subst, append-nil}
+use Rattle.std.proofs.Common.{ℕ, [], ◌++◌, length, sym, subst, append-nil}
 use Rattle.cqual_tool.specs.Scenes.{scene_of}
-use Rattle.cqual_tool.specs.Reports.{VarLines, Lines, NoVar, NextVar}
+use Rattle.cqual_tool.specs.Reports.{VarLines, NoVar, NextVar}
 use Rattle.cqual_tool.proofs.Appended.{more_behind}
 use Rattle.cqual_tool.proofs.reports.put_lines.Goals as goal
 

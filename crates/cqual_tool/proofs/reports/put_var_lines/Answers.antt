@@ -1,6 +1,6 @@
-use Rattle.std.proofs.Common.{◌≡◌, ℕ, List, [], ◌++◌, length, refl, sym, subst, append-nil}
+use Rattle.std.proofs.Common.{ℕ, [], ◌++◌, sym, subst, append-nil}
 use Rattle.cqual_tool.specs.Scenes.{scene_of, IsLineIn}
-use Rattle.cqual_tool.specs.Reports.{VarLines, NoLattice, NextLattice}
+use Rattle.cqual_tool.specs.Reports.{NoLattice, NextLattice}
 use Rattle.cqual_tool.proofs.Appended.{more_behind}
 use Rattle.cqual_tool.proofs.reports.put_var_lines.Goals as goal
 

@@ -1,5 +1,5 @@
-use Rattle.std.proofs.Common.{◌≡◌, ℕ, List, [], map, string_bytes, Some, None, refl, sym, ◌∙◌, ap, subst}
-use Rattle.cqual_tool.specs.Words.{FileNames, meaning_of, names_in}
+use Rattle.std.proofs.Common.{[], map, string_bytes, subst}
+use Rattle.cqual_tool.specs.Words.{names_in}
 use Rattle.cqual_tool.specs.Sending.{Sends}
 use Rattle.cqual_tool.specs.Outcome.{NoFile, InOrder}
 use Rattle.cqual_tool.proofs.Outcomes.{sent_all, sent_front, usage_all, usage_front, meant, unmeant, records_none}

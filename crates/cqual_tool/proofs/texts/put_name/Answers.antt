@@ -1,4 +1,4 @@
-use Rattle.std.proofs.Common.{◌≡◌, List, ◌++◌, codes, ap, ◌∙◌}
+use Rattle.std.proofs.Common.{◌++◌, codes, ap, ◌∙◌}
 use Rattle.cqual_tool.specs.Texts.{text_of, place_text}
 use Rattle.cqual_tool.specs.Scenes.{scene_of}
 use Rattle.cqual_tool.proofs.Appended.{on_ok, more_behind}

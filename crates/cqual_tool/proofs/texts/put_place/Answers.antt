@@ -1,4 +1,4 @@
-use Rattle.std.proofs.Common.{◌≡◌, List, ◌++◌, ap, ◌∙◌}
+use Rattle.std.proofs.Common.{◌++◌, ap, ◌∙◌}
 use Rattle.cqual_tool.specs.Texts.{spot_text}
 use Rattle.cqual_tool.proofs.Appended.{on_ok}
 use Rattle.cqual_tool.proofs.TokenLemmas.{placed_at}
