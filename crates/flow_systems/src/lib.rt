@@ -21,6 +21,8 @@ mod drawn_two;
 #[cfg(test)]
 mod nested;
 #[cfg(test)]
+mod paths;
+#[cfg(test)]
 mod tests;
 #[cfg(test)]
 mod worked;

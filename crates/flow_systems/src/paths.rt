@@ -1,0 +1,218 @@
+//! The path proof of each exceeded bound, judged by the checker, and for worked systems beside its steps.
+
+ghost use Rattle.std.specs.Prelude.{◌≡◌, ◌<◌, length};
+ghost use Rattle.flow_graph.specs.System.{IsWellOwned};
+ghost use Rattle.flow_graph.specs.Unfolding.{IsExceeded};
+ghost use Rattle.flow_laws.specs.Least.{NamesElementsIn};
+ghost use Rattle.match_summary.specs.Summary.{Summarises};
+ghost use Rattle.lattice_solver.specs.Solution.{IsSolved};
+
+use crate::building::{graph_of, lattice_of};
+use crate::case::Case;
+use crate::conditions::{is_well_owned, names_elements};
+use crate::{drawn_five, drawn_four, drawn_three, drawn_two, worked};
+use error_path::showing::show;
+use flow_graph::graph::FlowGraph;
+use flow_graph::proof::{PathProof, PathStep};
+use lattice_core::{Lattice, Lattices};
+use lattice_solver::solver::Solver;
+use match_summary::rounds::summarise;
+use match_summary::summary::Summaries;
+use path_checker::check;
+use qual_base::ids::{EdgeId, LatticeNo, Numbered};
+use std::alloc::Global;
+use std::process::Abort;
+use std::test::Fail;
+
+/// A step by its number.
+#[derive(Clone, Copy, PartialEq, Eq, Debug)]
+enum Step {
+    Take(u32),
+    Sub(u32),
+}
+
+use Step::{Sub, Take};
+
+/// The steps of a worked system's path proof.
+struct Steps {
+    name: &'static str,
+    subs: &'static [&'static [Step]],
+    main: &'static [Step],
+}
+
+/// The path proofs of the worked systems of which a bound is exceeded, but for the call in a call.
+static PROOFS: [Steps; 4] = [
+    Steps {
+        name: "a flow",
+        subs: &[],
+        main: &[Take(0), Take(2), Take(1)],
+    },
+    Steps {
+        name: "a flow through recursion",
+        subs: &[
+            &[Take(0), Take(10)],
+            &[Take(1), Take(7), Take(4), Sub(1), Take(6), Take(9)],
+        ],
+        main: &[
+            Take(11),
+            Take(19),
+            Take(16),
+            Sub(2),
+            Take(17),
+            Take(20),
+            Take(12),
+        ],
+    },
+    Steps {
+        name: "two functions that share a variable of nobody",
+        subs: &[],
+        main: &[
+            Take(0),
+            Take(9),
+            Take(7),
+            Take(2),
+            Take(3),
+            Take(4),
+            Take(12),
+            Take(13),
+            Take(1),
+        ],
+    },
+    Steps {
+        name: "a site that nobody owns",
+        subs: &[&[Take(0), Take(1)]],
+        main: &[
+            Take(13),
+            Take(15),
+            Take(10),
+            Take(4),
+            Sub(1),
+            Take(5),
+            Take(11),
+            Take(18),
+            Take(14),
+        ],
+    },
+];
+
+/// A step by its number.
+fn number_of(step: &PathStep) -> Step {
+    match step {
+        PathStep::Take { edge, line: _ } => Step::Take(edge.number()),
+        PathStep::Sub { number, line: _ } => Step::Sub(*number),
+    }
+}
+
+/// Compares the steps of a path.
+fn compare_steps(rt: &impl Abort, name: &str, found: &[PathStep], steps: &[Step]) {
+    assert_eq!(rt; found.len(), steps.len(), "{name}");
+    for (at, step) in found.iter().enumerate() {
+        assert_eq!(rt;
+            Some(number_of(step)),
+            steps.get(at).copied(),
+            "{name}: step {at}"
+        );
+    }
+}
+
+/// Compares a proof with that of a system.
+fn compare_proof(rt: &impl Abort, proof: &PathProof, steps: &Steps) {
+    compare_steps(rt, steps.name, &proof.main, steps.main);
+    assert_eq!(rt; proof.subs.len(), steps.subs.len(), "{}", steps.name);
+    for (at, sub) in proof.subs.iter().enumerate() {
+        match steps.subs.get(at) {
+            Some(other) => compare_steps(rt, steps.name, &sub.steps, other),
+            None => assert!(rt; false, "{}: sub {at}", steps.name),
+        }
+    }
+}
+
+/// Compares a proof with that of the worked system of this name, where there is one. Says how many there are.
+fn compare_worked(rt: &impl Abort, name: &str, proof: &PathProof) -> usize {
+    let mut count: usize = 0;
+    for steps in &PROOFS {
+        if steps.name == name {
+            compare_proof(rt, proof, steps);
+            count = count.wrapping_add(1);
+        }
+    }
+    count
+}
+
+/// Compares the path proofs of the exceeded bounds, and says how many were worked out.
+fn judge_bounds(
+    rt: &impl Abort,
+    alloc: Global,
+    case: &Case,
+    graph: &FlowGraph,
+    summaries: &Summaries,
+    solver: &Solver,
+    lattice: &Lattice,
+) -> Result<usize, Fail>
+    requires owned { IsWellOwned graph.now }
+    requires solved { IsSolved graph.now solver.now }
+    requires summaries { Summarises graph.now solver.now.lattice summaries.now }
+    requires named { NamesElementsIn graph.now solver.now.lattice lattice.now.order }
+{
+    let mut lattices = Lattices::new(alloc);
+    lattices.push(lattice_of(rt, alloc, &case.shape)?)?;
+    let mut worked: usize = 0;
+    for n in 0..graph.len() {
+        if solver.exceeded(graph, lattice, EdgeId::new(n)).is_some() {
+            let proof = show(alloc, graph, summaries, solver, lattice, EdgeId::new(n))?;
+            assert_eq!(rt; check(graph, &lattices, &proof), Ok(()), "{}", case.name);
+            let last = proof.main.last().map(number_of);
+            assert_eq!(rt; last, Some(Step::Take(n)), "{}", case.name);
+            worked = worked.wrapping_add(compare_worked(rt, case.name, &proof));
+        }
+    }
+    Ok(worked)
+}
+
+/// Judges the path proofs of some systems, and says how many were worked out.
+fn judge(rt: &impl Abort, alloc: Global, cases: &[Case]) -> Result<usize, Fail> {
+    let mut worked: usize = 0;
+    for case in cases {
+        let graph = graph_of(rt, alloc, case)?;
+        let lattice = lattice_of(rt, alloc, &case.shape)?;
+        let summaries = summarise(alloc, &graph, LatticeNo::new(0))?;
+        let mut solver = Solver::new(alloc, &graph, &summaries, LatticeNo::new(0))?;
+        solver.run(&graph, &summaries);
+        assert!(rt; is_well_owned(&graph));
+        assert!(rt; names_elements(&graph, LatticeNo::new(0), &lattice));
+        let count = judge_bounds(rt, alloc, case, &graph, &summaries, &solver, &lattice)?;
+        worked = worked.wrapping_add(count);
+    }
+    Ok(worked)
+}
+
+#[test]
+fn worked_systems_have_their_path_proofs(rt: HostRuntime) -> Result<(), Fail> {
+    let calls = judge(&rt, rt.alloc(), &worked::CALLS)?;
+    assert_eq!(rt; calls, 2);
+    let shared = judge(&rt, rt.alloc(), &worked::SHARED)?;
+    assert_eq!(rt; shared, 2);
+    Ok(())
+}
+
+#[test]
+fn path_proofs_of_drawn_systems_with_two_or_three_elements_hold(
+    rt: HostRuntime,
+) -> Result<(), Fail> {
+    judge(&rt, rt.alloc(), &drawn_two::FIRST)?;
+    judge(&rt, rt.alloc(), &drawn_two::SECOND)?;
+    judge(&rt, rt.alloc(), &drawn_three::FIRST)?;
+    judge(&rt, rt.alloc(), &drawn_three::SECOND)?;
+    Ok(())
+}
+
+#[test]
+fn path_proofs_of_drawn_systems_with_four_or_five_elements_hold(
+    rt: HostRuntime,
+) -> Result<(), Fail> {
+    judge(&rt, rt.alloc(), &drawn_four::FIRST)?;
+    judge(&rt, rt.alloc(), &drawn_four::SECOND)?;
+    judge(&rt, rt.alloc(), &drawn_five::FIRST)?;
+    judge(&rt, rt.alloc(), &drawn_five::SECOND)?;
+    Ok(())
+}
