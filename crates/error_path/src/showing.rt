@@ -32,7 +32,6 @@ use qual_base::faults::NoMemory;
 use qual_base::ids::{EdgeId, Elem, LatticeNo, Numbered, VarId};
 use std::alloc::Global;
 
-
 /// The number of a group's sub-path, which is made where it is not there. None where the group is empty.
 fn number_of(
     alloc: Global,
