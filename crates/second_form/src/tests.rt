@@ -1,7 +1,9 @@
 //! What no clause says: that calls succeed where there is memory, and items and constraints worked out by hand.
 
-ghost use Rattle.std.specs.Prelude.{◌≡◌, ◌<◌, ◌≤◌, length, IfOk};
+ghost use Rattle.std.specs.Prelude.{◌≡◌, ◌<◌, ◌≤◌, ◌^◌, length, IfOk};
 ghost use Rattle.second_form.specs.Facts.{IsMarkedBy};
+ghost use Rattle.second_form.specs.Source.{IsSource};
+ghost use Rattle.second_form.specs.View.{items_of};
 
 use crate::generating::{generate, object_tokens};
 use crate::reading::read_items;
@@ -11,7 +13,7 @@ use c_lexer::tokens::Tokens;
 use flow_graph::constraint::Link;
 use flow_graph::graph::FlowGraph;
 use lattice_core::{Entry, Lattice, LatticeFault, Lattices, Level, Name, Pair, Sign};
-use qual_base::ids::{EdgeId, Numbered, UnitNo};
+use qual_base::ids::{EdgeId, Numbered, TokenId, UnitNo};
 use std::alloc::{AllocError, Global};
 use std::test::Fail;
 
@@ -252,6 +254,21 @@ fn other_texts_are_none(rt: HostRuntime) -> Result<(), Fail> {
     Ok(())
 }
 
+/// The tokens of the objects of a source that these lattices mark.
+fn objects(
+    alloc: Global,
+    known: &Lattices,
+    tokens: &Tokens,
+    items: &[Item],
+) -> Result<Vec<TokenId>, AllocError>
+    requires source { IsSource tokens.now.tokens (items_of items.now) }
+    requires marked { IsMarkedBy known.now tokens.now }
+    requires small { length tokens.now.bytes ≤ 2 ^ 24 }
+{
+    let _ = known;
+    object_tokens(alloc, tokens, items)
+}
+
 /// The constraints of a source with these lattices, and then the tokens of its objects.
 fn generated(alloc: Global, texts: [&str; 2], source: &[u8]) -> Result<String, Fail>
     requires { length source.now < 1000 }
@@ -262,7 +279,7 @@ fn generated(alloc: Global, texts: [&str; 2], source: &[u8]) -> Result<String, F
     let items = items.ok_or("items")?;
     let graph = generate(alloc, &known, &tokens, &items).map_err(|_| "graph")?;
     let mut text = graph_text(alloc, &graph)?;
-    for token in &object_tokens(alloc, &tokens, &items)? {
+    for token in &objects(alloc, &known, &tokens, &items)? {
         let one = format!(in alloc; "{} ", token.number())?;
         text.push_str(&one)?;
     }
