@@ -1,0 +1,4 @@
+pub mod LoopLemmas
+pub mod Local
+pub mod Taking
+pub mod Qualifying
