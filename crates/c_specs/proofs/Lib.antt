@@ -1,0 +1,9 @@
+mod BasicSteps
+mod BasicTable
+mod Begun
+mod Codes
+mod Counting
+mod MixSteps
+mod StorageSteps
+mod StorageTable
+mod WholeMixes

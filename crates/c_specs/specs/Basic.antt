@@ -1,0 +1,122 @@
+-- The words of a basic type that stand so far.
+use Rattle.std.specs.Prelude.{Bool, true, false, List, [], ◌∷◌, ◌++◌, Option, None, Some}
+use Rattle.c_lexer.specs.declared.kinds.Keyword.{Keyword}
+use Rattle.c_lexer.specs.declared.kinds.Keyword.TheVariants as words
+use Rattle.c_specs.specs.declared.basic.Base.{Base}
+use Rattle.c_specs.specs.declared.basic.Base.TheVariants as bases
+use Rattle.c_specs.specs.declared.basic.Mark.{Mark}
+use Rattle.c_specs.specs.declared.basic.Mark.TheVariants as marks
+use Rattle.c_specs.specs.declared.basic.Core.{Core}
+use Rattle.c_specs.specs.declared.basic.Core.TheVariants as cores
+use Rattle.c_specs.specs.declared.basic.Part.{Part}
+use Rattle.c_specs.specs.declared.basic.Part.TheVariants as parts
+
+abbrev pub part_of : Keyword → Part
+part_of words.Signed = parts.Mark marks.Signed
+part_of words.Unsigned = parts.Mark marks.Unsigned
+part_of words.Complex = parts.Mark marks.Complex
+part_of words.Void = parts.Core cores.Void
+part_of words.Bool = parts.Core cores.Bool
+part_of words.BaseWord = parts.Core cores.Alone
+part_of words.Char = parts.Core cores.Char
+part_of words.Int = parts.Core cores.Int
+part_of words.Int128 = parts.Core cores.Int128
+part_of words.Short = parts.Core cores.Short
+part_of words.Long = parts.Core cores.Long
+part_of words.Float = parts.Core cores.Float
+part_of words.Double = parts.Core cores.Double
+part_of _ = parts.Other
+
+abbrev pub mark_words : Mark → List Keyword
+mark_words marks.Unmarked = []
+mark_words marks.Signed = words.Signed ∷ []
+mark_words marks.Unsigned = words.Unsigned ∷ []
+mark_words marks.Complex = words.Complex ∷ []
+
+abbrev pub core_word : Core → Keyword
+core_word cores.Void = words.Void
+core_word cores.Bool = words.Bool
+core_word cores.Alone = words.BaseWord
+core_word cores.Char = words.Char
+core_word cores.Int = words.Int
+core_word cores.Int128 = words.Int128
+core_word cores.Short = words.Short
+core_word cores.Long = words.Long
+core_word cores.Float = words.Float
+core_word cores.Double = words.Double
+
+abbrev pub base_words : Base → List Keyword
+base_words bases.Nothing = []
+base_words bases.Void = words.Void ∷ []
+base_words bases.Bool = words.Bool ∷ []
+base_words bases.Alone = words.BaseWord ∷ []
+base_words bases.Char = words.Char ∷ []
+base_words bases.Int = words.Int ∷ []
+base_words bases.Int128 = words.Int128 ∷ []
+base_words bases.Short = words.Short ∷ []
+base_words bases.ShortInt = words.Short ∷ words.Int ∷ []
+base_words bases.Long = words.Long ∷ []
+base_words bases.LongInt = words.Long ∷ words.Int ∷ []
+base_words bases.LongLong = words.Long ∷ words.Long ∷ []
+base_words bases.LongLongInt = words.Long ∷ words.Long ∷ words.Int ∷ []
+base_words bases.Float = words.Float ∷ []
+base_words bases.Double = words.Double ∷ []
+base_words bases.LongDouble = words.Long ∷ words.Double ∷ []
+
+-- the words of a type, in the order in which they are listed
+abbrev pub words_of : Base → Mark → List Keyword
+words_of base mark = mark_words mark ++ base_words base
+
+abbrev pub join : Base → Core → Option Base
+join bases.Nothing cores.Void = Some bases.Void
+join bases.Nothing cores.Bool = Some bases.Bool
+join bases.Nothing cores.Alone = Some bases.Alone
+join bases.Nothing cores.Char = Some bases.Char
+join bases.Nothing cores.Int = Some bases.Int
+join bases.Nothing cores.Int128 = Some bases.Int128
+join bases.Nothing cores.Short = Some bases.Short
+join bases.Nothing cores.Long = Some bases.Long
+join bases.Nothing cores.Float = Some bases.Float
+join bases.Nothing cores.Double = Some bases.Double
+join bases.Int cores.Short = Some bases.ShortInt
+join bases.Short cores.Int = Some bases.ShortInt
+join bases.Int cores.Long = Some bases.LongInt
+join bases.Long cores.Int = Some bases.LongInt
+join bases.Long cores.Long = Some bases.LongLong
+join bases.LongInt cores.Long = Some bases.LongLongInt
+join bases.LongLong cores.Int = Some bases.LongLongInt
+join bases.Double cores.Long = Some bases.LongDouble
+join bases.Long cores.Double = Some bases.LongDouble
+join _ _ = None
+
+abbrev pub has_sign : Base → Bool
+has_sign bases.Nothing = true
+has_sign bases.Char = true
+has_sign bases.Int = true
+has_sign bases.Int128 = true
+has_sign bases.Short = true
+has_sign bases.ShortInt = true
+has_sign bases.Long = true
+has_sign bases.LongInt = true
+has_sign bases.LongLong = true
+has_sign bases.LongLongInt = true
+has_sign _ = false
+
+abbrev pub has_complex : Base → Bool
+has_complex bases.Nothing = true
+has_complex bases.Long = true
+has_complex bases.Float = true
+has_complex bases.Double = true
+has_complex bases.LongDouble = true
+has_complex _ = false
+
+abbrev pub fits : Base → Mark → Bool
+fits base marks.Unmarked = true
+fits base marks.Signed = has_sign base
+fits base marks.Unsigned = has_sign base
+fits base marks.Complex = has_complex base
+
+abbrev pub is_whole : Base → Mark → Bool
+is_whole bases.Nothing marks.Unmarked = false
+is_whole bases.Long marks.Complex = false
+is_whole _ _ = true

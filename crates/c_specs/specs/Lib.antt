@@ -1,0 +1,4 @@
+pub mod Basic
+pub mod Mix
+pub mod Reading
+pub mod Storage

@@ -1,0 +1,71 @@
+-- What stands of a mix, and one more word.
+use Rattle.std.specs.Prelude.{Bool, true, false, Option, None, Some, if◌then◌else◌}
+use Rattle.c_tree.specs.Tree.{SpecWord, storage, thread, basic, struct_type, enum_type, typedef_name}
+use Rattle.c_specs.specs.declared.basic.Base.{Base}
+use Rattle.c_specs.specs.declared.basic.Base.TheVariants as bases
+use Rattle.c_specs.specs.declared.basic.Mark.{Mark}
+use Rattle.c_specs.specs.declared.basic.Mark.TheVariants as marks
+use Rattle.c_specs.specs.declared.basic.Core.{Core}
+use Rattle.c_specs.specs.declared.basic.Part.{Part}
+use Rattle.c_specs.specs.declared.basic.Part.TheVariants as parts
+use Rattle.c_specs.specs.declared.mix.Types.{Types}
+use Rattle.c_specs.specs.declared.mix.Types.TheVariants.{Words, Named}
+use Rattle.c_specs.specs.declared.mix.Mix.{Mix}
+use Rattle.c_specs.specs.declared.storage.Storage.{Storage}
+use Rattle.c_specs.specs.declared.storage.Storage.TheVariants as stores
+use Rattle.c_specs.specs.Basic.{part_of, join, fits, is_whole}
+use Rattle.c_specs.specs.Storage.{storing, stored}
+
+abbrev pub fitting : Base → Mark → Option Types
+fitting base mark = if fits base mark then Some (Words base mark) else None
+
+abbrev pub with_mark : Base → Mark → Mark → Option Types
+with_mark base marks.Unmarked new = fitting base new
+with_mark base _ new = None
+
+abbrev pub fitting_in : Option Base → Mark → Option Types
+fitting_in None mark = None
+fitting_in (Some base) mark = fitting base mark
+
+abbrev pub with_core : Base → Mark → Core → Option Types
+with_core base mark word = fitting_in (join base word) mark
+
+abbrev pub with_part : Types → Part → Option Types
+with_part Named part = None
+with_part (Words base mark) (parts.Mark new) = with_mark base mark new
+with_part (Words base mark) (parts.Core word) = with_core base mark word
+with_part (Words base mark) parts.Other = None
+
+abbrev pub with_named : Types → Option Types
+with_named (Words bases.Nothing marks.Unmarked) = Some Named
+with_named _ = None
+
+abbrev pub with_types : Mix → Option Types → Option Mix
+with_types mix None = None
+with_types mix (Some types) = Some (record { types = types; storage = mix.storage })
+
+abbrev pub storage_put : Mix → Option Storage → Option Mix
+storage_put mix None = None
+storage_put mix (Some after) = Some (record { types = mix.types; storage = after })
+
+abbrev pub with_storage : Mix → Storage → Option Mix
+with_storage mix word = storage_put mix (stored mix.storage word)
+
+abbrev pub with_word : Mix → SpecWord → Option Mix
+with_word mix (storage w) = with_storage mix (storing w.keyword)
+with_word mix (thread token) = with_storage mix stores.Thread
+with_word mix (basic w) = with_types mix (with_part mix.types (part_of w.keyword))
+with_word mix (struct_type a b c d) = with_types mix (with_named mix.types)
+with_word mix (enum_type e) = with_types mix (with_named mix.types)
+with_word mix (typedef_name n) = with_types mix (with_named mix.types)
+with_word mix _ = Some mix
+
+-- whether a whole type stands
+abbrev pub whole_of : Types → Bool
+whole_of Named = true
+whole_of (Words base mark) = is_whole base mark
+
+-- whether a type stands
+abbrev pub type_stands : Types → Bool
+type_stands (Words bases.Nothing marks.Unmarked) = false
+type_stands _ = true
