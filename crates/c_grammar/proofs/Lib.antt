@@ -2,3 +2,5 @@ pub mod LoopLemmas
 pub mod Local
 pub mod Taking
 pub mod Qualifying
+pub mod Aims
+pub mod Tails

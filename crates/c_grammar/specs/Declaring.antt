@@ -1,5 +1,5 @@
 -- Readers of declarators, parameters, declarations and units (C99, 6.7), over readers of the parts inside.
-use Rattle.std.specs.Prelude.{ℕ, Bool, true, false, ◌&&◌, ◌||◌, List, [], ◌∷◌, ◌++◌, Option, None, Some, Err, is_some, if◌then◌else◌}
+use Rattle.std.specs.Prelude.{ℕ, suc, nat_le, Bool, true, false, ◌&&◌, ◌||◌, List, [], ◌∷◌, ◌++◌, Option, None, Some, Err, is_some, if◌then◌else◌}
 use Rattle.c_lexer.specs.declared.kinds.TokenKind.{TokenKind}
 use Rattle.c_lexer.specs.declared.kinds.TokenKind.TheVariants as kinds
 use Rattle.c_lexer.specs.declared.kinds.Keyword.TheVariants as keywords
@@ -11,6 +11,7 @@ use Rattle.c_tree.specs.declared.parts.PointerWord.TheVariants as pointer_words
 use Rattle.c_tree.specs.declared.parts.ArrayWord.{ArrayWord}
 use Rattle.c_tree.specs.declared.parts.ArrayWord.TheVariants as array_words
 use Rattle.c_tree.specs.Tree.{Expr, SpecWords, no_words, more_words, qualifier, Declr, pointer, declr_name, declr_paren, array, params, abs_pointer, abs_paren, abs_array, abs_params, SomeDeclr, no_declr, some_declr, SomeSize, no_size, some_size, size_value, size_star, Params, no_params, more_params, no_init, InitDeclrs, no_init_declrs, more_init_declrs, Declaration, declaration, decl_declaration, Dots}
+use Rattle.c_tree.specs.Height.{some_declr_height}
 use Rattle.c_tree.specs.Unit.{Item, decl_item, semi_item}
 use Rattle.c_tree.specs.WellFormed.{is_named}
 use Rattle.typedef_scope.specs.declared.kind.Kind.{Kind}
@@ -18,7 +19,7 @@ use Rattle.typedef_scope.specs.declared.kind.Kind.TheVariants.{Value}
 use Rattle.typedef_scope.specs.Scopes.{Scopes, declare_name, enter_scope, leave_scope, file_scope}
 use Rattle.c_grammar.specs.declared.fault.Fault.TheVariants.{Unexpected, Redeclared}
 use Rattle.c_grammar.specs.Scoping.{declared_kind, declare_some, some_declared_name}
-use Rattle.c_grammar.specs.Reading.{Read, Turn, run, op_turn, ends, refuses, ◌>>=◌}
+use Rattle.c_grammar.specs.Reading.{Read, Turn, run, op_turn, lowered, ends, refuses, ◌>>=◌}
 use Rattle.c_grammar.specs.Eating.{token_at, after, begins, is_open_paren, is_close_paren, is_open_bracket, is_close_bracket, is_comma, is_dots, is_end, is_semicolon, is_star}
 use Rattle.c_grammar.specs.Specifying.{Start, word_start, element_start, index_start, start_at, begins_specs, spelled_name}
 
@@ -111,10 +112,6 @@ abbrev pub with_param : Params → SpecWords → SomeDeclr → Params
 with_param no_params words d = more_params words d [] no_params
 with_param (more_params words₁ d₁ attrs ps) words d = more_params words₁ d₁ attrs (with_param ps words d)
 
-abbrev pub with_init_declr : InitDeclrs → Declr → InitDeclrs
-with_init_declr no_init_declrs d = more_init_declrs [] d None [] no_init no_init_declrs
-with_init_declr (more_init_declrs attrs first label attrs2 init ds) d = more_init_declrs attrs first label attrs2 init (with_init_declr ds d)
-
 -- the token of a declarator's name, 0 where there is none
 abbrev pub name_token : Declr → ℕ
 name_token (pointer star words d) = name_token d
@@ -142,7 +139,8 @@ declared_some a token (Some s) ts = ends (a, s) ts
 abbrev pub ParamState : Type 0
 ParamState = (Params × Option Dots) × Scopes
 
-module _ (assign : Scopes → List Lexeme → Read (Expr × Scopes)) (specs_from : SpecWords → Scopes → List Lexeme → Read (SpecWords × Scopes))
+-- `room` is the greatest height of what is read; the readers of the parts inside have less
+module _ (room : ℕ) (assign : Scopes → List Lexeme → Read (Expr × Scopes)) (specs_from : SpecWords → Scopes → List Lexeme → Read (SpecWords × Scopes))
     (declr : Mode → Option Kind → Scopes → List Lexeme → Read (SomeDeclr × Scopes)) where
   -- a size, a star alone, or nothing, before the closing bracket
   unfoldable pub size_with : Scopes → List Lexeme → Read (SomeSize × Scopes)
@@ -188,11 +186,14 @@ module _ (assign : Scopes → List Lexeme → Read (Expr × Scopes)) (specs_from
   prototype_with d opening s ts = params_with (enter_scope s) ts >>= λ ps. token_at is_close_paren ps.1 >>= λ close.
       ends (some_declr (with_params d opening ps.0.0.0 ps.0.0.1 close.0.at), leave_scope ps.0.1) close.1
 
-  abbrev pub suffix_turn : Turn (SomeDeclr × Scopes)
-  suffix_turn state [] = None
-  suffix_turn state (t ∷ ts) =
+  abbrev pub suffix_by : Lexeme → SomeDeclr × Scopes → List Lexeme → Option (Read (SomeDeclr × Scopes))
+  suffix_by t state ts =
       if is_open_bracket t.kind then Some (array_with state.0 t.at state.1 ts)
       else (if is_open_paren t.kind then Some (prototype_with state.0 t.at state.1 ts) else None)
+
+  abbrev pub suffix_turn : Turn (SomeDeclr × Scopes)
+  suffix_turn state [] = None
+  suffix_turn state (t ∷ ts) = lowered (nat_le (suc (some_declr_height state.0)) room) t ts (suffix_by t state ts)
 
   -- a name that a declarator may have
   abbrev pub declr_name_by : Option Kind → Option ℕ → Lexeme → Scopes → List Lexeme → Read (SomeDeclr × Scopes)
@@ -229,33 +230,3 @@ module _ (assign : Scopes → List Lexeme → Read (Expr × Scopes)) (specs_from
   unfoldable pub declr_with : Mode → Option Kind → Scopes → List Lexeme → Read (SomeDeclr × Scopes)
   declr_with mode wanted s [] = direct_with mode wanted s []
   declr_with mode wanted s (t ∷ ts) = if is_star t.kind then pointer_with mode wanted t.at s ts else direct_with mode wanted s (t ∷ ts)
-
-  -- a declarator of a declaration, whose name is declared behind it
-  unfoldable pub init_declr_with : Kind → InitDeclrs → Scopes → List Lexeme → Read (InitDeclrs × Scopes)
-  init_declr_with kind ds s ts = declr with_name (Some kind) s ts >>= λ d. present d.0 d.1 >>= λ known.
-      declared_some (with_init_declr ds known.0.0) (name_token known.0.0) (declare_some (some_declared_name (some_declr known.0.0)) kind known.0.1) known.1
-
-  abbrev pub init_declr_turn : Kind → Turn (InitDeclrs × Scopes)
-  init_declr_turn kind = op_turn (after is_comma) (λ state. init_declr_with kind state.0 state.1) (λ state next. next)
-
-  unfoldable pub init_declrs_with : Kind → Scopes → List Lexeme → Read (InitDeclrs × Scopes)
-  init_declrs_with kind s ts =
-      if begins is_semicolon ts then ends (no_init_declrs, s) ts
-      else (init_declr_with kind no_init_declrs s ts >>= λ d. run (init_declr_turn kind) d.0 d.1)
-
-  unfoldable pub declaration_with : Scopes → List Lexeme → Read (Declaration × Scopes)
-  declaration_with s ts = specs_from no_words s ts >>= λ w. init_declrs_with (declared_kind w.0.0) w.0.1 w.1 >>= λ ds. token_at is_semicolon ds.1 >>= λ semi.
-      ends (declaration [] w.0.0 ds.0.0 semi.0.at, ds.0.1) semi.1
-
-  unfoldable pub item_with : Scopes → List Lexeme → Read (Item × Scopes)
-  item_with s [] = declaration_with s [] >>= λ d. ends (decl_item (decl_declaration d.0.0), d.0.1) d.1
-  item_with s (t ∷ ts) =
-      if is_semicolon t.kind then ends (semi_item (record { token = t.at }), s) ts
-      else (declaration_with s (t ∷ ts) >>= λ d. ends (decl_item (decl_declaration d.0.0), d.0.1) d.1)
-
-  abbrev pub item_turn : Turn (List Item × Scopes)
-  item_turn state ts = if begins is_end ts then None else Some (item_with state.1 ts >>= λ item. ends (state.0 ++ item.0.0 ∷ [], item.0.1) item.1)
-
-  -- the items of a unit, up to its end
-  unfoldable pub items_with : List Lexeme → Read (List Item × Scopes)
-  items_with ts = run item_turn ([], file_scope) ts

@@ -1,5 +1,5 @@
 -- Readers of expressions (C99, 6.5), over readers of the expressions and type names inside.
-use Rattle.std.specs.Prelude.{ℕ, zero, suc, Bool, true, false, ◌&&◌, List, [], ◌∷◌, ◌++◌, Option, None, Some, if◌then◌else◌}
+use Rattle.std.specs.Prelude.{ℕ, zero, suc, nat_le, Bool, true, false, ◌&&◌, List, [], ◌∷◌, ◌++◌, Option, None, Some, if◌then◌else◌}
 use Rattle.c_lexer.specs.declared.kinds.TokenKind.{TokenKind}
 use Rattle.c_lexer.specs.declared.kinds.TokenKind.TheVariants as kinds
 use Rattle.c_lexer.specs.declared.kinds.Punct.{Punct}
@@ -9,12 +9,14 @@ use Rattle.c_lexer.specs.declared.kinds.Keyword.TheVariants.{Sizeof, Alignof}
 use Rattle.c_tree.specs.declared.lexeme.Lexeme.{Lexeme}
 use Rattle.c_tree.specs.declared.parts.Word.{Word}
 use Rattle.c_tree.specs.Tree.{Expr, cast, prefix, sizeof_value, sizeof_type, index, call, dot, arrow, post, name_use, number_use, char_use, text_use, paren, Operator, comma, assign, cond, binary, SomeExpr, no_expr, some_expr, Exprs, no_exprs, more_exprs, SpecWords, SomeDeclr}
+use Rattle.c_tree.specs.Height.{expr_height}
 use Rattle.c_tree.specs.Levels.{binary_level, is_assignment}
 use Rattle.c_ops.specs.Operations.{Operations, Entry, is_bad}
+use Rattle.c_ops.specs.Trees.{the_tree}
 use Rattle.typedef_scope.specs.Scopes.{Scopes}
-use Rattle.c_grammar.specs.declared.fault.Fault.TheVariants.{Unexpected, BadTarget}
+use Rattle.c_grammar.specs.declared.fault.Fault.TheVariants.{Unexpected, BadTarget, TooDeep}
 use Rattle.c_grammar.specs.Scoping.{names_type}
-use Rattle.c_grammar.specs.Reading.{Read, Turn, run, op_turn, ends, refuses, ◌>>=◌}
+use Rattle.c_grammar.specs.Reading.{Read, Turn, run, op_turn, lowered, ends, refuses, ◌>>=◌}
 use Rattle.c_grammar.specs.Eating.{token_at, after, begins, is_open_paren, is_close_paren, is_close_bracket, is_colon, is_comma}
 use Rattle.c_grammar.specs.Specifying.{begins_specs, name_at}
 
@@ -141,7 +143,8 @@ has_bad_target list op = is_bad (operator_before None list.rest) (last_of list.f
 abbrev pub with_entry : Operations → Operator → ℕ → Expr → Operations
 with_entry list op token e = record { first = list.first; rest = list.rest ++ record { operator = op; token = token; operand = e } ∷ [] }
 
-module _ (expr : Reach → Scopes → List Lexeme → Read (Expr × Scopes)) (type_name : Scopes → List Lexeme → Read ((SpecWords × SomeDeclr) × Scopes)) where
+-- `room` is the greatest height of what is read; the readers of the parts inside have less
+module _ (room : ℕ) (expr : Reach → Scopes → List Lexeme → Read (Expr × Scopes)) (type_name : Scopes → List Lexeme → Read ((SpecWords × SomeDeclr) × Scopes)) where
   abbrev pub arg_turn : Turn (Exprs × Scopes)
   arg_turn = op_turn (after is_comma) (λ state. expr assigned state.1) (λ state e. (with_expr state.0 e.0, e.1))
 
@@ -160,7 +163,7 @@ module _ (expr : Reach → Scopes → List Lexeme → Read (Expr × Scopes)) (ty
 
   abbrev pub postfix_turn : Turn (Expr × Scopes)
   postfix_turn state [] = None
-  postfix_turn state (t ∷ ts) = postfix_by (closing_of t.kind) t state ts
+  postfix_turn state (t ∷ ts) = lowered (nat_le (suc (expr_height state.0)) room) t ts (postfix_by (closing_of t.kind) t state ts)
 
   -- the postfix forms behind a primary expression
   abbrev pub postfixed : Expr → Scopes → List Lexeme → Read (Expr × Scopes)
@@ -233,9 +236,15 @@ module _ (expr : Reach → Scopes → List Lexeme → Read (Expr × Scopes)) (ty
   unfoldable pub operations_with : Reach → Scopes → List Lexeme → Read (Operations × Scopes)
   operations_with reach s ts = cast_with s ts >>= λ e. run (operation_turn reach) (record { first = e.0.0; rest = [] }, e.0.1) e.1
 
-  -- `tree_of` gives the tree of a list
-  module _ (tree_of : Operations → Expr) where
-    unfoldable pub expr_with : Reach → Scopes → List Lexeme → Read (Expr × Scopes)
-    expr_with castable s ts = cast_with s ts
-    expr_with unary s ts = unary_with s ts
-    expr_with reach s ts = operations_with reach s ts >>= λ list. ends (tree_of list.0.0, list.0.1) list.1
+  -- a tree, where there is room for it
+  abbrev pub with_room : Expr × Scopes → List Lexeme → Read (Expr × Scopes)
+  with_room e ts = if nat_le (expr_height e.0) room then ends e ts else refuses TooDeep ts
+
+  -- the tree of operands and operators
+  unfoldable pub tree_with : Reach → Scopes → List Lexeme → Read (Expr × Scopes)
+  tree_with reach s ts = operations_with reach s ts >>= λ list. with_room (the_tree list.0.0, list.0.1) list.1
+
+  unfoldable pub expr_with : Reach → Scopes → List Lexeme → Read (Expr × Scopes)
+  expr_with castable s ts = cast_with s ts
+  expr_with unary s ts = unary_with s ts
+  expr_with reach s ts = tree_with reach s ts

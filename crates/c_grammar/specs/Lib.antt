@@ -5,5 +5,7 @@ pub mod Eating
 pub mod Specifying
 pub mod Declaring
 pub mod Expressing
+pub mod Items
+pub mod Knot
 pub mod Local
 pub mod Laws

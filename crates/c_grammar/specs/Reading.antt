@@ -1,7 +1,8 @@
 -- Readers of token lists: what they answer, one after another, and again and again.
-use Rattle.std.specs.Prelude.{◌≡◌, ℕ, zero, suc, ◌<◌, List, [], ◌∷◌, length, drop, slice_get, Option, Some, None, Result, Ok, Err, option_map}
+use Rattle.std.specs.Prelude.{◌≡◌, Bool, true, false, ℕ, zero, suc, ◌<◌, List, [], ◌∷◌, length, drop, slice_get, Option, Some, None, Result, Ok, Err, option_map}
 use Rattle.c_tree.specs.declared.lexeme.Lexeme.{Lexeme}
 use Rattle.c_grammar.specs.declared.fault.Fault.{Fault}
+use Rattle.c_grammar.specs.declared.fault.Fault.TheVariants.{TooDeep}
 
 -- what is wrong, and the number of the token that is refused
 abbrev pub Refusal : Type 0
@@ -32,6 +33,12 @@ refuses fault ts = Err (fault, number_at ts)
 -- a turn of a loop: what it makes of a state at some tokens, or none where the loop ends
 abbrev pub Turn : Type 0 → Type 0
 Turn S = S → List Lexeme → Option (Read S)
+
+-- a turn that puts its state one node lower, where there is room for it
+abbrev pub lowered : {S : Type 0} → Bool → Lexeme → List Lexeme → Option (Read S) → Option (Read S)
+lowered has_room t ts None = None
+lowered true t ts (Some read) = Some read
+lowered false t ts (Some read) = Some (refuses TooDeep (t ∷ ts))
 
 -- at most so many turns
 unfoldable pub turns : {S : Type 0} → Turn S → ℕ → S → List Lexeme → Read S

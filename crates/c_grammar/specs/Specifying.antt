@@ -8,6 +8,9 @@ use Rattle.c_tree.specs.declared.lexeme.Lexeme.{Lexeme}
 use Rattle.c_tree.specs.declared.parts.Identifier.{Identifier}
 use Rattle.c_tree.specs.declared.parts.Word.{Word}
 use Rattle.c_tree.specs.declared.parts.Qual.TheVariants as quals
+use Rattle.c_specs.specs.declared.mix.Class.{Class}
+use Rattle.c_specs.specs.declared.mix.Class.TheVariants as classes
+use Rattle.c_specs.specs.Mix.{goes_on, is_whole_mix}
 use Rattle.c_tree.specs.Tree.{Expr, SpecWords, no_words, more_words, SpecWord, storage, thread, inline_word, noreturn, qualifier, basic, struct_type, enum_type, typedef_name, SomeBody, no_body, some_body, StructItems, no_struct_items, more_struct_items, StructItem, member, member_semi, MemDeclrs, no_mem_declrs, more_mem_declrs, MemDeclr, named, unnamed, SomeValue, no_value, some_value, enum_of, SomeEnumBody, no_enum_body, some_enum_body, Enumerators, no_enumerators, more_enumerators, Declr}
 use Rattle.typedef_scope.specs.declared.kind.Kind.TheVariants.{Constant}
 use Rattle.typedef_scope.specs.Scopes.{Scopes, declare_name}
@@ -20,13 +23,6 @@ use Rattle.c_grammar.specs.Eating.{token_at, after, begins, is_open_brace, is_cl
 pub data Role : Type 0 where
   declaring : Role
   naming : Role
-
--- how a word counts among specifiers
-pub data Class : Type 0 where
-  stores : Keyword → Class
-  free : Class
-  spells : Keyword → Class
-  whole_type : Class
 
 -- what a first token begins: a word of a class, or none
 pub data Start : Type 0 where
@@ -98,13 +94,13 @@ abbrev pub begins_specs : Scopes → List Lexeme → Bool
 begins_specs scopes ts = is_start (start_at scopes false ts)
 
 abbrev pub class_of_start : Start → Class
-class_of_start (storage_start keyword) = stores keyword
-class_of_start thread_start = stores keywords.Thread
-class_of_start (basic_start keyword) = spells keyword
-class_of_start (struct_start keyword) = whole_type
-class_of_start enum_start = whole_type
-class_of_start (name_start name) = whole_type
-class_of_start start = free
+class_of_start (storage_start keyword) = classes.Stores keyword
+class_of_start thread_start = classes.Stores keywords.Thread
+class_of_start (basic_start keyword) = classes.Spells keyword
+class_of_start (struct_start keyword) = classes.Named
+class_of_start enum_start = classes.Named
+class_of_start (name_start name) = classes.Named
+class_of_start start = classes.Free
 
 -- a word that the name of a type cannot have
 abbrev pub is_declaring : Start → Bool
@@ -270,25 +266,23 @@ module _ (cond : Scopes → List Lexeme → Read (Expr × Scopes)) (specs : Role
   word_by (name_start name) t s ts = ends (typedef_name (record { token = t.at; name = name }), s) ts
   word_by no_start t s ts = refuses Unexpected (t ∷ ts)
 
-  -- `goes_on` says whether a mix goes on with a word of a class, `is_whole` whether words are a whole mix
-  module _ (goes_on : SpecWords → Class → Bool) (is_whole : SpecWords → Bool) where
-    -- a word behind others
-    unfoldable pub word_with : Role → SpecWords → Start → Lexeme → Scopes → List Lexeme → Read (SpecWord × Scopes)
-    word_with role words start t s ts =
-        if may_stand role start then (if goes_on words (class_of_start start) then word_by start t s ts else refuses BadMix (t ∷ ts))
-        else refuses Unexpected (t ∷ ts)
+  -- a word behind others
+  unfoldable pub word_with : Role → SpecWords → Start → Lexeme → Scopes → List Lexeme → Read (SpecWord × Scopes)
+  word_with role words start t s ts =
+      if may_stand role start then (if goes_on words (class_of_start start) then word_by start t s ts else refuses BadMix (t ∷ ts))
+      else refuses Unexpected (t ∷ ts)
 
-    abbrev pub word_turn_by : Role → SpecWords × Scopes → Start → Lexeme → List Lexeme → Option (Read (SpecWords × Scopes))
-    word_turn_by role state start t ts =
-        if is_start start then Some (word_with role state.0 start t state.1 ts >>= λ word. ends (with_word state.0 word.0.0, word.0.1) word.1) else None
+  abbrev pub word_turn_by : Role → SpecWords × Scopes → Start → Lexeme → List Lexeme → Option (Read (SpecWords × Scopes))
+  word_turn_by role state start t ts =
+      if is_start start then Some (word_with role state.0 start t state.1 ts >>= λ word. ends (with_word state.0 word.0.0, word.0.1) word.1) else None
 
-    abbrev pub word_turn : Role → Turn (SpecWords × Scopes)
-    word_turn role state [] = None
-    word_turn role state (t ∷ ts) = word_turn_by role state (start_at state.1 (is_typed state.0) (t ∷ ts)) t ts
+  abbrev pub word_turn : Role → Turn (SpecWords × Scopes)
+  word_turn role state [] = None
+  word_turn role state (t ∷ ts) = word_turn_by role state (start_at state.1 (is_typed state.0) (t ∷ ts)) t ts
 
-    abbrev pub whole : SpecWords × Scopes → List Lexeme → Read (SpecWords × Scopes)
-    whole state ts = if is_whole state.0 then ends state ts else refuses Unexpected ts
+  abbrev pub whole : SpecWords × Scopes → List Lexeme → Read (SpecWords × Scopes)
+  whole state ts = if is_whole_mix state.0 then ends state ts else refuses Unexpected ts
 
-    -- specifiers that begin with words which were read already
-    unfoldable pub specs_from : Role → SpecWords → Scopes → List Lexeme → Read (SpecWords × Scopes)
-    specs_from role words s ts = run (word_turn role) (words, s) ts >>= λ all. whole all.0 all.1
+  -- specifiers that begin with words which were read already
+  unfoldable pub specs_from : Role → SpecWords → Scopes → List Lexeme → Read (SpecWords × Scopes)
+  specs_from role words s ts = run (word_turn role) (words, s) ts >>= λ all. whole all.0 all.1

@@ -7,7 +7,7 @@ use Rattle.c_tree.specs.Tree.{Expr, operation, cast, Operator, comma, assign, co
 use Rattle.c_tree.specs.Levels.{IsOperator, expr_level, operator_level, left_level, right_level}
 use Rattle.c_ops.specs.Operations.{Entry, Operations, appended, joined, in_order, IsLevelled, IsTreeOf, is_untargeted, begins_side, is_bad, first_bad, bad_target}
 use Rattle.c_ops.specs.Joining.{Stack, bottom, above, finished, settle_of, AreOperators, IsStack}
-use Rattle.c_ops.specs.Trees.{IsTheTreeOf, AreOperands, AllOperands, waits_after}
+use Rattle.c_ops.specs.Trees.{IsTheTreeOf, AreOperands, AllOperands, waits_after, tree_from, the_tree}
 use Rattle.c_ops.proofs.Levels.{left_most, level_left, level_most, in_order-leaf, leaf_levelled}
 use Rattle.c_ops.proofs.Settling.{settle_keeps, settle_all, accepts_leaf, finished_levelled}
 use Rattle.c_ops.proofs.Targets.{in_order-pushed, bad_target-pushed}
@@ -162,14 +162,14 @@ some_is : (n : ℕ) → Some n ≡ None → ⊥
 some_is n h = absurd cc
 
 -- the tree of what is left
-pub made : (list : Operations) (k : List Entry) (s : Stack) (e : Expr) → Progress list s e k → AllOperands k → bad_target list ≡ None → (tree : Expr) × IsTheTreeOf list tree
-made list [] s e p h is = (finished s e, (ends list s e p).0)
+pub made : (list : Operations) (k : List Entry) (s : Stack) (e : Expr) → Progress list s e k → AllOperands k → bad_target list ≡ None → IsTheTreeOf list (tree_from s e k)
+made list [] s e p h is = (ends list s e p).0
 made list (x ∷ k) s e p h is = by_test (λ p. made list k (waits_after x (settle_of (operator_level x.operator) s e)) x.operand p h.1 is) (is_untargeted x.operator (settle_of (operator_level x.operator) s e).last) refl
   where
-    by_test : (Progress list (waits_after x (settle_of (operator_level x.operator) s e)) x.operand k → (tree : Expr) × IsTheTreeOf list tree) →
-        (b : Bool) → is_untargeted x.operator (settle_of (operator_level x.operator) s e).last ≡ b → (tree : Expr) × IsTheTreeOf list tree
+    by_test : (Progress list (waits_after x (settle_of (operator_level x.operator) s e)) x.operand k → IsTheTreeOf list (tree_from s e (x ∷ k))) →
+        (b : Bool) → is_untargeted x.operator (settle_of (operator_level x.operator) s e).last ≡ b → IsTheTreeOf list (tree_from s e (x ∷ k))
     by_test rest true t = absurd (some_is x.token (sym (fails list s e x k p t) ∙ is))
     by_test rest false t = rest (goes_on list s e x k p h.0.1 h.0.0 t)
 
-pub has_tree : (list : Operations) → AreOperands list → bad_target list ≡ None → (tree : Expr) × IsTheTreeOf list tree
+pub has_tree : (list : Operations) → AreOperands list → bad_target list ≡ None → IsTheTreeOf list (the_tree list)
 has_tree list h is = made list list.rest bottom list.first (begins list h.first) h.rest is

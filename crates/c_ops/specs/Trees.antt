@@ -1,9 +1,9 @@
 -- Which lists have a tree.
 use Rattle.std.specs.Prelude.{◌≡◌, ℕ, ◌≤◌, List, [], ◌∷◌, None, Some}
 use Rattle.c_tree.specs.Tree.{Expr}
-use Rattle.c_tree.specs.Levels.{IsOperator, expr_level}
+use Rattle.c_tree.specs.Levels.{IsOperator, expr_level, operator_level}
 use Rattle.c_ops.specs.Operations.{Entry, Operations, IsTreeOf, bad_target}
-use Rattle.c_ops.specs.Joining.{Stack, above, Settled}
+use Rattle.c_ops.specs.Joining.{Stack, bottom, above, Settled, settle_of, finished}
 
 -- an operator of the table with an operand, which is at least a cast
 abbrev pub IsOperand : Entry → Type 0
@@ -27,9 +27,18 @@ pub record IsTheTreeOf (list : Operations) (tree : Expr) : Type 0 where
 abbrev pub waits_after : Entry → Settled → Stack
 waits_after x r = above r.below (record { tree = r.last; operator = x.operator; token = x.token })
 
+-- the tree where more operators and operands come behind operands that wait
+abbrev pub tree_from : Stack → Expr → List Entry → Expr
+tree_from s e [] = finished s e
+tree_from s e (x ∷ k) = tree_from (waits_after x (settle_of (operator_level x.operator) s e)) x.operand k
+
+-- the tree of a list that has one
+abbrev pub the_tree : Operations → Expr
+the_tree list = tree_from bottom list.first list.rest
+
 -- a list whose assignments all have a unary form on their left has a tree
 abbrev pub HasItsTree : Type 0
-HasItsTree = (list : Operations) → AreOperands list → bad_target list ≡ None → (tree : Expr) × IsTheTreeOf list tree
+HasItsTree = (list : Operations) → AreOperands list → bad_target list ≡ None → IsTheTreeOf list (the_tree list)
 
 -- a list with another assignment has none
 abbrev pub HasNoTree : Type 0

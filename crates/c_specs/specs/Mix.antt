@@ -1,6 +1,7 @@
 -- What stands of a mix, and one more word.
-use Rattle.std.specs.Prelude.{Bool, true, false, Option, None, Some, if◌then◌else◌}
-use Rattle.c_tree.specs.Tree.{SpecWord, storage, thread, basic, struct_type, enum_type, typedef_name}
+use Rattle.std.specs.Prelude.{Bool, true, false, Option, None, Some, is_some, if◌then◌else◌}
+use Rattle.c_lexer.specs.declared.kinds.Keyword.TheVariants as words
+use Rattle.c_tree.specs.Tree.{SpecWords, no_words, more_words, SpecWord, storage, thread, basic, struct_type, enum_type, typedef_name}
 use Rattle.c_specs.specs.declared.basic.Base.{Base}
 use Rattle.c_specs.specs.declared.basic.Base.TheVariants as bases
 use Rattle.c_specs.specs.declared.basic.Mark.{Mark}
@@ -10,6 +11,8 @@ use Rattle.c_specs.specs.declared.basic.Part.{Part}
 use Rattle.c_specs.specs.declared.basic.Part.TheVariants as parts
 use Rattle.c_specs.specs.declared.mix.Types.{Types}
 use Rattle.c_specs.specs.declared.mix.Types.TheVariants.{Words, Named}
+use Rattle.c_specs.specs.declared.mix.Class.{Class}
+use Rattle.c_specs.specs.declared.mix.Class.TheVariants as classes
 use Rattle.c_specs.specs.declared.mix.Mix.{Mix}
 use Rattle.c_specs.specs.declared.storage.Storage.{Storage}
 use Rattle.c_specs.specs.declared.storage.Storage.TheVariants as stores
@@ -60,10 +63,54 @@ with_word mix (enum_type e) = with_types mix (with_named mix.types)
 with_word mix (typedef_name n) = with_types mix (with_named mix.types)
 with_word mix _ = Some mix
 
+-- what a word is in a mix
+abbrev pub class_of : SpecWord → Class
+class_of (storage w) = classes.Stores w.keyword
+class_of (thread token) = classes.Stores words.Thread
+class_of (basic w) = classes.Spells w.keyword
+class_of (struct_type a b c d) = classes.Named
+class_of (enum_type e) = classes.Named
+class_of (typedef_name n) = classes.Named
+class_of _ = classes.Free
+
+abbrev pub with_class : Mix → Class → Option Mix
+with_class mix (classes.Stores keyword) = with_storage mix (storing keyword)
+with_class mix classes.Free = Some mix
+with_class mix (classes.Spells keyword) = with_types mix (with_part mix.types (part_of keyword))
+with_class mix classes.Named = with_types mix (with_named mix.types)
+
+-- what stands of a mix before its first word
+abbrev pub no_mix : Mix
+no_mix = record { types = Words bases.Nothing marks.Unmarked; storage = stores.Nothing }
+
+abbrev pub then_class : Option Mix → Class → Option Mix
+then_class None class = None
+then_class (Some mix) class = with_class mix class
+
+-- what stands of a mix after words, none where no mix begins so
+abbrev pub mix_from : Option Mix → SpecWords → Option Mix
+mix_from mix no_words = mix
+mix_from mix (more_words w ws) = mix_from (then_class mix (class_of w)) ws
+
+abbrev pub mix_of : SpecWords → Option Mix
+mix_of ws = mix_from (Some no_mix) ws
+
+-- whether a mix goes on with a word of a class
+abbrev pub goes_on : SpecWords → Class → Bool
+goes_on ws class = is_some (then_class (mix_of ws) class)
+
 -- whether a whole type stands
 abbrev pub whole_of : Types → Bool
 whole_of Named = true
 whole_of (Words base mark) = is_whole base mark
+
+abbrev pub whole_in : Option Mix → Bool
+whole_in None = false
+whole_in (Some mix) = whole_of mix.types
+
+-- whether words are a whole mix
+abbrev pub is_whole_mix : SpecWords → Bool
+is_whole_mix ws = whole_in (mix_of ws)
 
 -- whether a type stands
 abbrev pub type_stands : Types → Bool

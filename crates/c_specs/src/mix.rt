@@ -21,6 +21,19 @@ pub enum Types {
     Named,
 }
 
+/// What a word of specifiers is in a mix.
+#[derive(Clone, Copy, PartialEq, Eq, Debug)]
+pub enum Class {
+    /// A storage word, or `_Thread_local`.
+    Stores(Keyword),
+    /// A word that may stand in any mix.
+    Free,
+    /// A word of a basic type.
+    Spells(Keyword),
+    /// A struct, union, enum or typedef name.
+    Named,
+}
+
 /// What stands of a mix, after some of its words.
 #[derive(Clone, Copy, PartialEq, Eq, Debug)]
 pub struct Mix {

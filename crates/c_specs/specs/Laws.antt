@@ -1,0 +1,15 @@
+-- What the step functions of a mix say of the listed mixes.
+use Rattle.std.specs.Prelude.{◌≡◌, ◌↔◌, Bool, true, false, Some}
+use Rattle.c_tree.specs.Tree.{SpecWords, more_words, SpecWord}
+use Rattle.c_tree.specs.Specifiers.{IsMix}
+use Rattle.c_specs.specs.Mix.{class_of, goes_on, is_whole_mix, type_stands, mix_of}
+use Rattle.c_specs.specs.declared.mix.Mix.{Mix}
+use Rattle.c_specs.specs.Reading.{append_words, Begins, pushed}
+
+-- the words of a mix, and no others, are whole
+abbrev pub WholeAreMixes : Type 0
+WholeAreMixes = (ws : SpecWords) → (is_whole_mix ws ≡ true) ↔ IsMix ws
+
+-- a word of a mix goes on with those before it
+abbrev pub MixesGoOn : Type 0
+MixesGoOn = (ws : SpecWords) (w : SpecWord) (more : SpecWords) → IsMix (append_words ws (more_words w more)) → goes_on ws (class_of w) ≡ true
