@@ -34,7 +34,33 @@ comma_parts (t ∷ ts) rest e = by_test (is_comma t.kind) refl e
     by_test true is e = (t, ap (λ (k : List Lexeme). t ∷ k) cc, is)
     by_test false is e = absurd cc
 
+both : (a b : Bool) → (a && b) ≡ true → a ≡ true
+both true b e = refl
+both false b e = e
+
+texts_push : (known : List ℕ) (token : ℕ) (k : List Lexeme) → texts_text (known ++ token ∷ []) k ≡ texts_text known (plain_text kinds.Text token k)
+texts_push [] token k = refl
+texts_push (first ∷ known) token k = ap (plain_text kinds.Text first) (texts_push known token k)
+
+not_empty : (known : List ℕ) (token : ℕ) → (known ++ token ∷ []) ≢ []
+not_empty [] token e = absurd cc
+not_empty (first ∷ known) token e = absurd cc
+
 module _ (all : List Lexeme) where
+  -- a row of strings that others may come behind
+  abbrev AreTexts : List Lexeme → List ℕ → List Lexeme → Type 0
+  AreTexts ts known k = (ts ≡ texts_text known k) × (known ≢ []) × IsTail all k
+
+  text_taken : (ts : List Lexeme) (known : List ℕ) (k : List Lexeme) (x : List ℕ × List Lexeme) → AreTexts ts known k → texts_turn known k ≡ Some (Ok x) → AreTexts ts x.0 x.1
+  text_taken ts known [] x h e = absurd cc
+  text_taken ts known (t ∷ k) x h e = by_test (is_text t.kind) refl e
+    where
+      by_test : (b : Bool) → is_text t.kind ≡ b → (if b then Some (ends (known ++ t.at ∷ []) k) else None) ≡ Some (Ok x) → AreTexts ts x.0 x.1
+      by_test false is e = absurd cc
+      by_test true is e =
+          subst (λ (x : List ℕ × List Lexeme). AreTexts ts x.0 x.1) (ok_is (known ++ t.at ∷ [], k) x cc)
+          (h.0 ∙ ap (texts_text known) (plain_is t kinds.Text k (text_kind t.kind is)) ∙ sym (texts_push known t.at k), not_empty known t.at, tail_of all t k h.2)
+
   -- a level at least of an expression that was read
   abbrev pub IsSpelled : ℕ → Scopes → List Lexeme → (Expr × Scopes) × List Lexeme → Type 0
   IsSpelled level s ts x = Takes all (expr_text all) (λ e s. IsExpr all e × (level ≤ expr_level e)) expr_scopes s ts x
@@ -168,3 +194,140 @@ module _ (all : List Lexeme) where
     postfixed_taken : (s : Scopes) (ts : List Lexeme) (e : Expr) (t : Scopes) (k : List Lexeme) (x : (Expr × Scopes) × List Lexeme) → IsSpelled 15 s ts ((e, t), k) →
         postfixed room expr type_name e t k ≡ Ok x → IsSpelled 15 s ts x
     postfixed_taken s ts e t k x h is = run-keep (postfix_turn room expr type_name) (λ state k. IsSpelled 15 s ts (state, k)) (postfix_taken s ts) (e, t) k x h is
+
+    paren_taken : (t : Lexeme) (s : Scopes) (ts : List Lexeme) (x : (Expr × Scopes) × List Lexeme) → t.kind ≡ kinds.Punct puncts.OpenParen → IsTail all ts →
+        paren_expr_with room expr type_name t.at s ts ≡ Ok x → IsSpelled 15 s (t ∷ ts) x
+    unfolding paren_expr_with
+    paren_taken t s ts x is tail e =
+        let b = bind_ok (expr whole s ts) (λ e. token_at is_close_paren e.1 >>= λ close. postfixed room expr type_name (paren t.at e.0.0 close.0.at) e.0.1 close.1) x e in
+        let i = inner.sound whole s ts b.0 tail b.1 in
+        let c = bind_ok (token_at is_close_paren b.0.1) (λ close. postfixed room expr type_name (paren t.at b.0.0.0 close.0.at) b.0.0.1 close.1) x b.2 in
+        let close = sign_taken all is_close_paren puncts.CloseParen close_paren_kind b.0.1 c.0 i.left c.1 in
+        postfixed_taken s (t ∷ ts) (paren t.at b.0.0.0 c.0.0.at) b.0.0.1 c.0.1 x (record {
+          spelled = sign_is t puncts.OpenParen ts is ∙ ap (sign_text puncts.OpenParen t.at) (i.spelled ∙ ap (expr_text all b.0.0.0) close.0);
+          fits = (i.fits.0, omega arith);
+          named = i.named;
+          left = close.1;
+        }) c.2
+
+    sizeof_type_taken : (word : Word) (t : Lexeme) (s : Scopes) (ts : List Lexeme) (x : (Expr × Scopes) × List Lexeme) → is_sizeof word.keyword ≡ true → t.kind ≡ kinds.Punct puncts.OpenParen → IsTail all ts →
+        sizeof_type_with room expr type_name word t.at s ts ≡ Ok x → IsSpelled 14 s (word_text word (t ∷ ts)) x
+    unfolding sizeof_type_with
+    sizeof_type_taken word t s ts x known is tail e =
+        let b = bind_ok (type_name s ts) (λ t'. token_at is_close_paren t'.1 >>= λ close. ends (sizeof_type word t.at t'.0.0.0 t'.0.0.1 close.0.at, t'.0.1) close.1) x e in
+        let i = types.sound s ts b.0 tail b.1 in
+        let c = bind_ok (token_at is_close_paren b.0.1) (λ close. ends (sizeof_type word t.at b.0.0.0.0 b.0.0.0.1 close.0.at, b.0.0.1) close.1) x b.2 in
+        let close = sign_taken all is_close_paren puncts.CloseParen close_paren_kind b.0.1 c.0 i.left c.1 in
+        subst (IsSpelled 14 s (word_text word (t ∷ ts))) (ok_is ((sizeof_type word t.at b.0.0.0.0 b.0.0.0.1 c.0.0.at, b.0.0.1), c.0.1) x c.2) (record {
+          spelled = ap (word_text word) (sign_is t puncts.OpenParen ts is ∙ ap (sign_text puncts.OpenParen t.at) (i.spelled ∙ ap (type_name_text all b.0.0.0) close.0));
+          fits = ((i.fits.0, i.fits.1, i.fits.2, known), omega arith);
+          named = i.named;
+          left = close.1;
+        })
+
+    sizeof_value_taken : (word : Word) (s : Scopes) (ts : List Lexeme) (x : (Expr × Scopes) × List Lexeme) → is_sizeof word.keyword ≡ true → IsTail all ts →
+        sizeof_value_with room expr type_name word s ts ≡ Ok x → IsSpelled 14 s (word_text word ts) x
+    sizeof_value_taken word s ts x known tail e =
+        let b = bind_ok (expr unary s ts) (λ e. ends (sizeof_value word e.0.0, e.0.1) e.1) x e in
+        let i = inner.sound unary s ts b.0 tail b.1 in
+        subst (IsSpelled 14 s (word_text word ts)) (ok_is ((sizeof_value word b.0.0.0, b.0.0.1), b.0.1) x b.2) (record {
+          spelled = ap (word_text word) i.spelled;
+          fits = ((i.fits.0, known, i.fits.1), omega arith);
+          named = i.named;
+          left = i.left;
+        })
+
+    sizeof_taken : (word : Word) (s : Scopes) (ts : List Lexeme) (x : (Expr × Scopes) × List Lexeme) → is_sizeof word.keyword ≡ true → IsTail all ts →
+        sizeof_with room expr type_name word s ts ≡ Ok x → IsSpelled 14 s (word_text word ts) x
+    unfolding sizeof_with
+    sizeof_taken word s [] x known tail e = sizeof_value_taken word s [] x known tail e
+    sizeof_taken word s (t ∷ ts) x known tail e = by_test (is_open_paren t.kind && begins_specs s ts) refl e
+      where
+        by_test : (b : Bool) → (is_open_paren t.kind && begins_specs s ts) ≡ b →
+            (if b then sizeof_type_with room expr type_name word t.at s ts else sizeof_value_with room expr type_name word s (t ∷ ts)) ≡ Ok x → IsSpelled 14 s (word_text word (t ∷ ts)) x
+        by_test true is e = sizeof_type_taken word t s ts x known (open_paren_kind t.kind (both (is_open_paren t.kind) (begins_specs s ts) is)) (tail_of all t ts tail) e
+        by_test false is e = sizeof_value_taken word s (t ∷ ts) x known tail e
+
+    unary_by_taken : (o : Opening) (t : Lexeme) (s : Scopes) (ts : List Lexeme) (x : (Expr × Scopes) × List Lexeme) → IsOpening o t.kind → IsTail all ts →
+        unary_by room expr type_name o t s ts ≡ Ok x → IsSpelled 14 s (t ∷ ts) x
+    unfolding unary_by
+    unary_by_taken (prefix_opening p reach) t s ts x is tail e =
+        let b = bind_ok (expr reach s ts) (λ e. ends (prefix t.at p e.0.0, e.0.1) e.1) x e in
+        let i = inner.sound reach s ts b.0 tail b.1 in
+        subst (IsSpelled 14 s (t ∷ ts)) (ok_is ((prefix t.at p b.0.0.0, b.0.0.1), b.0.1) x b.2) (record {
+          spelled = sign_is t p ts is.0 ∙ ap (sign_text p t.at) i.spelled;
+          fits = ((i.fits.0, omega (arith, is.1, i.fits.1)), omega arith);
+          named = i.named;
+          left = i.left;
+        })
+    unary_by_taken (sizeof_opening keyword) t s ts x is tail e =
+        subst (λ (us : List Lexeme). IsSpelled 14 s us x) (sym (plain_is t (kinds.Keyword keyword) ts is.0)) (sizeof_taken (record { token = t.at; keyword = keyword }) s ts x is.1 tail e)
+    unary_by_taken (name_opening name) t s ts x is tail e = by_test (names_type s name) refl e
+      where
+        by_test : (b : Bool) → names_type s name ≡ b → (if b then refuses Unexpected (t ∷ ts) else postfixed room expr type_name (name_use t.at name) s ts) ≡ Ok x → IsSpelled 14 s (t ∷ ts) x
+        by_test true isnt e = absurd cc
+        by_test false isnt e =
+            lower 15 14 s (t ∷ ts) x (omega arith) (postfixed_taken s (t ∷ ts) (name_use t.at name) s ts x
+            (record { spelled = plain_is t (kinds.Name name) ts is; fits = (tt, omega arith); named = ap (λ (b : Bool). where_true (not b) s) isnt; left = tail }) e)
+    unary_by_taken number_opening t s ts x is tail e =
+        lower 15 14 s (t ∷ ts) x (omega arith) (postfixed_taken s (t ∷ ts) (number_use t.at) s ts x
+        (record { spelled = plain_is t kinds.Number ts is; fits = (tt, omega arith); named = refl; left = tail }) e)
+    unary_by_taken char_opening t s ts x is tail e =
+        lower 15 14 s (t ∷ ts) x (omega arith) (postfixed_taken s (t ∷ ts) (char_use t.at) s ts x
+        (record { spelled = plain_is t kinds.Char ts is; fits = (tt, omega arith); named = refl; left = tail }) e)
+    unary_by_taken text_opening t s ts x is tail e =
+        let b = bind_ok (run texts_turn (t.at ∷ []) ts) (λ texts. postfixed room expr type_name (text_use texts.0) s texts.1) x e in
+        let texts = run-keep texts_turn (AreTexts (t ∷ ts)) (text_taken (t ∷ ts)) (t.at ∷ []) ts b.0 (plain_is t kinds.Text ts is, (λ e. absurd cc), tail) b.1 in
+        lower 15 14 s (t ∷ ts) x (omega arith) (postfixed_taken s (t ∷ ts) (text_use b.0.0) s b.0.1 x
+        (record { spelled = texts.0; fits = (texts.1, omega arith); named = refl; left = texts.2 }) b.2)
+    unary_by_taken paren_opening t s ts x is tail e = lower 15 14 s (t ∷ ts) x (omega arith) (paren_taken t s ts x is tail e)
+    unary_by_taken no_opening t s ts x is tail e = absurd cc
+
+    pub unary_sound : IsSound all (expr_text all) (FitsReach all unary) expr_scopes (unary_with room expr type_name)
+    unfolding unary_with
+    unary_sound s [] x tail e = absurd cc
+    unary_sound s (t ∷ ts) x tail e = unary_by_taken (opening_of t.kind) t s ts x (opening_is t.kind) (tail_of all t ts tail) e
+
+    abbrev cast_rest : Lexeme → TypeName all × Scopes → Lexeme × List Lexeme → Read (Expr × Scopes)
+    cast_rest t known close = expr castable known.1 close.1 >>= λ e. ends (cast t.at known.0.0 known.0.1 close.0.at e.0.0, e.0.1) e.1
+
+    abbrev cast_behind : Lexeme → Scopes → List Lexeme → Read (Expr × Scopes)
+    cast_behind t s ts = type_name s ts >>= λ known. token_at is_close_paren known.1 >>= λ close. cast_rest t known.0 close
+
+    cast_taken : (t : Lexeme) (s : Scopes) (ts : List Lexeme) (x : (Expr × Scopes) × List Lexeme) → t.kind ≡ kinds.Punct puncts.OpenParen → IsTail all ts →
+        cast_behind t s ts ≡ Ok x → IsSpelled 13 s (t ∷ ts) x
+    cast_taken t s ts x is tail e =
+        let b = bind_ok (type_name s ts) (λ known. token_at is_close_paren known.1 >>= λ close. cast_rest t known.0 close) x e in
+        let i = types.sound s ts b.0 tail b.1 in
+        let c = bind_ok (token_at is_close_paren b.0.1) (λ close. cast_rest t b.0.0 close) x b.2 in
+        let close = sign_taken all is_close_paren puncts.CloseParen close_paren_kind b.0.1 c.0 i.left c.1 in
+        let d = bind_ok (expr castable b.0.0.1 c.0.1) (λ e. ends (cast t.at b.0.0.0.0 b.0.0.0.1 c.0.0.at e.0.0, e.0.1) e.1) x c.2 in
+        let o = inner.sound castable b.0.0.1 c.0.1 d.0 close.1 d.1 in
+        subst (IsSpelled 13 s (t ∷ ts)) (ok_is ((cast t.at b.0.0.0.0 b.0.0.0.1 c.0.0.at d.0.0.0, d.0.0.1), d.0.1) x d.2) (record {
+          spelled = sign_is t puncts.OpenParen ts is ∙ ap (sign_text puncts.OpenParen t.at) (i.spelled ∙ ap (type_name_text all b.0.0.0) (close.0 ∙ ap (sign_text puncts.CloseParen c.0.0.at) o.spelled));
+          fits = ((i.fits.0, i.fits.1, i.fits.2, o.fits.0, o.fits.1), omega arith);
+          named = behind_is (type_name_scopes all b.0.0.0 s) (expr_scopes d.0.0.0) b.0.0.1 d.0.0.1 i.named o.named;
+          left = o.left;
+        })
+
+    pub cast_sound : IsSound all (expr_text all) (FitsReach all castable) expr_scopes (cast_with room expr type_name)
+    unfolding cast_with
+    cast_sound s [] x tail e = absurd cc
+    cast_sound s (t ∷ ts) x tail e = by_test (is_open_paren t.kind && begins_specs s ts) refl e
+      where
+        by_test : (b : Bool) → (is_open_paren t.kind && begins_specs s ts) ≡ b → (if b then cast_behind t s ts else unary_with room expr type_name s (t ∷ ts)) ≡ Ok x → IsSpelled 13 s (t ∷ ts) x
+        by_test true is e = cast_taken t s ts x (open_paren_kind t.kind (both (is_open_paren t.kind) (begins_specs s ts) is)) (tail_of all t ts tail) e
+        by_test false is e = lower 14 13 s (t ∷ ts) x (omega arith) (unary_sound s (t ∷ ts) x tail e)
+
+    pub middle_sound : IsSound all (some_expr_text all) (λ e s. IsSomeExpr all e) some_expr_scopes (middle_with room expr type_name)
+    unfolding middle_with
+    middle_sound s ts x tail e = by_colon (begins is_colon ts) e
+      where
+        by_colon : (b : Bool) → (if b then ends (no_expr, s) ts else (expr whole s ts >>= λ e. ends (some_expr e.0.0, e.0.1) e.1)) ≡ Ok x → Takes all (some_expr_text all) (λ e s. IsSomeExpr all e) some_expr_scopes s ts x
+        by_colon true e = subst (λ (x : (SomeExpr × Scopes) × List Lexeme). Takes all (some_expr_text all) (λ e s. IsSomeExpr all e) some_expr_scopes s ts x) (ok_is ((no_expr, s), ts) x e)
+            (record { spelled = refl; fits = tt; named = refl; left = tail })
+        by_colon false e =
+            let b = bind_ok (expr whole s ts) (λ e. ends (some_expr e.0.0, e.0.1) e.1) x e in
+            let i = inner.sound whole s ts b.0 tail b.1 in
+            subst (λ (x : (SomeExpr × Scopes) × List Lexeme). Takes all (some_expr_text all) (λ e s. IsSomeExpr all e) some_expr_scopes s ts x) (ok_is ((some_expr b.0.0.0, b.0.0.1), b.0.1) x b.2)
+            (record { spelled = i.spelled; fits = i.fits.0; named = i.named; left = i.left })
