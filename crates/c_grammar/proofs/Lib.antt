@@ -6,3 +6,5 @@ pub mod Aims
 pub mod Tails
 pub mod ExprSoundTokens
 pub mod ExprSoundForms
+pub mod ExprSoundLists
+pub mod ExprSound
