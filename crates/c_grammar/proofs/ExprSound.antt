@@ -1,29 +1,29 @@
 -- What is read as an expression is spelled so, and well formed: a list of operands and operators, and its tree.
-use Rattle.std.proofs.Common.{◌≡◌, ℕ, zero, suc, ◌≤◌, ◌<◌, Bool, true, false, if◌then◌else◌, List, [], ◌∷◌, length, Option, Some, None, Ok, Err, refl, sym, ◌∙◌, ap, subst, arith}
+use Rattle.std.proofs.Common.{◌≡◌, ℕ, ◌≤◌, Bool, true, false, if◌then◌else◌, List, [], ◌∷◌, Option, Some, None, Ok, refl, sym, ◌∙◌, ap, subst, arith}
 use Rattle.std.specs.Prelude.{nat_le}
 use Rattle.c_lexer.specs.declared.kinds.TokenKind.TheVariants as kinds
 use Rattle.c_lexer.specs.declared.kinds.Punct.{Punct}
 use Rattle.c_lexer.specs.declared.kinds.Punct.TheVariants as puncts
 use Rattle.c_tree.specs.declared.lexeme.Lexeme.{Lexeme}
-use Rattle.c_tree.specs.Tree.{Expr, Operator, comma, assign, cond, binary, SomeExpr, SpecWords, SomeDeclr}
+use Rattle.c_tree.specs.Tree.{Expr, Operator, comma, assign, cond, binary, SpecWords, SomeDeclr}
 use Rattle.c_tree.specs.Text.{expr_text, operator_text, some_expr_text, sign_text}
 use Rattle.c_tree.specs.Height.{expr_height}
-use Rattle.c_tree.specs.Levels.{IsOperator, is_assignment, expr_level, operator_level}
-use Rattle.c_tree.specs.WellFormed.{IsExpr, IsMiddle}
-use Rattle.c_ops.specs.Operations.{Entry, Operations, in_order, bad_target}
+use Rattle.c_tree.specs.Levels.{IsOperator, is_assignment, operator_level}
+use Rattle.c_tree.specs.WellFormed.{IsMiddle}
+use Rattle.c_ops.specs.Operations.{Operations, bad_target}
 use Rattle.c_ops.specs.Trees.{the_tree, HasItsTree}
 use Rattle.typedef_scope.specs.Scopes.{Scopes}
 use Rattle.c_grammar.specs.declared.fault.Fault.TheVariants.{BadTarget, TooDeep}
 use Rattle.c_grammar.specs.Scoping.{behind, expr_scopes, operator_scopes}
 use Rattle.c_grammar.specs.Reading.{Read, run, ends, refuses, ◌>>=◌, IsNumbered, IsTail}
 use Rattle.c_grammar.specs.Eating.{token_at, is_colon}
-use Rattle.c_grammar.specs.Expressing.{Reach, whole, assigned, conditional, castable, unary, takes_comma, takes_assign, Between, comma_between, assign_between, question_between, binary_between, nothing_between, between, has_bad_target, with_entry, cast_with, operand_with, middle_with, question_with, assign_with, operation_by, operation_turn, operations_with, with_room, tree_with, expr_with}
+use Rattle.c_grammar.specs.Expressing.{Reach, whole, assigned, conditional, castable, unary, takes_comma, takes_assign, Between, comma_between, assign_between, question_between, binary_between, nothing_between, between, has_bad_target, with_entry, cast_with, operand_with, middle_with, question_with, operation_by, operation_turn, operations_with, with_room, tree_with, expr_with}
 use Rattle.c_grammar.proofs.Aims.{Takes, IsSound, FitsReach, reach_level, ExprLaws, TypeNameLaws}
 use Rattle.c_grammar.proofs.Tails.{tail_of}
-use Rattle.c_grammar.proofs.LoopLemmas.{bind_ok, ok_is, done, run-keep}
-use Rattle.c_grammar.proofs.ExprSoundTokens.{colon_kind, IsBetween, between_is, sign_is, behind_is, sign_taken}
+use Rattle.c_grammar.proofs.LoopLemmas.{bind_ok, run-keep}
+use Rattle.c_grammar.proofs.ExprSoundTokens.{at_end, colon_kind, IsBetween, between_is, sign_is, behind_is, sign_taken}
 use Rattle.c_grammar.proofs.ExprSoundForms.{IsSpelled, unary_sound, cast_sound, middle_sound}
-use Rattle.c_grammar.proofs.ExprSoundLists.{list_scopes, list_scopes_push, scopes_in, bad_target_push, list_text, list_text_push, text_in, FitsEntry, FitsList, fits_push, are_operands, fits_in, entries_scopes}
+use Rattle.c_grammar.proofs.ExprSoundLists.{list_scopes, list_scopes_push, scopes_in, bad_target_push, list_text, list_text_push, text_in, FitsList, fits_push, are_operands, fits_in, entries_scopes}
 
 comma_low : (reach : Reach) → takes_comma reach ≡ true → reach_level reach ≤ 0
 comma_low whole h = omega arith
@@ -52,7 +52,7 @@ module _ (all : List Lexeme) (numbered : IsNumbered all) (room n : ℕ) (expr : 
   operand_taken least s ts state k op token t m x h spelled tail scoped table middle good loose e =
       let b = bind_ok (cast_with room expr type_name t m) (λ e. ends (with_entry state.0 op token e.0.0, e.0.1) e.1) x e in
       let i = cast_sound all numbered room n expr type_name inner types t m b.0 tail b.1 in
-      subst (AreRead least s ts) (ok_is ((with_entry state.0 op token b.0.0.0, b.0.0.1), b.0.1) x b.2) (record {
+      at_end (AreRead least s ts) ((with_entry state.0 op token b.0.0.0, b.0.0.1), b.0.1) x b.2 (record {
         spelled = h.spelled ∙ ap (list_text all state.0) (spelled ∙ ap (operator_text all op token) i.spelled) ∙ sym (list_text_push all state.0 op token b.0.0.0 b.0.1);
         fits = (fits_push all least state.0 op token b.0.0.0 h.fits.0 (record { table = table; middle = middle; right = i.fits.0; tight = i.fits.1; loose = loose }), bad_target_push state.0 op token b.0.0.0 h.fits.1 good);
         named = list_scopes_push state.0 op token b.0.0.0 s state.1 t b.0.0.1 h.named scoped i.named;
@@ -140,7 +140,7 @@ module _ (all : List Lexeme) (numbered : IsNumbered all) (room n : ℕ) (expr : 
       where
         by_room : (y : (Operations × Scopes) × List Lexeme) → AreRead (reach_level reach) s ts y → (b : Bool) →
             (if b then ends (the_tree y.0.0, y.0.1) y.1 else refuses TooDeep y.1) ≡ Ok x → Takes all (expr_text all) (FitsReach all reach) expr_scopes s ts x
-        by_room y h true e = subst (IsSpelled all (reach_level reach) s ts) (ok_is ((the_tree y.0.0, y.0.1), y.1) x e) (joined_taken (reach_level reach) s ts y low h)
+        by_room y h true e = at_end (IsSpelled all (reach_level reach) s ts) ((the_tree y.0.0, y.0.1), y.1) x e (joined_taken (reach_level reach) s ts y low h)
         by_room y h false e = absurd cc
 
     pub expr_sound : (reach : Reach) → IsSound all (expr_text all) (FitsReach all reach) expr_scopes (expr_with room expr type_name reach)

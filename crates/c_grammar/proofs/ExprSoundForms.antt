@@ -1,29 +1,28 @@
 -- What is read as arguments, a postfix form, a unary form or a cast is spelled so, and well formed.
-use Rattle.std.proofs.Common.{◌≡◌, ◌≢◌, ℕ, zero, suc, ◌≤◌, ◌<◌, Bool, true, false, if◌then◌else◌, List, [], ◌∷◌, ◌++◌, length, Option, Some, None, Ok, Err, refl, sym, ◌∙◌, ap, subst, arith}
+use Rattle.std.proofs.Common.{◌≡◌, ◌≢◌, ℕ, suc, ◌≤◌, ◌<◌, Bool, true, false, if◌then◌else◌, List, [], ◌∷◌, ◌++◌, length, Some, None, Ok, refl, sym, ◌∙◌, ap, subst, arith}
 use Rattle.std.specs.Prelude.{nat_le, ◌&&◌, not}
 use Rattle.c_lexer.specs.declared.kinds.TokenKind.TheVariants as kinds
 use Rattle.c_lexer.specs.declared.kinds.Punct.{Punct}
 use Rattle.c_lexer.specs.declared.kinds.Punct.TheVariants as puncts
 use Rattle.c_tree.specs.declared.lexeme.Lexeme.{Lexeme}
-use Rattle.c_tree.specs.declared.parts.Identifier.{Identifier}
 use Rattle.c_tree.specs.declared.parts.Word.{Word}
 use Rattle.c_tree.specs.Tree.{Expr, cast, prefix, sizeof_value, sizeof_type, index, call, dot, arrow, post, name_use, number_use, char_use, text_use, paren, SomeExpr, no_expr, some_expr, Exprs, no_exprs, more_exprs, SpecWords, SomeDeclr}
 use Rattle.c_tree.specs.Text.{expr_text, exprs_text, other_exprs_text, some_expr_text, separated, sign_text, plain_text, texts_text, word_text, identifier_text}
 use Rattle.c_tree.specs.Height.{expr_height}
 use Rattle.c_tree.specs.Levels.{expr_level}
-use Rattle.c_tree.specs.WellFormed.{IsExpr, IsSomeExpr, AreArguments, prefix_level, is_sizeof}
+use Rattle.c_tree.specs.WellFormed.{IsExpr, IsSomeExpr, AreArguments, is_sizeof}
 use Rattle.typedef_scope.specs.Scopes.{Scopes}
 use Rattle.c_grammar.specs.declared.fault.Fault.TheVariants.{Unexpected}
-use Rattle.c_grammar.specs.Scoping.{behind, expr_scopes, exprs_scopes, some_expr_scopes, where_true, names_type, spec_words_scopes, some_declr_scopes}
-use Rattle.c_grammar.specs.Reading.{Read, Shrinks, run, ends, refuses, ◌>>=◌, IsNumbered, IsTail}
+use Rattle.c_grammar.specs.Scoping.{behind, expr_scopes, exprs_scopes, some_expr_scopes, where_true, names_type}
+use Rattle.c_grammar.specs.Reading.{Read, run, ends, refuses, ◌>>=◌, IsNumbered, IsTail}
 use Rattle.c_grammar.specs.Eating.{token_at, after, begins, is_open_paren, is_close_paren, is_close_bracket, is_colon, is_comma}
 use Rattle.c_grammar.specs.Specifying.{begins_specs, name_at}
-use Rattle.c_grammar.specs.Expressing.{Reach, whole, assigned, conditional, castable, unary, Opening, prefix_opening, sizeof_opening, name_opening, number_opening, char_opening, text_opening, paren_opening, no_opening, opening_of, Closing, index_closing, call_closing, dot_closing, arrow_closing, post_closing, no_closing, closing_of, is_text, texts_turn, with_expr, arg_turn, args_with, postfix_by, postfix_turn, postfixed, paren_expr_with, sizeof_type_with, sizeof_value_with, sizeof_with, unary_by, unary_with, cast_with, middle_with}
-use Rattle.c_grammar.proofs.Aims.{Takes, IsSound, FitsReach, reach_level, ExprLaws, TypeNameLaws, TypeName, type_name_text, FitsTypeName, type_name_scopes}
+use Rattle.c_grammar.specs.Expressing.{Reach, whole, assigned, castable, unary, Opening, prefix_opening, sizeof_opening, name_opening, number_opening, char_opening, text_opening, paren_opening, no_opening, opening_of, Closing, index_closing, call_closing, dot_closing, arrow_closing, post_closing, no_closing, closing_of, is_text, texts_turn, with_expr, arg_turn, args_with, postfix_by, postfix_turn, postfixed, paren_expr_with, sizeof_type_with, sizeof_value_with, sizeof_with, unary_by, unary_with, cast_with, middle_with}
+use Rattle.c_grammar.proofs.Aims.{Takes, IsSound, FitsReach, ExprLaws, TypeNameLaws, TypeName, type_name_text, type_name_scopes}
 use Rattle.c_grammar.proofs.Taking.{name_taken}
 use Rattle.c_grammar.proofs.Tails.{tail_of}
-use Rattle.c_grammar.proofs.LoopLemmas.{bind_ok, ok_is, done, run-keep, op_parts}
-use Rattle.c_grammar.proofs.ExprSoundTokens.{open_paren_kind, close_paren_kind, close_bracket_kind, colon_kind, text_kind, IsClosing, closing_is, IsOpening, opening_is, plain_is, sign_is, room_is, behind_is, behind_some, sign_taken, comma_before}
+use Rattle.c_grammar.proofs.LoopLemmas.{bind_ok, run-keep, op_parts}
+use Rattle.c_grammar.proofs.ExprSoundTokens.{at_end, open_paren_kind, close_paren_kind, close_bracket_kind, text_kind, IsClosing, closing_is, IsOpening, opening_is, plain_is, sign_is, room_is, behind_is, behind_some, sign_taken, comma_before}
 
 -- what stands behind a first comma
 comma_parts : (ts rest : List Lexeme) → after is_comma ts ≡ Some rest → (u : Lexeme) × (ts ≡ u ∷ rest) × (is_comma u.kind ≡ true)
@@ -58,7 +57,7 @@ module _ (all : List Lexeme) where
       by_test : (b : Bool) → is_text t.kind ≡ b → (if b then Some (ends (known ++ t.at ∷ []) k) else None) ≡ Some (Ok x) → AreTexts ts x.0 x.1
       by_test false is e = absurd cc
       by_test true is e =
-          subst (λ (x : List ℕ × List Lexeme). AreTexts ts x.0 x.1) (ok_is (known ++ t.at ∷ [], k) x cc)
+          at_end (λ (x : List ℕ × List Lexeme). AreTexts ts x.0 x.1) (known ++ t.at ∷ [], k) x (cc)
           (h.0 ∙ ap (texts_text known) (plain_is t kinds.Text k (text_kind t.kind is)) ∙ sym (texts_push known t.at k), not_empty known t.at, tail_of all t k h.2)
 
   -- a level at least of an expression that was read
@@ -122,7 +121,7 @@ module _ (all : List Lexeme) where
     args_sound s ts x tail e = by_close (begins is_close_paren ts) e
       where
         by_close : (b : Bool) → (if b then ends (no_exprs, s) ts else (expr assigned s ts >>= λ e. run (arg_turn room expr type_name) (more_exprs e.0.0 no_exprs, e.0.1) e.1)) ≡ Ok x → AreSpelled s ts x
-        by_close true e = subst (AreSpelled s ts) (ok_is ((no_exprs, s), ts) x e) (record { spelled = refl; fits = tt; named = refl; left = tail })
+        by_close true e = at_end (AreSpelled s ts) ((no_exprs, s), ts) x e (record { spelled = refl; fits = tt; named = refl; left = tail })
         by_close false e =
             let b = bind_ok (expr assigned s ts) (λ e. run (arg_turn room expr type_name) (more_exprs e.0.0 no_exprs, e.0.1) e.1) x e in
             let i = inner.sound assigned s ts b.0 tail b.1 in
@@ -146,7 +145,7 @@ module _ (all : List Lexeme) where
             let i = inner.sound whole state.1 k b.0 tail b.1 in
             let c = bind_ok (token_at is_close_bracket b.0.1) (λ close. ends (index state.0 t.at b.0.0.0 close.0.at, b.0.0.1) close.1) x b.2 in
             let close = sign_taken all is_close_bracket puncts.CloseBracket close_bracket_kind b.0.1 c.0 i.left c.1 in
-            subst (IsSpelled 15 s ts) (ok_is ((index state.0 t.at b.0.0.0 c.0.0.at, b.0.0.1), c.0.1) x c.2) (record {
+            at_end (IsSpelled 15 s ts) ((index state.0 t.at b.0.0.0 c.0.0.at, b.0.0.1), c.0.1) x c.2 (record {
               spelled = h.spelled ∙ ap (expr_text all state.0) (sign_is t puncts.OpenBracket k is ∙ ap (sign_text puncts.OpenBracket t.at) (i.spelled ∙ ap (expr_text all b.0.0.0) close.0));
               fits = ((h.fits.0, i.fits.0, h.fits.1), omega arith);
               named = behind_is (expr_scopes state.0 s) (expr_scopes b.0.0.0) state.1 b.0.0.1 h.named i.named;
@@ -157,7 +156,7 @@ module _ (all : List Lexeme) where
             let i = args_sound state.1 k b.0 tail b.1 in
             let c = bind_ok (token_at is_close_paren b.0.1) (λ close. ends (call state.0 t.at b.0.0.0 close.0.at, b.0.0.1) close.1) x b.2 in
             let close = sign_taken all is_close_paren puncts.CloseParen close_paren_kind b.0.1 c.0 i.left c.1 in
-            subst (IsSpelled 15 s ts) (ok_is ((call state.0 t.at b.0.0.0 c.0.0.at, b.0.0.1), c.0.1) x c.2) (record {
+            at_end (IsSpelled 15 s ts) ((call state.0 t.at b.0.0.0 c.0.0.at, b.0.0.1), c.0.1) x c.2 (record {
               spelled = h.spelled ∙ ap (expr_text all state.0) (sign_is t puncts.OpenParen k is ∙ ap (sign_text puncts.OpenParen t.at) (i.spelled ∙ ap (exprs_text all b.0.0.0) close.0));
               fits = ((h.fits.0, i.fits, h.fits.1), omega arith);
               named = behind_is (expr_scopes state.0 s) (exprs_scopes b.0.0.0) state.1 b.0.0.1 h.named i.named;
@@ -166,7 +165,7 @@ module _ (all : List Lexeme) where
         by_closing dot_closing is e =
             let b = bind_ok (name_at k) (λ name. ends (dot state.0 t.at name.0, state.1) name.1) x cc in
             let name : k ≡ identifier_text b.0.0 b.0.1 = name_taken k b.0.0 b.0.1 b.1 in
-            subst (IsSpelled 15 s ts) (ok_is ((dot state.0 t.at b.0.0, state.1), b.0.1) x b.2) (record {
+            at_end (IsSpelled 15 s ts) ((dot state.0 t.at b.0.0, state.1), b.0.1) x b.2 (record {
               spelled = h.spelled ∙ ap (expr_text all state.0) (sign_is t puncts.Dot k is ∙ ap (sign_text puncts.Dot t.at) name);
               fits = ((h.fits.0, h.fits.1), omega arith);
               named = h.named;
@@ -175,14 +174,14 @@ module _ (all : List Lexeme) where
         by_closing arrow_closing is e =
             let b = bind_ok (name_at k) (λ name. ends (arrow state.0 t.at name.0, state.1) name.1) x cc in
             let name : k ≡ identifier_text b.0.0 b.0.1 = name_taken k b.0.0 b.0.1 b.1 in
-            subst (IsSpelled 15 s ts) (ok_is ((arrow state.0 t.at b.0.0, state.1), b.0.1) x b.2) (record {
+            at_end (IsSpelled 15 s ts) ((arrow state.0 t.at b.0.0, state.1), b.0.1) x b.2 (record {
               spelled = h.spelled ∙ ap (expr_text all state.0) (sign_is t puncts.Arrow k is ∙ ap (sign_text puncts.Arrow t.at) name);
               fits = ((h.fits.0, h.fits.1), omega arith);
               named = h.named;
               left = tail_of all (record { kind = kinds.Name b.0.0.name; at = b.0.0.token }) b.0.1 (subst (IsTail all) name tail);
             })
         by_closing (post_closing p) is e =
-            subst (IsSpelled 15 s ts) (ok_is ((post state.0 t.at p, state.1), k) x cc) (record {
+            at_end (IsSpelled 15 s ts) ((post state.0 t.at p, state.1), k) x (cc) (record {
               spelled = h.spelled ∙ ap (expr_text all state.0) (sign_is t p k is.0);
               fits = ((h.fits.0, is.1, h.fits.1), omega arith);
               named = h.named;
@@ -218,7 +217,7 @@ module _ (all : List Lexeme) where
         let i = types.sound s ts b.0 tail b.1 in
         let c = bind_ok (token_at is_close_paren b.0.1) (λ close. ends (sizeof_type word t.at b.0.0.0.0 b.0.0.0.1 close.0.at, b.0.0.1) close.1) x b.2 in
         let close = sign_taken all is_close_paren puncts.CloseParen close_paren_kind b.0.1 c.0 i.left c.1 in
-        subst (IsSpelled 14 s (word_text word (t ∷ ts))) (ok_is ((sizeof_type word t.at b.0.0.0.0 b.0.0.0.1 c.0.0.at, b.0.0.1), c.0.1) x c.2) (record {
+        at_end (IsSpelled 14 s (word_text word (t ∷ ts))) ((sizeof_type word t.at b.0.0.0.0 b.0.0.0.1 c.0.0.at, b.0.0.1), c.0.1) x c.2 (record {
           spelled = ap (word_text word) (sign_is t puncts.OpenParen ts is ∙ ap (sign_text puncts.OpenParen t.at) (i.spelled ∙ ap (type_name_text all b.0.0.0) close.0));
           fits = ((i.fits.0, i.fits.1, i.fits.2, known), omega arith);
           named = i.named;
@@ -230,7 +229,7 @@ module _ (all : List Lexeme) where
     sizeof_value_taken word s ts x known tail e =
         let b = bind_ok (expr unary s ts) (λ e. ends (sizeof_value word e.0.0, e.0.1) e.1) x e in
         let i = inner.sound unary s ts b.0 tail b.1 in
-        subst (IsSpelled 14 s (word_text word ts)) (ok_is ((sizeof_value word b.0.0.0, b.0.0.1), b.0.1) x b.2) (record {
+        at_end (IsSpelled 14 s (word_text word ts)) ((sizeof_value word b.0.0.0, b.0.0.1), b.0.1) x b.2 (record {
           spelled = ap (word_text word) i.spelled;
           fits = ((i.fits.0, known, i.fits.1), omega arith);
           named = i.named;
@@ -254,7 +253,7 @@ module _ (all : List Lexeme) where
     unary_by_taken (prefix_opening p reach) t s ts x is tail e =
         let b = bind_ok (expr reach s ts) (λ e. ends (prefix t.at p e.0.0, e.0.1) e.1) x e in
         let i = inner.sound reach s ts b.0 tail b.1 in
-        subst (IsSpelled 14 s (t ∷ ts)) (ok_is ((prefix t.at p b.0.0.0, b.0.0.1), b.0.1) x b.2) (record {
+        at_end (IsSpelled 14 s (t ∷ ts)) ((prefix t.at p b.0.0.0, b.0.0.1), b.0.1) x b.2 (record {
           spelled = sign_is t p ts is.0 ∙ ap (sign_text p t.at) i.spelled;
           fits = ((i.fits.0, omega (arith, is.1, i.fits.1)), omega arith);
           named = i.named;
@@ -303,7 +302,7 @@ module _ (all : List Lexeme) where
         let close = sign_taken all is_close_paren puncts.CloseParen close_paren_kind b.0.1 c.0 i.left c.1 in
         let d = bind_ok (expr castable b.0.0.1 c.0.1) (λ e. ends (cast t.at b.0.0.0.0 b.0.0.0.1 c.0.0.at e.0.0, e.0.1) e.1) x c.2 in
         let o = inner.sound castable b.0.0.1 c.0.1 d.0 close.1 d.1 in
-        subst (IsSpelled 13 s (t ∷ ts)) (ok_is ((cast t.at b.0.0.0.0 b.0.0.0.1 c.0.0.at d.0.0.0, d.0.0.1), d.0.1) x d.2) (record {
+        at_end (IsSpelled 13 s (t ∷ ts)) ((cast t.at b.0.0.0.0 b.0.0.0.1 c.0.0.at d.0.0.0, d.0.0.1), d.0.1) x d.2 (record {
           spelled = sign_is t puncts.OpenParen ts is ∙ ap (sign_text puncts.OpenParen t.at) (i.spelled ∙ ap (type_name_text all b.0.0.0) (close.0 ∙ ap (sign_text puncts.CloseParen c.0.0.at) o.spelled));
           fits = ((i.fits.0, i.fits.1, i.fits.2, o.fits.0, o.fits.1), omega arith);
           named = behind_is (type_name_scopes all b.0.0.0 s) (expr_scopes d.0.0.0) b.0.0.1 d.0.0.1 i.named o.named;
@@ -324,10 +323,10 @@ module _ (all : List Lexeme) where
     middle_sound s ts x tail e = by_colon (begins is_colon ts) e
       where
         by_colon : (b : Bool) → (if b then ends (no_expr, s) ts else (expr whole s ts >>= λ e. ends (some_expr e.0.0, e.0.1) e.1)) ≡ Ok x → Takes all (some_expr_text all) (λ e s. IsSomeExpr all e) some_expr_scopes s ts x
-        by_colon true e = subst (λ (x : (SomeExpr × Scopes) × List Lexeme). Takes all (some_expr_text all) (λ e s. IsSomeExpr all e) some_expr_scopes s ts x) (ok_is ((no_expr, s), ts) x e)
+        by_colon true e = at_end (λ (x : (SomeExpr × Scopes) × List Lexeme). Takes all (some_expr_text all) (λ e s. IsSomeExpr all e) some_expr_scopes s ts x) ((no_expr, s), ts) x e
             (record { spelled = refl; fits = tt; named = refl; left = tail })
         by_colon false e =
             let b = bind_ok (expr whole s ts) (λ e. ends (some_expr e.0.0, e.0.1) e.1) x e in
             let i = inner.sound whole s ts b.0 tail b.1 in
-            subst (λ (x : (SomeExpr × Scopes) × List Lexeme). Takes all (some_expr_text all) (λ e s. IsSomeExpr all e) some_expr_scopes s ts x) (ok_is ((some_expr b.0.0.0, b.0.0.1), b.0.1) x b.2)
+            at_end (λ (x : (SomeExpr × Scopes) × List Lexeme). Takes all (some_expr_text all) (λ e s. IsSomeExpr all e) some_expr_scopes s ts x) ((some_expr b.0.0.0, b.0.0.1), b.0.1) x b.2
             (record { spelled = i.spelled; fits = i.fits.0; named = i.named; left = i.left })

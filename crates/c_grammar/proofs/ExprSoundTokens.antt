@@ -1,5 +1,5 @@
 -- What the first token of a form of an expression is, what a sign takes, and scopes one behind another.
-use Rattle.std.proofs.Common.{◌≡◌, ℕ, zero, suc, ◌≤◌, ◌<◌, Bool, true, false, if◌then◌else◌, List, [], ◌∷◌, length, Option, Some, None, Ok, Err, refl, sym, ◌∙◌, ap, subst, arith}
+use Rattle.std.proofs.Common.{◌≡◌, ℕ, zero, suc, ◌≤◌, ◌<◌, Bool, true, false, if◌then◌else◌, List, [], ◌∷◌, length, Option, Some, None, Ok, refl, ◌∙◌, ap, subst, arith}
 use Rattle.c_lexer.specs.declared.kinds.TokenKind.{TokenKind}
 use Rattle.c_lexer.specs.declared.kinds.TokenKind.TheVariants as kinds
 use Rattle.c_lexer.specs.declared.kinds.Punct.{Punct}
@@ -13,9 +13,10 @@ use Rattle.typedef_scope.specs.Scopes.{Scopes}
 use Rattle.c_grammar.specs.Scoping.{behind}
 use Rattle.c_grammar.specs.Reading.{Read, lowered, IsNumbered, IsTail}
 use Rattle.c_grammar.specs.Eating.{token_at, is_open_paren, is_close_paren, is_close_bracket, is_colon, is_comma}
-use Rattle.c_grammar.specs.Expressing.{Reach, Between, comma_between, assign_between, question_between, binary_between, nothing_between, binary_or_nothing, punct_between, between, Opening, prefix_opening, sizeof_opening, name_opening, number_opening, char_opening, text_opening, paren_opening, no_opening, opening_of, Closing, index_closing, call_closing, dot_closing, arrow_closing, post_closing, no_closing, closing_of, is_text}
+use Rattle.c_grammar.specs.Expressing.{Between, comma_between, assign_between, question_between, binary_between, nothing_between, binary_or_nothing, punct_between, between, Opening, prefix_opening, sizeof_opening, name_opening, number_opening, char_opening, text_opening, paren_opening, no_opening, opening_of, Closing, index_closing, call_closing, dot_closing, arrow_closing, post_closing, no_closing, closing_of, is_text}
 use Rattle.c_grammar.proofs.Aims.{reach_level}
 use Rattle.c_grammar.proofs.Taking.{token_taken}
+use Rattle.c_grammar.proofs.LoopLemmas.{ok_is, done}
 use Rattle.c_grammar.proofs.Tails.{tail_of, comma_is}
 
 pub open_paren_kind : (kind : TokenKind) → is_open_paren kind ≡ true → kind ≡ kinds.Punct puncts.OpenParen
@@ -125,6 +126,10 @@ pub room_is : {S : Type 0} (has_room : Bool) (t : Lexeme) (ts : List Lexeme) (o 
 room_is has_room t ts None x e = absurd cc
 room_is true t ts (Some read) x e = e
 room_is false t ts (Some read) x e = absurd cc
+
+-- what holds of an answer
+pub at_end : {A : Type 0} (P : A → Type 0) (y x : A) → done y ≡ done x → P y → P x
+at_end P y x e h = subst P (ok_is y x e) h
 
 pub behind_is : (o : Option Scopes) (next : Scopes → Option Scopes) (t u : Scopes) → o ≡ Some t → next t ≡ Some u → behind o next ≡ Some u
 behind_is o next t u h k = ap (λ (o : Option Scopes). behind o next) h ∙ k
