@@ -1,4 +1,4 @@
--- What is read as an expression is spelled so, and well formed: a list of operands and operators, and its tree.
+-- What is read as an expression is spelled so, and well formed: operands and operators in turn, and their tree.
 use Rattle.std.proofs.Common.{◌≡◌, ℕ, ◌≤◌, Bool, true, false, if◌then◌else◌, List, [], ◌∷◌, Option, Some, None, Ok, refl, sym, ◌∙◌, ap, subst, arith}
 use Rattle.std.specs.Prelude.{nat_le}
 use Rattle.c_lexer.specs.declared.kinds.TokenKind.TheVariants as kinds
@@ -25,6 +25,7 @@ use Rattle.c_grammar.proofs.ExprSoundTokens.{at_end, colon_kind, IsBetween, betw
 use Rattle.c_grammar.proofs.ExprSoundForms.{IsSpelled, unary_sound, cast_sound, middle_sound}
 use Rattle.c_grammar.proofs.ExprSoundLists.{list_scopes, list_scopes_push, scopes_in, bad_target_push, list_text, list_text_push, text_in, FitsList, fits_push, are_operands, fits_in, entries_scopes}
 
+-- a reach that takes commas, or assignments, has no higher level
 comma_low : (reach : Reach) → takes_comma reach ≡ true → reach_level reach ≤ 0
 comma_low whole h = omega arith
 comma_low _ h = absurd cc
@@ -34,27 +35,28 @@ assign_low whole h = omega arith
 assign_low assigned h = omega arith
 assign_low _ h = absurd cc
 
--- nothing is behind the last
+-- an empty list of operators leaves the scopes
 unbehind : (o : Option Scopes) → o ≡ behind o (entries_scopes [])
 unbehind None = refl
 unbehind (Some s) = refl
 
-module _ (all : List Lexeme) (numbered : IsNumbered all) (room n : ℕ) (expr : Reach → Scopes → List Lexeme → Read (Expr × Scopes)) (type_name : Scopes → List Lexeme → Read ((SpecWords × SomeDeclr) × Scopes))
-    (inner : ExprLaws all n expr) (types : TypeNameLaws all n type_name) where
+module _ (all : List Lexeme) (numbered : IsNumbered all) (room n : ℕ) (expr : Reach → Scopes → List Lexeme → Read (Expr × Scopes))
+    (type_name : Scopes → List Lexeme → Read ((SpecWords × SomeDeclr) × Scopes)) (inner : ExprLaws all n expr) (types : TypeNameLaws all n type_name) where
   -- operands and operators that were read, each operator of a level at least, and no assignment with a bad target
   abbrev pub AreRead : ℕ → Scopes → List Lexeme → (Operations × Scopes) × List Lexeme → Type 0
   AreRead least s ts x = Takes all (list_text all) (λ list s. FitsList all least list × (bad_target list ≡ None)) list_scopes s ts x
 
   -- one operator more, with its right operand
-  operand_taken : (least : ℕ) (s : Scopes) (ts : List Lexeme) (state : Operations × Scopes) (k : List Lexeme) (op : Operator) (token : ℕ) (t : Scopes) (m : List Lexeme) (x : (Operations × Scopes) × List Lexeme) →
-      AreRead least s ts (state, k) → k ≡ operator_text all op token m → IsTail all m → operator_scopes op state.1 ≡ Some t → IsOperator op → IsMiddle all op →
+  operand_taken : (least : ℕ) (s : Scopes) (ts : List Lexeme) (state : Operations × Scopes) (k : List Lexeme) (op : Operator) (token : ℕ) (t : Scopes) (m : List Lexeme)
+      (x : (Operations × Scopes) × List Lexeme) → AreRead least s ts (state, k) → k ≡ operator_text all op token m → IsTail all m → operator_scopes op state.1 ≡ Some t → IsOperator op → IsMiddle all op →
       has_bad_target state.0 op ≡ false → least ≤ operator_level op → operand_with room expr type_name state.0 op token t m ≡ Ok x → AreRead least s ts x
   operand_taken least s ts state k op token t m x h spelled tail scoped table middle good loose e =
       let b = bind_ok (cast_with room expr type_name t m) (λ e. ends (with_entry state.0 op token e.0.0, e.0.1) e.1) x e in
       let i = cast_sound all numbered room n expr type_name inner types t m b.0 tail b.1 in
       at_end (AreRead least s ts) ((with_entry state.0 op token b.0.0.0, b.0.0.1), b.0.1) x b.2 (record {
         spelled = h.spelled ∙ ap (list_text all state.0) (spelled ∙ ap (operator_text all op token) i.spelled) ∙ sym (list_text_push all state.0 op token b.0.0.0 b.0.1);
-        fits = (fits_push all least state.0 op token b.0.0.0 h.fits.0 (record { table = table; middle = middle; right = i.fits.0; tight = i.fits.1; loose = loose }), bad_target_push state.0 op token b.0.0.0 h.fits.1 good);
+        fits = (fits_push all least state.0 op token b.0.0.0 h.fits.0 (record { table = table; middle = middle; right = i.fits.0; tight = i.fits.1; loose = loose }),
+            bad_target_push state.0 op token b.0.0.0 h.fits.1 good);
         named = list_scopes_push state.0 op token b.0.0.0 s state.1 t b.0.0.1 h.named scoped i.named;
         left = i.left;
       })
@@ -93,7 +95,8 @@ module _ (all : List Lexeme) (numbered : IsNumbered all) (room n : ℕ) (expr : 
       by_reach p is table good false takes e = absurd cc
 
       by_target : (p : Punct) → t.kind ≡ kinds.Punct p → is_assignment p ≡ true → (b : Bool) → has_bad_target state.0 (assign p) ≡ b →
-          (if b then Some (refuses BadTarget (t ∷ k)) else (if takes_assign reach then Some (operand_with room expr type_name state.0 (assign p) t.at state.1 k) else None)) ≡ Some (Ok x) → AreRead (reach_level reach) s ts x
+          (if b then Some (refuses BadTarget (t ∷ k)) else (if takes_assign reach then Some (operand_with room expr type_name state.0 (assign p) t.at state.1 k) else None)) ≡ Some (Ok x) →
+          AreRead (reach_level reach) s ts x
       by_target p is table true target e = absurd cc
       by_target p is table false target e = by_reach p is table target (takes_assign reach) refl e
 

@@ -24,7 +24,7 @@ use Rattle.c_grammar.proofs.Tails.{tail_of}
 use Rattle.c_grammar.proofs.LoopLemmas.{bind_ok, run-keep, op_parts}
 use Rattle.c_grammar.proofs.ExprSoundTokens.{at_end, open_paren_kind, close_paren_kind, close_bracket_kind, text_kind, IsClosing, closing_is, IsOpening, opening_is, plain_is, sign_is, room_is, behind_is, behind_some, sign_taken, comma_before}
 
--- what stands behind a first comma
+-- A list whose first token is a comma has this token before what is left.
 comma_parts : (ts rest : List Lexeme) → after is_comma ts ≡ Some rest → (u : Lexeme) × (ts ≡ u ∷ rest) × (is_comma u.kind ≡ true)
 comma_parts [] rest e = absurd cc
 comma_parts (t ∷ ts) rest e = by_test (is_comma t.kind) refl e
@@ -46,7 +46,7 @@ not_empty [] token e = absurd cc
 not_empty (first ∷ known) token e = absurd cc
 
 module _ (all : List Lexeme) where
-  -- a row of strings that others may come behind
+  -- the strings of a row that were read
   abbrev AreTexts : List Lexeme → List ℕ → List Lexeme → Type 0
   AreTexts ts known k = (ts ≡ texts_text known k) × (known ≢ []) × IsTail all k
 
@@ -60,17 +60,18 @@ module _ (all : List Lexeme) where
           at_end (λ (x : List ℕ × List Lexeme). AreTexts ts x.0 x.1) (known ++ t.at ∷ [], k) x (cc)
           (h.0 ∙ ap (texts_text known) (plain_is t kinds.Text k (text_kind t.kind is)) ∙ sym (texts_push known t.at k), not_empty known t.at, tail_of all t k h.2)
 
-  -- a level at least of an expression that was read
+  -- an expression that was read, of a level at least
   abbrev pub IsSpelled : ℕ → Scopes → List Lexeme → (Expr × Scopes) × List Lexeme → Type 0
   IsSpelled level s ts x = Takes all (expr_text all) (λ e s. IsExpr all e × (level ≤ expr_level e)) expr_scopes s ts x
 
   pub lower : (n m : ℕ) (s : Scopes) (ts : List Lexeme) (x : (Expr × Scopes) × List Lexeme) → m ≤ n → IsSpelled n s ts x → IsSpelled m s ts x
   lower n m s ts x less h = record { spelled = h.spelled; fits = (h.fits.0, omega (arith, less, h.fits.1)); named = h.named; left = h.left }
 
+  -- arguments that were read
   abbrev pub AreSpelled : Scopes → List Lexeme → (Exprs × Scopes) × List Lexeme → Type 0
   AreSpelled s ts x = Takes all (exprs_text all) (λ es s. AreArguments all es) exprs_scopes s ts x
 
-  -- arguments that others may come behind
+  -- There is an argument already, so that a comma stands before the next.
   abbrev HasFirst : Exprs → Type 0
   HasFirst no_exprs = ⊥
   HasFirst (more_exprs e es) = Unit {0}
@@ -100,6 +101,7 @@ module _ (all : List Lexeme) where
   module _ (numbered : IsNumbered all) (room n : ℕ) (expr : Reach → Scopes → List Lexeme → Read (Expr × Scopes)) (type_name : Scopes → List Lexeme → Read ((SpecWords × SomeDeclr) × Scopes))
       (inner : ExprLaws all n expr) (types : TypeNameLaws all n type_name) where
 
+    -- one more argument, behind a comma
     arg_taken : (s : Scopes) (ts : List Lexeme) (state : Exprs × Scopes) (k : List Lexeme) (x : (Exprs × Scopes) × List Lexeme) → AreSpelled s ts (state, k) × HasFirst state.0 →
         arg_turn room expr type_name state k ≡ Some (Ok x) → AreSpelled s ts x × HasFirst x.0.0
     arg_taken s ts state k x h e =
@@ -120,7 +122,8 @@ module _ (all : List Lexeme) where
     unfolding args_with
     args_sound s ts x tail e = by_close (begins is_close_paren ts) e
       where
-        by_close : (b : Bool) → (if b then ends (no_exprs, s) ts else (expr assigned s ts >>= λ e. run (arg_turn room expr type_name) (more_exprs e.0.0 no_exprs, e.0.1) e.1)) ≡ Ok x → AreSpelled s ts x
+        by_close : (b : Bool) →
+            (if b then ends (no_exprs, s) ts else (expr assigned s ts >>= λ e. run (arg_turn room expr type_name) (more_exprs e.0.0 no_exprs, e.0.1) e.1)) ≡ Ok x → AreSpelled s ts x
         by_close true e = at_end (AreSpelled s ts) ((no_exprs, s), ts) x e (record { spelled = refl; fits = tt; named = refl; left = tail })
         by_close false e =
             let b = bind_ok (expr assigned s ts) (λ e. run (arg_turn room expr type_name) (more_exprs e.0.0 no_exprs, e.0.1) e.1) x e in
@@ -129,6 +132,7 @@ module _ (all : List Lexeme) where
             (record { spelled = i.spelled; fits = (i.fits.0, i.fits.1, tt); named = behind_is (expr_scopes b.0.0.0 s) (exprs_scopes no_exprs) b.0.0.1 b.0.0.1 i.named refl; left = i.left }, tt) b.2 in
             l.0
 
+    -- one more postfix form
     postfix_taken : (s : Scopes) (ts : List Lexeme) (state : Expr × Scopes) (k : List Lexeme) (x : (Expr × Scopes) × List Lexeme) → IsSpelled 15 s ts (state, k) →
         postfix_turn room expr type_name state k ≡ Some (Ok x) → IsSpelled 15 s ts x
     postfix_taken s ts state [] x h e = absurd cc
@@ -189,7 +193,7 @@ module _ (all : List Lexeme) where
             })
         by_closing no_closing is e = absurd cc
 
-    -- a primary expression and the postfix forms behind it
+    -- the postfix forms behind a primary expression
     postfixed_taken : (s : Scopes) (ts : List Lexeme) (e : Expr) (t : Scopes) (k : List Lexeme) (x : (Expr × Scopes) × List Lexeme) → IsSpelled 15 s ts ((e, t), k) →
         postfixed room expr type_name e t k ≡ Ok x → IsSpelled 15 s ts x
     postfixed_taken s ts e t k x h is = run-keep (postfix_turn room expr type_name) (λ state k. IsSpelled 15 s ts (state, k)) (postfix_taken s ts) (e, t) k x h is
@@ -209,8 +213,8 @@ module _ (all : List Lexeme) where
           left = close.1;
         }) c.2
 
-    sizeof_type_taken : (word : Word) (t : Lexeme) (s : Scopes) (ts : List Lexeme) (x : (Expr × Scopes) × List Lexeme) → is_sizeof word.keyword ≡ true → t.kind ≡ kinds.Punct puncts.OpenParen → IsTail all ts →
-        sizeof_type_with room expr type_name word t.at s ts ≡ Ok x → IsSpelled 14 s (word_text word (t ∷ ts)) x
+    sizeof_type_taken : (word : Word) (t : Lexeme) (s : Scopes) (ts : List Lexeme) (x : (Expr × Scopes) × List Lexeme) → is_sizeof word.keyword ≡ true → t.kind ≡ kinds.Punct puncts.OpenParen →
+        IsTail all ts → sizeof_type_with room expr type_name word t.at s ts ≡ Ok x → IsSpelled 14 s (word_text word (t ∷ ts)) x
     unfolding sizeof_type_with
     sizeof_type_taken word t s ts x known is tail e =
         let b = bind_ok (type_name s ts) (λ t'. token_at is_close_paren t'.1 >>= λ close. ends (sizeof_type word t.at t'.0.0.0 t'.0.0.1 close.0.at, t'.0.1) close.1) x e in
@@ -303,7 +307,8 @@ module _ (all : List Lexeme) where
         let d = bind_ok (expr castable b.0.0.1 c.0.1) (λ e. ends (cast t.at b.0.0.0.0 b.0.0.0.1 c.0.0.at e.0.0, e.0.1) e.1) x c.2 in
         let o = inner.sound castable b.0.0.1 c.0.1 d.0 close.1 d.1 in
         at_end (IsSpelled 13 s (t ∷ ts)) ((cast t.at b.0.0.0.0 b.0.0.0.1 c.0.0.at d.0.0.0, d.0.0.1), d.0.1) x d.2 (record {
-          spelled = sign_is t puncts.OpenParen ts is ∙ ap (sign_text puncts.OpenParen t.at) (i.spelled ∙ ap (type_name_text all b.0.0.0) (close.0 ∙ ap (sign_text puncts.CloseParen c.0.0.at) o.spelled));
+          spelled = sign_is t puncts.OpenParen ts is
+              ∙ ap (sign_text puncts.OpenParen t.at) (i.spelled ∙ ap (type_name_text all b.0.0.0) (close.0 ∙ ap (sign_text puncts.CloseParen c.0.0.at) o.spelled));
           fits = ((i.fits.0, i.fits.1, i.fits.2, o.fits.0, o.fits.1), omega arith);
           named = behind_is (type_name_scopes all b.0.0.0 s) (expr_scopes d.0.0.0) b.0.0.1 d.0.0.1 i.named o.named;
           left = o.left;
@@ -318,15 +323,18 @@ module _ (all : List Lexeme) where
         by_test true is e = cast_taken t s ts x (open_paren_kind t.kind (both (is_open_paren t.kind) (begins_specs s ts) is)) (tail_of all t ts tail) e
         by_test false is e = lower 14 13 s (t ∷ ts) x (omega arith) (unary_sound s (t ∷ ts) x tail e)
 
+    abbrev MiddleTaken : Scopes → List Lexeme → (SomeExpr × Scopes) × List Lexeme → Type 0
+    MiddleTaken s ts x = Takes all (some_expr_text all) (λ e s. IsSomeExpr all e) some_expr_scopes s ts x
+
     pub middle_sound : IsSound all (some_expr_text all) (λ e s. IsSomeExpr all e) some_expr_scopes (middle_with room expr type_name)
     unfolding middle_with
     middle_sound s ts x tail e = by_colon (begins is_colon ts) e
       where
-        by_colon : (b : Bool) → (if b then ends (no_expr, s) ts else (expr whole s ts >>= λ e. ends (some_expr e.0.0, e.0.1) e.1)) ≡ Ok x → Takes all (some_expr_text all) (λ e s. IsSomeExpr all e) some_expr_scopes s ts x
-        by_colon true e = at_end (λ (x : (SomeExpr × Scopes) × List Lexeme). Takes all (some_expr_text all) (λ e s. IsSomeExpr all e) some_expr_scopes s ts x) ((no_expr, s), ts) x e
+        by_colon : (b : Bool) → (if b then ends (no_expr, s) ts else (expr whole s ts >>= λ e. ends (some_expr e.0.0, e.0.1) e.1)) ≡ Ok x → MiddleTaken s ts x
+        by_colon true e = at_end (MiddleTaken s ts) ((no_expr, s), ts) x e
             (record { spelled = refl; fits = tt; named = refl; left = tail })
         by_colon false e =
             let b = bind_ok (expr whole s ts) (λ e. ends (some_expr e.0.0, e.0.1) e.1) x e in
             let i = inner.sound whole s ts b.0 tail b.1 in
-            at_end (λ (x : (SomeExpr × Scopes) × List Lexeme). Takes all (some_expr_text all) (λ e s. IsSomeExpr all e) some_expr_scopes s ts x) ((some_expr b.0.0.0, b.0.0.1), b.0.1) x b.2
+            at_end (MiddleTaken s ts) ((some_expr b.0.0.0, b.0.0.1), b.0.1) x b.2
             (record { spelled = i.spelled; fits = i.fits.0; named = i.named; left = i.left })

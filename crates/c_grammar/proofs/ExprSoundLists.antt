@@ -1,4 +1,4 @@
--- What a list of operands and operators spells, asks for and makes of scopes is what its tree does.
+-- The text of a list of operands and operators, the rules for it and its scopes are those of its tree.
 use Rattle.std.proofs.Common.{◌≡◌, ℕ, ◌≤◌, Bool, true, false, if◌then◌else◌, List, [], ◌∷◌, ◌++◌, Option, Some, None, refl, sym, ◌∙◌, ap, subst, arith}
 use Rattle.c_tree.specs.declared.lexeme.Lexeme.{Lexeme}
 use Rattle.c_tree.specs.Tree.{Expr, operation, Operator}
@@ -53,7 +53,7 @@ scopes_in (operation a op token b) k s =
     by_left right (Some s) = by_operator right (operator_scopes op s)
 scopes_in _ k s = refl
 
--- no assignment has a bad target behind one more that has none
+-- no assignment has a bad target, where one more has none
 clean_push : (k : List Entry) (before : Option Operator) (e : Expr) (x : Entry) → first_bad before e k ≡ None → is_bad (operator_before before k) (last_of e k) x.operator ≡ false →
     first_bad before e (k ++ x ∷ []) ≡ None
 clean_push [] before e x h i = ap (λ (b : Bool). if b then Some x.token else None) i
@@ -90,7 +90,7 @@ module _ (all : List Lexeme) where
   text_in _ r k = refl
 
   module _ (least : ℕ) where
-    -- an operator of a level at least, with its right operand
+    -- an operator of a level at least, with a right operand that is at least a cast
     pub record FitsEntry (x : Entry) : Type 0 where
       pub table : IsOperator x.operator
       pub middle : IsMiddle all x.operator
@@ -109,7 +109,8 @@ module _ (all : List Lexeme) where
     fit_push [] x h i = (i, tt)
     fit_push (y ∷ k) x h i = (h.0, fit_push k x h.1 i)
 
-    pub fits_push : (list : Operations) (op : Operator) (token : ℕ) (e : Expr) → FitsList list → FitsEntry (record { operator = op; token = token; operand = e }) → FitsList (with_entry list op token e)
+    pub fits_push : (list : Operations) (op : Operator) (token : ℕ) (e : Expr) → FitsList list → FitsEntry (record { operator = op; token = token; operand = e }) →
+        FitsList (with_entry list op token e)
     fits_push list op token e h i = (h.0, h.1, fit_push list.rest (record { operator = op; token = token; operand = e }) h.2 i)
 
     all_operands : (k : List Entry) → FitEntries k → AllOperands k
@@ -119,7 +120,7 @@ module _ (all : List Lexeme) where
     pub are_operands : (list : Operations) → FitsList list → AreOperands list
     are_operands list h = record { first = h.1; rest = all_operands list.rest h.2 }
 
-    -- a tree whose list fits is well formed, at least as tight as the loosest operator, and what stands behind it fits
+    -- A levelled tree whose list fits obeys the rules and has the least level of the operators, and what stands behind it fits.
     pub fits_in : least ≤ 13 → (e : Expr) (k : List Entry) → IsLevelled e → FitsList (in_order e k) → IsExpr all e × (least ≤ expr_level e) × FitEntries k
     fits_in low (operation a op token b) k h f =
         let left = fits_in low a (joined op token (in_order b k)) h.0 f in

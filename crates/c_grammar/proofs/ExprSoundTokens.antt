@@ -1,4 +1,4 @@
--- What the first token of a form of an expression is, what a sign takes, and scopes one behind another.
+-- The kinds of the tokens that begin forms of expressions, and what a reader of one sign takes.
 use Rattle.std.proofs.Common.{◌≡◌, ℕ, zero, suc, ◌≤◌, ◌<◌, Bool, true, false, if◌then◌else◌, List, [], ◌∷◌, length, Option, Some, None, Ok, refl, ◌∙◌, ap, subst, arith}
 use Rattle.c_lexer.specs.declared.kinds.TokenKind.{TokenKind}
 use Rattle.c_lexer.specs.declared.kinds.TokenKind.TheVariants as kinds
@@ -121,13 +121,13 @@ plain_is t kind k e = ap (λ (kind : TokenKind). plain_text kind t.at k) e
 pub sign_is : (t : Lexeme) (p : Punct) (k : List Lexeme) → t.kind ≡ kinds.Punct p → t ∷ k ≡ sign_text p t.at k
 sign_is t p k e = plain_is t (kinds.Punct p) k e
 
--- a turn that goes well has room
+-- A turn that does not fail has room.
 pub room_is : {S : Type 0} (has_room : Bool) (t : Lexeme) (ts : List Lexeme) (o : Option (Read S)) (x : S × List Lexeme) → lowered has_room t ts o ≡ Some (Ok x) → o ≡ Some (Ok x)
 room_is has_room t ts None x e = absurd cc
 room_is true t ts (Some read) x e = e
 room_is false t ts (Some read) x e = absurd cc
 
--- what holds of an answer
+-- what holds of what was read holds of the answer
 pub at_end : {A : Type 0} (P : A → Type 0) (y x : A) → done y ≡ done x → P y → P x
 at_end P y x e h = subst P (ok_is y x e) h
 
@@ -139,14 +139,14 @@ behind_some None next u e = absurd cc
 behind_some (Some t) next u e = (t, refl, e)
 
 module _ (all : List Lexeme) where
-  -- what a sign takes
+  -- A reader of one sign takes this sign.
   pub sign_taken : (test : TokenKind → Bool) (p : Punct) → ((kind : TokenKind) → test kind ≡ true → kind ≡ kinds.Punct p) → (ts : List Lexeme) (x : Lexeme × List Lexeme) →
       IsTail all ts → token_at test ts ≡ Ok x → (ts ≡ sign_text p x.0.at x.1) × IsTail all x.1
   sign_taken test p kind_is ts x tail e =
       let taken = token_taken test ts x.0 x.1 e in
       (taken.0 ∙ sign_is x.0 p x.1 (kind_is x.0.kind taken.1), tail_of all x.0 x.1 (subst (IsTail all) taken.0 tail))
 
-  -- a comma before the next of a list
+  -- A comma before other tokens has the number before theirs.
   pub comma_before : IsNumbered all → (t : Lexeme) (ts : List Lexeme) → IsTail all (t ∷ ts) → is_comma t.kind ≡ true → 0 < length ts → t ∷ ts ≡ separated ts
   comma_before numbered t [] tail is more = absurd (omega (arith, more))
   comma_before numbered t (u ∷ ts) tail is more = comma_is all numbered t u ts tail (comma_kind t.kind is)
