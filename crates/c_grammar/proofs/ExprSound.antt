@@ -48,8 +48,8 @@ module _ (all : List Lexeme) (numbered : IsNumbered all) (room n : ℕ) (expr : 
 
   -- one operator more, with its right operand
   operand_taken : (least : ℕ) (s : Scopes) (ts : List Lexeme) (state : Operations × Scopes) (k : List Lexeme) (op : Operator) (token : ℕ) (t : Scopes) (m : List Lexeme)
-      (x : (Operations × Scopes) × List Lexeme) → AreRead least s ts (state, k) → k ≡ operator_text all op token m → IsTail all m → operator_scopes op state.1 ≡ Some t → IsOperator op → IsMiddle all op →
-      has_bad_target state.0 op ≡ false → least ≤ operator_level op → operand_with room expr type_name state.0 op token t m ≡ Ok x → AreRead least s ts x
+      (x : (Operations × Scopes) × List Lexeme) → AreRead least s ts (state, k) → k ≡ operator_text all op token m → IsTail all m → operator_scopes op state.1 ≡ Some t → IsOperator op →
+      IsMiddle all op → has_bad_target state.0 op ≡ false → least ≤ operator_level op → operand_with room expr type_name state.0 op token t m ≡ Ok x → AreRead least s ts x
   operand_taken least s ts state k op token t m x h spelled tail scoped table middle good loose e =
       let b = bind_ok (cast_with room expr type_name t m) (λ e. ends (with_entry state.0 op token e.0.0, e.0.1) e.1) x e in
       let i = cast_sound all numbered room n expr type_name inner types t m b.0 tail b.1 in
