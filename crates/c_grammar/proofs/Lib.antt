@@ -5,3 +5,4 @@ pub mod Qualifying
 pub mod Aims
 pub mod Tails
 pub mod ExprShrinks
+pub mod ExprCompleteStarts
