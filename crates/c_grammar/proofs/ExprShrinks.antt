@@ -56,7 +56,7 @@ lowered_ok b t ts None x e = absurd cc
 lowered_ok true t ts (Some read) x e = e
 lowered_ok false t ts (Some read) x e = absurd cc
 
-some_is : {A : Type 0} (a b : A) → Some a ≡ Some b → a ≡ b
+pub some_is : {A : Type 0} (a b : A) → Some a ≡ Some b → a ≡ b
 some_is a b e = cc
 
 pub texts_shrinks : TurnShrinks texts_turn

@@ -6,3 +6,4 @@ pub mod Aims
 pub mod Tails
 pub mod ExprShrinks
 pub mod ExprCompleteStarts
+pub mod ExprCompleteUnary
