@@ -26,7 +26,7 @@ use Rattle.c_grammar.proofs.ExprCompleteStarts.{behind_some, where_holds, not_tr
 
 -- What follows.
 
-and_true : (a b : Bool) → a && b ≡ true → (a ≡ true) × (b ≡ true)
+pub and_true : (a b : Bool) → a && b ≡ true → (a ≡ true) × (b ≡ true)
 and_true true b h = (refl, h)
 and_true false b h = absurd cc
 

@@ -7,3 +7,4 @@ pub mod Tails
 pub mod ExprShrinks
 pub mod ExprCompleteStarts
 pub mod ExprCompleteUnary
+pub mod ExprComplete
