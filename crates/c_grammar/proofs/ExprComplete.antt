@@ -1,8 +1,8 @@
 -- Expressions are read from their text, over readers that read the parts inside them.
-use Rattle.std.proofs.Common.{◌≡◌, ℕ, zero, suc, ◌≤◌, ◌<◌, Bool, true, false, List, [], ◌∷◌, ◌++◌, Option, Some, None, Result, Ok, Err, refl, sym, ◌∙◌, ap, arith, append_assoc}
-use Rattle.std.specs.Prelude.{nat_le, not, ◌&&◌, if◌then◌else◌}
+use Rattle.std.proofs.Common.{◌≡◌, ℕ, suc, ◌≤◌, Bool, true, false, List, [], ◌∷◌, ◌++◌, Option, Some, None, Ok, Err, refl, sym, ◌∙◌, ap, arith, append_assoc}
+use Rattle.std.specs.Prelude.{not, ◌&&◌, if◌then◌else◌}
 use Rattle.std.proofs.lemmas.Bool.{le-leb}
-use Rattle.c_lexer.specs.declared.kinds.Punct.TheVariants.{Colon, Comma, Question}
+use Rattle.c_lexer.specs.declared.kinds.Punct.TheVariants.{Colon}
 use Rattle.c_tree.specs.declared.lexeme.Lexeme.{Lexeme}
 use Rattle.c_tree.specs.Tree.{Expr, operation, cast, extension, Operator, comma, assign, cond, binary, SomeExpr, no_expr, some_expr, SpecWords, SomeDeclr}
 use Rattle.c_tree.specs.Text.{expr_text, some_expr_text, operator_text, sign_text}
@@ -14,8 +14,7 @@ use Rattle.c_ops.specs.Trees.{AllOperands, AreOperands, the_tree, HasItsTree, Ha
 use Rattle.typedef_scope.specs.Scopes.{Scopes}
 use Rattle.c_grammar.specs.Scoping.{behind, expr_scopes, some_expr_scopes, operator_scopes}
 use Rattle.c_grammar.specs.Reading.{IsNumbered, Read, run, ends, ◌>>=◌}
-use Rattle.c_grammar.specs.Eating.{begins, is_colon}
-use Rattle.c_grammar.specs.Expressing.{Reach, whole, assigned, conditional, castable, unary, Between, comma_between, assign_between, question_between, binary_between, nothing_between, between, closing_of, is_text, takes_comma, takes_assign, last_of, operator_before, has_bad_target, with_entry, cast_with, operand_with, middle_with, question_with, operation_by, operation_turn, operations_with, tree_with, expr_with}
+use Rattle.c_grammar.specs.Expressing.{Reach, whole, assigned, conditional, castable, unary, Between, comma_between, nothing_between, between, closing_of, is_text, takes_comma, takes_assign, last_of, operator_before, has_bad_target, with_entry, cast_with, operand_with, middle_with, question_with, operation_by, operation_turn, operations_with, tree_with, expr_with}
 use Rattle.c_grammar.proofs.LoopLemmas.{run_is}
 use Rattle.c_grammar.proofs.Aims.{IsComplete, FitsReach, reach_level, ends_before, ends_expr, is_no_closing, WordsBegin, ExprLaws, TypeNameLaws}
 use Rattle.c_grammar.proofs.ExprShrinks.{some_is, operation_shrinks}
@@ -67,13 +66,15 @@ clean_parts [] m x before e h = (refl, by_test (is_bad before e x.operator) h)
     by_test false h = refl
 clean_parts (y ∷ k) m x before e h = by_test (clean_parts k m x (Some y.operator) y.operand) (is_bad before e y.operator) h
   where
-    by_test : (first_bad (Some y.operator) y.operand (k ++ x ∷ m) ≡ None → (first_bad (Some y.operator) y.operand k ≡ None) × (is_bad (operator_before (Some y.operator) k) (last_of y.operand k) x.operator ≡ false)) →
+    by_test : (first_bad (Some y.operator) y.operand (k ++ x ∷ m) ≡ None →
+        (first_bad (Some y.operator) y.operand k ≡ None) × (is_bad (operator_before (Some y.operator) k) (last_of y.operand k) x.operator ≡ false)) →
         (b : Bool) → (if b then Some y.token else first_bad (Some y.operator) y.operand (k ++ x ∷ m)) ≡ None →
         ((if b then Some y.token else first_bad (Some y.operator) y.operand k) ≡ None) × (is_bad (operator_before (Some y.operator) k) (last_of y.operand k) x.operator ≡ false)
     by_test rest true h = absurd cc
     by_test rest false h = rest h
 
-clean_before : (list : Operations) (op : Operator) (token : ℕ) (operands : Operations) → bad_target (put (right_of list op token) operands) ≡ None → (bad_target list ≡ None) × (has_bad_target list op ≡ false)
+clean_before : (list : Operations) (op : Operator) (token : ℕ) (operands : Operations) → bad_target (put (right_of list op token) operands) ≡ None →
+    (bad_target list ≡ None) × (has_bad_target list op ≡ false)
 clean_before list op token operands h = clean_parts list.rest operands.rest (record { operator = op; token = token; operand = operands.first }) None list.first h
 
 -- Levels.
@@ -124,7 +125,8 @@ operand_is : (r : Read (Expr × Scopes)) (list : Operations) (op : Operator) (to
 operand_is (Ok x) list op token next = refl
 operand_is (Err e) list op token next = refl
 
-module _ (all : List Lexeme) (numbered : IsNumbered all) (n : ℕ) (expr : Reach → Scopes → List Lexeme → Read (Expr × Scopes)) (type_name : Scopes → List Lexeme → Read ((SpecWords × SomeDeclr) × Scopes))
+module _ (all : List Lexeme) (numbered : IsNumbered all) (n : ℕ) (expr : Reach → Scopes → List Lexeme → Read (Expr × Scopes))
+    (type_name : Scopes → List Lexeme → Read ((SpecWords × SomeDeclr) × Scopes))
     (inner : ExprLaws all n expr) (types : TypeNameLaws all n type_name) (begin : WordsBegin all) (its_tree : HasItsTree) (no_tree : HasNoTree) where
   -- The middle of a conditional.
 
@@ -133,7 +135,8 @@ module _ (all : List Lexeme) (numbered : IsNumbered all) (n : ℕ) (expr : Reach
   unfolding middle_with
   middle_complete no_expr s s' colon k h m d = ap (λ (s : Scopes). Ok ((no_expr, s), sign_text Colon colon k)) (some_is s s' m)
   middle_complete (some_expr e) s s' colon k h m d =
-      rw (no_colon (expr_text all e (sign_text Colon colon k)) (begins_no_end all e s s' (sign_text Colon colon k) h m), inner.complete whole e s s' (sign_text Colon colon k) (h, omega arith) m d refl) refl
+      rw (no_colon (expr_text all e (sign_text Colon colon k)) (begins_no_end all e s s' (sign_text Colon colon k) h m),
+          inner.complete whole e s s' (sign_text Colon colon k) (h, omega arith) m d refl) refl
 
   question_complete : (list : Operations) (token : ℕ) (e : SomeExpr) (s s' : Scopes) (colon : ℕ) (k : List Lexeme) → IsSomeExpr all e → some_expr_scopes e s ≡ Some s' → some_expr_height e ≤ n →
       question_with (suc n) expr type_name (list, s) token (some_expr_text all e (sign_text Colon colon k)) ≡ operand_with (suc n) expr type_name list (cond e colon) token s' k
@@ -142,8 +145,8 @@ module _ (all : List Lexeme) (numbered : IsNumbered all) (n : ℕ) (expr : Reach
 
   -- An operator is read, and an operand behind it.
 
-  operator_read : (reach : Reach) (op : Operator) (token : ℕ) (list : Operations) (s s' : Scopes) (k : List Lexeme) → IsOperator op → IsMiddle all op → operator_scopes op s ≡ Some s' → operator_height op ≤ n →
-      reach_level reach ≤ operator_level op → has_bad_target list op ≡ false →
+  operator_read : (reach : Reach) (op : Operator) (token : ℕ) (list : Operations) (s s' : Scopes) (k : List Lexeme) → IsOperator op → IsMiddle all op → operator_scopes op s ≡ Some s' →
+      operator_height op ≤ n → reach_level reach ≤ operator_level op → has_bad_target list op ≡ false →
       run (operation_turn (suc n) expr type_name reach) (list, s) (operator_text all op token k)
       ≡ (operand_with (suc n) expr type_name list op token s' k >>= λ x. run (operation_turn (suc n) expr type_name reach) x.0 x.1)
   operator_read reach comma token list s s' k h i m d r b =
@@ -163,8 +166,8 @@ module _ (all : List Lexeme) (numbered : IsNumbered all) (n : ℕ) (expr : Reach
         (ap (λ (s : Scopes). operand_with (suc n) expr type_name list (binary p) token s k >>= λ x. run (operation_turn (suc n) expr type_name reach) x.0 x.1) (some_is s s' m))
 
   -- the operands and operators of a tree so far, before more of them
-  operations_begun : (reach : Reach) (e : Expr) (place : Place) (s s' : Scopes) (k : List Lexeme) → IsExpr all e → reach_level reach ≤ expr_level e → expr_scopes e s ≡ Some s' → expr_height e ≤ suc n →
-      bad_target (put place (in_order e [])) ≡ None → ends_expr castable k ≡ true →
+  operations_begun : (reach : Reach) (e : Expr) (place : Place) (s s' : Scopes) (k : List Lexeme) → IsExpr all e → reach_level reach ≤ expr_level e → expr_scopes e s ≡ Some s' →
+      expr_height e ≤ suc n → bad_target (put place (in_order e [])) ≡ None → ends_expr castable k ≡ true →
       (cast_with (suc n) expr type_name s (expr_text all e k) >>= λ x. run (operation_turn (suc n) expr type_name reach) (put place (alone x.0.0), x.0.1) x.1)
       ≡ run (operation_turn (suc n) expr type_name reach) (put place (in_order e []), s') k
   operations_begun reach (operation e op token e2) place s s' k h r m d c f =
@@ -174,7 +177,8 @@ module _ (all : List Lexeme) (numbered : IsNumbered all) (n : ℕ) (expr : Reach
       let same : put place (in_order (operation e op token e2) []) ≡ put (right_of list op token) (in_order e2 []) = put_operation place e op token e2 in
       let clean : bad_target (put (right_of list op token) (in_order e2 [])) ≡ None = ap bad_target (sym same) ∙ c in
       let parts = clean_before list op token (in_order e2 []) clean in
-      operations_begun reach e place s q.0 (operator_text all op token (expr_text all e2 k)) h.0 (omega (arith, r, h.4, level_left op)) q.1 (omega (arith, d)) parts.0 (ends_operand all op token (expr_text all e2 k) h.2)
+      operations_begun reach e place s q.0 (operator_text all op token (expr_text all e2 k)) h.0 (omega (arith, r, h.4, level_left op)) q.1 (omega (arith, d)) parts.0
+          (ends_operand all op token (expr_text all e2 k) h.2)
       ∙ operator_read reach op token list q.0 p.0 (expr_text all e2 k) h.2 h.3 q.2 (omega (arith, d)) r parts.1
       ∙ operand_is (cast_with (suc n) expr type_name p.0 (expr_text all e2 k)) list op token (run (operation_turn (suc n) expr type_name reach))
       ∙ operations_begun reach e2 (right_of list op token) p.0 s' k h.1 (omega (arith, r, h.5, level_right op)) p.2 (omega (arith, d)) clean f
@@ -205,8 +209,9 @@ module _ (all : List Lexeme) (numbered : IsNumbered all) (n : ℕ) (expr : Reach
   ends_cast : (reach : Reach) (k : List Lexeme) → ends_expr reach k ≡ true → ends_expr castable k ≡ true
   ends_cast reach k h = ends_inside reach castable k ends_castable h
 
-  operations_complete : (reach : Reach) (e : Expr) (s s' : Scopes) (k : List Lexeme) → reach_level reach ≤ 2 → IsExpr all e → reach_level reach ≤ expr_level e → expr_scopes e s ≡ Some s' → expr_height e ≤ suc n →
-      bad_target (in_order e []) ≡ None → ends_expr reach k ≡ true → operations_with (suc n) expr type_name reach s (expr_text all e k) ≡ Ok ((in_order e [], s'), k)
+  operations_complete : (reach : Reach) (e : Expr) (s s' : Scopes) (k : List Lexeme) → reach_level reach ≤ 2 → IsExpr all e → reach_level reach ≤ expr_level e →
+      expr_scopes e s ≡ Some s' → expr_height e ≤ suc n → bad_target (in_order e []) ≡ None → ends_expr reach k ≡ true →
+      operations_with (suc n) expr type_name reach s (expr_text all e k) ≡ Ok ((in_order e [], s'), k)
   unfolding operations_with
   operations_complete reach e s s' k r h l m d c f =
       operations_begun reach e nowhere s s' k h l m d c (ends_cast reach k f)
@@ -228,8 +233,8 @@ module _ (all : List Lexeme) (numbered : IsNumbered all) (n : ℕ) (expr : Reach
   tree_is : (e : Expr) → IsExpr all e → the_tree (in_order e []) ≡ e
   tree_is e h = sym ((its_tree (in_order e []) (operands_of all e [] h tt) (clean_tree e h)).only e (tree_of e h))
 
-  tree_complete : (reach : Reach) (e : Expr) (s s' : Scopes) (k : List Lexeme) → reach_level reach ≤ 2 → IsExpr all e → reach_level reach ≤ expr_level e → expr_scopes e s ≡ Some s' → expr_height e ≤ suc n →
-      ends_expr reach k ≡ true → tree_with (suc n) expr type_name reach s (expr_text all e k) ≡ Ok ((e, s'), k)
+  tree_complete : (reach : Reach) (e : Expr) (s s' : Scopes) (k : List Lexeme) → reach_level reach ≤ 2 → IsExpr all e → reach_level reach ≤ expr_level e → expr_scopes e s ≡ Some s' →
+      expr_height e ≤ suc n → ends_expr reach k ≡ true → tree_with (suc n) expr type_name reach s (expr_text all e k) ≡ Ok ((e, s'), k)
   unfolding tree_with
   tree_complete reach e s s' k r h l m d f =
       rw (operations_complete reach e s s' k r h l m d (clean_tree e h) f, tree_is e h, le-leb (expr_height e) (suc n) d) refl

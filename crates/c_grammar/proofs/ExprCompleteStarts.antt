@@ -1,23 +1,23 @@
 -- What the text of an expression begins with, and what the tables of its signs say.
-use Rattle.std.proofs.Common.{◌≡◌, ℕ, zero, suc, ◌≤◌, ◌<◌, Bool, true, false, List, [], ◌∷◌, Option, Some, None, refl, sym, ◌∙◌, ap, arith}
-use Rattle.std.specs.Prelude.{not, ◌&&◌, if◌then◌else◌}
+use Rattle.std.proofs.Common.{◌≡◌, ◌≤◌, Bool, true, false, List, [], ◌∷◌, Option, Some, None, refl, arith}
+use Rattle.std.specs.Prelude.{not, ◌&&◌}
 use Rattle.c_lexer.specs.declared.kinds.TokenKind.{TokenKind}
 use Rattle.c_lexer.specs.declared.kinds.TokenKind.TheVariants as kinds
 use Rattle.c_lexer.specs.declared.kinds.Punct.{Punct}
-use Rattle.c_lexer.specs.declared.kinds.Punct.TheVariants.{PlusPlus, MinusMinus, Ampersand, Star, Plus, Minus, Tilde, Bang, BarBar, AmpersandAmpersand, Bar, Caret, EqualEqual, BangEqual, Less, Greater, LessEqual, GreaterEqual, ShiftLeft, ShiftRight, Slash, Percent, Equal, StarEqual, SlashEqual, PercentEqual, PlusEqual, MinusEqual, ShiftLeftEqual, ShiftRightEqual, AmpersandEqual, CaretEqual, BarEqual, CloseParen, Colon, OpenParen, OpenBracket, Dot, Arrow}
+use Rattle.c_lexer.specs.declared.kinds.Punct.TheVariants.{PlusPlus, MinusMinus, Ampersand, Star, Plus, Minus, Tilde, Bang, BarBar, AmpersandAmpersand, Bar, Caret, EqualEqual, BangEqual, Less, Greater, LessEqual, GreaterEqual, ShiftLeft, ShiftRight, Slash, Percent, Equal, StarEqual, SlashEqual, PercentEqual, PlusEqual, MinusEqual, ShiftLeftEqual, ShiftRightEqual, AmpersandEqual, CaretEqual, BarEqual, CloseParen, Colon}
 use Rattle.c_lexer.specs.declared.kinds.Keyword.{Keyword}
 use Rattle.c_lexer.specs.declared.kinds.Keyword.TheVariants.{Sizeof, Alignof}
 use Rattle.c_tree.specs.declared.lexeme.Lexeme.{Lexeme}
-use Rattle.c_tree.specs.Tree.{Expr, operation, cast, prefix, sizeof_value, sizeof_type, extension, index, call, dot, arrow, post, name_use, number_use, char_use, text_use, paren, Operator, comma, assign, cond, binary, SpecWords, no_words, more_words}
-use Rattle.c_tree.specs.Text.{expr_text, exprs_text, operator_text, sign_text, identifier_text}
-use Rattle.c_tree.specs.Levels.{binary_level, is_assignment, IsOperator, operator_level, expr_level}
+use Rattle.c_tree.specs.Tree.{Expr, operation, cast, prefix, sizeof_value, sizeof_type, index, call, dot, arrow, post, name_use, number_use, char_use, text_use, paren, Operator, comma, assign, cond, binary, SpecWords, no_words, more_words}
+use Rattle.c_tree.specs.Text.{expr_text, operator_text}
+use Rattle.c_tree.specs.Levels.{binary_level, is_assignment, operator_level, expr_level}
 use Rattle.c_tree.specs.WellFormed.{IsExpr, AreTypeWords, AreSpecWords, prefix_level, is_postfix, is_sizeof}
 use Rattle.typedef_scope.specs.Scopes.{Scopes}
 use Rattle.c_grammar.specs.Scoping.{behind, where_true, names_type, expr_scopes, exprs_scopes, operator_scopes}
 use Rattle.c_grammar.specs.Eating.{begins, is_open_paren, is_close_paren, is_colon}
 use Rattle.c_grammar.specs.Specifying.{keyword_start, no_start, begins_specs}
-use Rattle.c_grammar.specs.Expressing.{Reach, whole, assigned, conditional, castable, unary, Between, comma_between, assign_between, question_between, binary_between, nothing_between, between, Opening, prefix_opening, sizeof_opening, opening_of, Closing, no_closing, post_closing, closing_of}
-use Rattle.c_grammar.proofs.Aims.{reach_level, ends_before, ends_expr}
+use Rattle.c_grammar.specs.Expressing.{Reach, castable, unary, Between, comma_between, assign_between, question_between, binary_between, nothing_between, between, prefix_opening, sizeof_opening, opening_of, no_closing, post_closing, closing_of}
+use Rattle.c_grammar.proofs.Aims.{reach_level, ends_before}
 
 pub behind_some : (o : Option Scopes) (next : Scopes → Option Scopes) (s' : Scopes) → behind o next ≡ Some s' → (s1 : Scopes) × (o ≡ Some s1) × (next s1 ≡ Some s')
 behind_some None next s' e = absurd cc
@@ -81,7 +81,7 @@ ends_unary question_between = refl
 ends_unary (binary_between p) = refl
 ends_unary nothing_between = refl
 
--- what ends the parts inside an expression before they begin
+-- the signs that stand where arguments, or the middle of a conditional, are left out
 abbrev pub ends_part : TokenKind → Bool
 ends_part (kinds.Punct CloseParen) = true
 ends_part (kinds.Punct Colon) = true
@@ -230,7 +230,7 @@ module _ (all : List Lexeme) where
   begins_no_cast (paren opening e closing) s s' k h l n = begins_no_word e s s' _ h n
   begins_no_cast _ s s' k h l n = absurd cc
 
-  -- an expression does not begin with what ends it
+  -- an expression begins with none of these signs
   pub begins_no_end : (e : Expr) (s s' : Scopes) (k : List Lexeme) → IsExpr all e → expr_scopes e s ≡ Some s' → begins ends_part (expr_text all e k) ≡ false
   begins_no_end (operation e op token e2) s s' k h n =
       let p = behind_some (behind (expr_scopes e s) (operator_scopes op)) (expr_scopes e2) s' n in

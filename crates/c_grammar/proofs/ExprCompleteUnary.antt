@@ -1,6 +1,6 @@
 -- Unary forms and casts are read from their text, over readers that read the parts inside them.
-use Rattle.std.proofs.Common.{◌≡◌, ℕ, zero, suc, ◌≤◌, ◌<◌, Bool, true, false, List, [], ◌∷◌, ◌++◌, Option, Some, None, Result, Ok, Err, refl, sym, ◌∙◌, ap, arith, append_assoc}
-use Rattle.std.specs.Prelude.{nat_le, not, ◌&&◌, if◌then◌else◌}
+use Rattle.std.proofs.Common.{◌≡◌, ℕ, suc, ◌≤◌, Bool, true, false, List, [], ◌∷◌, ◌++◌, Some, None, Ok, refl, sym, ◌∙◌, ap, arith, append_assoc}
+use Rattle.std.specs.Prelude.{nat_le, not, ◌&&◌}
 use Rattle.std.proofs.lemmas.List.{append-nil}
 use Rattle.std.proofs.lemmas.Bool.{le-leb}
 use Rattle.c_lexer.specs.declared.kinds.TokenKind.TheVariants as kinds
@@ -12,17 +12,17 @@ use Rattle.c_tree.specs.Text.{expr_text, exprs_text, other_exprs_text, texts_tex
 use Rattle.c_tree.specs.Height.{expr_height, exprs_height}
 use Rattle.c_tree.specs.Levels.{expr_level}
 use Rattle.c_tree.specs.Specifiers.{IsMix}
-use Rattle.c_tree.specs.WellFormed.{IsExpr, AreArguments, AreTypeWords, IsSomeAbstract}
+use Rattle.c_tree.specs.WellFormed.{IsExpr, AreArguments, AreTypeWords}
 use Rattle.typedef_scope.specs.Scopes.{Scopes}
 use Rattle.c_grammar.specs.Scoping.{behind, names_type, expr_scopes, exprs_scopes, spec_words_scopes, some_declr_scopes}
-use Rattle.c_grammar.specs.Reading.{IsNumbered, Read, run, ◌>>=◌}
-use Rattle.c_grammar.specs.Eating.{after, begins, is_comma, is_close_paren}
+use Rattle.c_grammar.specs.Reading.{IsNumbered, Read, run}
+use Rattle.c_grammar.specs.Eating.{after, begins, is_comma}
 use Rattle.c_grammar.specs.Specifying.{begins_specs}
 use Rattle.c_grammar.specs.Expressing.{Reach, whole, assigned, castable, unary, Between, Closing, no_closing, closing_of, between, is_text, texts_turn, with_expr, arg_turn, args_with, postfix_by, postfix_turn, paren_expr_with, sizeof_type_with, sizeof_value_with, sizeof_with, unary_by, unary_with, cast_with}
 use Rattle.c_grammar.proofs.LoopLemmas.{run_is, op_goes_on, op_done}
 use Rattle.c_grammar.proofs.Aims.{ends_before, ends_expr, is_no_closing, WordsBegin, ExprLaws, TypeNameLaws}
 use Rattle.c_grammar.proofs.ExprShrinks.{some_is, after_falls, texts_shrinks, postfix_shrinks}
-use Rattle.c_grammar.proofs.ExprCompleteStarts.{behind_some, where_holds, not_true, operator_most, expr_most, ends_castable, ends_unary, is_prefix, post_is, sizeof_is, no_close_paren, opens_cast, type_words_are, begins_no_cast, begins_no_end}
+use Rattle.c_grammar.proofs.ExprCompleteStarts.{behind_some, where_holds, not_true, operator_most, expr_most, ends_unary, is_prefix, post_is, sizeof_is, no_close_paren, opens_cast, type_words_are, begins_no_cast, begins_no_end}
 
 -- What follows.
 
@@ -81,7 +81,8 @@ with_one : (known : Exprs) (e : Expr) (es : Exprs) → with_exprs (with_expr kno
 with_one no_exprs e es = refl
 with_one (more_exprs first known) e es = ap (λ (es : Exprs). more_exprs first es) (with_one known e es)
 
-module _ (all : List Lexeme) (numbered : IsNumbered all) (n : ℕ) (expr : Reach → Scopes → List Lexeme → Read (Expr × Scopes)) (type_name : Scopes → List Lexeme → Read ((SpecWords × SomeDeclr) × Scopes))
+module _ (all : List Lexeme) (numbered : IsNumbered all) (n : ℕ) (expr : Reach → Scopes → List Lexeme → Read (Expr × Scopes))
+    (type_name : Scopes → List Lexeme → Read ((SpecWords × SomeDeclr) × Scopes))
     (inner : ExprLaws all n expr) (types : TypeNameLaws all n type_name) (begin : WordsBegin all) where
   -- behind an argument stands a comma or the closing parenthesis
   ends_argument : (es : Exprs) (closing : ℕ) (k : List Lexeme) → ends_expr assigned (other_exprs_text all es (sign_text CloseParen closing k)) ≡ true
@@ -117,7 +118,8 @@ module _ (all : List Lexeme) (numbered : IsNumbered all) (n : ℕ) (expr : Reach
 
   -- Postfix forms.
 
-  goes_on : (e : Expr) (s : Scopes) (t : Lexeme) (ts : List Lexeme) (x : (Expr × Scopes) × List Lexeme) → expr_height e ≤ n → postfix_by (suc n) expr type_name (closing_of t.kind) t (e, s) ts ≡ Some (Ok x) →
+  goes_on : (e : Expr) (s : Scopes) (t : Lexeme) (ts : List Lexeme) (x : (Expr × Scopes) × List Lexeme) → expr_height e ≤ n →
+      postfix_by (suc n) expr type_name (closing_of t.kind) t (e, s) ts ≡ Some (Ok x) →
       run (postfix_turn (suc n) expr type_name) (e, s) (t ∷ ts) ≡ run (postfix_turn (suc n) expr type_name) x.0 x.1
   goes_on e s t ts x h is =
       let has_room : nat_le (suc (expr_height e)) (suc n) ≡ true = le-leb (suc (expr_height e)) (suc n) (omega (arith, h)) in
@@ -198,7 +200,8 @@ module _ (all : List Lexeme) (numbered : IsNumbered all) (n : ℕ) (expr : Reach
 
   sizeof_type_complete : (word : Word) (opening : ℕ) (ws : SpecWords) (dr : SomeDeclr) (closing : ℕ) (s s' : Scopes) (k : List Lexeme) → IsExpr all (sizeof_type word opening ws dr closing) →
       expr_scopes (sizeof_type word opening ws dr closing) s ≡ Some s' → expr_height (sizeof_type word opening ws dr closing) ≤ suc n →
-      sizeof_with (suc n) expr type_name word s (sign_text OpenParen opening (spec_words_text all ws (some_declr_text all dr (sign_text CloseParen closing k)))) ≡ Ok ((sizeof_type word opening ws dr closing, s'), k)
+      sizeof_with (suc n) expr type_name word s (sign_text OpenParen opening (spec_words_text all ws (some_declr_text all dr (sign_text CloseParen closing k))))
+      ≡ Ok ((sizeof_type word opening ws dr closing, s'), k)
   unfolding sizeof_with sizeof_type_with
   sizeof_type_complete word opening ws dr closing s s' k h m d =
       let known : type_name s (spec_words_text all ws (some_declr_text all dr (sign_text CloseParen closing k))) ≡ Ok (((ws, dr), s'), sign_text CloseParen closing k) =

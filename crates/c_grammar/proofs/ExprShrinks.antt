@@ -1,24 +1,20 @@
 -- What a reader of expressions reads takes a token at least.
-use Rattle.std.proofs.Common.{◌≡◌, ℕ, zero, suc, ◌≤◌, ◌<◌, Bool, true, false, List, [], ◌∷◌, ◌++◌, length, Option, Some, None, Result, Ok, Err, refl, sym, ◌∙◌, ap, subst, arith}
+use Rattle.std.proofs.Common.{◌≡◌, ℕ, suc, ◌≤◌, ◌<◌, Bool, true, false, List, [], ◌∷◌, ◌++◌, length, Option, Some, None, Ok, sym, ap, arith}
 use Rattle.std.specs.Prelude.{nat_le, if◌then◌else◌, ◌&&◌}
 use Rattle.c_lexer.specs.declared.kinds.TokenKind.{TokenKind}
-use Rattle.c_lexer.specs.declared.kinds.Keyword.{Keyword}
-use Rattle.c_lexer.specs.declared.kinds.Punct.{Punct}
 use Rattle.c_tree.specs.declared.lexeme.Lexeme.{Lexeme}
-use Rattle.c_tree.specs.declared.parts.Identifier.{Identifier}
 use Rattle.c_tree.specs.declared.parts.Word.{Word}
-use Rattle.c_tree.specs.Tree.{Expr, cast, prefix, sizeof_value, sizeof_type, index, call, dot, arrow, post, name_use, number_use, char_use, text_use, paren, Operator, comma, assign, cond, binary, SomeExpr, no_expr, some_expr, Exprs, no_exprs, more_exprs, SpecWords, SomeDeclr}
+use Rattle.c_tree.specs.Tree.{Expr, cast, prefix, sizeof_value, sizeof_type, index, call, dot, arrow, post, name_use, number_use, char_use, text_use, paren, Operator, comma, assign, cond, binary, no_expr, some_expr, no_exprs, more_exprs, SpecWords, SomeDeclr}
 use Rattle.c_tree.specs.Height.{expr_height}
-use Rattle.c_tree.specs.Text.{identifier_text}
 use Rattle.c_ops.specs.Operations.{Operations}
 use Rattle.c_ops.specs.Trees.{the_tree}
 use Rattle.typedef_scope.specs.Scopes.{Scopes}
 use Rattle.c_grammar.specs.declared.fault.Fault.TheVariants.{Unexpected, BadTarget, TooDeep}
 use Rattle.c_grammar.specs.Scoping.{names_type}
-use Rattle.c_grammar.specs.Reading.{Refusal, Read, Turn, run, op_turn, Shrinks, lowered, ends, refuses, ◌>>=◌}
+use Rattle.c_grammar.specs.Reading.{Read, Turn, run, Shrinks, lowered, ends, refuses, ◌>>=◌}
 use Rattle.c_grammar.specs.Eating.{token_at, after, begins, is_open_paren, is_close_paren, is_close_bracket, is_colon, is_comma}
 use Rattle.c_grammar.specs.Specifying.{begins_specs, name_at}
-use Rattle.c_grammar.specs.Expressing.{Reach, whole, assigned, conditional, castable, unary, Between, comma_between, assign_between, question_between, binary_between, nothing_between, between, takes_comma, takes_assign, Opening, prefix_opening, sizeof_opening, name_opening, number_opening, char_opening, text_opening, paren_opening, no_opening, opening_of, Closing, index_closing, call_closing, dot_closing, arrow_closing, post_closing, no_closing, closing_of, is_text, texts_turn, with_expr, has_bad_target, with_entry, arg_turn, args_with, postfix_by, postfix_turn, postfixed, paren_expr_with, sizeof_type_with, sizeof_value_with, sizeof_with, unary_by, unary_with, cast_with, operand_with, middle_with, question_with, assign_with, operation_by, operation_turn, operations_with, with_room, tree_with, expr_with}
+use Rattle.c_grammar.specs.Expressing.{Reach, whole, assigned, conditional, castable, unary, Between, comma_between, assign_between, question_between, binary_between, nothing_between, between, takes_comma, takes_assign, Opening, prefix_opening, sizeof_opening, name_opening, number_opening, char_opening, text_opening, paren_opening, no_opening, opening_of, Closing, index_closing, call_closing, dot_closing, arrow_closing, post_closing, no_closing, closing_of, is_text, texts_turn, with_expr, has_bad_target, with_entry, arg_turn, args_with, postfix_by, postfix_turn, postfixed, paren_expr_with, sizeof_type_with, sizeof_value_with, sizeof_with, unary_by, unary_with, cast_with, operand_with, middle_with, question_with, operation_by, operation_turn, operations_with, with_room, tree_with, expr_with}
 use Rattle.c_grammar.proofs.LoopLemmas.{bind_ok, done, ok_is, TurnShrinks, run-keep, op_shrinks}
 use Rattle.c_grammar.proofs.Taking.{token_taken, name_taken}
 use Rattle.c_grammar.proofs.Aims.{Falls}
@@ -96,7 +92,8 @@ module _ (room : ℕ) (expr : Reach → Scopes → List Lexeme → Read (Expr ×
       omega (arith, less, less2, left_length (index state.0 t.at b.0.0.0 c.0.0.at, b.0.0.1) c.0.1 x c.2)
   postfix_by_shrinks call_closing t state ts x e =
       let read : Read (Expr × Scopes) = args_with room expr type_name state.1 ts >>= λ es. token_at is_close_paren es.1 >>= λ close. ends (call state.0 t.at es.0.0 close.0.at, es.0.1) close.1 in
-      let b = bind_ok (args_with room expr type_name state.1 ts) (λ es. token_at is_close_paren es.1 >>= λ close. ends (call state.0 t.at es.0.0 close.0.at, es.0.1) close.1) x (some_is read (Ok x) e) in
+      let b = bind_ok (args_with room expr type_name state.1 ts)
+          (λ es. token_at is_close_paren es.1 >>= λ close. ends (call state.0 t.at es.0.0 close.0.at, es.0.1) close.1) x (some_is read (Ok x) e) in
       let c = bind_ok (token_at is_close_paren b.0.1) (λ close. ends (call state.0 t.at b.0.0.0 close.0.at, b.0.0.1) close.1) x b.2 in
       let less : length b.0.1 ≤ length ts = args_falls state.1 ts b.0 b.1 in
       let less2 : length c.0.1 < length b.0.1 = token_shrinks is_close_paren b.0.1 c.0 c.1 in
@@ -205,7 +202,8 @@ module _ (room : ℕ) (expr : Reach → Scopes → List Lexeme → Read (Expr ×
           (if b then (type_name s ts >>= λ known. token_at is_close_paren known.1 >>= λ close. expr castable known.0.1 close.1 >>= λ e.
           ends (cast t.at known.0.0.0 known.0.0.1 close.0.at e.0.0, e.0.1) e.1) else unary_with room expr type_name s (t ∷ ts)) ≡ Ok x → length x.1 < length (t ∷ ts)
       by_test true e =
-          let b = bind_ok (type_name s ts) (λ known. token_at is_close_paren known.1 >>= λ close. expr castable known.0.1 close.1 >>= λ e. ends (cast t.at known.0.0.0 known.0.0.1 close.0.at e.0.0, e.0.1) e.1) x e in
+          let b = bind_ok (type_name s ts)
+              (λ known. token_at is_close_paren known.1 >>= λ close. expr castable known.0.1 close.1 >>= λ e. ends (cast t.at known.0.0.0 known.0.0.1 close.0.at e.0.0, e.0.1) e.1) x e in
           let c = bind_ok (token_at is_close_paren b.0.1) (λ close. expr castable b.0.0.1 close.1 >>= λ e. ends (cast t.at b.0.0.0.0 b.0.0.0.1 close.0.at e.0.0, e.0.1) e.1) x b.2 in
           let d = bind_ok (expr castable b.0.0.1 c.0.1) (λ e. ends (cast t.at b.0.0.0.0 b.0.0.0.1 c.0.0.at e.0.0, e.0.1) e.1) x c.2 in
           let less : length b.0.1 < length ts = falls_type s ts b.0 b.1 in
@@ -234,7 +232,8 @@ module _ (room : ℕ) (expr : Reach → Scopes → List Lexeme → Read (Expr ×
   question_shrinks : (state : Operations × Scopes) (token : ℕ) → Shrinks (question_with room expr type_name state token)
   unfolding question_with
   question_shrinks state token ts x e =
-      let b = bind_ok (middle_with room expr type_name state.1 ts) (λ middle. token_at is_colon middle.1 >>= λ colon. operand_with room expr type_name state.0 (cond middle.0.0 colon.0.at) token middle.0.1 colon.1) x e in
+      let b = bind_ok (middle_with room expr type_name state.1 ts)
+          (λ middle. token_at is_colon middle.1 >>= λ colon. operand_with room expr type_name state.0 (cond middle.0.0 colon.0.at) token middle.0.1 colon.1) x e in
       let c = bind_ok (token_at is_colon b.0.1) (λ colon. operand_with room expr type_name state.0 (cond b.0.0.0 colon.0.at) token b.0.0.1 colon.1) x b.2 in
       let less : length b.0.1 ≤ length ts = middle_falls state.1 ts b.0 b.1 in
       let less2 : length c.0.1 < length b.0.1 = token_shrinks is_colon b.0.1 c.0 c.1 in
