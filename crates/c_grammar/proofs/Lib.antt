@@ -5,3 +5,4 @@ pub mod Qualifying
 pub mod Aims
 pub mod Tails
 pub mod SpecsSoundBodies
+pub mod SpecsSoundEnums
