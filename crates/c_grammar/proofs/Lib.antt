@@ -6,3 +6,4 @@ pub mod Aims
 pub mod Tails
 pub mod SpecsSoundBodies
 pub mod SpecsSoundEnums
+pub mod SpecsSound

@@ -28,6 +28,16 @@ pub if_ok : {A : Type 0} (b : Bool) (r other : Read A) (x : A × List Lexeme) �
 if_ok true r other x e = inl (refl, e)
 if_ok false r other x e = inr (refl, e)
 
+-- a loop up to a token goes on
+until_ok : {A : Type 0} (b : Bool) (r : Read A) (x : A × List Lexeme) → (if b then None else Some r) ≡ Some (done x) → r ≡ Ok x
+until_ok true r x e = absurd cc
+until_ok false r x e = cc
+
+-- a loop that goes on behind a token
+pub when_ok : {A : Type 0} (b : Bool) (r : Read A) (x : A × List Lexeme) → (if b then Some r else None) ≡ Some (done x) → (b ≡ true) × (r ≡ Ok x)
+when_ok true r x e = (refl, cc)
+when_ok false r x e = absurd cc
+
 -- a test that only one sign passes
 abbrev pub Signs : (TokenKind → Bool) → Punct → Type 0
 Signs test p = (kind : TokenKind) → test kind ≡ true → kind ≡ kinds.Punct p
@@ -171,11 +181,6 @@ items_scopes : (items : StructItems) (item : StructItem) (s : Scopes) → struct
 items_scopes no_struct_items item s = behind_last (struct_item_scopes item s)
 items_scopes (more_struct_items first items) item s =
     behind_push (struct_item_scopes first s) (struct_items_scopes (with_items items item)) (struct_items_scopes items) (struct_item_scopes item) (λ s. items_scopes items item s)
-
--- a loop up to a token goes on
-pub until_ok : {A : Type 0} (b : Bool) (r : Read A) (x : A × List Lexeme) → (if b then None else Some r) ≡ Some (done x) → r ≡ Ok x
-until_ok true r x e = absurd cc
-until_ok false r x e = cc
 
 has_body : (tag : Option Identifier) (opening : ℕ) (items : StructItems) (closing : ℕ) → HasTagOrBody tag (some_body opening items closing)
 has_body None opening items closing = tt

@@ -17,17 +17,12 @@ use Rattle.c_grammar.proofs.LoopLemmas.{bind_ok, done, ok_is, run-keep}
 use Rattle.c_grammar.proofs.Taking.{name_taken, tag_taken}
 use Rattle.c_grammar.proofs.Tails.{tail_of}
 use Rattle.c_grammar.proofs.Aims.{Takes, IsSound}
-use Rattle.c_grammar.proofs.SpecsSoundBodies.{if_ok, equal_signs, comma_signs, open_brace_signs, close_brace_signs, sign_is, no_attrs, behind_last, behind_push, sign_taken, comma_before, FitsValue, FitsDeclr, FitsWords, TakesTypeWord, tag_left, value_sound}
+use Rattle.c_grammar.proofs.SpecsSoundBodies.{if_ok, when_ok, equal_signs, comma_signs, open_brace_signs, close_brace_signs, sign_is, no_attrs, behind_last, behind_push, sign_taken, comma_before, FitsValue, FitsDeclr, FitsWords, TakesTypeWord, tag_left, value_sound}
 
 -- where a name could be declared
 declared_ok : {A : Type 0} (a : A) (token : ℕ) (o : Option Scopes) (ts : List Lexeme) (x : (A × Scopes) × List Lexeme) → declared a token o ts ≡ Ok x → (s : Scopes) × (o ≡ Some s) × (((a, s), ts) ≡ x)
 declared_ok a token None ts x e = absurd cc
 declared_ok a token (Some s) ts x e = (s, refl, ok_is ((a, s), ts) x e)
-
--- a loop that goes on behind a token
-when_ok : {A : Type 0} (b : Bool) (r : Read A) (x : A × List Lexeme) → (if b then Some r else None) ≡ Some (done x) → (b ≡ true) × (r ≡ Ok x)
-when_ok true r x e = (refl, cc)
-when_ok false r x e = absurd cc
 
 -- one enumerator at least
 abbrev Begin : Enumerators → Type 0
