@@ -7,17 +7,16 @@ use Rattle.c_lexer.specs.declared.kinds.Keyword.TheVariants as keywords
 use Rattle.c_tree.specs.declared.lexeme.Lexeme.{Lexeme}
 use Rattle.c_tree.specs.declared.parts.Qual.TheVariants as quals
 use Rattle.c_tree.specs.Tree.{Expr, SpecWords, no_words, more_words, SpecWord, storage, thread, inline_word, noreturn, qualifier, basic, typedef_name, Declr, SomeDeclr, no_declr, some_declr}
-use Rattle.c_tree.specs.Text.{plain_text, tokens_between, expr_text, spec_words_text, spec_word_text, declr_text, some_declr_text}
-use Rattle.c_tree.specs.Specifiers.{IsMix}
-use Rattle.c_tree.specs.WellFormed.{IsElementKind, IsElement, IsTypeWord, IsSpecWord, AreSpecWords, AreTypeWords, is_struct, is_storage, is_qual}
+use Rattle.c_tree.specs.Text.{plain_text, tokens_between, spec_words_text, spec_word_text, declr_text, some_declr_text}
+use Rattle.c_tree.specs.WellFormed.{IsElementKind, IsElement, IsTypeWord, IsSpecWord, AreSpecWords, is_struct, is_storage, is_qual}
 use Rattle.c_specs.specs.Mix.{goes_on, is_whole_mix}
 use Rattle.c_specs.specs.Reading.{append_words}
 use Rattle.c_specs.specs.Laws.{WholeAreMixes}
 use Rattle.typedef_scope.specs.declared.kind.Kind.{Kind}
 use Rattle.typedef_scope.specs.Scopes.{Scopes}
 use Rattle.c_grammar.specs.declared.fault.Fault.TheVariants.{Unexpected, BadMix}
-use Rattle.c_grammar.specs.Scoping.{behind, names_type, expr_scopes, spec_words_scopes, spec_word_scopes, declr_scopes, some_declr_scopes}
-use Rattle.c_grammar.specs.Reading.{Read, Shrinks, IsNumbered, IsTail, run, ends, refuses, ◌>>=◌}
+use Rattle.c_grammar.specs.Scoping.{behind, names_type, spec_words_scopes, spec_word_scopes, declr_scopes, some_declr_scopes}
+use Rattle.c_grammar.specs.Reading.{Read, Shrinks, IsNumbered, IsTail, run, ends, refuses}
 use Rattle.c_grammar.specs.Specifying.{Role, declaring, naming, Start, storage_start, thread_start, inline_start, noreturn_start, word_start, element_start, index_start, basic_start, struct_start, enum_start, name_start, no_start, keyword_start, kind_start, typed_start, is_start, class_of_start, may_stand, is_typed, with_word, word_by, word_with, word_turn_by, word_turn, specs_from}
 use Rattle.c_grammar.specs.Declaring.{Mode, with_name, present}
 use Rattle.c_grammar.specs.Expressing.{Reach, conditional}
@@ -25,7 +24,7 @@ use Rattle.c_grammar.specs.Knot.{named_declr}
 use Rattle.c_grammar.proofs.LoopLemmas.{bind_ok, done, ok_is, run-keep}
 use Rattle.c_grammar.proofs.Tails.{tail_of, element_is}
 use Rattle.c_grammar.proofs.Aims.{Takes, IsSound, FitsRole, FitsMode, ExprLaws, SpecsLaws, DeclrLaws, TakesWords}
-use Rattle.c_grammar.proofs.SpecsSoundBodies.{if_ok, when_ok, behind_last, behind_push, FitsValue, FitsDeclr, FitsWords, struct_sound}
+use Rattle.c_grammar.proofs.SpecsSoundBodies.{if_ok, when_ok, behind_last, behind_push, FitsDeclr, FitsWords, PartsAreSound, struct_sound}
 use Rattle.c_grammar.proofs.SpecsSoundEnums.{enum_sound}
 
 -- the kinds of the tokens that begin so
@@ -85,13 +84,15 @@ and_left true b h = refl
 and_left false b h = absurd cc
 
 -- a word that begins by the scopes is one that its token begins, and a name among them names a type
-pub typed_is : (s : Scopes) (typed : Bool) (start known : Start) → typed_start s typed start ≡ known → is_start known ≡ true → (start ≡ known) × ((name : ℕ) → known ≡ name_start name → names_type s name ≡ true)
+pub typed_is : (s : Scopes) (typed : Bool) (start known : Start) → typed_start s typed start ≡ known → is_start known ≡ true →
+    (start ≡ known) × ((name : ℕ) → known ≡ name_start name → names_type s name ≡ true)
 typed_is s typed (name_start name) known e is = by_test (names_type s name && not typed) refl e
   where
     name_is : (a b : ℕ) → name_start a ≡ name_start b → a ≡ b
     name_is a b e = cc
 
-    by_test : (b : Bool) → (names_type s name && not typed) ≡ b → (if b then name_start name else no_start) ≡ known → (name_start name ≡ known) × ((other : ℕ) → known ≡ name_start other → names_type s other ≡ true)
+    by_test : (b : Bool) → (names_type s name && not typed) ≡ b → (if b then name_start name else no_start) ≡ known →
+        (name_start name ≡ known) × ((other : ℕ) → known ≡ name_start other → names_type s other ≡ true)
     by_test true h e = (e, λ other same. subst (λ (name : ℕ). names_type s name ≡ true) (name_is name other (e ∙ same)) (and_left (names_type s name) (not typed) h))
     by_test false h e = absurd (no_word (subst (λ (start : Start). is_start start ≡ true) (sym e) is))
       where
@@ -155,11 +156,9 @@ module _ (all : List Lexeme) where
     left : IsTail all k
 
 module _ (all : List Lexeme) (numbered : IsNumbered all) (cond : Scopes → List Lexeme → Read (Expr × Scopes)) (specs : Role → Scopes → List Lexeme → Read (SpecWords × Scopes))
-    (declr : Scopes → List Lexeme → Read (Declr × Scopes)) (conds : IsSound all (expr_text all) (FitsValue all) expr_scopes cond)
-    (mixes : IsSound all (spec_words_text all) (FitsWords all) spec_words_scopes (specs declaring))
-    (declrs : IsSound all (declr_text all) (FitsDeclr all) declr_scopes declr) (declrs_shrink : (s : Scopes) → Shrinks (declr s)) where
-  word_sound : (start : Start) (t : Lexeme) (s : Scopes) (ts : List Lexeme) (x : (SpecWord × Scopes) × List Lexeme) → IsKind start t.kind → ((name : ℕ) → start ≡ name_start name → names_type s name ≡ true) →
-      IsTail all (t ∷ ts) → word_by cond specs declr start t s ts ≡ Ok x → TakesWord all start s (t ∷ ts) x
+    (declr : Scopes → List Lexeme → Read (Declr × Scopes)) (parts : PartsAreSound all cond specs declr) where
+  word_sound : (start : Start) (t : Lexeme) (s : Scopes) (ts : List Lexeme) (x : (SpecWord × Scopes) × List Lexeme) → IsKind start t.kind →
+      ((name : ℕ) → start ≡ name_start name → names_type s name ≡ true) → IsTail all (t ∷ ts) → word_by cond specs declr start t s ts ≡ Ok x → TakesWord all start s (t ∷ ts) x
   unfolding word_by
   word_sound (storage_start keyword) t s ts x is known h e =
       subst (TakesWord all (storage_start keyword) s (t ∷ ts)) (ok_is ((storage (record { token = t.at; keyword = keyword }), s), ts) x e)
@@ -187,10 +186,10 @@ module _ (all : List Lexeme) (numbered : IsNumbered all) (cond : Scopes → List
       subst (TakesWord all (basic_start keyword) s (t ∷ ts)) (ok_is ((basic (record { token = t.at; keyword = keyword }), s), ts) x e)
       (record { spelled = plain_is (kinds.Keyword keyword) t ts is; fits = (tt, λ may. tt); named = refl; left = tail_of all t ts h })
   word_sound (struct_start keyword) t s ts x is known h e =
-      let w = struct_sound all numbered cond specs declr conds mixes declrs declrs_shrink (record { token = t.at; keyword = keyword }) s ts x is.1 (tail_of all t ts h) e in
+      let w = struct_sound all numbered cond specs declr parts (record { token = t.at; keyword = keyword }) s ts x is.1 (tail_of all t ts h) e in
       record { spelled = plain_is (kinds.Keyword keyword) t ts is.0 ∙ w.spelled; fits = (w.fits.0, λ may. w.fits.1); named = w.named; left = w.left }
   word_sound enum_start t s ts x is known h e =
-      let w = enum_sound all numbered cond specs declr conds mixes declrs declrs_shrink t.at s ts x (tail_of all t ts h) e in
+      let w = enum_sound all numbered cond specs declr parts t.at s ts x (tail_of all t ts h) e in
       record { spelled = plain_is (kinds.Keyword keywords.Enum) t ts is ∙ w.spelled; fits = (w.fits.0, λ may. w.fits.1); named = w.named; left = w.left }
   word_sound (name_start name) t s ts x is known h e =
       subst (TakesWord all (name_start name) s (t ∷ ts)) (ok_is ((typedef_name (record { token = t.at; name = name }), s), ts) x e)
@@ -203,7 +202,8 @@ module _ (all : List Lexeme) (numbered : IsNumbered all) (cond : Scopes → List
   word_with_sound role words start t s ts x is known h e = by_role (if_ok (may_stand role start) _ _ x e)
     where
       by_mix : may_stand role start ≡ true →
-          ((goes_on words (class_of_start start) ≡ true) × (word_by cond specs declr start t s ts ≡ Ok x)) ⊎ ((goes_on words (class_of_start start) ≡ false) × (refuses BadMix (t ∷ ts) ≡ Ok x)) → TakesOne all role s (t ∷ ts) x
+          ((goes_on words (class_of_start start) ≡ true) × (word_by cond specs declr start t s ts ≡ Ok x))
+          ⊎ ((goes_on words (class_of_start start) ≡ false) × (refuses BadMix (t ∷ ts) ≡ Ok x)) → TakesOne all role s (t ∷ ts) x
       by_mix may (inl g) =
           let w = word_sound start t s ts x is known h g.1 in
           record { spelled = w.spelled; fits = one_fits all role start x.0.0 may w.fits.0 w.fits.1; named = w.named; left = w.left }
@@ -219,7 +219,8 @@ module _ (all : List Lexeme) (numbered : IsNumbered all) (cond : Scopes → List
   words_keep role words s ts state [] x h e = absurd cc
   words_keep role words s ts state (t ∷ k) x h e = by_start (typed_start state.1 (is_typed state.0) (kind_start t.kind)) refl e
     where
-      by_start : (start : Start) → typed_start state.1 (is_typed state.0) (kind_start t.kind) ≡ start → word_turn_by cond specs declr role state start t k ≡ Some (done x) → TakesRest all role words s ts x.0 x.1
+      by_start : (start : Start) → typed_start state.1 (is_typed state.0) (kind_start t.kind) ≡ start → word_turn_by cond specs declr role state start t k ≡ Some (done x) →
+          TakesRest all role words s ts x.0 x.1
       by_start start same e =
           let g = when_ok (is_start start) _ x e in
           let is = typed_is state.1 (is_typed state.0) (kind_start t.kind) start same g.0 in
@@ -234,8 +235,8 @@ module _ (all : List Lexeme) (numbered : IsNumbered all) (cond : Scopes → List
             left = of_w.left;
           })
 
-  words_sound : WholeAreMixes → (role : Role) (words : SpecWords) (s : Scopes) (ts : List Lexeme) (x : (SpecWords × Scopes) × List Lexeme) → IsTail all ts → specs_from cond specs declr role words s ts ≡ Ok x →
-      TakesWords all role words s ts x
+  words_sound : WholeAreMixes → (role : Role) (words : SpecWords) (s : Scopes) (ts : List Lexeme) (x : (SpecWords × Scopes) × List Lexeme) → IsTail all ts →
+      specs_from cond specs declr role words s ts ≡ Ok x → TakesWords all role words s ts x
   unfolding specs_from
   words_sound whole_are role words s ts x h e =
       let r = bind_ok (run (word_turn cond specs declr role) (words, s) ts) _ x e in
@@ -256,8 +257,10 @@ module _ (all : List Lexeme) (numbered : IsNumbered all) (cond : Scopes → List
       })
       by_whole y of_y (inr g) = absurd cc
 
-module _ (all : List Lexeme) (numbered : IsNumbered all) (n : ℕ) (expr : Reach → Scopes → List Lexeme → Read (Expr × Scopes)) (specs : Role → SpecWords → Scopes → List Lexeme → Read (SpecWords × Scopes))
-    (declr : Mode → Option Kind → Scopes → List Lexeme → Read (SomeDeclr × Scopes)) (exprs : ExprLaws all n expr) (inner : SpecsLaws all n specs) (declrs : DeclrLaws all n declr) (whole_are : WholeAreMixes) where
+module _ (all : List Lexeme) (numbered : IsNumbered all) (n : ℕ) (expr : Reach → Scopes → List Lexeme → Read (Expr × Scopes))
+    (specs : Role → SpecWords → Scopes → List Lexeme → Read (SpecWords × Scopes))
+    (declr : Mode → Option Kind → Scopes → List Lexeme → Read (SomeDeclr × Scopes))
+    (exprs : ExprLaws all n expr) (inner : SpecsLaws all n specs) (declrs : DeclrLaws all n declr) (whole_are : WholeAreMixes) where
   mixes_sound : IsSound all (spec_words_text all) (FitsWords all) spec_words_scopes (specs declaring no_words)
   mixes_sound s ts x h e =
       let w = inner.sound declaring no_words s ts x h e in
@@ -288,7 +291,10 @@ module _ (all : List Lexeme) (numbered : IsNumbered all) (n : ℕ) (expr : Reach
       by_declr no_declr s' k less e = absurd cc
       by_declr (some_declr d) s' k less e = subst (λ (x : (Declr × Scopes) × List Lexeme). length x.1 < length ts) (ok_is ((d, s'), k) x e) less
 
+  parts_sound : PartsAreSound all (expr conditional) (λ role. specs role no_words) (named_declr declr)
+  parts_sound = record { values_sound = exprs.sound conditional; words_sound = mixes_sound; declrs_sound = declr_sound; declrs_shrink = declr_shrinks }
+
   pub specs_sound : (role : Role) (words : SpecWords) (s : Scopes) (ts : List Lexeme) (x : (SpecWords × Scopes) × List Lexeme) → IsTail all ts →
       specs_from (expr conditional) (λ role. specs role no_words) (named_declr declr) role words s ts ≡ Ok x → TakesWords all role words s ts x
   specs_sound role words s ts x h e =
-      words_sound all numbered (expr conditional) (λ role. specs role no_words) (named_declr declr) (exprs.sound conditional) mixes_sound declr_sound declr_shrinks whole_are role words s ts x h e
+      words_sound all numbered (expr conditional) (λ role. specs role no_words) (named_declr declr) parts_sound whole_are role words s ts x h e

@@ -7,7 +7,6 @@ use Rattle.c_lexer.specs.declared.kinds.Punct.TheVariants.{CloseBrace, Colon, Co
 use Rattle.c_tree.specs.declared.lexeme.Lexeme.{Lexeme}
 use Rattle.c_tree.specs.declared.parts.Identifier.{Identifier}
 use Rattle.c_tree.specs.declared.parts.Word.{Word}
-use Rattle.c_tree.specs.declared.parts.Attr.{Attr}
 use Rattle.c_tree.specs.Tree.{Expr, SpecWords, SpecWord, struct_type, SomeBody, no_body, some_body, StructItems, no_struct_items, more_struct_items, StructItem, member, member_semi, MemDeclrs, no_mem_declrs, more_mem_declrs, MemDeclr, named, unnamed, SomeValue, no_value, some_value, Declr}
 use Rattle.c_tree.specs.Text.{sign_text, tag_text, attrs_text, word_text, separated, expr_text, spec_words_text, spec_word_text, some_body_text, struct_items_text, struct_item_text, mem_declrs_text, other_mem_declrs_text, mem_declr_text, some_value_text, declr_text}
 use Rattle.c_tree.specs.Levels.{expr_level}
@@ -95,7 +94,8 @@ behind_push (Some s) f g h e = e s
 
 module _ (all : List Lexeme) where
   -- a tail behind its first token, spelled
-  pub sign_taken : (test : TokenKind → Bool) (p : Punct) → Signs test p → (ts : List Lexeme) (c : Lexeme × List Lexeme) → IsTail all ts → token_at test ts ≡ Ok c → (ts ≡ sign_text p c.0.at c.1) × IsTail all c.1
+  pub sign_taken : (test : TokenKind → Bool) (p : Punct) → Signs test p → (ts : List Lexeme) (c : Lexeme × List Lexeme) → IsTail all ts → token_at test ts ≡ Ok c →
+      (ts ≡ sign_text p c.0.at c.1) × IsTail all c.1
   sign_taken test p signs ts c h e =
       let t = token_taken test ts c.0 c.1 e in
       (t.0 ∙ sign_is test p signs c.0 c.1 t.1, tail_of all c.0 c.1 (subst (IsTail all) t.0 h))
@@ -186,10 +186,16 @@ has_body : (tag : Option Identifier) (opening : ℕ) (items : StructItems) (clos
 has_body None opening items closing = tt
 has_body (Some tag) opening items closing = tt
 
+-- what is read of the parts inside is spelled so, and a declarator takes a token at least
+pub record PartsAreSound (all : List Lexeme) (cond : Scopes → List Lexeme → Read (Expr × Scopes)) (specs : Role → Scopes → List Lexeme → Read (SpecWords × Scopes))
+    (declr : Scopes → List Lexeme → Read (Declr × Scopes)) : Type 0 where
+  pub values_sound : IsSound all (expr_text all) (FitsValue all) expr_scopes cond
+  pub words_sound : IsSound all (spec_words_text all) (FitsWords all) spec_words_scopes (specs declaring)
+  pub declrs_sound : IsSound all (declr_text all) (FitsDeclr all) declr_scopes declr
+  pub declrs_shrink : (s : Scopes) → Shrinks (declr s)
+
 module _ (all : List Lexeme) (numbered : IsNumbered all) (cond : Scopes → List Lexeme → Read (Expr × Scopes)) (specs : Role → Scopes → List Lexeme → Read (SpecWords × Scopes))
-    (declr : Scopes → List Lexeme → Read (Declr × Scopes)) (conds : IsSound all (expr_text all) (FitsValue all) expr_scopes cond)
-    (mixes : IsSound all (spec_words_text all) (FitsWords all) spec_words_scopes (specs declaring))
-    (declrs : IsSound all (declr_text all) (FitsDeclr all) declr_scopes declr) (declrs_shrink : (s : Scopes) → Shrinks (declr s)) where
+    (declr : Scopes → List Lexeme → Read (Declr × Scopes)) (parts : PartsAreSound all cond specs declr) where
   pub value_sound : (test : TokenKind → Bool) (p : Punct) → Signs test p → IsSound all (some_value_text all p) (λ v s. IsSomeValue all v) some_value_scopes (value_with cond specs declr test)
   unfolding value_with
   value_sound test p signs s [] x h e =
@@ -200,7 +206,7 @@ module _ (all : List Lexeme) (numbered : IsNumbered all) (cond : Scopes → List
           TakesValue all p s (t ∷ ts) x
       by_test (inl g) =
           let v = bind_ok (cond s ts) _ x g.1 in
-          let is = conds s ts v.0 (tail_of all t ts h) v.1 in
+          let is = parts.values_sound s ts v.0 (tail_of all t ts h) v.1 in
           subst (TakesValue all p s (t ∷ ts)) (ok_is ((some_value t.at v.0.0.0, v.0.0.1), v.0.1) x v.2)
           (record { spelled = sign_is test p signs t ts g.0 ∙ ap (sign_text p t.at) is.spelled; fits = is.fits; named = is.named; left = is.left })
       by_test (inr g) =
@@ -210,7 +216,7 @@ module _ (all : List Lexeme) (numbered : IsNumbered all) (cond : Scopes → List
   unfolding named_with
   named_sound s ts x h e =
       let d = bind_ok (declr s ts) _ x e in
-      let of_d = declrs s ts d.0 h d.1 in
+      let of_d = parts.declrs_sound s ts d.0 h d.1 in
       let w = bind_ok (value_with cond specs declr is_colon d.0.0.1 d.0.1) _ x d.2 in
       let of_w = value_sound is_colon Colon colon_signs d.0.0.1 d.0.1 w.0 of_d.left w.1 in
       subst (TakesMemDeclr all s ts) (ok_is ((named d.0.0.0 w.0.0.0 [], w.0.0.1), w.0.1) x w.2) (record {
@@ -229,7 +235,7 @@ module _ (all : List Lexeme) (numbered : IsNumbered all) (cond : Scopes → List
           TakesMemDeclr all s (t ∷ ts) x
       by_colon (inl g) =
           let v = bind_ok (cond s ts) _ x g.1 in
-          let of_v = conds s ts v.0 (tail_of all t ts h) v.1 in
+          let of_v = parts.values_sound s ts v.0 (tail_of all t ts h) v.1 in
           subst (TakesMemDeclr all s (t ∷ ts)) (ok_is ((unnamed t.at v.0.0.0 [], v.0.0.1), v.0.1) x v.2) (record {
             spelled = sign_is is_colon Colon colon_signs t ts g.0 ∙ ap (sign_text Colon t.at) of_v.spelled;
             fits = (of_v.fits.0, of_v.fits.1, no_attrs all);
@@ -242,13 +248,14 @@ module _ (all : List Lexeme) (numbered : IsNumbered all) (cond : Scopes → List
   unfolding mem_declr_with named_with
   some_mem_declr s x e =
       let d = bind_ok (declr s []) _ x e in
-      let less : length d.0.1 < 0 = declrs_shrink s [] d.0 d.1 in
+      let less : length d.0.1 < 0 = parts.declrs_shrink s [] d.0 d.1 in
       absurd (omega (arith, less))
 
   mem_declrs_keep : (s : Scopes) (ts : List Lexeme) (state : MemDeclrs × Scopes) (k : List Lexeme) (x : (MemDeclrs × Scopes) × List Lexeme) →
       TakesSomeDeclrs all s ts (state, k) → mem_declr_turn cond specs declr state k ≡ Some (done x) → TakesSomeDeclrs all s ts (x.0, x.1)
   mem_declrs_keep s ts state k x h e =
-      let p = op_parts (after is_comma) (λ (state : MemDeclrs × Scopes). mem_declr_with cond specs declr state.1) (λ (state : MemDeclrs × Scopes) (d : MemDeclr × Scopes). (with_mem_declr state.0 d.0, d.1)) state k x e in
+      let p = op_parts (after is_comma) (λ (state : MemDeclrs × Scopes). mem_declr_with cond specs declr state.1)
+          (λ (state : MemDeclrs × Scopes) (d : MemDeclr × Scopes). (with_mem_declr state.0 d.0, d.1)) state k x e in
       let sep = comma_before all numbered k p.0 h.left p.2 (λ is. some_mem_declr state.1 p.1 (subst (λ (k : List Lexeme). mem_declr_with cond specs declr state.1 k ≡ Ok p.1) is p.3)) in
       let of_d = mem_declr_sound state.1 p.0 p.1 sep.1 p.3 in
       subst (TakesSomeDeclrs all s ts) p.4 (record {
@@ -283,12 +290,13 @@ module _ (all : List Lexeme) (numbered : IsNumbered all) (cond : Scopes → List
   unfolding member_with
   member_sound s ts x h e =
       let w = bind_ok (specs declaring s ts) _ x e in
-      let of_w = mixes s ts w.0 h w.1 in
+      let of_w = parts.words_sound s ts w.0 h w.1 in
       let ds = bind_ok (mem_declrs_with cond specs declr w.0.0.1 w.0.1) _ x w.2 in
       let of_ds = mem_declrs_sound w.0.0.1 w.0.1 ds.0 of_w.left ds.1 in
       let semi = bind_ok (token_at is_semicolon ds.0.1) _ x ds.2 in
       let of_semi = sign_taken all is_semicolon Semicolon semicolon_signs ds.0.1 semi.0 of_ds.left semi.1 in
-      subst (TakesItem all s ts) (ok_is ((member [] w.0.0.0 ds.0.0.0 semi.0.0.at, ds.0.0.1), semi.0.1) x semi.2) (record {
+      let y : (StructItem × Scopes) × List Lexeme = ((member [] w.0.0.0 ds.0.0.0 semi.0.0.at, ds.0.0.1), semi.0.1) in
+      subst (TakesItem all s ts) {x = y} (ok_is y x semi.2) (record {
         spelled = of_w.spelled ∙ ap (spec_words_text all w.0.0.0) (of_ds.spelled ∙ ap (mem_declrs_text all ds.0.0.0) of_semi.0);
         fits = (of_w.fits.0, of_w.fits.1, of_ds.fits.0, of_ds.fits.1);
         named = rw (of_w.named, of_ds.named) refl;
@@ -300,7 +308,8 @@ module _ (all : List Lexeme) (numbered : IsNumbered all) (cond : Scopes → List
   struct_item_sound s [] x h e = member_sound s [] x h e
   struct_item_sound s (t ∷ ts) x h e = by_semi (if_ok (is_semicolon t.kind) _ _ x e)
     where
-      by_semi : ((is_semicolon t.kind ≡ true) × (ends (member_semi (record { token = t.at }), s) ts ≡ Ok x)) ⊎ ((is_semicolon t.kind ≡ false) × (member_with cond specs declr s (t ∷ ts) ≡ Ok x)) → TakesItem all s (t ∷ ts) x
+      by_semi : ((is_semicolon t.kind ≡ true) × (ends (member_semi (record { token = t.at }), s) ts ≡ Ok x))
+          ⊎ ((is_semicolon t.kind ≡ false) × (member_with cond specs declr s (t ∷ ts) ≡ Ok x)) → TakesItem all s (t ∷ ts) x
       by_semi (inl g) =
           subst (TakesItem all s (t ∷ ts)) (ok_is ((member_semi (record { token = t.at }), s), ts) x g.1)
           (record { spelled = sign_is is_semicolon Semicolon semicolon_signs t ts g.0; fits = tt; named = refl; left = tail_of all t ts h })
@@ -318,11 +327,13 @@ module _ (all : List Lexeme) (numbered : IsNumbered all) (cond : Scopes → List
         left = of_item.left;
       })
 
-  without_sound : (tag : Option Identifier) (s : Scopes) (ts : List Lexeme) (x : (SomeBody × Scopes) × List Lexeme) → IsTail all ts → without_body tag (no_body, s) ts ≡ Ok x → TakesBody all tag s ts x
+  without_sound : (tag : Option Identifier) (s : Scopes) (ts : List Lexeme) (x : (SomeBody × Scopes) × List Lexeme) → IsTail all ts → without_body tag (no_body, s) ts ≡ Ok x →
+      TakesBody all tag s ts x
   without_sound None s ts x h e = absurd cc
   without_sound (Some tag) s ts x h e = subst (TakesBody all (Some tag) s ts) (ok_is ((no_body, s), ts) x e) (record { spelled = refl; fits = (tt, tt); named = refl; left = h })
 
-  body_sound : (tag : Option Identifier) (s : Scopes) (ts : List Lexeme) (x : (SomeBody × Scopes) × List Lexeme) → IsTail all ts → body_with cond specs declr tag s ts ≡ Ok x → TakesBody all tag s ts x
+  body_sound : (tag : Option Identifier) (s : Scopes) (ts : List Lexeme) (x : (SomeBody × Scopes) × List Lexeme) → IsTail all ts → body_with cond specs declr tag s ts ≡ Ok x →
+      TakesBody all tag s ts x
   unfolding body_with
   body_sound tag s [] x h e = without_sound tag s [] x h e
   body_sound tag s (t ∷ ts) x h e = by_open (if_ok (is_open_brace t.kind) _ _ x e)
@@ -332,8 +343,8 @@ module _ (all : List Lexeme) (numbered : IsNumbered all) (cond : Scopes → List
           ⊎ ((is_open_brace t.kind ≡ false) × (without_body tag (no_body, s) (t ∷ ts) ≡ Ok x)) → TakesBody all tag s (t ∷ ts) x
       by_open (inl g) =
           let items = bind_ok (run (struct_item_turn cond specs declr) (no_struct_items, s) ts) _ x g.1 in
-          let of_items = run-keep (struct_item_turn cond specs declr) (λ (state : StructItems × Scopes) (k : List Lexeme). TakesItems all s ts (state, k)) (items_keep s ts) (no_struct_items, s) ts items.0
-              (record { spelled = refl; fits = tt; named = refl; left = tail_of all t ts h }) items.1 in
+          let of_items = run-keep (struct_item_turn cond specs declr) (λ (state : StructItems × Scopes) (k : List Lexeme). TakesItems all s ts (state, k)) (items_keep s ts)
+              (no_struct_items, s) ts items.0 (record { spelled = refl; fits = tt; named = refl; left = tail_of all t ts h }) items.1 in
           let close = bind_ok (token_at is_close_brace items.0.1) _ x items.2 in
           let of_close = sign_taken all is_close_brace CloseBrace close_brace_signs items.0.1 close.0 of_items.left close.1 in
           subst (TakesBody all tag s (t ∷ ts)) (ok_is ((some_body t.at items.0.0.0 close.0.0.at, items.0.0.1), close.0.1) x close.2) (record {
@@ -345,8 +356,8 @@ module _ (all : List Lexeme) (numbered : IsNumbered all) (cond : Scopes → List
       by_open (inr g) = without_sound tag s (t ∷ ts) x h g.1
 
   -- behind `struct` or `union`
-  pub struct_sound : (word : Word) (s : Scopes) (ts : List Lexeme) (x : (SpecWord × Scopes) × List Lexeme) → is_struct word.keyword ≡ true → IsTail all ts → struct_with cond specs declr word s ts ≡ Ok x →
-      TakesTypeWord all s (word_text word ts) x
+  pub struct_sound : (word : Word) (s : Scopes) (ts : List Lexeme) (x : (SpecWord × Scopes) × List Lexeme) → is_struct word.keyword ≡ true → IsTail all ts →
+      struct_with cond specs declr word s ts ≡ Ok x → TakesTypeWord all s (word_text word ts) x
   unfolding struct_with
   struct_sound word s ts x is h e =
       let tag = bind_ok (tag_at ts) _ x e in
