@@ -12,3 +12,6 @@ pub mod ExprShrinks
 pub mod ExprCompleteStarts
 pub mod ExprCompleteUnary
 pub mod ExprComplete
+pub mod SpecsSoundBodies
+pub mod SpecsSoundEnums
+pub mod SpecsSound
