@@ -15,7 +15,7 @@ use Rattle.typedef_scope.specs.declared.kind.Kind.{Kind}
 use Rattle.typedef_scope.specs.declared.kind.Kind.TheVariants.{Value}
 use Rattle.typedef_scope.specs.Scopes.{Scopes, enter_scope, leave_scope}
 use Rattle.c_grammar.specs.Scoping.{behind, without, where_true, in_own_scope, spec_words_scopes, some_declr_scopes, params_scopes, some_shows_no_type, some_declared_name, declare_some}
-use Rattle.c_grammar.specs.Reading.{Read, IsNumbered, IsTail, run, ends, ◌>>=◌}
+use Rattle.c_grammar.specs.Reading.{Read, IsNumbered, IsTail, turns, run, ends, ◌>>=◌}
 use Rattle.c_grammar.specs.Eating.{token_at, begins, is_close_paren, is_comma, is_dots}
 use Rattle.c_grammar.specs.Specifying.{Role, declaring}
 use Rattle.c_grammar.specs.Declaring.{Mode, either_way, ParamState, quals_turn, quals_at, spec_words_of_quals, some_name_token, with_param, with_params, declared_some, param_with, next_param_with, param_turn_by, param_turn, params_with, prototype_with}
@@ -182,3 +182,123 @@ module _ (all : List Lexeme) where
             named = ap (λ (ps : Params). params_scopes ps s) h.params_are ∙ params_named ps h.words h.declr s ∙ rw named h.named;
             left = h.left;
           })
+
+    abbrev next_by : Bool → ℕ → ParamState → List Qual → Lexeme → List Lexeme → Read ParamState
+    next_by dots comma state known t ts =
+        if dots then ends ((state.0.0, Some (record { comma = comma; quals = known; dots = t.at })), state.1) ts
+        else (param_with room (expr assigned) (specs declaring) declr state.0.0 (spec_words_of_quals known) state.1 (t ∷ ts) >>= as_state)
+
+    -- what stands behind a comma and qualifiers
+    next_listed : (s : Scopes) (start : List Lexeme) (ps : Params) (now : Scopes) (comma : Lexeme) (known : List Qual) (ts rest : List Lexeme) (x : ParamState × List Lexeme) →
+        HasParam ps → AreParams all ps → params_scopes ps s ≡ Some now → start ≡ params_text all ps (comma ∷ ts) → comma.kind ≡ kinds.Punct Comma → comma ∷ ts ≡ separated ts →
+        ts ≡ quals_text all known rest → All (IsQual all) known → IsTail all rest →
+        next_param_with room (expr assigned) (specs declaring) declr comma.at ((ps, None), now) known rest ≡ Ok x → AreListed s start x.0 x.1
+    unfolding next_param_with
+    next_listed s start ps now comma known ts [] x some fit named spelled kind between is known_fit left e =
+        more_listed s start ps now known ts [] x some fit named (spelled ∙ ap (params_text all ps) between) is known_fit left e
+    next_listed s start ps now comma known ts (t ∷ rest) x some fit named spelled kind between is known_fit left e = by_dots (is_dots t.kind) refl e
+      where
+        by_dots : (b : Bool) → is_dots t.kind ≡ b → next_by b comma.at ((ps, None), now) known t rest ≡ Ok x → AreListed s start x.0 x.1
+        by_dots false other e = more_listed s start ps now known ts (t ∷ rest) x some fit named (spelled ∙ ap (params_text all ps) between) is known_fit left e
+        by_dots true dots e =
+            let last : Dots = record { comma = comma.at; quals = known; dots = t.at } in
+            let y : ParamState × List Lexeme = (((ps, Some last), now), rest) in
+            subst (λ (x : ParamState × List Lexeme). AreListed s start x.0 x.1) (ok_is y x e) (some, record {
+              spelled = spelled ∙ ap (params_text all ps) (token_is comma (kinds.Punct Comma) ts kind
+                  ∙ ap (sign_text Comma comma.at) (is ∙ ap (quals_text all known) (token_is t (kinds.Punct Ellipsis) rest (dots_is t.kind dots))));
+              fit = fit;
+              ending = dots_fit ps last some known_fit;
+              named = named;
+              left = tail_of all t rest left;
+            })
+
+    -- a parameter takes a token at least
+    no_param : (ps : Params) (s : Scopes) (x : (Params × Scopes) × List Lexeme) → param_with room (expr assigned) (specs declaring) declr ps no_words s [] ≡ Ok x → ⊥
+    unfolding param_with
+    no_param ps s x e =
+        let w = bind_ok (specs declaring no_words s []) (with_declr ps) x e in
+        let less : length w.0.1 < 0 = words.shrinks declaring s [] w.0 w.1 in
+        omega (arith, less)
+
+    no_next : (comma : ℕ) (state : ParamState) (x : ParamState × List Lexeme) → next_param_with room (expr assigned) (specs declaring) declr comma state [] [] ≡ Ok x → ⊥
+    unfolding next_param_with
+    no_next comma state x e =
+        let b = bind_ok (param_with room (expr assigned) (specs declaring) declr state.0.0 no_words state.1 []) as_state x e in
+        no_param state.0.0 state.1 b.0 b.1
+
+    no_quals : quals_at [] ≡ ends [] []
+    unfolding quals_at run turns
+    no_quals = refl
+
+    abbrev next_of : Params → Scopes → ℕ → List Qual × List Lexeme → Read ParamState
+    next_of ps now comma known = next_param_with room (expr assigned) (specs declaring) declr comma ((ps, None), now) known.0 known.1
+
+    comma_listed : (s : Scopes) (start : List Lexeme) (ps : Params) (now : Scopes) (t : Lexeme) (ts : List Lexeme) (x : ParamState × List Lexeme) → AreListed s start ((ps, None), now) (t ∷ ts) →
+        t.kind ≡ kinds.Punct Comma → (quals_at ts >>= next_of ps now t.at) ≡ Ok x → AreListed s start x.0 x.1
+    comma_listed s start ps now t [] x h kind e =
+        absurd (no_next t.at ((ps, None), now) x (subst (λ (r : Read (List Qual)). (r >>= next_of ps now t.at) ≡ Ok x) no_quals e))
+    comma_listed s start ps now t (u ∷ ts) x h kind e =
+        let q = bind_ok (quals_at (u ∷ ts)) (next_of ps now t.at) x e in
+        let hq = quals_sound all numbered (u ∷ ts) q.0 (tail_of all t (u ∷ ts) h.1.left) q.1 in
+        next_listed s start ps now t q.0.0 (u ∷ ts) q.0.1 x h.0 h.1.fit h.1.named h.1.spelled kind (comma_is all numbered t u ts h.1.left kind) hq.0 hq.1 hq.2 q.2
+
+    listed_by : (s : Scopes) (start : List Lexeme) (ps : Params) (dots : Option Dots) (now : Scopes) (ts : List Lexeme) (x : ParamState × List Lexeme) → AreListed s start ((ps, dots), now) ts →
+        param_turn_by room (expr assigned) (specs declaring) declr dots ((ps, dots), now) ts ≡ Some (Ok x) → AreListed s start x.0 x.1
+    listed_by s start ps (Some dots) now ts x h e = absurd cc
+    listed_by s start ps None now [] x h e = absurd cc
+    listed_by s start ps None now (t ∷ ts) x h e = by_comma (is_comma t.kind) refl e
+      where
+        by_comma : (b : Bool) → is_comma t.kind ≡ b → (if b then Some (quals_at ts >>= next_of ps now t.at) else None) ≡ Some (Ok x) → AreListed s start x.0 x.1
+        by_comma false is e = absurd cc
+        by_comma true is e = comma_listed s start ps now t ts x h (comma_kind_is t.kind is) cc
+
+    listed : (s : Scopes) (start : List Lexeme) (state : ParamState) (ts : List Lexeme) (x : ParamState × List Lexeme) → AreListed s start state ts →
+        param_turn room (expr assigned) (specs declaring) declr state ts ≡ Some (Ok x) → AreListed s start x.0 x.1
+    listed s start state ts x h e = listed_by s start state.0.0 state.0.1 state.1 ts x h e
+
+    abbrev all_params : (Params × Scopes) × List Lexeme → Read ParamState
+    all_params ps = run (param_turn room (expr assigned) (specs declaring) declr) ((ps.0.0, None), ps.0.1) ps.1
+
+    pub params_sound : (s : Scopes) (ts : List Lexeme) (x : ParamState × List Lexeme) → IsTail all ts → params_with room (expr assigned) (specs declaring) declr s ts ≡ Ok x → TakesParams s ts x
+    unfolding params_with
+    params_sound s ts x left e = by_close (begins is_close_paren ts) e
+      where
+        by_close : (b : Bool) → (if b then ends ((no_params, None), s) ts else (param_with room (expr assigned) (specs declaring) declr no_params no_words s ts >>= all_params)) ≡ Ok x → TakesParams s ts x
+        by_close true e =
+            let y : ParamState × List Lexeme = (((no_params, None), s), ts) in
+            subst (TakesParams s ts) (ok_is y x e) (record { spelled = refl; fit = tt; ending = tt; named = refl; left = left })
+        by_close false e =
+            let b = bind_ok (param_with room (expr assigned) (specs declaring) declr no_params no_words s ts) all_params x e in
+            let h = param_sound [] no_params s ts b.0 left (All-nil (IsQual all)) b.1 in
+            let first : AreListed s ts ((b.0.0.0, None), b.0.0.1) b.0.1 = (subst HasParam (sym h.params_are) (has_param no_params h.words h.declr), record {
+              spelled = h.spelled ∙ ap (λ (ps : Params). params_text all ps b.0.1) (sym h.params_are);
+              fit = subst (AreParams all) (sym h.params_are) (params_fit no_params h.words h.declr tt h.mix h.word_fit h.declr_fits);
+              ending = tt;
+              named = ap (λ (ps : Params). params_scopes ps s) h.params_are ∙ params_named no_params h.words h.declr s ∙ h.named;
+              left = h.left;
+            }) in
+            (run-keep (param_turn room (expr assigned) (specs declaring) declr) (AreListed s ts) (listed s ts) ((b.0.0.0, None), b.0.0.1) b.0.1 x first b.2).1
+
+    abbrev closed_as : SomeDeclr → ℕ → ParamState → Lexeme × List Lexeme → Read (SomeDeclr × Scopes)
+    closed_as d opening ps close = ends (some_declr (with_params d opening ps.0.0 ps.0.1 close.0.at), leave_scope ps.1) close.1
+
+    pub prototype_sound : (d : SomeDeclr) (opening : ℕ) (s : Scopes) (ts : List Lexeme) (x : (SomeDeclr × Scopes) × List Lexeme) → IsTail all ts →
+        prototype_with room (expr assigned) (specs declaring) declr d opening s ts ≡ Ok x → TakesPrototype d opening s ts x
+    unfolding prototype_with
+    prototype_sound d opening s ts x left e =
+        let p = bind_ok (params_with room (expr assigned) (specs declaring) declr (enter_scope s) ts) (λ ps. token_at is_close_paren ps.1 >>= closed_as d opening ps.0) x e in
+        let c = bind_ok (token_at is_close_paren p.0.1) (closed_as d opening p.0.0) x p.2 in
+        let h = params_sound (enter_scope s) ts p.0 left p.1 in
+        let close = token_taken is_close_paren p.0.1 c.0.0 c.0.1 c.1 in
+        let y : (SomeDeclr × Scopes) × List Lexeme = ((some_declr (with_params d opening p.0.0.0.0 p.0.0.0.1 c.0.0.at), leave_scope p.0.0.1), c.0.1) in
+        subst (TakesPrototype d opening s ts) (ok_is y x c.2) (record {
+          ps = p.0.0.0.0;
+          dots = p.0.0.0.1;
+          closing = c.0.0.at;
+          declr_is = refl;
+          spelled = h.spelled ∙ ap (λ (k : List Lexeme). params_text all p.0.0.0.0 (dots_text all p.0.0.0.1 k)) (close.0 ∙ token_is c.0.0 (kinds.Punct CloseParen) c.0.1 (close_paren_is c.0.0.kind close.1));
+          fit = h.fit;
+          ending = h.ending;
+          named = rw h.named refl;
+          left = tail_of all c.0.0 c.0.1 (subst (IsTail all) close.0 h.left);
+        })
