@@ -6,3 +6,4 @@ pub mod Aims
 pub mod Tails
 pub mod DeclrSoundWords
 pub mod DeclrSoundParams
+pub mod DeclrSound
