@@ -1,6 +1,6 @@
 -- Declarators: what is read is spelled so, obeys the rules, fits its place and gives these scopes.
-use Rattle.std.proofs.Common.{◌≡◌, ℕ, suc, Bool, true, false, not, if◌then◌else◌, List, [], ◌∷◌, All, Option, Some, None, Ok, refl, sym, ◌∙◌, ap, subst}
-use Rattle.std.specs.Prelude.{◌&&◌, ◌||◌, nat_le}
+use Rattle.std.proofs.Common.{◌≡◌, ℕ, suc, Bool, true, false, if◌then◌else◌, List, [], ◌∷◌, All, Option, Some, None, Ok, refl, sym, ◌∙◌, ap, subst}
+use Rattle.std.specs.Prelude.{◌||◌, nat_le}
 use Rattle.std.proofs.lemmas.List.Elements.{All-nil, All-cons, All-head, All-tail}
 use Rattle.c_lexer.specs.declared.kinds.TokenKind.TheVariants as kinds
 use Rattle.c_lexer.specs.declared.kinds.Punct.TheVariants.{OpenParen, CloseParen, OpenBracket, CloseBracket, Star}
@@ -19,14 +19,14 @@ use Rattle.c_grammar.specs.Scoping.{behind, without_attrs, in_own_scope, declr_s
 use Rattle.c_grammar.specs.Reading.{Read, IsNumbered, IsTail, run, ends, refuses, lowered, ◌>>=◌}
 use Rattle.c_grammar.specs.Eating.{token_at, begins, is_open_paren, is_close_paren, is_open_bracket, is_star}
 use Rattle.c_grammar.specs.Specifying.{Role, declaring, begins_specs, spelled_name}
-use Rattle.c_grammar.specs.Declaring.{Mode, with_name, without_name, either_way, takes_name, takes_nothing, may_declare, quals_at, pointer_words_of, with_pointer, with_paren, with_array, with_params, present, array_with, prototype_with, suffix_by, suffix_turn, declr_name_by, paren_with, opens_params, core_with, needed, direct_with, pointer_with, declr_with}
+use Rattle.c_grammar.specs.Declaring.{Mode, with_name, without_name, either_way, takes_name, may_declare, quals_at, pointer_words_of, with_pointer, with_paren, with_array, with_params, present, array_with, prototype_with, suffix_by, suffix_turn, declr_name_by, paren_with, opens_params, core_with, needed, direct_with, pointer_with, declr_with}
 use Rattle.c_grammar.specs.Expressing.{Reach, assigned}
 use Rattle.c_grammar.specs.declared.fault.Fault.TheVariants.{Redeclared}
 use Rattle.c_grammar.proofs.Aims.{Takes, IsSound, FitsMode, ExprLaws, SpecsLaws, DeclrLaws}
 use Rattle.c_grammar.proofs.LoopLemmas.{bind_ok, ok_is, run-keep}
 use Rattle.c_grammar.proofs.Taking.{token_taken}
 use Rattle.c_grammar.proofs.Tails.{tail_of}
-use Rattle.c_grammar.proofs.DeclrSoundWords.{token_is, open_paren_is, close_paren_is, open_bracket_is, star_is, name_is, quals_sound, array_sound}
+use Rattle.c_grammar.proofs.DeclrSoundWords.{ok_holds, token_is, open_paren_is, close_paren_is, open_bracket_is, star_is, name_is, quals_sound, array_sound}
 use Rattle.c_grammar.proofs.DeclrSoundParams.{prototype_sound}
 
 abbrev is_some_named : SomeDeclr → Bool
@@ -131,7 +131,7 @@ module _ (all : List Lexeme) where
     fits : IsSomeDeclr all d → is_some_direct d ≡ true → IsDeclr all e
     direct : is_direct e ≡ true
     named : (s : Scopes) → declr_scopes e s ≡ behind (some_declr_scopes d s) scopes
-    name_is : is_named e ≡ is_some_named d
+    as_named : is_named e ≡ is_some_named d
     shows : (s : Scopes) → some_shows_no_type s d ≡ true → shows_no_type s e ≡ true
 
   abbrev array_text : ℕ → List ArrayWord → SomeSize → ℕ → List Lexeme → List Lexeme
@@ -140,11 +140,11 @@ module _ (all : List Lexeme) where
   array_suffixed : (d : SomeDeclr) (opening : ℕ) (words : List ArrayWord) (size : SomeSize) (closing : ℕ) → All (IsArrayWord all) words → IsSize all size →
       Suffixed d (array_text opening words size closing) (some_size_scopes size) (with_array d opening words size closing)
   array_suffixed no_declr opening words size closing fit fits =
-      record { spelled = λ k. refl; fits = λ h direct. (tt, fit, fits); direct = refl; named = λ s. refl; name_is = refl; shows = λ s h. refl }
+      record { spelled = λ k. refl; fits = λ h direct. (tt, fit, fits); direct = refl; named = λ s. refl; as_named = refl; shows = λ s h. refl }
   array_suffixed (some_declr d) opening words size closing fit fits =
       by_named (Suffixed (some_declr d) (array_text opening words size closing) (some_size_scopes size)) (is_named d) (array d opening words size closing) (abs_array (some_declr d) opening words size closing)
-      (λ is. record { spelled = λ k. refl; fits = λ h direct. (h, is, direct, fit, fits); direct = refl; named = λ s. refl; name_is = sym is; shows = λ s h. h })
-      (λ is. record { spelled = λ k. refl; fits = λ h direct. ((h, is, direct), fit, fits); direct = refl; named = λ s. refl; name_is = sym is; shows = λ s h. refl })
+      (λ is. record { spelled = λ k. refl; fits = λ h direct. (h, is, direct, fit, fits); direct = refl; named = λ s. refl; as_named = sym is; shows = λ s h. h })
+      (λ is. record { spelled = λ k. refl; fits = λ h direct. ((h, is, direct), fit, fits); direct = refl; named = λ s. refl; as_named = sym is; shows = λ s h. refl })
 
   abbrev prototype_text : ℕ → Params → Option Dots → ℕ → List Lexeme → List Lexeme
   prototype_text opening ps dots closing k = sign_text OpenParen opening (params_text all ps (dots_text all dots (sign_text CloseParen closing k)))
@@ -152,11 +152,11 @@ module _ (all : List Lexeme) where
   params_suffixed : (d : SomeDeclr) (opening : ℕ) (ps : Params) (dots : Option Dots) (closing : ℕ) → AreParams all ps → IsEllipsis all ps dots →
       Suffixed d (prototype_text opening ps dots closing) (in_own_scope (params_scopes ps)) (with_params d opening ps dots closing)
   params_suffixed no_declr opening ps dots closing fit ending =
-      record { spelled = λ k. refl; fits = λ h direct. (tt, fit, ending); direct = refl; named = λ s. refl; name_is = refl; shows = λ s h. refl }
+      record { spelled = λ k. refl; fits = λ h direct. (tt, fit, ending); direct = refl; named = λ s. refl; as_named = refl; shows = λ s h. refl }
   params_suffixed (some_declr d) opening ps dots closing fit ending =
       by_named (Suffixed (some_declr d) (prototype_text opening ps dots closing) (in_own_scope (params_scopes ps))) (is_named d) (params d opening ps dots closing) (abs_params (some_declr d) opening ps dots closing)
-      (λ is. record { spelled = λ k. refl; fits = λ h direct. (h, is, direct, fit, ending); direct = refl; named = λ s. refl; name_is = sym is; shows = λ s h. h })
-      (λ is. record { spelled = λ k. refl; fits = λ h direct. ((h, is, direct), fit, ending); direct = refl; named = λ s. refl; name_is = sym is; shows = λ s h. refl })
+      (λ is. record { spelled = λ k. refl; fits = λ h direct. (h, is, direct, fit, ending); direct = refl; named = λ s. refl; as_named = sym is; shows = λ s h. h })
+      (λ is. record { spelled = λ k. refl; fits = λ h direct. ((h, is, direct), fit, ending); direct = refl; named = λ s. refl; as_named = sym is; shows = λ s h. refl })
 
   -- A declarator in parentheses.
   record Parenthesized (d : Declr) (opening closing : ℕ) (e : Declr) : Type 0 where
@@ -164,29 +164,29 @@ module _ (all : List Lexeme) where
     fits : IsDeclr all d → IsDeclr all e
     direct : is_direct e ≡ true
     named : (s : Scopes) → declr_scopes e s ≡ declr_scopes d s
-    name_is : is_named e ≡ is_named d
+    as_named : is_named e ≡ is_named d
     shows : (s : Scopes) → begins_with_type s (first_name d) ≡ false → shows_no_type s d ≡ true → shows_no_type s e ≡ true
 
   parenthesized : (d : Declr) (opening closing : ℕ) → Parenthesized d opening closing (with_paren opening d closing)
   parenthesized d opening closing =
       by_named (Parenthesized d opening closing) (is_named d) (declr_paren opening [] d closing) (abs_paren opening [] d closing)
-      (λ is. record { spelled = λ k. refl; fits = λ h. (All-nil _, h, is); direct = refl; named = λ s. refl; name_is = sym is; shows = λ s none h. rw none h })
-      (λ is. record { spelled = λ k. refl; fits = λ h. (All-nil _, h, is); direct = refl; named = λ s. refl; name_is = sym is; shows = λ s none h. refl })
+      (λ is. record { spelled = λ k. refl; fits = λ h. (All-nil _, h, is); direct = refl; named = λ s. refl; as_named = sym is; shows = λ s none h. rw none h })
+      (λ is. record { spelled = λ k. refl; fits = λ h. (All-nil _, h, is); direct = refl; named = λ s. refl; as_named = sym is; shows = λ s none h. refl })
 
   -- A star and its words before a declarator.
   record Pointed (star : ℕ) (words : List PointerWord) (d : SomeDeclr) (e : Declr) : Type 0 where
     spelled : (k : List Lexeme) → declr_text all e k ≡ sign_text Star star (pointer_words_text all words (some_declr_text all d k))
     fits : All (IsPointerWord all) words → IsSomeDeclr all d → IsDeclr all e
     named : (s : Scopes) → declr_scopes e s ≡ behind (without_attrs words s) (some_declr_scopes d)
-    name_is : is_named e ≡ is_some_named d
+    as_named : is_named e ≡ is_some_named d
     shows : (s : Scopes) → some_shows_no_type s d ≡ true → shows_no_type s e ≡ true
 
   pointed : (mode : Mode) (star : ℕ) (words : List PointerWord) (d : SomeDeclr) → Pointed star words d (with_pointer mode star words d)
-  pointed mode star words no_declr = record { spelled = λ k. refl; fits = λ fit h. (fit, tt); named = λ s. refl; name_is = refl; shows = λ s h. refl }
+  pointed mode star words no_declr = record { spelled = λ k. refl; fits = λ fit h. (fit, tt); named = λ s. refl; as_named = refl; shows = λ s h. refl }
   pointed mode star words (some_declr d) =
       by_named (Pointed star words (some_declr d)) (is_named d) (pointer star words d) (abs_pointer star words (some_declr d))
-      (λ is. record { spelled = λ k. refl; fits = λ fit h. (fit, h, is); named = λ s. refl; name_is = sym is; shows = λ s h. h })
-      (λ is. record { spelled = λ k. refl; fits = λ fit h. (fit, (h, is)); named = λ s. refl; name_is = sym is; shows = λ s h. refl })
+      (λ is. record { spelled = λ k. refl; fits = λ fit h. (fit, h, is); named = λ s. refl; as_named = sym is; shows = λ s h. h })
+      (λ is. record { spelled = λ k. refl; fits = λ fit h. (fit, (h, is)); named = λ s. refl; as_named = sym is; shows = λ s h. refl })
 
   -- What was read of a declarator without its pointers, where more may stand behind it.
   record Begun (suits : SomeDeclr → Type 0) (s : Scopes) (ts : List Lexeme) (x : (SomeDeclr × Scopes) × List Lexeme) : Type 0 where
@@ -200,7 +200,7 @@ module _ (all : List Lexeme) where
   nothing : (mode : Mode) (s : Scopes) (ts : List Lexeme) (x : (SomeDeclr × Scopes) × List Lexeme) → IsTail all ts → ends (no_declr, s) ts ≡ Ok x → Begun (BeginsWell mode s) s ts x
   nothing mode s ts x left e =
       let y : (SomeDeclr × Scopes) × List Lexeme = ((no_declr, s), ts) in
-      subst (Begun (BeginsWell mode s) s ts) (ok_is y x e) (record { spelled = refl; fits = tt; direct = refl; suited = tt; named = refl; left = left })
+      ok_holds (Begun (BeginsWell mode s) s ts) y x e (record { spelled = refl; fits = tt; direct = refl; suited = tt; named = refl; left = left })
 
   -- one more form round what was read
   suffixed : (mode : Mode) (s : Scopes) (start : List Lexeme) (state : SomeDeclr × Scopes) (ts : List Lexeme) (text : List Lexeme → List Lexeme) (scopes : Scopes → Option Scopes) (e : Declr)
@@ -209,7 +209,7 @@ module _ (all : List Lexeme) where
   suffixed mode s start state ts text scopes e x h f is spelled named left =
       let fits : IsSomeDeclr all (some_declr e) = f.fits h.fits h.direct in
       let direct : is_some_direct (some_declr e) ≡ true = f.direct in
-      let suits : Suits mode s (some_declr e) = suits_as mode s state.0 e f.name_is (f.shows s) h.suited in
+      let suits : Suits mode s (some_declr e) = suits_as mode s state.0 e f.as_named (f.shows s) h.suited in
       let all_named : some_declr_scopes (some_declr e) s ≡ Some x.0.1 = f.named s ∙ rw h.named named in
       record {
         spelled = h.spelled ∙ ap (some_declr_text all state.0) spelled ∙ sym (f.spelled x.1) ∙ ap (λ (d : SomeDeclr). some_declr_text all d x.1) (sym is);
@@ -226,14 +226,14 @@ module _ (all : List Lexeme) where
         Begun (BeginsWell mode s) s start ((d, now), ts) → needed room (expr assigned) (specs declaring) declr mode (d, now) ts ≡ Ok x → Begun (Suits mode s) s start x
     needed_by mode s start (some_declr d) now ts x h e =
         let y : (SomeDeclr × Scopes) × List Lexeme = ((some_declr d, now), ts) in
-        subst (Begun (Suits mode s) s start) (ok_is y x e) (record { spelled = h.spelled; fits = h.fits; direct = h.direct; suited = h.suited; named = h.named; left = h.left })
+        ok_holds (Begun (Suits mode s) s start) y x e (record { spelled = h.spelled; fits = h.fits; direct = h.direct; suited = h.suited; named = h.named; left = h.left })
     needed_by with_name s start no_declr now ts x h e = absurd cc
     needed_by without_name s start no_declr now ts x h e =
         let y : (SomeDeclr × Scopes) × List Lexeme = ((no_declr, now), ts) in
-        subst (Begun (Suits without_name s) s start) (ok_is y x e) (record { spelled = h.spelled; fits = h.fits; direct = h.direct; suited = refl; named = h.named; left = h.left })
+        ok_holds (Begun (Suits without_name s) s start) y x e (record { spelled = h.spelled; fits = h.fits; direct = h.direct; suited = refl; named = h.named; left = h.left })
     needed_by either_way s start no_declr now ts x h e =
         let y : (SomeDeclr × Scopes) × List Lexeme = ((no_declr, now), ts) in
-        subst (Begun (Suits either_way s) s start) (ok_is y x e) (record { spelled = h.spelled; fits = h.fits; direct = h.direct; suited = refl; named = h.named; left = h.left })
+        ok_holds (Begun (Suits either_way s) s start) y x e (record { spelled = h.spelled; fits = h.fits; direct = h.direct; suited = refl; named = h.named; left = h.left })
 
     needed_sound : (mode : Mode) (s : Scopes) (start : List Lexeme) (y x : (SomeDeclr × Scopes) × List Lexeme) → Begun (BeginsWell mode s) s start y → needed room (expr assigned) (specs declaring) declr mode y.0 y.1 ≡ Ok x → Begun (Suits mode s) s start x
     needed_sound mode s start y x h e = needed_by mode s start y.0.0 y.0.1 y.1 x h e
@@ -281,7 +281,7 @@ module _ (all : List Lexeme) where
         by_kind name false is e = absurd cc
         by_kind name true is e =
             let y : (SomeDeclr × Scopes) × List Lexeme = ((some_declr (declr_name t.at name), s), ts) in
-            subst (Begun (BeginsWell mode s) s (t ∷ ts)) (ok_is y x e) (record {
+            ok_holds (Begun (BeginsWell mode s) s (t ∷ ts)) y x e (record {
               spelled = token_is t (kinds.Name name) ts (name_is t.kind name is);
               fits = tt;
               direct = refl;
@@ -297,8 +297,8 @@ module _ (all : List Lexeme) where
     -- a declarator in parentheses suits its place, where these open no parameters
     paren_suits : (mode : Mode) (s : Scopes) (opening closing : ℕ) (d : Declr) (k : List Lexeme) → opens_params room (expr assigned) (specs declaring) declr mode s (declr_text all d k) ≡ false →
         Suits mode s (some_declr d) → Suits mode s (some_declr (with_paren opening d closing))
-    paren_suits with_name s opening closing d k opens h = (parenthesized d opening closing).name_is ∙ h
-    paren_suits without_name s opening closing d k opens h = (parenthesized d opening closing).name_is ∙ h
+    paren_suits with_name s opening closing d k opens h = (parenthesized d opening closing).as_named ∙ h
+    paren_suits without_name s opening closing d k opens h = (parenthesized d opening closing).as_named ∙ h
     paren_suits either_way s opening closing d k opens h =
         (parenthesized d opening closing).shows s (first_begins s d k (later (begins is_close_paren (declr_text all d k)) (begins_specs s (declr_text all d k)) opens)) h
 
@@ -321,7 +321,7 @@ module _ (all : List Lexeme) where
         let close = token_taken is_close_paren i.0.1 c.0.0 c.0.1 c.1 in
         let closed : i.0.1 ≡ sign_text CloseParen c.0.0.at c.0.1 = close.0 ∙ token_is c.0.0 (kinds.Punct CloseParen) c.0.1 (close_paren_is c.0.0.kind close.1) in
         let y : (SomeDeclr × Scopes) × List Lexeme = ((some_declr (with_paren t.at i.0.0.0 c.0.0.at), i.0.0.1), c.0.1) in
-        subst (Begun (BeginsWell mode s) s (t ∷ ts)) (ok_is y x c.2) (record {
+        ok_holds (Begun (BeginsWell mode s) s (t ∷ ts)) y x c.2 (record {
           spelled = token_is t (kinds.Punct OpenParen) ts (open_paren_is t.kind is) ∙ ap (sign_text OpenParen t.at) (h.spelled ∙ ap (declr_text all i.0.0.0) closed) ∙ sym (p.spelled c.0.1);
           fits = p.fits f.0;
           direct = p.direct;
@@ -389,9 +389,9 @@ module _ (all : List Lexeme) where
             known.0 ∙ ap (quals_text all w.0.0) h.spelled ∙ sym (pointer_words_spelled w.0.0 (some_declr_text all d.0.0.0 d.0.1)) in
         let e : Declr = with_pointer mode t.at pointed_words d.0.0.0 in
         let y : (SomeDeclr × Scopes) × List Lexeme = ((some_declr e, d.0.0.1), d.0.1) in
-        subst (TakesDeclr mode s (t ∷ ts)) (ok_is y x d.2) (record {
+        ok_holds (TakesDeclr mode s (t ∷ ts)) y x d.2 (record {
           spelled = token_is t (kinds.Punct Star) ts (star_is t.kind is) ∙ ap (sign_text Star t.at) spelled ∙ sym (p.spelled d.0.1);
-          fits = fits_mode mode s (some_declr e) (p.fits (pointer_words_fit w.0.0 known.1) f.0) (suits_as mode s d.0.0.0 e p.name_is (p.shows s) f.1);
+          fits = fits_mode mode s (some_declr e) (p.fits (pointer_words_fit w.0.0 known.1) f.0) (suits_as mode s d.0.0.0 e p.as_named (p.shows s) f.1);
           named = p.named s ∙ rw (pointer_words_named w.0.0 s) h.named;
           left = h.left;
         })

@@ -1,12 +1,11 @@
 -- Parameters, and what stands behind an opening parenthesis: what is read is spelled so, obeys the rules and gives these scopes.
 use Rattle.std.proofs.Common.{◌≡◌, ℕ, ◌<◌, Bool, true, false, if◌then◌else◌, List, [], ◌∷◌, length, All, Option, Some, None, Ok, refl, sym, ◌∙◌, ap, subst, arith}
 use Rattle.std.proofs.lemmas.List.Elements.{All-nil, All-head, All-tail}
-use Rattle.c_lexer.specs.declared.kinds.TokenKind.{TokenKind}
 use Rattle.c_lexer.specs.declared.kinds.TokenKind.TheVariants as kinds
 use Rattle.c_lexer.specs.declared.kinds.Punct.TheVariants.{CloseParen, Comma, Ellipsis}
 use Rattle.c_tree.specs.declared.lexeme.Lexeme.{Lexeme}
 use Rattle.c_tree.specs.declared.parts.Qual.{Qual}
-use Rattle.c_tree.specs.Tree.{Expr, SpecWords, no_words, more_words, SomeDeclr, no_declr, some_declr, Params, no_params, more_params, Dots}
+use Rattle.c_tree.specs.Tree.{Expr, SpecWords, no_words, SomeDeclr, some_declr, Params, no_params, more_params, Dots}
 use Rattle.c_tree.specs.Text.{sign_text, separated, qual_text, quals_text, attrs_text, dots_text, spec_words_text, some_declr_text, params_text, other_params_text}
 use Rattle.c_tree.specs.WellFormed.{IsQual, AreSpecWords, IsSomeDeclr, AreParams, IsEllipsis}
 use Rattle.c_tree.specs.Specifiers.{IsMix}
@@ -18,13 +17,13 @@ use Rattle.c_grammar.specs.Scoping.{behind, without, where_true, in_own_scope, s
 use Rattle.c_grammar.specs.Reading.{Read, IsNumbered, IsTail, turns, run, ends, ◌>>=◌}
 use Rattle.c_grammar.specs.Eating.{token_at, begins, is_close_paren, is_comma, is_dots}
 use Rattle.c_grammar.specs.Specifying.{Role, declaring}
-use Rattle.c_grammar.specs.Declaring.{Mode, either_way, ParamState, quals_turn, quals_at, spec_words_of_quals, some_name_token, with_param, with_params, declared_some, param_with, next_param_with, param_turn_by, param_turn, params_with, prototype_with}
+use Rattle.c_grammar.specs.Declaring.{Mode, either_way, ParamState, quals_at, spec_words_of_quals, some_name_token, with_param, with_params, declared_some, param_with, next_param_with, param_turn_by, param_turn, params_with, prototype_with}
 use Rattle.c_grammar.specs.Expressing.{Reach, assigned}
-use Rattle.c_grammar.proofs.Aims.{Takes, TakesWords, ExprLaws, SpecsLaws, DeclrLaws}
-use Rattle.c_grammar.proofs.LoopLemmas.{bind_ok, ok_is, run-keep}
+use Rattle.c_grammar.proofs.Aims.{ExprLaws, SpecsLaws, DeclrLaws}
+use Rattle.c_grammar.proofs.LoopLemmas.{bind_ok, run-keep}
 use Rattle.c_grammar.proofs.Taking.{token_taken}
 use Rattle.c_grammar.proofs.Tails.{tail_of, comma_is}
-use Rattle.c_grammar.proofs.DeclrSoundWords.{token_is, close_paren_is, comma_kind_is, dots_is, quals_sound}
+use Rattle.c_grammar.proofs.DeclrSoundWords.{ok_holds, token_is, close_paren_is, comma_kind_is, dots_is, quals_sound}
 
 -- the scopes behind a part are those behind its parts, one after another
 behind_some : (o : Option Scopes) → behind o (λ s. Some s) ≡ o
@@ -146,7 +145,7 @@ module _ (all : List Lexeme) where
         let k = some_declr_text all d.0.0.0 d.0.1 in
         let spelled : ts ≡ spec_words_text all hw.rest k = hw.spelled ∙ ap (spec_words_text all hw.rest) hd.spelled in
         let named : spec_words_scopes w.0.0.0 s ≡ Some w.0.0.1 = ap (λ (ws : SpecWords). spec_words_scopes ws s) hw.words_are ∙ known_scopes known hw.rest s ∙ hw.named in
-        subst (TakesParam known ps s ts) (ok_is y x c.2) (record {
+        ok_holds (TakesParam known ps s ts) y x c.2 (record {
           words = w.0.0.0;
           declr = d.0.0.0;
           params_are = refl;
@@ -172,7 +171,7 @@ module _ (all : List Lexeme) where
         let b = bind_ok (param_with room (expr assigned) (specs declaring) declr ps (spec_words_of_quals known) now rest) as_state x e in
         let h = param_sound known ps now rest b.0 left known_fit b.1 in
         let y : ParamState × List Lexeme = (((b.0.0.0, None), b.0.0.1), b.0.1) in
-        subst (λ (x : ParamState × List Lexeme). AreListed s start x.0 x.1) (ok_is y x b.2) (
+        ok_holds (λ (x : ParamState × List Lexeme). AreListed s start x.0 x.1) y x b.2 (
           subst HasParam (sym h.params_are) (has_param ps h.words h.declr),
           record {
             spelled = spelled ∙ ap (λ (k : List Lexeme). params_text all ps (separated k)) (is ∙ h.spelled) ∙ sym (params_push ps h.words h.declr b.0.1 some)
@@ -203,7 +202,7 @@ module _ (all : List Lexeme) where
         by_dots true dots e =
             let last : Dots = record { comma = comma.at; quals = known; dots = t.at } in
             let y : ParamState × List Lexeme = (((ps, Some last), now), rest) in
-            subst (λ (x : ParamState × List Lexeme). AreListed s start x.0 x.1) (ok_is y x e) (some, record {
+            ok_holds (λ (x : ParamState × List Lexeme). AreListed s start x.0 x.1) y x e (some, record {
               spelled = spelled ∙ ap (params_text all ps) (token_is comma (kinds.Punct Comma) ts kind
                   ∙ ap (sign_text Comma comma.at) (is ∙ ap (quals_text all known) (token_is t (kinds.Punct Ellipsis) rest (dots_is t.kind dots))));
               fit = fit;
@@ -266,7 +265,7 @@ module _ (all : List Lexeme) where
         by_close : (b : Bool) → (if b then ends ((no_params, None), s) ts else (param_with room (expr assigned) (specs declaring) declr no_params no_words s ts >>= all_params)) ≡ Ok x → TakesParams s ts x
         by_close true e =
             let y : ParamState × List Lexeme = (((no_params, None), s), ts) in
-            subst (TakesParams s ts) (ok_is y x e) (record { spelled = refl; fit = tt; ending = tt; named = refl; left = left })
+            ok_holds (TakesParams s ts) y x e (record { spelled = refl; fit = tt; ending = tt; named = refl; left = left })
         by_close false e =
             let b = bind_ok (param_with room (expr assigned) (specs declaring) declr no_params no_words s ts) all_params x e in
             let h = param_sound [] no_params s ts b.0 left (All-nil (IsQual all)) b.1 in
@@ -291,7 +290,7 @@ module _ (all : List Lexeme) where
         let h = params_sound (enter_scope s) ts p.0 left p.1 in
         let close = token_taken is_close_paren p.0.1 c.0.0 c.0.1 c.1 in
         let y : (SomeDeclr × Scopes) × List Lexeme = ((some_declr (with_params d opening p.0.0.0.0 p.0.0.0.1 c.0.0.at), leave_scope p.0.0.1), c.0.1) in
-        subst (TakesPrototype d opening s ts) (ok_is y x c.2) (record {
+        ok_holds (TakesPrototype d opening s ts) y x c.2 (record {
           ps = p.0.0.0.0;
           dots = p.0.0.0.1;
           closing = c.0.0.at;

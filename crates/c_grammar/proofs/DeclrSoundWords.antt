@@ -1,5 +1,5 @@
 -- Qualifiers, the words in the brackets of an array, sizes and what stands behind an opening bracket: what is read is spelled so and obeys the rules.
-use Rattle.std.proofs.Common.{◌≡◌, ℕ, ◌≤◌, Bool, true, false, if◌then◌else◌, List, [], ◌∷◌, ◌++◌, All, Option, Some, None, Ok, refl, sym, ◌∙◌, ap, subst}
+use Rattle.std.proofs.Common.{◌≡◌, ℕ, Bool, true, false, if◌then◌else◌, List, [], ◌∷◌, ◌++◌, All, Option, Some, None, Ok, refl, sym, ◌∙◌, ap, subst}
 use Rattle.std.specs.Prelude.{◌&&◌}
 use Rattle.std.proofs.lemmas.List.Elements.{All-nil, All-cons, All-append}
 use Rattle.c_lexer.specs.declared.kinds.TokenKind.{TokenKind}
@@ -13,18 +13,18 @@ use Rattle.c_tree.specs.declared.parts.Qual.TheVariants as quals
 use Rattle.c_tree.specs.declared.parts.ArrayWord.{ArrayWord}
 use Rattle.c_tree.specs.declared.parts.ArrayWord.TheVariants as array_words
 use Rattle.c_tree.specs.Tree.{Expr, SpecWords, SomeDeclr, some_declr, SomeSize, no_size, some_size, size_value, size_star}
-use Rattle.c_tree.specs.Text.{plain_text, sign_text, qual_text, quals_text, array_words_text, some_size_text, expr_text}
+use Rattle.c_tree.specs.Text.{plain_text, sign_text, qual_text, quals_text, array_words_text, some_size_text}
 use Rattle.c_tree.specs.WellFormed.{IsQual, IsElement, IsElementKind, IsArrayWord, IsSize}
 use Rattle.typedef_scope.specs.declared.kind.Kind.{Kind}
 use Rattle.typedef_scope.specs.Scopes.{Scopes}
-use Rattle.c_grammar.specs.Scoping.{some_size_scopes, expr_scopes}
-use Rattle.c_grammar.specs.Reading.{Read, IsNumbered, IsTail, run, ends, refuses, ◌>>=◌}
+use Rattle.c_grammar.specs.Scoping.{some_size_scopes}
+use Rattle.c_grammar.specs.Reading.{Read, IsNumbered, IsTail, ends, ◌>>=◌}
 use Rattle.c_grammar.specs.Eating.{token_at, begins, is_open_paren, is_close_paren, is_open_bracket, is_close_bracket, is_comma, is_dots, is_star}
-use Rattle.c_grammar.specs.Specifying.{Role, spelled_name, kind_start, typed_start}
+use Rattle.c_grammar.specs.Specifying.{spelled_name, kind_start, typed_start}
 use Rattle.c_grammar.specs.Declaring.{Mode, qual_by, qual_at, quals_by, quals_turn, quals_at, is_static, array_word_by, array_words_by, array_words_turn, array_words_at, with_array, size_with, array_with}
 use Rattle.c_grammar.specs.Expressing.{Reach, assigned}
 use Rattle.c_grammar.proofs.Aims.{Takes, IsSound, ExprLaws}
-use Rattle.c_grammar.proofs.LoopLemmas.{bind_ok, ok_is, run-keep}
+use Rattle.c_grammar.proofs.LoopLemmas.{bind_ok, done, ok_is, run-keep}
 use Rattle.c_grammar.proofs.Taking.{token_taken}
 use Rattle.c_grammar.proofs.Tails.{tail_of, element_is}
 
@@ -67,6 +67,10 @@ name_is kind name e = absurd cc
 static_is : (kind : TokenKind) → is_static kind ≡ true → kind ≡ kinds.Keyword keywords.Static
 static_is (kinds.Keyword keywords.Static) e = refl
 static_is kind e = absurd cc
+
+-- what holds of one answer holds of the other
+pub ok_holds : {A : Type 0} (P : A → Type 0) (y x : A) → done y ≡ done x → P y → P x
+ok_holds P y x e h = subst P (ok_is y x e) h
 
 -- of a test of two parts
 pub both : (a b : Bool) → (a && b) ≡ true → (a ≡ true) × (b ≡ true)
@@ -181,7 +185,7 @@ module _ (all : List Lexeme) where
           let b = bind_ok (expr assigned s ts) value_of x e in
           let h = exprs.sound assigned s ts b.0 left b.1 in
           let y : (SomeSize × Scopes) × List Lexeme = ((some_size (size_value b.0.0.0), b.0.0.1), b.0.1) in
-          subst (TakesSize s ts) (ok_is y x b.2) (record { spelled = h.spelled; fits = h.fits; named = h.named; left = h.left })
+          ok_holds (TakesSize s ts) y x b.2 (record { spelled = h.spelled; fits = h.fits; named = h.named; left = h.left })
 
       abbrev size_by : Bool → Lexeme → Scopes → List Lexeme → Read (SomeSize × Scopes)
       size_by star t s ts = if star then ends (some_size (size_star t.at), s) ts else (expr assigned s (t ∷ ts) >>= value_of)
@@ -196,12 +200,12 @@ module _ (all : List Lexeme) where
           by_star true is e =
               let y : (SomeSize × Scopes) × List Lexeme = ((some_size (size_star t.at), s), ts) in
               let star = both (is_star t.kind) (begins is_close_bracket ts) is in
-              subst (TakesSize s (t ∷ ts)) (ok_is y x e) (record { spelled = token_is t (kinds.Punct Star) ts (star_is t.kind star.0); fits = tt; named = refl; left = tail_of all t ts left })
+              ok_holds (TakesSize s (t ∷ ts)) y x e (record { spelled = token_is t (kinds.Punct Star) ts (star_is t.kind star.0); fits = tt; named = refl; left = tail_of all t ts left })
 
           by_close : (b : Bool) → is_close_bracket t.kind ≡ b → (if b then ends (no_size, s) (t ∷ ts) else size_by (is_star t.kind && begins is_close_bracket ts) t s ts) ≡ Ok x → TakesSize s (t ∷ ts) x
           by_close true is e =
               let y : (SomeSize × Scopes) × List Lexeme = ((no_size, s), t ∷ ts) in
-              subst (TakesSize s (t ∷ ts)) (ok_is y x e) (record { spelled = refl; fits = tt; named = refl; left = left })
+              ok_holds (TakesSize s (t ∷ ts)) y x e (record { spelled = refl; fits = tt; named = refl; left = left })
           by_close false is e = by_star (is_star t.kind && begins is_close_bracket ts) refl e
 
       -- What stands behind an opening bracket: words, a size, and the closing bracket.
@@ -229,7 +233,7 @@ module _ (all : List Lexeme) where
           let size = size_sound s w.0.1 v.0 words.2 v.1 in
           let close = token_taken is_close_bracket v.0.1 c.0.0 c.0.1 c.1 in
           let y : (SomeDeclr × Scopes) × List Lexeme = ((some_declr (with_array d opening w.0.0 v.0.0.0 c.0.0.at), v.0.0.1), c.0.1) in
-          subst (TakesArray d opening s ts) (ok_is y x c.2) (record {
+          ok_holds (TakesArray d opening s ts) y x c.2 (record {
             words = w.0.0;
             size = v.0.0.0;
             closing = c.0.0.at;
