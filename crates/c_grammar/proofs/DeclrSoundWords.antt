@@ -14,7 +14,7 @@ use Rattle.c_tree.specs.declared.parts.ArrayWord.{ArrayWord}
 use Rattle.c_tree.specs.declared.parts.ArrayWord.TheVariants as array_words
 use Rattle.c_tree.specs.Tree.{Expr, SpecWords, SomeDeclr, some_declr, SomeSize, no_size, some_size, size_value, size_star}
 use Rattle.c_tree.specs.Text.{plain_text, sign_text, qual_text, quals_text, array_words_text, some_size_text}
-use Rattle.c_tree.specs.WellFormed.{IsQual, IsElement, IsElementKind, IsArrayWord, IsSize}
+use Rattle.c_tree.specs.WellFormed.{IsQual, is_qual, IsElement, IsElementKind, IsArrayWord, IsSize}
 use Rattle.typedef_scope.specs.declared.kind.Kind.{Kind}
 use Rattle.typedef_scope.specs.Scopes.{Scopes}
 use Rattle.c_grammar.specs.Scoping.{some_size_scopes}
@@ -72,13 +72,24 @@ static_is kind e = absurd cc
 pub ok_holds : {A : Type 0} (P : A → Type 0) (y x : A) → done y ≡ done x → P y → P x
 ok_holds P y x e h = subst P (ok_is y x e) h
 
+-- a declarator that was read, with the scopes behind it and the tokens that are left
+abbrev pub DeclrRead : Type 0
+DeclrRead = (SomeDeclr × Scopes) × List Lexeme
+
 -- of a test of two parts
 pub both : (a b : Bool) → (a && b) ≡ true → (a ≡ true) × (b ≡ true)
 both true b e = (refl, e)
 both false b e = absurd cc
 
+-- the token that ends a part
+pub closing_taken : (all : List Lexeme) (test : TokenKind → Bool) (kind : TokenKind) → ((kind' : TokenKind) → test kind' ≡ true → kind' ≡ kind) → (ts : List Lexeme) (c : Lexeme × List Lexeme) →
+    IsTail all ts → token_at test ts ≡ Ok c → (ts ≡ plain_text kind c.0.at c.1) × IsTail all c.1
+closing_taken all test kind is ts c left e =
+    let taken = token_taken test ts c.0 c.1 e in
+    (taken.0 ∙ token_is c.0 kind c.1 (is c.0.kind taken.1), tail_of all c.0 c.1 (subst (IsTail all) taken.0 left))
+
 module _ (all : List Lexeme) where
-  pub quals_push : (known : List Qual) (q : Qual) (k : List Lexeme) → quals_text all (known ++ q ∷ []) k ≡ quals_text all known (qual_text all q k)
+  quals_push : (known : List Qual) (q : Qual) (k : List Lexeme) → quals_text all (known ++ q ∷ []) k ≡ quals_text all known (qual_text all q k)
   quals_push [] q k = refl
   quals_push (first ∷ known) q k = ap (qual_text all first) (quals_push known q k)
 
@@ -88,29 +99,31 @@ module _ (all : List Lexeme) where
   array_words_push (array_words.Qual q ∷ known) word k = ap (qual_text all q) (array_words_push known word k)
 
   module _ (numbered : IsNumbered all) where
-    qual_taken : (t : Lexeme) (ts : List Lexeme) (q : Qual) → IsTail all (t ∷ ts) → qual_at (t ∷ ts) ≡ Some q → (t ∷ ts ≡ qual_text all q ts) × IsQual all q
+    abbrev SpellsQual : Lexeme → List Lexeme → Qual → Type 0
+    SpellsQual t ts q = (t ∷ ts ≡ qual_text all q ts) × IsQual all q
+
+    qual_taken : (t : Lexeme) (ts : List Lexeme) (q : Qual) → IsTail all (t ∷ ts) → qual_at (t ∷ ts) ≡ Some q → SpellsQual t ts q
     qual_taken t ts q left e = by_kind t.kind refl e
       where
-        word : (keyword : Keyword) → t.kind ≡ kinds.Keyword keyword → IsQual all (quals.Word (record { token = t.at; keyword = keyword })) → quals.Word (record { token = t.at; keyword = keyword }) ≡ q →
-            (t ∷ ts ≡ qual_text all q ts) × IsQual all q
-        word keyword is fits same = subst (λ (q : Qual). (t ∷ ts ≡ qual_text all q ts) × IsQual all q) same (token_is t (kinds.Keyword keyword) ts is, fits)
+        word : (keyword : Keyword) → t.kind ≡ kinds.Keyword keyword → is_qual keyword ≡ true → quals.Word (record { token = t.at; keyword = keyword }) ≡ q → SpellsQual t ts q
+        word keyword is fits same = subst (SpellsQual t ts) same (token_is t (kinds.Keyword keyword) ts is, fits)
 
-        by_keyword : (keyword : Keyword) → t.kind ≡ kinds.Keyword keyword → qual_by (typed_start [] true (kind_start (kinds.Keyword keyword))) t ≡ Some q → (t ∷ ts ≡ qual_text all q ts) × IsQual all q
+        by_keyword : (keyword : Keyword) → t.kind ≡ kinds.Keyword keyword → qual_by (typed_start [] true (kind_start (kinds.Keyword keyword))) t ≡ Some q → SpellsQual t ts q
         by_keyword keywords.Const is e = word keywords.Const is refl cc
         by_keyword keywords.Volatile is e = word keywords.Volatile is refl cc
         by_keyword keywords.Restrict is e = word keywords.Restrict is refl cc
         by_keyword keyword is e = absurd cc
 
-        by_kind : (kind : TokenKind) → t.kind ≡ kind → qual_by (typed_start [] true (kind_start kind)) t ≡ Some q → (t ∷ ts ≡ qual_text all q ts) × IsQual all q
+        by_kind : (kind : TokenKind) → t.kind ≡ kind → qual_by (typed_start [] true (kind_start kind)) t ≡ Some q → SpellsQual t ts q
         by_kind (kinds.Keyword keyword) is e = by_keyword keyword is e
         by_kind (kinds.Qual lattice elem) is e =
             let same : quals.Element t.at ≡ q = cc in
             let one = element_is all numbered t ts left in
             let kind : IsElementKind t.kind = subst IsElementKind (sym is) tt in
-            subst (λ (q : Qual). (t ∷ ts ≡ qual_text all q ts) × IsQual all q) same (ap (λ (us : List Lexeme). us ++ ts) (sym one), subst IsElement (sym one) kind)
+            subst (SpellsQual t ts) same (ap (λ (us : List Lexeme). us ++ ts) (sym one), subst IsElement (sym one) kind)
         by_kind kinds.Index is e =
             let same : quals.Index t.at ≡ q = cc in
-            subst (λ (q : Qual). (t ∷ ts ≡ qual_text all q ts) × IsQual all q) same (token_is t kinds.Index ts is, tt)
+            subst (SpellsQual t ts) same (token_is t kinds.Index ts is, tt)
         by_kind kind is e = absurd cc
 
     abbrev AreQuals : List Lexeme → List Qual → List Lexeme → Type 0
@@ -127,28 +140,31 @@ module _ (all : List Lexeme) where
             let same : y ≡ x = ok_is y x cc in
             let one = qual_taken t ts q h.2 is in
             subst (λ (x : List Qual × List Lexeme). AreQuals start x.0 x.1) same
-              (h.0 ∙ ap (quals_text all known) one.0 ∙ sym (quals_push known q ts), All-append (IsQual all) known (q ∷ []) h.1 (All-cons (IsQual all) q [] one.1 (All-nil (IsQual all))), tail_of all t ts h.2)
+              (h.0 ∙ ap (quals_text all known) one.0 ∙ sym (quals_push known q ts),
+              All-append (IsQual all) known (q ∷ []) h.1 (All-cons (IsQual all) q [] one.1 (All-nil (IsQual all))), tail_of all t ts h.2)
 
     -- qualifiers
     pub quals_sound : (ts : List Lexeme) (x : List Qual × List Lexeme) → IsTail all ts → quals_at ts ≡ Ok x → (ts ≡ quals_text all x.0 x.1) × All (IsQual all) x.0 × IsTail all x.1
     unfolding quals_at
     quals_sound ts x left e = run-keep quals_turn (AreQuals ts) (quals_kept ts) [] ts x (refl, All-nil (IsQual all), left) e
 
-    array_word_taken : (t : Lexeme) (ts : List Lexeme) (word : ArrayWord) → IsTail all (t ∷ ts) → array_word_by (qual_at (t ∷ ts)) t ≡ Some word →
-        (t ∷ ts ≡ array_words_text all (word ∷ []) ts) × IsArrayWord all word
+    abbrev SpellsArrayWord : Lexeme → List Lexeme → ArrayWord → Type 0
+    SpellsArrayWord t ts word = (t ∷ ts ≡ array_words_text all (word ∷ []) ts) × IsArrayWord all word
+
+    array_word_taken : (t : Lexeme) (ts : List Lexeme) (word : ArrayWord) → IsTail all (t ∷ ts) → array_word_by (qual_at (t ∷ ts)) t ≡ Some word → SpellsArrayWord t ts word
     array_word_taken t ts word left e = by_qual (qual_at (t ∷ ts)) refl e
       where
-        by_static : (b : Bool) → is_static t.kind ≡ b → (if b then Some (array_words.Static t.at) else None) ≡ Some word → (t ∷ ts ≡ array_words_text all (word ∷ []) ts) × IsArrayWord all word
+        by_static : (b : Bool) → is_static t.kind ≡ b → (if b then Some (array_words.Static t.at) else None) ≡ Some word → SpellsArrayWord t ts word
         by_static false is e = absurd cc
         by_static true is e =
             let same : array_words.Static t.at ≡ word = cc in
-            subst (λ (word : ArrayWord). (t ∷ ts ≡ array_words_text all (word ∷ []) ts) × IsArrayWord all word) same (token_is t (kinds.Keyword keywords.Static) ts (static_is t.kind is), tt)
+            subst (SpellsArrayWord t ts) same (token_is t (kinds.Keyword keywords.Static) ts (static_is t.kind is), tt)
 
-        by_qual : (o : Option Qual) → qual_at (t ∷ ts) ≡ o → array_word_by o t ≡ Some word → (t ∷ ts ≡ array_words_text all (word ∷ []) ts) × IsArrayWord all word
+        by_qual : (o : Option Qual) → qual_at (t ∷ ts) ≡ o → array_word_by o t ≡ Some word → SpellsArrayWord t ts word
         by_qual None is e = by_static (is_static t.kind) refl e
         by_qual (Some q) is e =
             let same : array_words.Qual q ≡ word = cc in
-            subst (λ (word : ArrayWord). (t ∷ ts ≡ array_words_text all (word ∷ []) ts) × IsArrayWord all word) same (qual_taken t ts q left is)
+            subst (SpellsArrayWord t ts) same (qual_taken t ts q left is)
 
     abbrev AreArrayWords : List Lexeme → List ArrayWord → List Lexeme → Type 0
     AreArrayWords start known ts = (start ≡ array_words_text all known ts) × All (IsArrayWord all) known × IsTail all ts
@@ -165,10 +181,12 @@ module _ (all : List Lexeme) where
             let same : y ≡ x = ok_is y x cc in
             let one = array_word_taken t ts word h.2 is in
             subst (λ (x : List ArrayWord × List Lexeme). AreArrayWords start x.0 x.1) same
-              (h.0 ∙ ap (array_words_text all known) one.0 ∙ sym (array_words_push known word ts), All-append (IsArrayWord all) known (word ∷ []) h.1 (All-cons (IsArrayWord all) word [] one.1 (All-nil (IsArrayWord all))), tail_of all t ts h.2)
+              (h.0 ∙ ap (array_words_text all known) one.0 ∙ sym (array_words_push known word ts),
+              All-append (IsArrayWord all) known (word ∷ []) h.1 (All-cons (IsArrayWord all) word [] one.1 (All-nil (IsArrayWord all))), tail_of all t ts h.2)
 
     -- the words in the brackets of an array
-    pub array_words_sound : (ts : List Lexeme) (x : List ArrayWord × List Lexeme) → IsTail all ts → array_words_at ts ≡ Ok x → (ts ≡ array_words_text all x.0 x.1) × All (IsArrayWord all) x.0 × IsTail all x.1
+    pub array_words_sound : (ts : List Lexeme) (x : List ArrayWord × List Lexeme) → IsTail all ts → array_words_at ts ≡ Ok x →
+        (ts ≡ array_words_text all x.0 x.1) × All (IsArrayWord all) x.0 × IsTail all x.1
     unfolding array_words_at
     array_words_sound ts x left e = run-keep array_words_turn (AreArrayWords ts) (array_words_kept ts) [] ts x (refl, All-nil (IsArrayWord all), left) e
 
@@ -202,14 +220,15 @@ module _ (all : List Lexeme) where
               let star = both (is_star t.kind) (begins is_close_bracket ts) is in
               ok_holds (TakesSize s (t ∷ ts)) y x e (record { spelled = token_is t (kinds.Punct Star) ts (star_is t.kind star.0); fits = tt; named = refl; left = tail_of all t ts left })
 
-          by_close : (b : Bool) → is_close_bracket t.kind ≡ b → (if b then ends (no_size, s) (t ∷ ts) else size_by (is_star t.kind && begins is_close_bracket ts) t s ts) ≡ Ok x → TakesSize s (t ∷ ts) x
+          by_close : (b : Bool) → is_close_bracket t.kind ≡ b → (if b then ends (no_size, s) (t ∷ ts) else size_by (is_star t.kind && begins is_close_bracket ts) t s ts) ≡ Ok x →
+              TakesSize s (t ∷ ts) x
           by_close true is e =
               let y : (SomeSize × Scopes) × List Lexeme = ((no_size, s), t ∷ ts) in
               ok_holds (TakesSize s (t ∷ ts)) y x e (record { spelled = refl; fits = tt; named = refl; left = left })
           by_close false is e = by_star (is_star t.kind && begins is_close_bracket ts) refl e
 
       -- What stands behind an opening bracket: words, a size, and the closing bracket.
-      pub record TakesArray (d : SomeDeclr) (opening : ℕ) (s : Scopes) (ts : List Lexeme) (x : (SomeDeclr × Scopes) × List Lexeme) : Type 0 where
+      pub record TakesArray (d : SomeDeclr) (opening : ℕ) (s : Scopes) (ts : List Lexeme) (x : DeclrRead) : Type 0 where
         pub words : List ArrayWord
         pub size : SomeSize
         pub closing : ℕ
@@ -220,27 +239,34 @@ module _ (all : List Lexeme) where
         pub named : some_size_scopes size s ≡ Some x.0.1
         pub left : IsTail all x.1
 
-      pub array_sound : (d : SomeDeclr) (opening : ℕ) (s : Scopes) (ts : List Lexeme) (x : (SomeDeclr × Scopes) × List Lexeme) → IsTail all ts →
+      abbrev size_reader : Scopes → List Lexeme → Read (SomeSize × Scopes)
+      size_reader = size_with room (expr assigned) specs_from declr
+
+      abbrev closed_as : SomeDeclr → ℕ → List ArrayWord → SomeSize × Scopes → Lexeme × List Lexeme → Read (SomeDeclr × Scopes)
+      closed_as d opening words size close = ends (some_declr (with_array d opening words size.0 close.0.at), size.1) close.1
+
+      abbrev closed_behind : SomeDeclr → ℕ → List ArrayWord → (SomeSize × Scopes) × List Lexeme → Read (SomeDeclr × Scopes)
+      closed_behind d opening words size = token_at is_close_bracket size.1 >>= closed_as d opening words size.0
+
+      pub array_sound : (d : SomeDeclr) (opening : ℕ) (s : Scopes) (ts : List Lexeme) (x : DeclrRead) → IsTail all ts →
           array_with room (expr assigned) specs_from declr d opening s ts ≡ Ok x → TakesArray d opening s ts x
       unfolding array_with
       array_sound d opening s ts x left e =
-          let w = bind_ok (array_words_at ts) (λ words. size_with room (expr assigned) specs_from declr s words.1 >>= λ size. token_at is_close_bracket size.1 >>= λ close.
-              ends (some_declr (with_array d opening words.0 size.0.0 close.0.at), size.0.1) close.1) x e in
-          let v = bind_ok (size_with room (expr assigned) specs_from declr s w.0.1) (λ size. token_at is_close_bracket size.1 >>= λ close.
-              ends (some_declr (with_array d opening w.0.0 size.0.0 close.0.at), size.0.1) close.1) x w.2 in
-          let c = bind_ok (token_at is_close_bracket v.0.1) (λ close. ends (some_declr (with_array d opening w.0.0 v.0.0.0 close.0.at), v.0.0.1) close.1) x v.2 in
+          let w = bind_ok (array_words_at ts) (λ words. size_reader s words.1 >>= closed_behind d opening words.0) x e in
+          let v = bind_ok (size_reader s w.0.1) (closed_behind d opening w.0.0) x w.2 in
+          let c = bind_ok (token_at is_close_bracket v.0.1) (closed_as d opening w.0.0 v.0.0) x v.2 in
           let words = array_words_sound ts w.0 left w.1 in
           let size = size_sound s w.0.1 v.0 words.2 v.1 in
-          let close = token_taken is_close_bracket v.0.1 c.0.0 c.0.1 c.1 in
-          let y : (SomeDeclr × Scopes) × List Lexeme = ((some_declr (with_array d opening w.0.0 v.0.0.0 c.0.0.at), v.0.0.1), c.0.1) in
+          let close = closing_taken all is_close_bracket (kinds.Punct CloseBracket) close_bracket_is v.0.1 c.0 size.left c.1 in
+          let y : DeclrRead = ((some_declr (with_array d opening w.0.0 v.0.0.0 c.0.0.at), v.0.0.1), c.0.1) in
           ok_holds (TakesArray d opening s ts) y x c.2 (record {
             words = w.0.0;
             size = v.0.0.0;
             closing = c.0.0.at;
             declr_is = refl;
-            spelled = words.0 ∙ ap (array_words_text all w.0.0) (size.spelled ∙ ap (some_size_text all v.0.0.0) (close.0 ∙ token_is c.0.0 (kinds.Punct CloseBracket) c.0.1 (close_bracket_is c.0.0.kind close.1)));
+            spelled = words.0 ∙ ap (array_words_text all w.0.0) (size.spelled ∙ ap (some_size_text all v.0.0.0) close.0);
             word_fit = words.1;
             size_fits = size.fits;
             named = size.named;
-            left = tail_of all c.0.0 c.0.1 (subst (IsTail all) close.0 size.left);
+            left = close.1;
           })
