@@ -16,7 +16,7 @@ use Rattle.c_tree.specs.WellFormed.{IsQual, IsPointerWord, IsArrayWord, IsSize, 
 use Rattle.typedef_scope.specs.declared.kind.Kind.{Kind}
 use Rattle.typedef_scope.specs.Scopes.{Scopes}
 use Rattle.c_grammar.specs.Scoping.{behind, without_attrs, in_own_scope, declr_scopes, some_declr_scopes, some_size_scopes, params_scopes, names_type, first_name, begins_with_type, shows_no_type, some_shows_no_type}
-use Rattle.c_grammar.specs.Reading.{Read, IsNumbered, IsTail, run, ends, refuses, lowered, ◌>>=◌}
+use Rattle.c_grammar.specs.Reading.{Read, IsNumbered, IsTail, Turn, run, ends, refuses, lowered, ◌>>=◌}
 use Rattle.c_grammar.specs.Eating.{token_at, begins, is_open_paren, is_close_paren, is_open_bracket, is_star}
 use Rattle.c_grammar.specs.Specifying.{Role, declaring, begins_specs, spelled_name}
 use Rattle.c_grammar.specs.Declaring.{Mode, with_name, without_name, either_way, takes_name, may_declare, quals_at, pointer_words_of, with_pointer, with_paren, with_array, with_params, present, array_with, prototype_with, suffix_by, suffix_turn, declr_name_by, paren_with, opens_params, core_with, needed, direct_with, pointer_with, declr_with}
@@ -24,9 +24,8 @@ use Rattle.c_grammar.specs.Expressing.{Reach, assigned}
 use Rattle.c_grammar.specs.declared.fault.Fault.TheVariants.{Redeclared}
 use Rattle.c_grammar.proofs.Aims.{Takes, IsSound, FitsMode, ExprLaws, SpecsLaws, DeclrLaws}
 use Rattle.c_grammar.proofs.LoopLemmas.{bind_ok, ok_is, run-keep}
-use Rattle.c_grammar.proofs.Taking.{token_taken}
 use Rattle.c_grammar.proofs.Tails.{tail_of}
-use Rattle.c_grammar.proofs.DeclrSoundWords.{ok_holds, token_is, open_paren_is, close_paren_is, open_bracket_is, star_is, name_is, quals_sound, array_sound}
+use Rattle.c_grammar.proofs.DeclrSoundWords.{DeclrRead, closing_taken, ok_holds, token_is, open_paren_is, close_paren_is, open_bracket_is, star_is, name_is, quals_sound, array_sound}
 use Rattle.c_grammar.proofs.DeclrSoundParams.{prototype_sound}
 
 abbrev is_some_named : SomeDeclr → Bool
@@ -49,7 +48,8 @@ BeginsWell mode s no_declr = Unit {0}
 BeginsWell mode s (some_declr d) = Suits mode s (some_declr d)
 
 -- a larger declarator suits where the one in it does
-suits_as : (mode : Mode) (s : Scopes) (d : SomeDeclr) (e : Declr) → is_named e ≡ is_some_named d → (some_shows_no_type s d ≡ true → shows_no_type s e ≡ true) → Suits mode s d → Suits mode s (some_declr e)
+suits_as : (mode : Mode) (s : Scopes) (d : SomeDeclr) (e : Declr) → is_named e ≡ is_some_named d → (some_shows_no_type s d ≡ true → shows_no_type s e ≡ true) →
+    Suits mode s d → Suits mode s (some_declr e)
 suits_as with_name s d e is shows h = is ∙ h
 suits_as without_name s d e is shows h = is ∙ h
 suits_as either_way s d e is shows h = shows h
@@ -73,16 +73,16 @@ lowered_ok b t ts None x e = absurd cc
 lowered_ok true t ts (Some read) x e = e
 lowered_ok false t ts (Some read) x e = absurd cc
 
-abbrev some_of : (Declr × Scopes) × List Lexeme → (SomeDeclr × Scopes) × List Lexeme
+abbrev some_of : (Declr × Scopes) × List Lexeme → DeclrRead
 some_of y = ((some_declr y.0.0, y.0.1), y.1)
 
-present_by : (d : SomeDeclr) (s : Scopes) (ts : List Lexeme) (y : (Declr × Scopes) × List Lexeme) → present (d, s) ts ≡ Ok y → ◌≡◌ {A = (SomeDeclr × Scopes) × List Lexeme} ((d, s), ts) (some_of y)
+present_by : (d : SomeDeclr) (s : Scopes) (ts : List Lexeme) (y : (Declr × Scopes) × List Lexeme) → present (d, s) ts ≡ Ok y → ◌≡◌ {A = DeclrRead} ((d, s), ts) (some_of y)
 present_by no_declr s ts y e = absurd cc
 present_by (some_declr d) s ts y e =
     let z : (Declr × Scopes) × List Lexeme = ((d, s), ts) in
     ap (λ (y : (Declr × Scopes) × List Lexeme). some_of y) (ok_is z y e)
 
-present_is : (x : (SomeDeclr × Scopes) × List Lexeme) (y : (Declr × Scopes) × List Lexeme) → present x.0 x.1 ≡ Ok y → x ≡ some_of y
+present_is : (x : DeclrRead) (y : (Declr × Scopes) × List Lexeme) → present x.0 x.1 ≡ Ok y → x ≡ some_of y
 present_is x y e = present_by x.0.0 x.0.1 x.1 y e
 
 -- qualifiers as the words of a pointer
@@ -142,7 +142,8 @@ module _ (all : List Lexeme) where
   array_suffixed no_declr opening words size closing fit fits =
       record { spelled = λ k. refl; fits = λ h direct. (tt, fit, fits); direct = refl; named = λ s. refl; as_named = refl; shows = λ s h. refl }
   array_suffixed (some_declr d) opening words size closing fit fits =
-      by_named (Suffixed (some_declr d) (array_text opening words size closing) (some_size_scopes size)) (is_named d) (array d opening words size closing) (abs_array (some_declr d) opening words size closing)
+      by_named (Suffixed (some_declr d) (array_text opening words size closing) (some_size_scopes size)) (is_named d)
+        (array d opening words size closing) (abs_array (some_declr d) opening words size closing)
       (λ is. record { spelled = λ k. refl; fits = λ h direct. (h, is, direct, fit, fits); direct = refl; named = λ s. refl; as_named = sym is; shows = λ s h. h })
       (λ is. record { spelled = λ k. refl; fits = λ h direct. ((h, is, direct), fit, fits); direct = refl; named = λ s. refl; as_named = sym is; shows = λ s h. refl })
 
@@ -154,7 +155,8 @@ module _ (all : List Lexeme) where
   params_suffixed no_declr opening ps dots closing fit ending =
       record { spelled = λ k. refl; fits = λ h direct. (tt, fit, ending); direct = refl; named = λ s. refl; as_named = refl; shows = λ s h. refl }
   params_suffixed (some_declr d) opening ps dots closing fit ending =
-      by_named (Suffixed (some_declr d) (prototype_text opening ps dots closing) (in_own_scope (params_scopes ps))) (is_named d) (params d opening ps dots closing) (abs_params (some_declr d) opening ps dots closing)
+      by_named (Suffixed (some_declr d) (prototype_text opening ps dots closing) (in_own_scope (params_scopes ps))) (is_named d)
+        (params d opening ps dots closing) (abs_params (some_declr d) opening ps dots closing)
       (λ is. record { spelled = λ k. refl; fits = λ h direct. (h, is, direct, fit, ending); direct = refl; named = λ s. refl; as_named = sym is; shows = λ s h. h })
       (λ is. record { spelled = λ k. refl; fits = λ h direct. ((h, is, direct), fit, ending); direct = refl; named = λ s. refl; as_named = sym is; shows = λ s h. refl })
 
@@ -189,7 +191,7 @@ module _ (all : List Lexeme) where
       (λ is. record { spelled = λ k. refl; fits = λ fit h. (fit, (h, is)); named = λ s. refl; as_named = sym is; shows = λ s h. refl })
 
   -- What was read of a declarator without its pointers, where more may stand behind it.
-  record Begun (suits : SomeDeclr → Type 0) (s : Scopes) (ts : List Lexeme) (x : (SomeDeclr × Scopes) × List Lexeme) : Type 0 where
+  record Begun (suits : SomeDeclr → Type 0) (s : Scopes) (ts : List Lexeme) (x : DeclrRead) : Type 0 where
     spelled : ts ≡ some_declr_text all x.0.0 x.1
     fits : IsSomeDeclr all x.0.0
     direct : is_some_direct x.0.0 ≡ true
@@ -197,14 +199,14 @@ module _ (all : List Lexeme) where
     named : some_declr_scopes x.0.0 s ≡ Some x.0.1
     left : IsTail all x.1
 
-  nothing : (mode : Mode) (s : Scopes) (ts : List Lexeme) (x : (SomeDeclr × Scopes) × List Lexeme) → IsTail all ts → ends (no_declr, s) ts ≡ Ok x → Begun (BeginsWell mode s) s ts x
+  nothing : (mode : Mode) (s : Scopes) (ts : List Lexeme) (x : DeclrRead) → IsTail all ts → ends (no_declr, s) ts ≡ Ok x → Begun (BeginsWell mode s) s ts x
   nothing mode s ts x left e =
-      let y : (SomeDeclr × Scopes) × List Lexeme = ((no_declr, s), ts) in
+      let y : DeclrRead = ((no_declr, s), ts) in
       ok_holds (Begun (BeginsWell mode s) s ts) y x e (record { spelled = refl; fits = tt; direct = refl; suited = tt; named = refl; left = left })
 
   -- one more form round what was read
   suffixed : (mode : Mode) (s : Scopes) (start : List Lexeme) (state : SomeDeclr × Scopes) (ts : List Lexeme) (text : List Lexeme → List Lexeme) (scopes : Scopes → Option Scopes) (e : Declr)
-      (x : (SomeDeclr × Scopes) × List Lexeme) → Begun (Suits mode s) s start (state, ts) → Suffixed state.0 text scopes e → x.0.0 ≡ some_declr e → ts ≡ text x.1 → scopes state.1 ≡ Some x.0.1 → IsTail all x.1 →
+      (x : DeclrRead) → Begun (Suits mode s) s start (state, ts) → Suffixed state.0 text scopes e → x.0.0 ≡ some_declr e → ts ≡ text x.1 → scopes state.1 ≡ Some x.0.1 → IsTail all x.1 →
       Begun (Suits mode s) s start x
   suffixed mode s start state ts text scopes e x h f is spelled named left =
       let fits : IsSomeDeclr all (some_declr e) = f.fits h.fits h.direct in
@@ -222,65 +224,93 @@ module _ (all : List Lexeme) where
 
   module _ (numbered : IsNumbered all) (room n : ℕ) (expr : Reach → Scopes → List Lexeme → Read (Expr × Scopes)) (specs : Role → SpecWords → Scopes → List Lexeme → Read (SpecWords × Scopes))
       (declr : Mode → Option Kind → Scopes → List Lexeme → Read (SomeDeclr × Scopes)) (exprs : ExprLaws all n expr) (words : SpecsLaws all n specs) (inner : DeclrLaws all n declr) where
-    needed_by : (mode : Mode) (s : Scopes) (start : List Lexeme) (d : SomeDeclr) (now : Scopes) (ts : List Lexeme) (x : (SomeDeclr × Scopes) × List Lexeme) →
-        Begun (BeginsWell mode s) s start ((d, now), ts) → needed room (expr assigned) (specs declaring) declr mode (d, now) ts ≡ Ok x → Begun (Suits mode s) s start x
+    abbrev array_reader : SomeDeclr → ℕ → Scopes → List Lexeme → Read (SomeDeclr × Scopes)
+    array_reader = array_with room (expr assigned) (specs declaring) declr
+
+    abbrev prototype_reader : SomeDeclr → ℕ → Scopes → List Lexeme → Read (SomeDeclr × Scopes)
+    prototype_reader = prototype_with room (expr assigned) (specs declaring) declr
+
+    abbrev turn : Turn (SomeDeclr × Scopes)
+    turn = suffix_turn room (expr assigned) (specs declaring) declr
+
+    abbrev needed_reader : Mode → SomeDeclr × Scopes → List Lexeme → Read (SomeDeclr × Scopes)
+    needed_reader = needed room (expr assigned) (specs declaring) declr
+
+    abbrev opens : Mode → Scopes → List Lexeme → Bool
+    opens = opens_params room (expr assigned) (specs declaring) declr
+
+    abbrev paren_reader : Mode → Option Kind → ℕ → Scopes → List Lexeme → Read (SomeDeclr × Scopes)
+    paren_reader = paren_with room (expr assigned) (specs declaring) declr
+
+    abbrev core_reader : Mode → Option Kind → Scopes → List Lexeme → Read (SomeDeclr × Scopes)
+    core_reader = core_with room (expr assigned) (specs declaring) declr
+
+    abbrev direct_reader : Mode → Option Kind → Scopes → List Lexeme → Read (SomeDeclr × Scopes)
+    direct_reader = direct_with room (expr assigned) (specs declaring) declr
+
+    abbrev pointer_reader : Mode → Option Kind → ℕ → Scopes → List Lexeme → Read (SomeDeclr × Scopes)
+    pointer_reader = pointer_with room (expr assigned) (specs declaring) declr
+
+    needed_by : (mode : Mode) (s : Scopes) (start : List Lexeme) (d : SomeDeclr) (now : Scopes) (ts : List Lexeme) (x : DeclrRead) →
+        Begun (BeginsWell mode s) s start ((d, now), ts) → needed_reader mode (d, now) ts ≡ Ok x → Begun (Suits mode s) s start x
     needed_by mode s start (some_declr d) now ts x h e =
-        let y : (SomeDeclr × Scopes) × List Lexeme = ((some_declr d, now), ts) in
+        let y : DeclrRead = ((some_declr d, now), ts) in
         ok_holds (Begun (Suits mode s) s start) y x e (record { spelled = h.spelled; fits = h.fits; direct = h.direct; suited = h.suited; named = h.named; left = h.left })
     needed_by with_name s start no_declr now ts x h e = absurd cc
     needed_by without_name s start no_declr now ts x h e =
-        let y : (SomeDeclr × Scopes) × List Lexeme = ((no_declr, now), ts) in
+        let y : DeclrRead = ((no_declr, now), ts) in
         ok_holds (Begun (Suits without_name s) s start) y x e (record { spelled = h.spelled; fits = h.fits; direct = h.direct; suited = refl; named = h.named; left = h.left })
     needed_by either_way s start no_declr now ts x h e =
-        let y : (SomeDeclr × Scopes) × List Lexeme = ((no_declr, now), ts) in
+        let y : DeclrRead = ((no_declr, now), ts) in
         ok_holds (Begun (Suits either_way s) s start) y x e (record { spelled = h.spelled; fits = h.fits; direct = h.direct; suited = refl; named = h.named; left = h.left })
 
-    needed_sound : (mode : Mode) (s : Scopes) (start : List Lexeme) (y x : (SomeDeclr × Scopes) × List Lexeme) → Begun (BeginsWell mode s) s start y → needed room (expr assigned) (specs declaring) declr mode y.0 y.1 ≡ Ok x → Begun (Suits mode s) s start x
+    needed_sound : (mode : Mode) (s : Scopes) (start : List Lexeme) (y x : DeclrRead) → Begun (BeginsWell mode s) s start y → needed_reader mode y.0 y.1 ≡ Ok x → Begun (Suits mode s) s start x
     needed_sound mode s start y x h e = needed_by mode s start y.0.0 y.0.1 y.1 x h e
 
-    array_kept : (mode : Mode) (s : Scopes) (start : List Lexeme) (state : SomeDeclr × Scopes) (t : Lexeme) (ts : List Lexeme) (x : (SomeDeclr × Scopes) × List Lexeme) →
-        Begun (Suits mode s) s start (state, t ∷ ts) → is_open_bracket t.kind ≡ true → array_with room (expr assigned) (specs declaring) declr state.0 t.at state.1 ts ≡ Ok x → Begun (Suits mode s) s start x
+    array_kept : (mode : Mode) (s : Scopes) (start : List Lexeme) (state : SomeDeclr × Scopes) (t : Lexeme) (ts : List Lexeme) (x : DeclrRead) →
+        Begun (Suits mode s) s start (state, t ∷ ts) → is_open_bracket t.kind ≡ true → array_reader state.0 t.at state.1 ts ≡ Ok x → Begun (Suits mode s) s start x
     array_kept mode s start state t ts x h is e =
         let a = array_sound all numbered room n expr (specs declaring) declr exprs state.0 t.at state.1 ts x (tail_of all t ts h.left) e in
         suffixed mode s start state (t ∷ ts) (array_text t.at a.words a.size a.closing) (some_size_scopes a.size) (with_array state.0 t.at a.words a.size a.closing) x h
           (array_suffixed state.0 t.at a.words a.size a.closing a.word_fit a.size_fits) a.declr_is
           (token_is t (kinds.Punct OpenBracket) ts (open_bracket_is t.kind is) ∙ ap (sign_text OpenBracket t.at) a.spelled) a.named a.left
 
-    prototype_kept : (mode : Mode) (s : Scopes) (start : List Lexeme) (state : SomeDeclr × Scopes) (t : Lexeme) (ts : List Lexeme) (x : (SomeDeclr × Scopes) × List Lexeme) →
-        Begun (Suits mode s) s start (state, t ∷ ts) → is_open_paren t.kind ≡ true → prototype_with room (expr assigned) (specs declaring) declr state.0 t.at state.1 ts ≡ Ok x → Begun (Suits mode s) s start x
+    prototype_kept : (mode : Mode) (s : Scopes) (start : List Lexeme) (state : SomeDeclr × Scopes) (t : Lexeme) (ts : List Lexeme) (x : DeclrRead) →
+        Begun (Suits mode s) s start (state, t ∷ ts) → is_open_paren t.kind ≡ true → prototype_reader state.0 t.at state.1 ts ≡ Ok x → Begun (Suits mode s) s start x
     prototype_kept mode s start state t ts x h is e =
         let p = prototype_sound all numbered room n expr specs declr exprs words inner state.0 t.at state.1 ts x (tail_of all t ts h.left) e in
         suffixed mode s start state (t ∷ ts) (prototype_text t.at p.ps p.dots p.closing) (in_own_scope (params_scopes p.ps)) (with_params state.0 t.at p.ps p.dots p.closing) x h
           (params_suffixed state.0 t.at p.ps p.dots p.closing p.fit p.ending) p.declr_is
           (token_is t (kinds.Punct OpenParen) ts (open_paren_is t.kind is) ∙ ap (sign_text OpenParen t.at) p.spelled) p.named p.left
 
-    suffix_kept : (mode : Mode) (s : Scopes) (start : List Lexeme) (state : SomeDeclr × Scopes) (ts : List Lexeme) (x : (SomeDeclr × Scopes) × List Lexeme) → Begun (Suits mode s) s start (state, ts) →
-        suffix_turn room (expr assigned) (specs declaring) declr state ts ≡ Some (Ok x) → Begun (Suits mode s) s start x
+    suffix_kept : (mode : Mode) (s : Scopes) (start : List Lexeme) (state : SomeDeclr × Scopes) (ts : List Lexeme) (x : DeclrRead) → Begun (Suits mode s) s start (state, ts) →
+        turn state ts ≡ Some (Ok x) → Begun (Suits mode s) s start x
     suffix_kept mode s start state [] x h e = absurd cc
     suffix_kept mode s start state (t ∷ ts) x h e =
         by_bracket (is_open_bracket t.kind) refl
           (lowered_ok (nat_le (suc (some_declr_height state.0)) room) t ts (suffix_by room (expr assigned) (specs declaring) declr t state ts) x e)
       where
-        by_paren : (b : Bool) → is_open_paren t.kind ≡ b → (if b then Some (prototype_with room (expr assigned) (specs declaring) declr state.0 t.at state.1 ts) else None) ≡ Some (Ok x) → Begun (Suits mode s) s start x
+        by_paren : (b : Bool) → is_open_paren t.kind ≡ b → (if b then Some (prototype_reader state.0 t.at state.1 ts) else None) ≡ Some (Ok x) → Begun (Suits mode s) s start x
         by_paren false is e = absurd cc
         by_paren true is e = prototype_kept mode s start state t ts x h is cc
 
-        by_bracket : (b : Bool) → is_open_bracket t.kind ≡ b → (if b then Some (array_with room (expr assigned) (specs declaring) declr state.0 t.at state.1 ts)
-            else (if is_open_paren t.kind then Some (prototype_with room (expr assigned) (specs declaring) declr state.0 t.at state.1 ts) else None)) ≡ Some (Ok x) → Begun (Suits mode s) s start x
+        by_bracket : (b : Bool) → is_open_bracket t.kind ≡ b → (if b then Some (array_reader state.0 t.at state.1 ts)
+            else (if is_open_paren t.kind then Some (prototype_reader state.0 t.at state.1 ts) else None)) ≡ Some (Ok x) → Begun (Suits mode s) s start x
         by_bracket true is e = array_kept mode s start state t ts x h is cc
         by_bracket false is e = by_paren (is_open_paren t.kind) refl e
 
     abbrev name_by : Option Kind → Option ℕ → Lexeme → Scopes → List Lexeme → Read (SomeDeclr × Scopes)
     name_by = declr_name_by room (expr assigned) (specs declaring) declr
 
-    name_sound : (mode : Mode) (wanted : Option Kind) (s : Scopes) (t : Lexeme) (ts : List Lexeme) (x : (SomeDeclr × Scopes) × List Lexeme) → IsTail all (t ∷ ts) → takes_name mode ≡ true →
+    name_sound : (mode : Mode) (wanted : Option Kind) (s : Scopes) (t : Lexeme) (ts : List Lexeme) (x : DeclrRead) → IsTail all (t ∷ ts) → takes_name mode ≡ true →
         name_by wanted (spelled_name t.kind) t s ts ≡ Ok x → Begun (BeginsWell mode s) s (t ∷ ts) x
     name_sound mode wanted s t ts x left takes e = by_name (spelled_name t.kind) refl e
       where
-        by_kind : (name : ℕ) (b : Bool) → spelled_name t.kind ≡ Some name → (if b then ends (some_declr (declr_name t.at name), s) ts else refuses Redeclared (t ∷ ts)) ≡ Ok x → Begun (BeginsWell mode s) s (t ∷ ts) x
+        by_kind : (name : ℕ) (b : Bool) → spelled_name t.kind ≡ Some name → (if b then ends (some_declr (declr_name t.at name), s) ts else refuses Redeclared (t ∷ ts)) ≡ Ok x →
+            Begun (BeginsWell mode s) s (t ∷ ts) x
         by_kind name false is e = absurd cc
         by_kind name true is e =
-            let y : (SomeDeclr × Scopes) × List Lexeme = ((some_declr (declr_name t.at name), s), ts) in
+            let y : DeclrRead = ((some_declr (declr_name t.at name), s), ts) in
             ok_holds (Begun (BeginsWell mode s) s (t ∷ ts)) y x e (record {
               spelled = token_is t (kinds.Name name) ts (name_is t.kind name is);
               fits = tt;
@@ -295,12 +325,12 @@ module _ (all : List Lexeme) where
         by_name (Some name) is e = by_kind name (may_declare wanted s name) is e
 
     -- a declarator in parentheses suits its place, where these open no parameters
-    paren_suits : (mode : Mode) (s : Scopes) (opening closing : ℕ) (d : Declr) (k : List Lexeme) → opens_params room (expr assigned) (specs declaring) declr mode s (declr_text all d k) ≡ false →
+    paren_suits : (mode : Mode) (s : Scopes) (opening closing : ℕ) (d : Declr) (k : List Lexeme) → opens mode s (declr_text all d k) ≡ false →
         Suits mode s (some_declr d) → Suits mode s (some_declr (with_paren opening d closing))
-    paren_suits with_name s opening closing d k opens h = (parenthesized d opening closing).as_named ∙ h
-    paren_suits without_name s opening closing d k opens h = (parenthesized d opening closing).as_named ∙ h
-    paren_suits either_way s opening closing d k opens h =
-        (parenthesized d opening closing).shows s (first_begins s d k (later (begins is_close_paren (declr_text all d k)) (begins_specs s (declr_text all d k)) opens)) h
+    paren_suits with_name s opening closing d k parens h = (parenthesized d opening closing).as_named ∙ h
+    paren_suits without_name s opening closing d k parens h = (parenthesized d opening closing).as_named ∙ h
+    paren_suits either_way s opening closing d k parens h =
+        (parenthesized d opening closing).shows s (first_begins s d k (later (begins is_close_paren (declr_text all d k)) (begins_specs s (declr_text all d k)) parens)) h
 
     abbrev closed_as : ℕ → Declr × Scopes → Lexeme × List Lexeme → Read (SomeDeclr × Scopes)
     closed_as opening d close = ends (some_declr (with_paren opening d.0 close.0.at), d.1) close.1
@@ -308,74 +338,73 @@ module _ (all : List Lexeme) where
     abbrev closing_of : ℕ → (Declr × Scopes) × List Lexeme → Read (SomeDeclr × Scopes)
     closing_of opening d = token_at is_close_paren d.1 >>= closed_as opening d.0
 
-    paren_sound : (mode : Mode) (wanted : Option Kind) (s : Scopes) (t : Lexeme) (ts : List Lexeme) (x : (SomeDeclr × Scopes) × List Lexeme) → IsTail all (t ∷ ts) → is_open_paren t.kind ≡ true →
-        opens_params room (expr assigned) (specs declaring) declr mode s ts ≡ false → paren_with room (expr assigned) (specs declaring) declr mode wanted t.at s ts ≡ Ok x → Begun (BeginsWell mode s) s (t ∷ ts) x
+    paren_sound : (mode : Mode) (wanted : Option Kind) (s : Scopes) (t : Lexeme) (ts : List Lexeme) (x : DeclrRead) → IsTail all (t ∷ ts) → is_open_paren t.kind ≡ true →
+        opens mode s ts ≡ false → paren_reader mode wanted t.at s ts ≡ Ok x → Begun (BeginsWell mode s) s (t ∷ ts) x
     unfolding paren_with
-    paren_sound mode wanted s t ts x left is opens e =
+    paren_sound mode wanted s t ts x left is parens e =
         let d = bind_ok (declr mode wanted s ts) (λ d. present d.0 d.1 >>= closing_of t.at) x e in
         let i = bind_ok (present d.0.0 d.0.1) (closing_of t.at) x d.2 in
         let c = bind_ok (token_at is_close_paren i.0.1) (closed_as t.at i.0.0) x i.2 in
         let h = subst (Takes all (some_declr_text all) (FitsMode all mode) some_declr_scopes s ts) (present_is d.0 i.0 i.1) (inner.sound mode wanted s ts d.0 (tail_of all t ts left) d.1) in
         let f = mode_fits mode s (some_declr i.0.0.0) h.fits in
         let p = parenthesized i.0.0.0 t.at c.0.0.at in
-        let close = token_taken is_close_paren i.0.1 c.0.0 c.0.1 c.1 in
-        let closed : i.0.1 ≡ sign_text CloseParen c.0.0.at c.0.1 = close.0 ∙ token_is c.0.0 (kinds.Punct CloseParen) c.0.1 (close_paren_is c.0.0.kind close.1) in
-        let y : (SomeDeclr × Scopes) × List Lexeme = ((some_declr (with_paren t.at i.0.0.0 c.0.0.at), i.0.0.1), c.0.1) in
+        let close = closing_taken all is_close_paren (kinds.Punct CloseParen) close_paren_is i.0.1 c.0 h.left c.1 in
+        let y : DeclrRead = ((some_declr (with_paren t.at i.0.0.0 c.0.0.at), i.0.0.1), c.0.1) in
         ok_holds (Begun (BeginsWell mode s) s (t ∷ ts)) y x c.2 (record {
-          spelled = token_is t (kinds.Punct OpenParen) ts (open_paren_is t.kind is) ∙ ap (sign_text OpenParen t.at) (h.spelled ∙ ap (declr_text all i.0.0.0) closed) ∙ sym (p.spelled c.0.1);
+          spelled = token_is t (kinds.Punct OpenParen) ts (open_paren_is t.kind is) ∙ ap (sign_text OpenParen t.at) (h.spelled ∙ ap (declr_text all i.0.0.0) close.0) ∙ sym (p.spelled c.0.1);
           fits = p.fits f.0;
           direct = p.direct;
-          suited = paren_suits mode s t.at c.0.0.at i.0.0.0 i.0.1 (subst (λ (ts : List Lexeme). opens_params room (expr assigned) (specs declaring) declr mode s ts ≡ false) h.spelled opens) f.1;
+          suited = paren_suits mode s t.at c.0.0.at i.0.0.0 i.0.1 (subst (λ (ts : List Lexeme). opens mode s ts ≡ false) h.spelled parens) f.1;
           named = p.named s ∙ h.named;
-          left = tail_of all c.0.0 c.0.1 (subst (IsTail all) close.0 h.left);
+          left = close.1;
         })
 
     abbrev other_core : Mode → Option Kind → Scopes → Lexeme → List Lexeme → Bool → Read (SomeDeclr × Scopes)
     other_core mode wanted s t ts takes = if takes then name_by wanted (spelled_name t.kind) t s ts else ends (no_declr, s) (t ∷ ts)
 
     abbrev paren_core : Mode → Option Kind → Scopes → Lexeme → List Lexeme → Bool → Read (SomeDeclr × Scopes)
-    paren_core mode wanted s t ts opens = if opens then ends (no_declr, s) (t ∷ ts) else paren_with room (expr assigned) (specs declaring) declr mode wanted t.at s ts
+    paren_core mode wanted s t ts b = if b then ends (no_declr, s) (t ∷ ts) else paren_reader mode wanted t.at s ts
 
-    core_sound : (mode : Mode) (wanted : Option Kind) (s : Scopes) (ts : List Lexeme) (x : (SomeDeclr × Scopes) × List Lexeme) → IsTail all ts →
-        core_with room (expr assigned) (specs declaring) declr mode wanted s ts ≡ Ok x → Begun (BeginsWell mode s) s ts x
+    core_sound : (mode : Mode) (wanted : Option Kind) (s : Scopes) (ts : List Lexeme) (x : DeclrRead) → IsTail all ts →
+        core_reader mode wanted s ts ≡ Ok x → Begun (BeginsWell mode s) s ts x
     unfolding core_with
     core_sound mode wanted s [] x left e = nothing mode s [] x left e
     core_sound mode wanted s (t ∷ ts) x left e = by_paren (is_open_paren t.kind) refl e
       where
-        by_opens : (b : Bool) → opens_params room (expr assigned) (specs declaring) declr mode s ts ≡ b → is_open_paren t.kind ≡ true → paren_core mode wanted s t ts b ≡ Ok x → Begun (BeginsWell mode s) s (t ∷ ts) x
-        by_opens true opens is e = nothing mode s (t ∷ ts) x left e
-        by_opens false opens is e = paren_sound mode wanted s t ts x left is opens e
+        by_opens : (b : Bool) → opens mode s ts ≡ b → is_open_paren t.kind ≡ true → paren_core mode wanted s t ts b ≡ Ok x → Begun (BeginsWell mode s) s (t ∷ ts) x
+        by_opens true parens is e = nothing mode s (t ∷ ts) x left e
+        by_opens false parens is e = paren_sound mode wanted s t ts x left is parens e
 
         by_takes : (b : Bool) → takes_name mode ≡ b → other_core mode wanted s t ts b ≡ Ok x → Begun (BeginsWell mode s) s (t ∷ ts) x
         by_takes true takes e = name_sound mode wanted s t ts x left takes e
         by_takes false takes e = nothing mode s (t ∷ ts) x left e
 
-        by_paren : (b : Bool) → is_open_paren t.kind ≡ b → (if b then paren_core mode wanted s t ts (opens_params room (expr assigned) (specs declaring) declr mode s ts) else other_core mode wanted s t ts (takes_name mode)) ≡ Ok x →
+        by_paren : (b : Bool) → is_open_paren t.kind ≡ b → (if b then paren_core mode wanted s t ts (opens mode s ts) else other_core mode wanted s t ts (takes_name mode)) ≡ Ok x →
             Begun (BeginsWell mode s) s (t ∷ ts) x
-        by_paren true is e = by_opens (opens_params room (expr assigned) (specs declaring) declr mode s ts) refl is e
+        by_paren true is e = by_opens (opens mode s ts) refl is e
         by_paren false is e = by_takes (takes_name mode) refl e
 
-    abbrev TakesDeclr : Mode → Scopes → List Lexeme → (SomeDeclr × Scopes) × List Lexeme → Type 0
+    abbrev TakesDeclr : Mode → Scopes → List Lexeme → DeclrRead → Type 0
     TakesDeclr mode = Takes all (some_declr_text all) (FitsMode all mode) some_declr_scopes
 
     abbrev suffixes : SomeDeclr × Scopes → List Lexeme → Read (SomeDeclr × Scopes)
-    suffixes = run (suffix_turn room (expr assigned) (specs declaring) declr)
+    suffixes = run turn
 
-    direct_sound : (mode : Mode) (wanted : Option Kind) (s : Scopes) (ts : List Lexeme) (x : (SomeDeclr × Scopes) × List Lexeme) → IsTail all ts →
-        direct_with room (expr assigned) (specs declaring) declr mode wanted s ts ≡ Ok x → TakesDeclr mode s ts x
+    direct_sound : (mode : Mode) (wanted : Option Kind) (s : Scopes) (ts : List Lexeme) (x : DeclrRead) → IsTail all ts →
+        direct_reader mode wanted s ts ≡ Ok x → TakesDeclr mode s ts x
     unfolding direct_with
     direct_sound mode wanted s ts x left e =
-        let c = bind_ok (core_with room (expr assigned) (specs declaring) declr mode wanted s ts) (λ d. needed room (expr assigned) (specs declaring) declr mode d.0 d.1 >>= λ known. suffixes known.0 known.1) x e in
-        let k = bind_ok (needed room (expr assigned) (specs declaring) declr mode c.0.0 c.0.1) (λ known. suffixes known.0 known.1) x c.2 in
+        let c = bind_ok (core_reader mode wanted s ts) (λ d. needed_reader mode d.0 d.1 >>= λ known. suffixes known.0 known.1) x e in
+        let k = bind_ok (needed_reader mode c.0.0 c.0.1) (λ known. suffixes known.0 known.1) x c.2 in
         let begun = needed_sound mode s ts c.0 k.0 (core_sound mode wanted s ts c.0 left c.1) k.1 in
-        let h = run-keep (suffix_turn room (expr assigned) (specs declaring) declr) (λ state ts'. Begun (Suits mode s) s ts (state, ts')) (suffix_kept mode s ts) k.0.0 k.0.1 x begun k.2 in
+        let h = run-keep turn (λ state ts'. Begun (Suits mode s) s ts (state, ts')) (suffix_kept mode s ts) k.0.0 k.0.1 x begun k.2 in
         record { spelled = h.spelled; fits = fits_mode mode s x.0.0 h.fits h.suited; named = h.named; left = h.left }
 
-    abbrev pointed_as : Mode → ℕ → List Qual → (SomeDeclr × Scopes) × List Lexeme → Read (SomeDeclr × Scopes)
+    abbrev pointed_as : Mode → ℕ → List Qual → DeclrRead → Read (SomeDeclr × Scopes)
     pointed_as mode star known d = ends (some_declr (with_pointer mode star (pointer_words_of known) d.0.0), d.0.1) d.1
 
-    pointer_sound : (mode : Mode) (wanted : Option Kind) (s : Scopes) (t : Lexeme) (ts : List Lexeme) (x : (SomeDeclr × Scopes) × List Lexeme) → IsTail all (t ∷ ts) → is_star t.kind ≡ true →
-        pointer_with room (expr assigned) (specs declaring) declr mode wanted t.at s ts ≡ Ok x → TakesDeclr mode s (t ∷ ts) x
+    pointer_sound : (mode : Mode) (wanted : Option Kind) (s : Scopes) (t : Lexeme) (ts : List Lexeme) (x : DeclrRead) → IsTail all (t ∷ ts) → is_star t.kind ≡ true →
+        pointer_reader mode wanted t.at s ts ≡ Ok x → TakesDeclr mode s (t ∷ ts) x
     unfolding pointer_with
     pointer_sound mode wanted s t ts x left is e =
         let w = bind_ok (quals_at ts) (λ known. declr mode wanted s known.1 >>= pointed_as mode t.at known.0) x e in
@@ -388,7 +417,7 @@ module _ (all : List Lexeme) where
         let spelled : ts ≡ pointer_words_text all pointed_words (some_declr_text all d.0.0.0 d.0.1) =
             known.0 ∙ ap (quals_text all w.0.0) h.spelled ∙ sym (pointer_words_spelled w.0.0 (some_declr_text all d.0.0.0 d.0.1)) in
         let e : Declr = with_pointer mode t.at pointed_words d.0.0.0 in
-        let y : (SomeDeclr × Scopes) × List Lexeme = ((some_declr e, d.0.0.1), d.0.1) in
+        let y : DeclrRead = ((some_declr e, d.0.0.1), d.0.1) in
         ok_holds (TakesDeclr mode s (t ∷ ts)) y x d.2 (record {
           spelled = token_is t (kinds.Punct Star) ts (star_is t.kind is) ∙ ap (sign_text Star t.at) spelled ∙ sym (p.spelled d.0.1);
           fits = fits_mode mode s (some_declr e) (p.fits (pointer_words_fit w.0.0 known.1) f.0) (suits_as mode s d.0.0.0 e p.as_named (p.shows s) f.1);
@@ -396,12 +425,13 @@ module _ (all : List Lexeme) where
           left = h.left;
         })
 
-    pub declr_sound : (mode : Mode) (wanted : Option Kind) → IsSound all (some_declr_text all) (FitsMode all mode) some_declr_scopes (declr_with room (expr assigned) (specs declaring) declr mode wanted)
+    pub declr_sound : (mode : Mode) (wanted : Option Kind) →
+        IsSound all (some_declr_text all) (FitsMode all mode) some_declr_scopes (declr_with room (expr assigned) (specs declaring) declr mode wanted)
     unfolding declr_with
     declr_sound mode wanted s [] x left e = direct_sound mode wanted s [] x left e
     declr_sound mode wanted s (t ∷ ts) x left e = by_star (is_star t.kind) refl e
       where
-        by_star : (b : Bool) → is_star t.kind ≡ b → (if b then pointer_with room (expr assigned) (specs declaring) declr mode wanted t.at s ts else direct_with room (expr assigned) (specs declaring) declr mode wanted s (t ∷ ts)) ≡ Ok x →
+        by_star : (b : Bool) → is_star t.kind ≡ b → (if b then pointer_reader mode wanted t.at s ts else direct_reader mode wanted s (t ∷ ts)) ≡ Ok x →
             TakesDeclr mode s (t ∷ ts) x
         by_star true is e = pointer_sound mode wanted s t ts x left is e
         by_star false is e = direct_sound mode wanted s (t ∷ ts) x left e

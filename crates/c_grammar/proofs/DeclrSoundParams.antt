@@ -176,9 +176,9 @@ module _ (all : List Lexeme) where
     more_listed : (s : Scopes) (start : List Lexeme) (ps : Params) (now : Scopes) (known : List Qual) (ts rest : List Lexeme) (x : ParamState × List Lexeme) →
         HasParam ps → AreParams all ps → params_scopes ps s ≡ Some now → start ≡ params_text all ps (separated ts) → ts ≡ quals_text all known rest → All (IsQual all) known → IsTail all rest →
         (param_reader ps (spec_words_of_quals known) now rest >>= as_state) ≡ Ok x → AreListed s start x.0 x.1
-    more_listed s start ps now known ts rest x some fit named spelled is known_fit left e =
+    more_listed s start ps now known ts rest x some fit named spelled is quals_fit left e =
         let b = bind_ok (param_reader ps (spec_words_of_quals known) now rest) as_state x e in
-        let h = param_sound known ps now rest b.0 left known_fit b.1 in
+        let h = param_sound known ps now rest b.0 left quals_fit b.1 in
         let y : ParamState × List Lexeme = (((b.0.0.0, None), b.0.0.1), b.0.1) in
         ok_holds (λ (x : ParamState × List Lexeme). AreListed s start x.0 x.1) y x b.2 (
           subst HasParam (sym h.params_are) (has_param ps h.words h.declr),
@@ -205,12 +205,12 @@ module _ (all : List Lexeme) where
         ts ≡ quals_text all known rest → All (IsQual all) known → IsTail all rest →
         next_reader comma.at ((ps, None), now) known rest ≡ Ok x → AreListed s start x.0 x.1
     unfolding next_param_with
-    next_listed s start ps now comma known ts [] x some fit named spelled kind between is known_fit left e =
-        more_listed s start ps now known ts [] x some fit named (spelled ∙ ap (params_text all ps) between) is known_fit left e
-    next_listed s start ps now comma known ts (t ∷ rest) x some fit named spelled kind between is known_fit left e = by_dots (is_dots t.kind) refl e
+    next_listed s start ps now comma known ts [] x some fit named spelled kind between is quals_fit left e =
+        more_listed s start ps now known ts [] x some fit named (spelled ∙ ap (params_text all ps) between) is quals_fit left e
+    next_listed s start ps now comma known ts (t ∷ rest) x some fit named spelled kind between is quals_fit left e = by_dots (is_dots t.kind) refl e
       where
         by_dots : (b : Bool) → is_dots t.kind ≡ b → next_by b comma.at ((ps, None), now) known t rest ≡ Ok x → AreListed s start x.0 x.1
-        by_dots false other e = more_listed s start ps now known ts (t ∷ rest) x some fit named (spelled ∙ ap (params_text all ps) between) is known_fit left e
+        by_dots false other e = more_listed s start ps now known ts (t ∷ rest) x some fit named (spelled ∙ ap (params_text all ps) between) is quals_fit left e
         by_dots true dots e =
             let last : Dots = record { comma = comma.at; quals = known; dots = t.at } in
             let y : ParamState × List Lexeme = (((ps, Some last), now), rest) in
@@ -218,7 +218,7 @@ module _ (all : List Lexeme) where
               spelled = spelled ∙ ap (params_text all ps) (token_is comma (kinds.Punct Comma) ts kind
                   ∙ ap (sign_text Comma comma.at) (is ∙ ap (quals_text all known) (token_is t (kinds.Punct Ellipsis) rest (dots_is t.kind dots))));
               fit = fit;
-              ending = dots_fit ps last some known_fit;
+              ending = dots_fit ps last some quals_fit;
               named = named;
               left = tail_of all t rest left;
             })
