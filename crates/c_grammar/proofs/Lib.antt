@@ -15,3 +15,6 @@ pub mod ExprComplete
 pub mod SpecsSoundBodies
 pub mod SpecsSoundEnums
 pub mod SpecsSound
+pub mod DeclrSoundWords
+pub mod DeclrSoundParams
+pub mod DeclrSound
