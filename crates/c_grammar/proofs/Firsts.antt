@@ -131,7 +131,7 @@ behind_some None f s' e = absurd cc
 behind_some (Some t) f s' e = (t, refl, e)
 
 -- no words are a basic type
-no_type_of_none : Any (IsPermutation []) basic_types → ⊥
+pub no_type_of_none : Any (IsPermutation []) basic_types → ⊥
 no_type_of_none (at, set, less, is, same) =
     let long : 0 ≡ length set = sym (length_permutation [] set same) in
     let yes = list_any-from_Any (λ set. nat_eq 0 (length set)) basic_types (at, set, less, is, eq-eqb 0 (length set) long) in

@@ -5,3 +5,4 @@ pub mod Qualifying
 pub mod Aims
 pub mod Tails
 pub mod Firsts
+pub mod SpecsFalls
