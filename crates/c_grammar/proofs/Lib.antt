@@ -6,3 +6,4 @@ pub mod Aims
 pub mod Tails
 pub mod Firsts
 pub mod SpecsFalls
+pub mod SpecsCompleteParts

@@ -91,7 +91,7 @@ module _ (cond : Scopes → List Lexeme → Read (Expr × Scopes)) (specs : Role
   named_below s ts =
       below_bind (length ts) (length ts) (falls_declr s ts) (λ d less. below_bind (suc (length d.1)) (length ts) (value_below is_colon d.0.1 d.1) (λ w less2. below_ok (length ts) _ w.1 (omega (arith, less, less2))))
 
-  mem_declr_shrinks : (s : Scopes) → Shrinks (mem_declr_with cond specs declr s)
+  pub mem_declr_shrinks : (s : Scopes) → Shrinks (mem_declr_with cond specs declr s)
   unfolding mem_declr_with
   mem_declr_shrinks s [] = named_below s []
   mem_declr_shrinks s (t ∷ ts) =
