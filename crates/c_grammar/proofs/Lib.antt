@@ -7,3 +7,4 @@ pub mod Tails
 pub mod Firsts
 pub mod SpecsFalls
 pub mod SpecsCompleteParts
+pub mod SpecsCompleteEnums
