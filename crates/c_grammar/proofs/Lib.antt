@@ -8,3 +8,4 @@ pub mod Firsts
 pub mod SpecsFalls
 pub mod SpecsCompleteParts
 pub mod SpecsCompleteEnums
+pub mod SpecsComplete
