@@ -1,25 +1,22 @@
 -- The specifiers of a mix are read as the words whose text they are.
-use Rattle.std.proofs.Common.{◌≡◌, ℕ, zero, suc, ◌+◌, ◌≤◌, ◌<◌, Bool, true, false, List, [], ◌∷◌, ◌++◌, length, Option, Some, None, Result, Ok, Err, inl, inr, refl, sym, ◌∙◌, ap, subst, if◌then◌else◌, arith}
-use Rattle.std.specs.Prelude.{max, not, ◌&&◌, Any, IsPermutation}
-use Rattle.c_lexer.specs.declared.kinds.TokenKind.{TokenKind}
+use Rattle.std.proofs.Common.{◌≡◌, ℕ, suc, ◌+◌, ◌≤◌, ◌<◌, Bool, true, false, List, [], ◌∷◌, ◌++◌, length, Option, Some, None, Ok, inl, inr, refl, sym, ◌∙◌, ap, subst, if◌then◌else◌, arith}
+use Rattle.std.specs.Prelude.{not, ◌&&◌, Any, IsPermutation}
 use Rattle.c_lexer.specs.declared.kinds.Keyword.{Keyword}
-use Rattle.c_lexer.specs.declared.kinds.TokenKind.TheVariants as kinds
 use Rattle.c_lexer.specs.declared.kinds.Punct.TheVariants.{Equal}
 use Rattle.c_tree.specs.declared.lexeme.Lexeme.{Lexeme}
-use Rattle.c_tree.specs.declared.parts.Attr.{Attr}
 use Rattle.c_tree.specs.declared.parts.Qual.TheVariants as quals
 use Rattle.c_tree.specs.Tree.{Expr, SpecWords, no_words, more_words, SpecWord, storage, thread, inline_word, noreturn, qualifier, basic, struct_type, enum_type, typedef_name, attribute, enum_of, SomeDeclr, no_declr, some_declr, Declr}
-use Rattle.c_tree.specs.Text.{spec_words_text, spec_word_text, declr_text, tokens_between}
+use Rattle.c_tree.specs.Text.{spec_words_text, spec_word_text, declr_text}
 use Rattle.c_tree.specs.Height.{specs_height, spec_word_height, declr_height}
 use Rattle.c_tree.specs.Specifiers.{IsMix, IsOneType, type_words, type_count, basic_types}
-use Rattle.c_tree.specs.WellFormed.{AreSpecWords, IsSpecWord, IsTypeWord, IsDeclr, is_named}
-use Rattle.c_specs.specs.Mix.{class_of, goes_on, is_whole_mix}
+use Rattle.c_tree.specs.WellFormed.{IsSpecWord, IsTypeWord, IsDeclr, is_named}
+use Rattle.c_specs.specs.Mix.{class_of, goes_on}
 use Rattle.c_specs.specs.Laws.{WholeAreMixes, MixesGoOn}
 use Rattle.c_specs.specs.Reading.{append_words}
 use Rattle.typedef_scope.specs.declared.kind.Kind.{Kind}
 use Rattle.typedef_scope.specs.Scopes.{Scopes}
-use Rattle.c_grammar.specs.Scoping.{behind, names_type, where_true, spec_words_scopes, spec_word_scopes, some_body_scopes, some_enum_body_scopes, declr_scopes}
-use Rattle.c_grammar.specs.Reading.{Read, run, Shrinks, IsNumbered, ◌>>=◌, ends}
+use Rattle.c_grammar.specs.Scoping.{names_type, where_true, spec_words_scopes, spec_word_scopes, declr_scopes}
+use Rattle.c_grammar.specs.Reading.{Read, run, Shrinks, IsNumbered}
 use Rattle.c_grammar.specs.Eating.{begins, is_open_brace, is_equal}
 use Rattle.c_grammar.specs.Specifying.{Role, declaring, naming, Start, storage_start, thread_start, inline_start, noreturn_start, word_start, element_start, index_start, basic_start, struct_start, enum_start, name_start, no_start, kind_start, typed_start, start_at, is_start, class_of_start, may_stand, is_type_word, is_typed, with_word, word_by, word_with, word_turn_by, word_turn, specs_from}
 use Rattle.c_grammar.specs.Declaring.{Mode, with_name, present}
@@ -30,7 +27,7 @@ use Rattle.c_grammar.proofs.LoopLemmas.{bind_ok, ok_is, run_is}
 use Rattle.c_grammar.proofs.Tails.{element_spelled}
 use Rattle.c_grammar.proofs.Firsts.{start_of, class_is, is_name, behind_some, no_type_of_none, word_starts, starts}
 use Rattle.c_grammar.proofs.SpecsFalls.{word_turn_shrinks}
-use Rattle.c_grammar.proofs.SpecsCompleteParts.{bind_is, some_is, without_none, declr_high, word_no_brace, word_begins, value_is, struct_is}
+use Rattle.c_grammar.proofs.SpecsCompleteParts.{bind_is, some_is, declr_high, word_no_brace, word_begins, value_is, struct_is}
 use Rattle.c_grammar.proofs.SpecsCompleteEnums.{enum_is}
 
 words_none : (ws : SpecWords) → append_words ws no_words ≡ ws
@@ -185,7 +182,8 @@ role_words : (all : List Lexeme) (role : Role) (w : SpecWord) (ws : SpecWords) �
 role_words all declaring w ws fits = fits.1
 role_words all naming w ws fits = fits.2
 
-module _ (all : List Lexeme) (numbered : IsNumbered all) (n : ℕ) (expr : Reach → Scopes → List Lexeme → Read (Expr × Scopes)) (specs : Role → SpecWords → Scopes → List Lexeme → Read (SpecWords × Scopes))
+module _ (all : List Lexeme) (numbered : IsNumbered all) (n : ℕ) (expr : Reach → Scopes → List Lexeme → Read (Expr × Scopes))
+    (specs : Role → SpecWords → Scopes → List Lexeme → Read (SpecWords × Scopes))
     (declr : Mode → Option Kind → Scopes → List Lexeme → Read (SomeDeclr × Scopes)) (exprs : ExprLaws all n expr) (inner : SpecsLaws all n specs) (declrs : DeclrLaws all n declr)
     (whole_are : WholeAreMixes) (goes : MixesGoOn) (grow : ExprsGrow) where
   declr_shrinks : (s : Scopes) → Shrinks (named_declr declr s)
@@ -200,7 +198,8 @@ module _ (all : List Lexeme) (numbered : IsNumbered all) (n : ℕ) (expr : Reach
           let y : (Declr × Scopes) × List Lexeme = ((d, s), ks) in
           subst (λ (x : (Declr × Scopes) × List Lexeme). length x.1 < length ts) (ok_is y x e) less
 
-  declr_is : (d : Declr) (s s' : Scopes) (k : List Lexeme) → IsDeclr all d → is_named d ≡ true → declr_scopes d s ≡ Some s' → declr_height d ≤ n → ends_declr k ≡ true → named_declr declr s (declr_text all d k) ≡ Ok ((d, s'), k)
+  declr_is : (d : Declr) (s s' : Scopes) (k : List Lexeme) → IsDeclr all d → is_named d ≡ true → declr_scopes d s ≡ Some s' → declr_height d ≤ n → ends_declr k ≡ true →
+      named_declr declr s (declr_text all d k) ≡ Ok ((d, s'), k)
   declr_is d s s' k fits is scopes high end =
       let some = declr_high d in
       bind_is (λ d. present d.0 d.1) ((some_declr d, s'), k) (declrs.complete with_name None (omega (arith, high, some)) (some_declr d) s s' k ((fits, is), λ name e. refl) scopes high end) refl
@@ -216,7 +215,8 @@ module _ (all : List Lexeme) (numbered : IsNumbered all) (n : ℕ) (expr : Reach
   read_word (qualifier (quals.Word w)) s s' k fits scopes high no_brace = (_, k, refl, ap (λ (s : Scopes). Ok ((qualifier (quals.Word w), s), k)) (some_is s s' scopes))
   read_word (qualifier (quals.Element token)) s s' k fits scopes high no_brace =
       let e = element_spelled all numbered token fits in
-      (e.0, k, ap (λ (ts : List Lexeme). ts ++ k) e.1, ap (λ (a : ℕ). Ok ((qualifier (quals.Element a), s), k)) e.2 ∙ ap (λ (s : Scopes). Ok ((qualifier (quals.Element token), s), k)) (some_is s s' scopes))
+      (e.0, k, ap (λ (ts : List Lexeme). ts ++ k) e.1, ap (λ (a : ℕ). Ok ((qualifier (quals.Element a), s), k)) e.2
+          ∙ ap (λ (s : Scopes). Ok ((qualifier (quals.Element token), s), k)) (some_is s s' scopes))
   read_word (qualifier (quals.Index token)) s s' k fits scopes high no_brace = (_, k, refl, ap (λ (s : Scopes). Ok ((qualifier (quals.Index token), s), k)) (some_is s s' scopes))
   read_word (basic w) s s' k fits scopes high no_brace = (_, k, refl, ap (λ (s : Scopes). Ok ((basic w, s), k)) (some_is s s' scopes))
   read_word (struct_type w [] tag body) s s' k fits scopes high no_brace =
@@ -227,7 +227,8 @@ module _ (all : List Lexeme) (numbered : IsNumbered all) (n : ℕ) (expr : Reach
   read_word (struct_type w (a ∷ attrs) tag body) s s' k fits scopes high no_brace = absurd cc
   read_word (enum_type (enum_of keyword [] tag body)) s s' k fits scopes high no_brace =
       (_, _, refl, enum_is all n (expr conditional) (λ role. specs role no_words) (named_declr declr) (exprs.shrinks conditional) (λ role s. inner.shrinks role s) declr_shrinks
-          (λ v s s' k fits scopes high end no_sign. value_is all numbered n (expr conditional) (λ role. specs role no_words) (named_declr declr) (exprs.shrinks conditional) (λ role s. inner.shrinks role s) declr_shrinks
+          (λ v s s' k fits scopes high end no_sign. value_is all numbered n (expr conditional) (λ role. specs role no_words) (named_declr declr) (exprs.shrinks conditional)
+              (λ role s. inner.shrinks role s) declr_shrinks
               (λ e s s' k fits level scopes high end. exprs.complete conditional e s s' k (fits, level) scopes high end)
               (λ ws s s' k mix fits scopes high end. inner.complete declaring no_words ws s s' k mix fits scopes high end) declr_is
               Equal is_equal v s s' k refl fits scopes high end no_sign)
@@ -236,7 +237,8 @@ module _ (all : List Lexeme) (numbered : IsNumbered all) (n : ℕ) (expr : Reach
   read_word (typedef_name name) s s' k fits scopes high no_brace = (_, k, refl, ap (λ (s : Scopes). Ok ((typedef_name name, s), k)) (where_is (names_type s name.name) s s' scopes))
   read_word (attribute a) s s' k fits scopes high no_brace = absurd cc
 
-  turn_is : (role : Role) (words : SpecWords) (w : SpecWord) (s s' : Scopes) (k : List Lexeme) → IsSpecWord all w → spec_word_scopes w s ≡ Some s' → spec_word_height w ≤ n → begins is_open_brace k ≡ false →
+  turn_is : (role : Role) (words : SpecWords) (w : SpecWord) (s s' : Scopes) (k : List Lexeme) → IsSpecWord all w → spec_word_scopes w s ≡ Some s' → spec_word_height w ≤ n →
+      begins is_open_brace k ≡ false →
       may_stand role (start_of w) ≡ true → goes_on words (class_of w) ≡ true → (is_name w ≡ true → is_typed words ≡ false) →
       word_turn (expr conditional) (λ role. specs role no_words) (named_declr declr) role (words, s) (spec_word_text all w k) ≡ Some (Ok ((with_word words w, s'), k))
   unfolding word_with
@@ -245,20 +247,23 @@ module _ (all : List Lexeme) (numbered : IsNumbered all) (n : ℕ) (expr : Reach
       let start : start_at s (is_typed words) (spec_word_text all w k) ≡ start_of w = word_starts all numbered goes s s' (is_typed words) words w k fits scopes on free in
       let on' : goes_on words (class_of_start (start_of w)) ≡ true = ap (goes_on words) (class_is w) ∙ on in
       ap (word_turn (expr conditional) (λ role. specs role no_words) (named_declr declr) role (words, s)) read.2
-      ∙ ap (λ (start : Start). word_turn_by (expr conditional) (λ role. specs role no_words) (named_declr declr) role (words, s) start read.0 read.1) (sym (ap (start_at s (is_typed words)) read.2) ∙ start)
+      ∙ ap (λ (start : Start). word_turn_by (expr conditional) (λ role. specs role no_words) (named_declr declr) role (words, s) start read.0 read.1)
+          (sym (ap (start_at s (is_typed words)) read.2) ∙ start)
       ∙ rw (starts s s' w scopes, stand, on', read.3) refl
 
   no_brace_behind : (role : Role) (ws : SpecWords) (k : List Lexeme) → FitsRole all role ws → ends_specs k ≡ true → begins is_open_brace (spec_words_text all ws k) ≡ false
   no_brace_behind role no_words k fits end = ends_no_brace k end
   no_brace_behind role (more_words w ws) k fits end = word_no_brace _ (word_begins all numbered w _ (role_word all role w ws fits))
 
-  turn_ends : (role : Role) (words : SpecWords) (s : Scopes) (k : List Lexeme) → IsMix words → ends_specs k ≡ true → word_turn (expr conditional) (λ role. specs role no_words) (named_declr declr) role (words, s) k ≡ None
+  turn_ends : (role : Role) (words : SpecWords) (s : Scopes) (k : List Lexeme) → IsMix words → ends_specs k ≡ true →
+      word_turn (expr conditional) (λ role. specs role no_words) (named_declr declr) role (words, s) k ≡ None
   turn_ends role words s [] mix end = refl
   turn_ends role words s (t ∷ ts) mix end =
       let no_more : is_start (start_at s (is_typed words) (t ∷ ts)) ≡ false = ap (λ (b : Bool). is_start (start_at s b (t ∷ ts))) (mix_typed words mix) ∙ ends_no_start s (t ∷ ts) end in
       rw no_more refl
 
-  words_are : (role : Role) (words rest : SpecWords) (s s' : Scopes) (k : List Lexeme) → IsMix (append_words words rest) → FitsRole all role rest → spec_words_scopes rest s ≡ Some s' → specs_height rest ≤ suc n → ends_specs k ≡ true →
+  words_are : (role : Role) (words rest : SpecWords) (s s' : Scopes) (k : List Lexeme) → IsMix (append_words words rest) → FitsRole all role rest → spec_words_scopes rest s ≡ Some s' →
+      specs_height rest ≤ suc n → ends_specs k ≡ true →
       run (word_turn (expr conditional) (λ role. specs role no_words) (named_declr declr) role) (words, s) (spec_words_text all rest k) ≡ Ok ((append_words words rest, s'), k)
   words_are role words no_words s s' k mix fits scopes high end =
       run_is (word_turn (expr conditional) (λ role. specs role no_words) (named_declr declr) role)
@@ -269,13 +274,16 @@ module _ (all : List Lexeme) (numbered : IsNumbered all) (n : ℕ) (expr : Reach
   words_are role words (more_words w rest) s s' k mix fits scopes high end =
       let parts = behind_some (spec_word_scopes w s) (spec_words_scopes rest) s' scopes in
       run_is (word_turn (expr conditional) (λ role. specs role no_words) (named_declr declr) role)
-          (word_turn_shrinks (expr conditional) (λ role. specs role no_words) (named_declr declr) (exprs.shrinks conditional) (λ role s. inner.shrinks role s) declr_shrinks role) (words, s) (spec_word_text all w (spec_words_text all rest k))
-      ∙ rw (turn_is role words w s parts.0 (spec_words_text all rest k) (role_word all role w rest fits) parts.1 (omega (arith, high)) (no_brace_behind role rest k (role_words all role w rest fits) end)
+          (word_turn_shrinks (expr conditional) (λ role. specs role no_words) (named_declr declr) (exprs.shrinks conditional) (λ role s. inner.shrinks role s) declr_shrinks role) (words, s)
+              (spec_word_text all w (spec_words_text all rest k))
+      ∙ rw (turn_is role words w s parts.0 (spec_words_text all rest k) (role_word all role w rest fits) parts.1 (omega (arith, high))
+          (no_brace_behind role rest k (role_words all role w rest fits) end)
           (role_stands all role w rest fits) (goes words w rest mix) (named_once words w rest mix)) refl
       ∙ words_are role (with_word words w) rest parts.0 s' k (subst IsMix (sym (words_pushed words w rest)) mix) (role_words all role w rest fits) parts.2 (omega (arith, high)) end
       ∙ ap (λ (words : SpecWords). Ok ((words, s'), k)) (words_pushed words w rest)
 
-  pub specs_complete : (role : Role) (words rest : SpecWords) (s s' : Scopes) (k : List Lexeme) → IsMix (append_words words rest) → FitsRole all role rest → spec_words_scopes rest s ≡ Some s' → specs_height rest ≤ suc n → ends_specs k ≡ true →
+  pub specs_complete : (role : Role) (words rest : SpecWords) (s s' : Scopes) (k : List Lexeme) → IsMix (append_words words rest) → FitsRole all role rest → spec_words_scopes rest s ≡ Some s' →
+      specs_height rest ≤ suc n → ends_specs k ≡ true →
       specs_from (expr conditional) (λ role. specs role no_words) (named_declr declr) role words s (spec_words_text all rest k) ≡ Ok ((append_words words rest, s'), k)
   unfolding specs_from
   specs_complete role words rest s s' k mix fits scopes high end =

@@ -1,32 +1,32 @@
 -- Members of structs and unions are read as the trees whose text they are.
-use Rattle.std.proofs.Common.{◌≡◌, ℕ, zero, suc, ◌+◌, ◌≤◌, ◌<◌, Bool, true, false, List, [], ◌∷◌, ◌++◌, length, Option, Some, None, Result, Ok, Err, refl, sym, ◌∙◌, ap, subst, if◌then◌else◌, arith}
-use Rattle.std.specs.Prelude.{max, not, ◌&&◌}
+use Rattle.std.proofs.Common.{◌≡◌, ℕ, ◌≤◌, Bool, true, false, List, [], ◌∷◌, ◌++◌, Option, Some, None, Result, Ok, refl, sym, ◌∙◌, ap, subst, arith}
+use Rattle.std.specs.Prelude.{not, ◌&&◌}
 use Rattle.c_lexer.specs.declared.kinds.TokenKind.{TokenKind}
 use Rattle.c_lexer.specs.declared.kinds.TokenKind.TheVariants as kinds
 use Rattle.c_lexer.specs.declared.kinds.Punct.{Punct}
-use Rattle.c_lexer.specs.declared.kinds.Punct.TheVariants.{OpenParen, OpenBrace, CloseBrace, Colon, Comma, Semicolon, Star}
+use Rattle.c_lexer.specs.declared.kinds.Punct.TheVariants.{OpenParen, CloseBrace, Colon, Semicolon, Star}
 use Rattle.c_tree.specs.declared.lexeme.Lexeme.{Lexeme}
 use Rattle.c_tree.specs.declared.parts.Identifier.{Identifier}
 use Rattle.c_tree.specs.declared.parts.Word.{Word}
 use Rattle.c_tree.specs.declared.parts.Attr.{Attr}
 use Rattle.c_tree.specs.declared.parts.Qual.TheVariants as quals
 use Rattle.c_tree.specs.Tree.{Expr, SpecWords, no_words, more_words, SpecWord, storage, thread, inline_word, noreturn, qualifier, basic, struct_type, enum_type, typedef_name, attribute, enum_of, SomeBody, no_body, some_body, StructItems, no_struct_items, more_struct_items, StructItem, member, member_semi, member_assert, MemDeclrs, no_mem_declrs, more_mem_declrs, MemDeclr, named, unnamed, SomeValue, no_value, some_value, Declr, pointer, declr_name, declr_paren, array, params, abs_pointer, abs_paren, abs_array, abs_params}
-use Rattle.c_tree.specs.Text.{sign_text, separated, tag_text, tokens_between, expr_text, spec_words_text, spec_word_text, some_body_text, struct_items_text, struct_item_text, mem_declrs_text, other_mem_declrs_text, mem_declr_text, some_value_text, declr_text}
+use Rattle.c_tree.specs.Text.{sign_text, separated, tag_text, expr_text, spec_words_text, spec_word_text, some_body_text, struct_items_text, struct_item_text, mem_declrs_text, other_mem_declrs_text, mem_declr_text, some_value_text, declr_text}
 use Rattle.c_tree.specs.Height.{expr_height, specs_height, some_body_height, struct_items_height, struct_item_height, mem_declrs_height, mem_declr_height, some_value_height, declr_height}
 use Rattle.c_tree.specs.Levels.{expr_level}
 use Rattle.c_tree.specs.Specifiers.{IsMix}
-use Rattle.c_tree.specs.WellFormed.{IsExpr, AreSpecWords, IsSpecWord, IsBody, AreStructItems, IsStructItem, AreMemDeclrs, IsMemDeclr, IsMemStart, IsSomeValue, IsDeclr, is_named, HasTagOrBody, IsElement, IsElementKind}
+use Rattle.c_tree.specs.WellFormed.{IsExpr, AreSpecWords, IsSpecWord, IsBody, AreStructItems, IsStructItem, AreMemDeclrs, IsMemDeclr, IsMemStart, IsSomeValue, IsDeclr, is_named, HasTagOrBody, IsElementKind}
 use Rattle.typedef_scope.specs.Scopes.{Scopes}
 use Rattle.c_grammar.specs.Scoping.{behind, without, expr_scopes, spec_words_scopes, some_body_scopes, struct_items_scopes, struct_item_scopes, mem_declrs_scopes, mem_declr_scopes, some_value_scopes, declr_scopes}
-use Rattle.c_grammar.specs.Reading.{Refusal, Read, run, Shrinks, IsNumbered, ◌>>=◌, ends}
-use Rattle.c_grammar.specs.Eating.{token_at, after, begins, is_open_brace, is_close_brace, is_colon, is_comma, is_semicolon}
+use Rattle.c_grammar.specs.Reading.{Refusal, Read, run, Shrinks, IsNumbered, ◌>>=◌}
+use Rattle.c_grammar.specs.Eating.{after, begins, is_open_brace, is_close_brace, is_colon, is_comma, is_semicolon}
 use Rattle.c_grammar.specs.Specifying.{Role, declaring, kind_start, typed_start, is_start, with_items, with_mem_declr, tag_at, value_with, named_with, mem_declr_with, mem_declr_turn, mem_declrs_with, member_with, struct_item_with, struct_item_turn, body_with, struct_with}
 use Rattle.c_grammar.specs.Expressing.{conditional}
 use Rattle.c_grammar.proofs.Aims.{ends_expr, ends_specs, ends_declr}
 use Rattle.c_grammar.proofs.LoopLemmas.{run_is, op_goes_on, op_done}
 use Rattle.c_grammar.proofs.Tails.{element_spelled}
 use Rattle.c_grammar.proofs.Firsts.{behind_some, no_mix_of_none}
-use Rattle.c_grammar.proofs.SpecsFalls.{after_falls, mem_declr_shrinks, mem_declr_turn_shrinks, struct_item_turn_shrinks}
+use Rattle.c_grammar.proofs.SpecsFalls.{after_falls, mem_declr_shrinks, struct_item_turn_shrinks}
 
 -- one step of a reader, and what stands behind it
 pub bind_is : {A B : Type 0} {r : Result A Refusal} (f : A → Result B Refusal) (x : A) {z : Result B Refusal} → r ≡ Ok x → f x ≡ z → (r >>= f) ≡ z
@@ -35,9 +35,8 @@ bind_is {A} {B} {r} f x e g = ap (λ (r : Result A Refusal). r >>= f) e ∙ g
 pub some_is : (s s' : Scopes) → Some s ≡ Some s' → s ≡ s'
 some_is s s' e = cc
 
-pub without_none : {A : Type 0} (items : List A) (s s' : Scopes) → without items s ≡ Some s' → (items ≡ []) × (s ≡ s')
-without_none [] s s' e = (refl, cc)
-without_none (item ∷ items) s s' e = absurd cc
+none_is_no : (s : Scopes) → None ≡ Some s → ⊥
+none_is_no s e = cc
 
 -- a token that begins a declarator with a name
 abbrev pub IsDeclrKind : TokenKind → Type 0
@@ -224,22 +223,27 @@ module _ (all : List Lexeme) (numbered : IsNumbered all) where
 
   module _ (n : ℕ) (cond : Scopes → List Lexeme → Read (Expr × Scopes)) (specs : Role → Scopes → List Lexeme → Read (SpecWords × Scopes)) (declr : Scopes → List Lexeme → Read (Declr × Scopes))
       (falls_cond : (s : Scopes) → Shrinks (cond s)) (falls_specs : (role : Role) (s : Scopes) → Shrinks (specs role s)) (falls_declr : (s : Scopes) → Shrinks (declr s))
-      (cond_is : (e : Expr) (s s' : Scopes) (k : List Lexeme) → IsExpr all e → 2 ≤ expr_level e → expr_scopes e s ≡ Some s' → expr_height e ≤ n → ends_expr conditional k ≡ true → cond s (expr_text all e k) ≡ Ok ((e, s'), k))
-      (specs_is : (ws : SpecWords) (s s' : Scopes) (k : List Lexeme) → IsMix ws → AreSpecWords all ws → spec_words_scopes ws s ≡ Some s' → specs_height ws ≤ n → ends_specs k ≡ true → specs declaring s (spec_words_text all ws k) ≡ Ok ((ws, s'), k))
-      (declr_is : (d : Declr) (s s' : Scopes) (k : List Lexeme) → IsDeclr all d → is_named d ≡ true → declr_scopes d s ≡ Some s' → declr_height d ≤ n → ends_declr k ≡ true → declr s (declr_text all d k) ≡ Ok ((d, s'), k)) where
+      (cond_is : (e : Expr) (s s' : Scopes) (k : List Lexeme) → IsExpr all e → 2 ≤ expr_level e → expr_scopes e s ≡ Some s' → expr_height e ≤ n → ends_expr conditional k ≡ true →
+          cond s (expr_text all e k) ≡ Ok ((e, s'), k))
+      (specs_is : (ws : SpecWords) (s s' : Scopes) (k : List Lexeme) → IsMix ws → AreSpecWords all ws → spec_words_scopes ws s ≡ Some s' → specs_height ws ≤ n → ends_specs k ≡ true →
+          specs declaring s (spec_words_text all ws k) ≡ Ok ((ws, s'), k))
+      (declr_is : (d : Declr) (s s' : Scopes) (k : List Lexeme) → IsDeclr all d → is_named d ≡ true → declr_scopes d s ≡ Some s' → declr_height d ≤ n → ends_declr k ≡ true →
+          declr s (declr_text all d k) ≡ Ok ((d, s'), k)) where
     value_none : (test : TokenKind → Bool) (s : Scopes) (k : List Lexeme) → begins test k ≡ false → value_with cond specs declr test s k ≡ Ok ((no_value, s), k)
     unfolding value_with
     value_none test s [] h = refl
     value_none test s (t ∷ ts) h = rw h refl
 
-    pub value_is : (mark : Punct) (test : TokenKind → Bool) (v : SomeValue) (s s' : Scopes) (k : List Lexeme) → test (kinds.Punct mark) ≡ true → IsSomeValue all v → some_value_scopes v s ≡ Some s' → some_value_height v ≤ n →
+    pub value_is : (mark : Punct) (test : TokenKind → Bool) (v : SomeValue) (s s' : Scopes) (k : List Lexeme) → test (kinds.Punct mark) ≡ true → IsSomeValue all v →
+        some_value_scopes v s ≡ Some s' → some_value_height v ≤ n →
         ends_expr conditional k ≡ true → begins test k ≡ false → value_with cond specs declr test s (some_value_text all mark v k) ≡ Ok ((v, s'), k)
     unfolding value_with
     value_is mark test no_value s s' k is fits scopes high ends_it no_sign = value_none test s k no_sign ∙ ap (λ (s : Scopes). Ok ((no_value, s), k)) (some_is s s' scopes)
     value_is mark test (some_value token e) s s' k is fits scopes high ends_it no_sign =
         rw is (bind_is _ ((e, s'), k) (cond_is e s s' k fits.0 fits.1 scopes high ends_it) refl)
 
-    named_is : (d : Declr) (v : SomeValue) (s s1 s' : Scopes) (k : List Lexeme) → IsDeclr all d → is_named d ≡ true → IsSomeValue all v → declr_scopes d s ≡ Some s1 → some_value_scopes v s1 ≡ Some s' →
+    named_is : (d : Declr) (v : SomeValue) (s s1 s' : Scopes) (k : List Lexeme) → IsDeclr all d → is_named d ≡ true → IsSomeValue all v → declr_scopes d s ≡ Some s1 →
+        some_value_scopes v s1 ≡ Some s' →
         declr_height d ≤ n → some_value_height v ≤ n → EndsMember k → mem_declr_with cond specs declr s (declr_text all d (some_value_text all Colon v k)) ≡ Ok ((named d v [], s'), k)
     unfolding mem_declr_with named_with
     named_is d v s s1 s' k fits is value_fits scopes value_scopes high value_high end =
@@ -259,7 +263,8 @@ module _ (all : List Lexeme) (numbered : IsNumbered all) where
         by_first (t ∷ ts) same no_colon = rw no_colon (ap (λ (ts : List Lexeme). named_with cond specs declr s ts) (sym same) ∙ read)
 
     -- a declarator of a member, or a width alone
-    mem_declr_is : (d : MemDeclr) (s s' : Scopes) (k : List Lexeme) → IsMemDeclr all d → mem_declr_scopes d s ≡ Some s' → mem_declr_height d ≤ n → EndsMember k → mem_declr_with cond specs declr s (mem_declr_text all d k) ≡ Ok ((d, s'), k)
+    mem_declr_is : (d : MemDeclr) (s s' : Scopes) (k : List Lexeme) → IsMemDeclr all d → mem_declr_scopes d s ≡ Some s' → mem_declr_height d ≤ n → EndsMember k →
+        mem_declr_with cond specs declr s (mem_declr_text all d k) ≡ Ok ((d, s'), k)
     unfolding mem_declr_with
     mem_declr_is (named d v []) s s' k fits scopes high end =
         let whole = behind_some (behind (declr_scopes d s) (some_value_scopes v)) (without {A = Attr} []) s' scopes in
@@ -268,30 +273,26 @@ module _ (all : List Lexeme) (numbered : IsNumbered all) where
     mem_declr_is (named d v (a ∷ attrs)) s s' k fits scopes high end =
         let whole = behind_some (behind (declr_scopes d s) (some_value_scopes v)) (without (a ∷ attrs)) s' scopes in
         absurd (none_is_no s' whole.2)
-      where
-        none_is_no : (s' : Scopes) → None ≡ Some s' → ⊥
-        none_is_no s' e = cc
     mem_declr_is (unnamed colon e []) s s' k fits scopes high end =
         let whole = behind_some (expr_scopes e s) (without {A = Attr} []) s' scopes in
         bind_is _ ((e, s'), k) (cond_is e s s' k fits.0 fits.1 (whole.1 ∙ whole.2) (omega (arith, high)) end.0) refl
     mem_declr_is (unnamed colon e (a ∷ attrs)) s s' k fits scopes high end =
         let whole = behind_some (expr_scopes e s) (without (a ∷ attrs)) s' scopes in
         absurd (none_is_no s' whole.2)
-      where
-        none_is_no : (s' : Scopes) → None ≡ Some s' → ⊥
-        none_is_no s' e = cc
 
     -- declarators behind others, each after a comma
     other_mem_declrs_is : (known ds : MemDeclrs) (s s' : Scopes) (semi : ℕ) (k : List Lexeme) → AreMemDeclrs all ds → mem_declrs_scopes ds s ≡ Some s' → mem_declrs_height ds ≤ n →
         run (mem_declr_turn cond specs declr) (known, s) (other_mem_declrs_text all ds (sign_text Semicolon semi k)) ≡ Ok ((append_mem_declrs known ds, s'), sign_text Semicolon semi k)
     other_mem_declrs_is known no_mem_declrs s s' semi k fits scopes high =
-        op_done (after is_comma) (λ state. mem_declr_with cond specs declr state.1) (λ state d. (with_mem_declr state.0 d.0, d.1)) (after_falls is_comma) (λ state. mem_declr_shrinks cond specs declr falls_cond falls_specs falls_declr state.1)
+        op_done (after is_comma) (λ state. mem_declr_with cond specs declr state.1) (λ state d. (with_mem_declr state.0 d.0, d.1)) (after_falls is_comma)
+            (λ state. mem_declr_shrinks cond specs declr falls_cond falls_specs falls_declr state.1)
             (known, s) (sign_text Semicolon semi k) refl
         ∙ ap (λ (s : Scopes). Ok ((known, s), sign_text Semicolon semi k)) (some_is s s' scopes)
         ∙ ap (λ (ds : MemDeclrs). Ok ((ds, s'), sign_text Semicolon semi k)) (sym (mem_declrs_none known))
     other_mem_declrs_is known (more_mem_declrs [] d ds) s s' semi k fits scopes high =
         let parts = behind_some (mem_declr_scopes d s) (mem_declrs_scopes ds) s' scopes in
-        op_goes_on (after is_comma) (λ state. mem_declr_with cond specs declr state.1) (λ state d. (with_mem_declr state.0 d.0, d.1)) (after_falls is_comma) (λ state. mem_declr_shrinks cond specs declr falls_cond falls_specs falls_declr state.1)
+        op_goes_on (after is_comma) (λ state. mem_declr_with cond specs declr state.1) (λ state d. (with_mem_declr state.0 d.0, d.1)) (after_falls is_comma)
+            (λ state. mem_declr_shrinks cond specs declr falls_cond falls_specs falls_declr state.1)
             (known, s) (separated (mem_declr_text all d (other_mem_declrs_text all ds (sign_text Semicolon semi k)))) (mem_declr_text all d (other_mem_declrs_text all ds (sign_text Semicolon semi k)))
             (d, parts.0) (other_mem_declrs_text all ds (sign_text Semicolon semi k)) refl
             (mem_declr_is d s parts.0 (other_mem_declrs_text all ds (sign_text Semicolon semi k)) fits.1 parts.1 (omega (arith, high)) (ends_member ds semi k))
@@ -310,11 +311,14 @@ module _ (all : List Lexeme) (numbered : IsNumbered all) where
             (other_mem_declrs_is (more_mem_declrs [] d no_mem_declrs) ds parts.0 s' semi k fits.2 parts.2 (omega (arith, high))))
     mem_declrs_is (more_mem_declrs (a ∷ attrs) d ds) s s' semi k begun fits scopes high = absurd cc
 
-    member_is : (ws : SpecWords) (ds : MemDeclrs) (s t s' : Scopes) (semi : ℕ) (k : List Lexeme) → IsMix ws → AreSpecWords all ws → IsMemStart ds → AreMemDeclrs all ds → spec_words_scopes ws s ≡ Some t → mem_declrs_scopes ds t ≡ Some s' →
-        specs_height ws ≤ n → mem_declrs_height ds ≤ n → member_with cond specs declr s (spec_words_text all ws (mem_declrs_text all ds (sign_text Semicolon semi k))) ≡ Ok ((member [] ws ds semi, s'), k)
+    member_is : (ws : SpecWords) (ds : MemDeclrs) (s t s' : Scopes) (semi : ℕ) (k : List Lexeme) → IsMix ws → AreSpecWords all ws → IsMemStart ds → AreMemDeclrs all ds →
+        spec_words_scopes ws s ≡ Some t → mem_declrs_scopes ds t ≡ Some s' →
+        specs_height ws ≤ n → mem_declrs_height ds ≤ n → member_with cond specs declr s (spec_words_text all ws (mem_declrs_text all ds (sign_text Semicolon semi k))) ≡
+            Ok ((member [] ws ds semi, s'), k)
     unfolding member_with
     member_is ws ds s t s' semi k mix fits begun ds_fit scopes ds_scopes high ds_high =
-        bind_is _ ((ws, t), mem_declrs_text all ds (sign_text Semicolon semi k)) (specs_is ws s t (mem_declrs_text all ds (sign_text Semicolon semi k)) mix fits scopes high (mem_declrs_end_specs ds semi k begun ds_fit))
+        bind_is _ ((ws, t), mem_declrs_text all ds (sign_text Semicolon semi k)) (specs_is ws s t (mem_declrs_text all ds (sign_text Semicolon semi k)) mix fits scopes high
+            (mem_declrs_end_specs ds semi k begun ds_fit))
             (bind_is _ ((ds, s'), sign_text Semicolon semi k) (mem_declrs_is ds t s' semi k begun ds_fit ds_scopes ds_high) refl)
 
     struct_item_is : (item : StructItem) (s s' : Scopes) (k : List Lexeme) → IsStructItem all item → struct_item_scopes item s ≡ Some s' → struct_item_height item ≤ n →
@@ -325,7 +329,8 @@ module _ (all : List Lexeme) (numbered : IsNumbered all) where
         by_first (spec_words_text all ws (mem_declrs_text all ds (sign_text Semicolon semi k))) (word_no_semicolon _ (mix_begins ws _ fits.0 fits.1))
             (member_is ws ds s parts.0 s' semi k fits.0 fits.1 fits.2 fits.3 parts.1 parts.2 (omega (arith, high)) (omega (arith, high)))
       where
-        by_first : (ts : List Lexeme) → begins is_semicolon ts ≡ false → member_with cond specs declr s ts ≡ Ok ((member [] ws ds semi, s'), k) → struct_item_with cond specs declr s ts ≡ Ok ((member [] ws ds semi, s'), k)
+        by_first : (ts : List Lexeme) → begins is_semicolon ts ≡ false → member_with cond specs declr s ts ≡ Ok ((member [] ws ds semi, s'), k) →
+            struct_item_with cond specs declr s ts ≡ Ok ((member [] ws ds semi, s'), k)
         by_first [] no_semicolon e = e
         by_first (t ∷ ts) no_semicolon e = rw no_semicolon e
     struct_item_is (member (token ∷ tokens) ws ds semi) s s' k fits scopes high = absurd cc
@@ -346,7 +351,8 @@ module _ (all : List Lexeme) (numbered : IsNumbered all) where
         ∙ struct_items_is (with_items known item) items parts.0 s' closing k fits.1 parts.2 (omega (arith, high))
         ∙ ap (λ (items : StructItems). Ok ((items, s'), sign_text CloseBrace closing k)) (items_pushed known item items)
 
-    body_is : (tag : Option Identifier) (body : SomeBody) (s s' : Scopes) (k : List Lexeme) → HasTagOrBody tag body → IsBody all body → some_body_scopes body s ≡ Some s' → some_body_height body ≤ n → begins is_open_brace k ≡ false →
+    body_is : (tag : Option Identifier) (body : SomeBody) (s s' : Scopes) (k : List Lexeme) → HasTagOrBody tag body → IsBody all body → some_body_scopes body s ≡ Some s' →
+        some_body_height body ≤ n → begins is_open_brace k ≡ false →
         body_with cond specs declr tag s (some_body_text all body k) ≡ Ok ((body, s'), k)
     unfolding body_with
     body_is None no_body s s' k has fits scopes high no_brace = absurd has
@@ -355,7 +361,8 @@ module _ (all : List Lexeme) (numbered : IsNumbered all) where
     body_is tag (some_body opening items closing) s s' k has fits scopes high no_brace =
         bind_is _ ((items, s'), sign_text CloseBrace closing k) (struct_items_is no_struct_items items s s' closing k fits scopes high) refl
 
-    pub struct_is : (word : Word) (tag : Option Identifier) (body : SomeBody) (s s' : Scopes) (k : List Lexeme) → HasTagOrBody tag body → IsBody all body → some_body_scopes body s ≡ Some s' → some_body_height body ≤ n → begins is_open_brace k ≡ false →
+    pub struct_is : (word : Word) (tag : Option Identifier) (body : SomeBody) (s s' : Scopes) (k : List Lexeme) → HasTagOrBody tag body → IsBody all body → some_body_scopes body s ≡ Some s' →
+        some_body_height body ≤ n → begins is_open_brace k ≡ false →
         struct_with cond specs declr word s (tag_text tag (some_body_text all body k)) ≡ Ok ((struct_type word [] tag body, s'), k)
     unfolding struct_with
     struct_is word tag body s s' k has fits scopes high no_brace =

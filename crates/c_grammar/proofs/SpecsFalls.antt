@@ -89,7 +89,8 @@ module _ (cond : Scopes → List Lexeme → Read (Expr × Scopes)) (specs : Role
   named_below : (s : Scopes) (ts : List Lexeme) → Below (length ts) (named_with cond specs declr s ts)
   unfolding named_with
   named_below s ts =
-      below_bind (length ts) (length ts) (falls_declr s ts) (λ d less. below_bind (suc (length d.1)) (length ts) (value_below is_colon d.0.1 d.1) (λ w less2. below_ok (length ts) _ w.1 (omega (arith, less, less2))))
+      below_bind (length ts) (length ts) (falls_declr s ts) (λ d less. below_bind (suc (length d.1)) (length ts) (value_below is_colon d.0.1 d.1)
+          (λ w less2. below_ok (length ts) _ w.1 (omega (arith, less, less2))))
 
   pub mem_declr_shrinks : (s : Scopes) → Shrinks (mem_declr_with cond specs declr s)
   unfolding mem_declr_with
@@ -136,7 +137,8 @@ module _ (cond : Scopes → List Lexeme → Read (Expr × Scopes)) (specs : Role
   body_below tag s (t ∷ ts) =
       below_by (suc (suc (length ts))) (is_open_brace t.kind)
           (below_bind (suc (length ts)) (suc (suc (length ts))) (run_falls (struct_item_turn cond specs declr) struct_item_turn_shrinks _ ts)
-              (λ items less. below_bind (length items.1) (suc (suc (length ts))) (token_below is_close_brace items.1) (λ close less2. below_ok (suc (suc (length ts))) _ close.1 (omega (arith, less, less2)))))
+              (λ items less. below_bind (length items.1) (suc (suc (length ts))) (token_below is_close_brace items.1)
+                  (λ close less2. below_ok (suc (suc (length ts))) _ close.1 (omega (arith, less, less2)))))
           (without_body_below tag _ (t ∷ ts))
 
   struct_below : (word : Word) (s : Scopes) (ts : List Lexeme) → Below (suc (length ts)) (struct_with cond specs declr word s ts)
@@ -150,7 +152,8 @@ module _ (cond : Scopes → List Lexeme → Read (Expr × Scopes)) (specs : Role
   enumerator_shrinks es s ts =
       below_bind (length ts) (length ts) (name_below ts) (λ name less. below_bind (suc (length name.1)) (length ts) (declared_below name.0 name.0.token (declare_name s name.0.name Constant) name.1)
           (λ known less2. below_bind (suc (length known.1)) (length ts) (value_below is_equal s known.1)
-              (λ value less3. below_more (suc (length value.1)) (length ts) (omega (arith, less, less2, less3)) (declared_below (with_enumerator es name.0 value.0.0) name.0.token (declare_name value.0.1 name.0.name Constant) value.1))))
+              (λ value less3. below_more (suc (length value.1)) (length ts) (omega (arith, less, less2, less3))
+                  (declared_below (with_enumerator es name.0 value.0.0) name.0.token (declare_name value.0.1 name.0.name Constant) value.1))))
 
   next_enumerator_below : (comma : ℕ) (state : EnumState) (ts : List Lexeme) → Below (suc (length ts)) (next_enumerator_with cond specs declr comma state ts)
   unfolding next_enumerator_with
@@ -177,7 +180,8 @@ module _ (cond : Scopes → List Lexeme → Read (Expr × Scopes)) (specs : Role
       below_by (suc (suc (length ts))) (is_open_brace t.kind)
           (below_bind (length ts) (suc (suc (length ts))) (enumerator_shrinks no_enumerators s ts)
               (λ es less. below_bind (suc (length es.1)) (suc (suc (length ts))) (run_falls (enumerator_turn cond specs declr) enumerator_turn_shrinks _ es.1)
-                  (λ some less2. below_bind (length some.1) (suc (suc (length ts))) (token_below is_close_brace some.1) (λ close less3. below_ok (suc (suc (length ts))) _ close.1 (omega (arith, less, less2, less3))))))
+                  (λ some less2. below_bind (length some.1) (suc (suc (length ts))) (token_below is_close_brace some.1)
+                      (λ close less3. below_ok (suc (suc (length ts))) _ close.1 (omega (arith, less, less2, less3))))))
           (without_body_below tag _ (t ∷ ts))
 
   enum_below : (keyword : ℕ) (s : Scopes) (ts : List Lexeme) → Below (suc (length ts)) (enum_with cond specs declr keyword s ts)
@@ -212,7 +216,8 @@ module _ (cond : Scopes → List Lexeme → Read (Expr × Scopes)) (specs : Role
   word_turn_shrinks role state [] x e = absurd cc
   word_turn_shrinks role state (t ∷ ts) x e = by_start (start_at state.1 (is_typed state.0) (t ∷ ts)) e
     where
-      below : (start : Start) → Below {A = SpecWords × Scopes} (suc (length ts)) (word_with cond specs declr role state.0 start t state.1 ts >>= λ word. ends (with_word state.0 word.0.0, word.0.1) word.1)
+      below : (start : Start) → Below {A = SpecWords × Scopes} (suc (length ts)) (word_with cond specs declr role state.0 start t state.1 ts >>= λ word.
+          ends (with_word state.0 word.0.0, word.0.1) word.1)
       below start = below_bind (suc (length ts)) (suc (length ts)) (word_below role state.0 start t state.1 ts) (λ word less. below_ok (suc (length ts)) _ word.1 less)
 
       by_test : (b : Bool) (r : Read (SpecWords × Scopes)) → Below (suc (length ts)) r → (if b then Some r else None) ≡ Some (done x) → length x.1 < suc (length ts)
@@ -237,7 +242,8 @@ module _ (cond : Scopes → List Lexeme → Read (Expr × Scopes)) (specs : Role
   -- no words are no mix, so that one is taken at least
   pub specs_shrinks : (role : Role) (s : Scopes) → Shrinks (specs_from cond specs declr role no_words s)
   unfolding specs_from
-  specs_shrinks role s ts x e = by_turn (word_turn cond specs declr role (no_words, s) ts) refl (ap (λ (r : Read (SpecWords × Scopes)). r >>= λ some. whole cond specs declr some.0 some.1) (sym (run_is (word_turn cond specs declr role) (word_turn_shrinks role) (no_words, s) ts)) ∙ e)
+  specs_shrinks role s ts x e = by_turn (word_turn cond specs declr role (no_words, s) ts) refl
+      (ap (λ (r : Read (SpecWords × Scopes)). r >>= λ some. whole cond specs declr some.0 some.1) (sym (run_is (word_turn cond specs declr role) (word_turn_shrinks role) (no_words, s) ts)) ∙ e)
     where
       by_turn : (o : Option (Read (SpecWords × Scopes))) → word_turn cond specs declr role (no_words, s) ts ≡ o →
           (later o (no_words, s) ts (run (word_turn cond specs declr role)) >>= λ some. whole cond specs declr some.0 some.1) ≡ done x → length x.1 < length ts
