@@ -110,13 +110,13 @@ module _ (cond : Scopes → List Lexeme → Read (Expr × Scopes)) (specs : Role
           (below_bind (length ts) (suc (length ts)) (mem_declr_shrinks s ts)
               (λ d less. below_more (suc (length d.1)) (suc (length ts)) (omega (arith, less)) (run_falls (mem_declr_turn cond specs declr) mem_declr_turn_shrinks _ d.1)))
 
-  member_shrinks : (s : Scopes) → Shrinks (member_with cond specs declr s)
+  pub member_shrinks : (s : Scopes) → Shrinks (member_with cond specs declr s)
   unfolding member_with
   member_shrinks s ts =
       below_bind (length ts) (length ts) (falls_specs _ s ts) (λ w less. below_bind (suc (length w.1)) (length ts) (mem_declrs_below w.0.1 w.1)
           (λ ds less2. below_bind (length ds.1) (length ts) (token_below is_semicolon ds.1) (λ semi less3. below_ok (length ts) _ semi.1 (omega (arith, less, less2, less3)))))
 
-  struct_item_shrinks : (s : Scopes) → Shrinks (struct_item_with cond specs declr s)
+  pub struct_item_shrinks : (s : Scopes) → Shrinks (struct_item_with cond specs declr s)
   unfolding struct_item_with
   struct_item_shrinks s [] = member_shrinks s []
   struct_item_shrinks s (t ∷ ts) = below_by (suc (length ts)) (is_semicolon t.kind) (below_ok (suc (length ts)) _ ts (omega arith)) (member_shrinks s (t ∷ ts))
@@ -147,7 +147,7 @@ module _ (cond : Scopes → List Lexeme → Read (Expr × Scopes)) (specs : Role
       below_bind (suc (length ts)) (suc (length ts)) (tag_below ts) (λ tag less. below_bind (suc (length tag.1)) (suc (length ts)) (body_below tag.0 s tag.1)
           (λ body less2. below_ok (suc (length ts)) _ body.1 (omega (arith, less, less2))))
 
-  enumerator_shrinks : (es : Enumerators) (s : Scopes) → Shrinks (enumerator_with cond specs declr es s)
+  pub enumerator_shrinks : (es : Enumerators) (s : Scopes) → Shrinks (enumerator_with cond specs declr es s)
   unfolding enumerator_with
   enumerator_shrinks es s ts =
       below_bind (length ts) (length ts) (name_below ts) (λ name less. below_bind (suc (length name.1)) (length ts) (declared_below name.0 name.0.token (declare_name s name.0.name Constant) name.1)
