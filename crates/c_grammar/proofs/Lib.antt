@@ -18,3 +18,8 @@ pub mod SpecsSound
 pub mod DeclrSoundWords
 pub mod DeclrSoundParams
 pub mod DeclrSound
+pub mod Firsts
+pub mod SpecsFalls
+pub mod SpecsCompleteParts
+pub mod SpecsCompleteEnums
+pub mod SpecsComplete
