@@ -5,3 +5,5 @@ pub mod Qualifying
 pub mod Aims
 pub mod Tails
 pub mod Growing
+pub mod ItemsLists
+pub mod ItemsSound
