@@ -28,7 +28,7 @@ use Rattle.c_grammar.proofs.Taking.{token_taken}
 use Rattle.c_grammar.proofs.ItemsLists.{behind_some, present_taken, declared_taken, after_falls, HasFirst, with_has_first, with_start, with_scopes, with_text, with_are, items_text_more, comma_before, items_scopes_more}
 
 -- a semicolon that was read
-semi_is : (ts : List Lexeme) (t : Lexeme) (k : List Lexeme) → token_at is_semicolon ts ≡ Ok (t, k) → ts ≡ sign_text Semicolon t.at k
+pub semi_is : (ts : List Lexeme) (t : Lexeme) (k : List Lexeme) → token_at is_semicolon ts ≡ Ok (t, k) → ts ≡ sign_text Semicolon t.at k
 semi_is ts t k e =
     let taken = token_taken is_semicolon ts t k e in
     taken.0 ∙ ap (λ (kind : TokenKind). record { kind = kind; at = t.at } ∷ k) (by_kind t.kind taken.1)

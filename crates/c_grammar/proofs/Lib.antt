@@ -7,3 +7,4 @@ pub mod Tails
 pub mod Growing
 pub mod ItemsLists
 pub mod ItemsSound
+pub mod ItemsComplete
