@@ -8,3 +8,4 @@ pub mod Growing
 pub mod ItemsLists
 pub mod ItemsSound
 pub mod ItemsComplete
+pub mod KnotParts
