@@ -1,4 +1,4 @@
--- Heights of trees, readers that refuse all, and the reader of the names of types.
+-- Heights of trees, what is read where no declarator stands, and the reader of the names of types.
 use Rattle.std.proofs.Common.{◌≡◌, ℕ, zero, suc, max, Bool, true, false, if◌then◌else◌, not, ◌&&◌, List, [], ◌∷◌, length, ◌≤◌, ◌<◌, ◌+◌, Option, Some, None, Ok, refl, sym, ◌∙◌, ap, subst, arith}
 use Rattle.std.proofs.Math.Nat.{le-max_left, le-max_right}
 use Rattle.std.specs.Prelude.{is_some, nat_le}
@@ -15,8 +15,8 @@ use Rattle.c_grammar.specs.Reading.{Read, Shrinks, IsTail, Turn, lowered, run, e
 use Rattle.c_grammar.specs.Eating.{is_open_paren, is_open_bracket, is_open_brace, is_star}
 use Rattle.c_grammar.specs.Specifying.{Role, naming, kind_start, typed_start, is_start, spelled_name}
 use Rattle.c_grammar.specs.Declaring.{Mode, with_name, without_name, either_way, takes_nothing, declr_with, direct_with, core_with, suffix_turn}
-use Rattle.c_grammar.specs.Knot.{expr_at, type_name_at, specs_at, declr_at, type_name_with}
-use Rattle.c_grammar.proofs.Aims.{Takes, IsComplete, ends_specs, ends_declr, FitsMode, MayBeNamed, TypeName, type_name_text, FitsTypeName, type_name_scopes, type_name_height, ExprLaws, TypeNameLaws, SpecsLaws, DeclrLaws}
+use Rattle.c_grammar.specs.Knot.{type_name_with}
+use Rattle.c_grammar.proofs.Aims.{Takes, IsComplete, ends_specs, ends_declr, FitsMode, MayBeNamed, TypeName, type_name_text, FitsTypeName, type_name_scopes, type_name_height, SpecsLaws, DeclrLaws}
 use Rattle.c_grammar.proofs.LoopLemmas.{bind_ok, ok_is, turns-suc}
 use Rattle.c_grammar.proofs.ItemsLists.{behind_parts}
 
@@ -40,48 +40,11 @@ pub declr_high : (d : Declr) → 1 ≤ declr_height d
 declr_high (declr_name token name) = omega arith
 declr_high d = high _
 
--- laws of readers that refuse all
-pub refusing_exprs : (all : List Lexeme) → ExprLaws all 0 (expr_at 0)
-refusing_exprs all = record {
-  shrinks = λ reach s ts x e. absurd cc;
-  sound = λ reach s ts x tail e. absurd cc;
-  complete = λ reach e s s' k fits named low ends_here. absurd (too_low (expr_height e) (expr_high e) low);
-}
-  where
-    too_low : (m : ℕ) → 1 ≤ m → m ≤ 0 → ⊥
-    too_low m high low = omega arith
+pub type_name_high : (all : List Lexeme) (t : TypeName all) → 1 ≤ type_name_height all t
+type_name_high all t = high (max (specs_height t.0) (some_declr_height t.1))
 
-pub refusing_types : (all : List Lexeme) → TypeNameLaws all 0 (type_name_at 0)
-refusing_types all = record {
-  shrinks = λ s ts x e. absurd cc;
-  sound = λ s ts x tail e. absurd cc;
-  complete = λ t s s' k fits named low ends_here. absurd (too_low (max (specs_height t.0) (some_declr_height t.1)) low);
-}
-  where
-    too_low : (m : ℕ) → m + 1 ≤ 0 → ⊥
-    too_low m low = omega arith
-
-pub refusing_specs : (all : List Lexeme) → SpecsLaws all 0 (specs_at 0)
-refusing_specs all = record {
-  falls = λ role words s ts x e. absurd cc;
-  shrinks = λ role s ts x e. absurd cc;
-  sound = λ role words s ts x tail e. absurd cc;
-  complete = λ role words rest s s' k mix fits named low ends_here. absurd (too_low (specs_height rest) (specs_high rest) low);
-}
-  where
-    too_low : (m : ℕ) → 1 ≤ m → m ≤ 0 → ⊥
-    too_low m high low = omega arith
-
-pub refusing_declrs : (all : List Lexeme) → DeclrLaws all 0 (declr_at 0)
-refusing_declrs all = record {
-  falls = λ mode wanted s ts x e. absurd cc;
-  shrinks = λ wanted s ts x e. absurd cc;
-  sound = λ mode wanted s ts x tail e. absurd cc;
-  complete = λ mode wanted least. absurd (too_low least);
-}
-  where
-    too_low : 1 ≤ 0 → ⊥
-    too_low least = omega arith
+pub none_low : (m : ℕ) → 1 ≤ m → m ≤ 0 → ⊥
+none_low m high low = omega arith
 
 -- Where a declarator ends, words of specifiers end.
 pub words_end : (k : List Lexeme) → ends_declr k ≡ true → ends_specs k ≡ true
@@ -193,10 +156,7 @@ module _ (room : ℕ) (assign : Scopes → List Lexeme → Read (Expr × Scopes)
       rw (is.no_star, is.no_paren, is.no_name) (run_none (suffix_turn room assign specs_from declr) (no_declr, s) (t ∷ ts) (no_suffix s t ts is))
 
   pub reads_nothing : (all : List Lexeme) → ReadsDeclrs all 0 (declr_with room assign specs_from declr)
-  reads_nothing all mode wanted (some_declr d) s s' k fits named low ends_here = absurd (too_low (declr_height d) (declr_high d) low)
-    where
-      too_low : (m : ℕ) → 1 ≤ m → m ≤ 0 → ⊥
-      too_low m high low = omega arith
+  reads_nothing all mode wanted (some_declr d) s s' k fits named low ends_here = absurd (none_low (declr_height d) (declr_high d) low)
   reads_nothing all with_name wanted no_declr s s' k fits named low ends_here = absurd fits.0
   reads_nothing all without_name wanted no_declr s s' k fits named low ends_here =
       let same : s ≡ s' = cc in

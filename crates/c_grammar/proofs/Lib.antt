@@ -9,3 +9,4 @@ pub mod ItemsLists
 pub mod ItemsSound
 pub mod ItemsComplete
 pub mod KnotParts
+pub mod Knotting
