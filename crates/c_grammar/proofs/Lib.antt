@@ -10,3 +10,4 @@ pub mod ItemsSound
 pub mod ItemsComplete
 pub mod KnotParts
 pub mod Knotting
+pub mod ItemsUnits
