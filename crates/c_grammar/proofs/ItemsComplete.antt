@@ -1,5 +1,5 @@
 -- The texts of declarations and of items that obey the rules are read as these.
-use Rattle.std.proofs.Common.{◌≡◌, ℕ, suc, max, Bool, true, false, if◌then◌else◌, not, ◌&&◌, List, [], ◌∷◌, ◌++◌, length, ◌≤◌, ◌<◌, ◌+◌, Option, Some, None, Ok, refl, sym, ◌∙◌, ap, subst, arith, append_assoc, append-nil}
+use Rattle.std.proofs.Common.{◌≡◌, ℕ, suc, max, Bool, true, false, if◌then◌else◌, List, [], ◌∷◌, ◌++◌, length, ◌≤◌, ◌<◌, ◌+◌, Option, Some, None, Ok, refl, sym, ◌∙◌, ap, subst, arith, append_assoc, append-nil}
 use Rattle.std.proofs.Math.Nat.{le-max_left, le-max_right}
 use Rattle.std.proofs.lemmas.List.Elements.{All-head, All-tail}
 use Rattle.std.specs.Prelude.{All, is_some}
@@ -9,24 +9,27 @@ use Rattle.c_lexer.specs.declared.kinds.TokenKind.TheVariants as kinds
 use Rattle.c_tree.specs.declared.lexeme.Lexeme.{Lexeme}
 use Rattle.c_tree.specs.declared.parts.Attr.{Attr}
 use Rattle.c_tree.specs.declared.parts.AsmLabel.{AsmLabel}
-use Rattle.c_tree.specs.Tree.{SpecWords, no_words, more_words, Declr, pointer, declr_name, declr_paren, array, params, SomeDeclr, no_declr, some_declr, SomeInit, no_init, some_init, InitDeclrs, no_init_declrs, more_init_declrs, Declaration, declaration, Decl, decl_declaration, decl_assert}
-use Rattle.c_tree.specs.Text.{sign_text, separated, spec_words_text, some_declr_text, declr_text, init_declrs_text, other_init_declrs_text, declaration_text}
+use Rattle.c_tree.specs.Tree.{SpecWords, no_words, Declr, pointer, declr_name, declr_paren, array, params, SomeDeclr, some_declr, SomeInit, no_init, some_init, InitDeclrs, no_init_declrs, more_init_declrs, Declaration, declaration, decl_declaration, decl_assert}
+use Rattle.c_tree.specs.Text.{sign_text, separated, declr_text, init_declrs_text, other_init_declrs_text, declaration_text}
 use Rattle.c_tree.specs.Height.{specs_height, declr_height, init_declrs_height, declaration_height}
 use Rattle.c_tree.specs.Unit.{Item, function_item, decl_item, asm_item, semi_item, item_text, items_text, IsItem, item_height, unit_height}
-use Rattle.c_tree.specs.WellFormed.{AreSpecWords, IsDeclr, is_named, AreInitDeclrs, IsInitStart, IsDeclaration}
+use Rattle.c_tree.specs.WellFormed.{IsDeclr, is_named, AreInitDeclrs, IsDeclaration}
 use Rattle.typedef_scope.specs.declared.kind.Kind.{Kind}
 use Rattle.typedef_scope.specs.Scopes.{Scopes, file_scope, declare_name}
-use Rattle.c_grammar.specs.Scoping.{behind, without, without_label, spec_words_scopes, some_declr_scopes, declr_scopes, declared_kind, declared_name, some_declared_name, declare_some, init_declrs_scopes, decl_scopes}
+use Rattle.c_grammar.specs.Scoping.{behind, without, without_label, spec_words_scopes, declr_scopes, declared_kind, declared_name, some_declared_name, declare_some, init_declrs_scopes, decl_scopes}
 use Rattle.c_grammar.specs.Units.{item_scopes, items_scopes}
 use Rattle.c_grammar.specs.Reading.{Read, Shrinks, IsNumbered, run, ends, ◌>>=◌}
 use Rattle.c_grammar.specs.Eating.{token_at, after, begins, is_comma, is_end, is_semicolon}
 use Rattle.c_grammar.specs.Specifying.{Role, declaring, begins_specs, is_start, typed_start, kind_start}
-use Rattle.c_grammar.specs.Declaring.{Mode, with_name, present, declared_some, name_token, may_declare}
+use Rattle.c_grammar.specs.Declaring.{Mode, with_name, may_declare}
 use Rattle.c_grammar.specs.Items.{with_init_declr, init_declr_with, init_declr_turn, init_declrs_with, declaration_with, item_with, item_turn, items_with}
 use Rattle.c_grammar.proofs.Aims.{DeclrsGrow, WordsBegin, SpecsLaws, DeclrLaws, ends_specs, ends_declr}
 use Rattle.c_grammar.proofs.LoopLemmas.{bind_ok, done, ok_is, TurnShrinks, op_shrinks, op_goes_on, op_done, run_is, run-keep}
 use Rattle.c_grammar.proofs.ItemsLists.{behind_parts, after_falls}
 use Rattle.c_grammar.proofs.ItemsSound.{semi_is, init_declr_shrinks}
+
+semi_longer : (ts : List Lexeme) (t : Lexeme) (k : List Lexeme) → token_at is_semicolon ts ≡ Ok (t, k) → length ts ≡ suc (length k)
+semi_longer ts t k e = ap (λ (us : List Lexeme). length us) (semi_is ts t k e)
 
 -- lists of declarators one behind the other
 abbrev append_declrs : InitDeclrs → InitDeclrs → InitDeclrs
@@ -148,7 +151,7 @@ module _ (all : List Lexeme) (numbered : IsNumbered all) (n : ℕ) (specs : Role
       by_semi true e =
           let y : (InitDeclrs × Scopes) × List Lexeme = ((no_init_declrs, s), ts) in
           let same : y ≡ x = ok_is y x e in
-          subst (λ (x : (InitDeclrs × Scopes) × List Lexeme). length x.1 ≤ length ts) same (omega arith)
+          subst (λ (x : (InitDeclrs × Scopes) × List Lexeme). length x.1 ≤ length ts) {x = y} same (omega arith)
       by_semi false e =
           let read = bind_ok (init_declr_with (specs declaring) declr kind no_init_declrs s ts) (λ d. run (init_declr_turn (specs declaring) declr kind) d.0 d.1) x e in
           let less : length read.0.1 < length ts = init_declr_shrinks all numbered n specs declr words declrs kind no_init_declrs s ts read.0 read.1 in
@@ -166,10 +169,10 @@ module _ (all : List Lexeme) (numbered : IsNumbered all) (n : ℕ) (specs : Role
       let ds = bind_ok (init_declrs_with (specs declaring) declr (declared_kind w.0.0.0) w.0.0.1 w.0.1) (λ ds. token_at is_semicolon ds.1 >>= λ semi. ends (declaration [] w.0.0.0 ds.0.0 semi.0.at, ds.0.1) semi.1) x w.2 in
       let falls : length ds.0.1 ≤ length w.0.1 = init_declrs_fall (declared_kind w.0.0.0) w.0.0.1 w.0.1 ds.0 ds.1 in
       let semi = bind_ok (token_at is_semicolon ds.0.1) (λ semi. ends (declaration [] w.0.0.0 ds.0.0.0 semi.0.at, ds.0.0.1) semi.1) x ds.2 in
-      let semi_long : length ds.0.1 ≡ suc (length semi.0.1) = ap (λ (us : List Lexeme). length us) (semi_is ds.0.1 semi.0.0 semi.0.1 semi.1) in
+      let semi_long : length ds.0.1 ≡ suc (length semi.0.1) = semi_longer ds.0.1 semi.0.0 semi.0.1 semi.1 in
       let y : (Declaration × Scopes) × List Lexeme = ((declaration [] w.0.0.0 ds.0.0.0 semi.0.0.at, ds.0.0.1), semi.0.1) in
       let same : y ≡ x = ok_is y x semi.2 in
-      subst (λ (x : (Declaration × Scopes) × List Lexeme). length x.1 < length ts) same (omega (arith, less, falls, semi_long))
+      subst (λ (x : (Declaration × Scopes) × List Lexeme). length x.1 < length ts) {x = y} same (omega (arith, less, falls, semi_long))
 
   declaration_item_shrinks : (s : Scopes) (ts : List Lexeme) (x : (Item × Scopes) × List Lexeme) →
       (declaration_with (specs declaring) declr s ts >>= λ d. ends (decl_item (decl_declaration d.0.0), d.0.1) d.1) ≡ Ok x → length x.1 < length ts
@@ -177,7 +180,7 @@ module _ (all : List Lexeme) (numbered : IsNumbered all) (n : ℕ) (specs : Role
       let d = bind_ok (declaration_with (specs declaring) declr s ts) (λ d. ends (decl_item (decl_declaration d.0.0), d.0.1) d.1) x e in
       let less : length d.0.1 < length ts = declaration_shrinks s ts d.0 d.1 in
       let y : (Item × Scopes) × List Lexeme = ((decl_item (decl_declaration d.0.0.0), d.0.0.1), d.0.1) in
-      subst (λ (x : (Item × Scopes) × List Lexeme). length x.1 < length ts) (ok_is y x d.2) less
+      subst (λ (x : (Item × Scopes) × List Lexeme). length x.1 < length ts) {x = y} (ok_is y x d.2) less
 
   item_shrinks : (s : Scopes) → Shrinks (item_with (specs declaring) declr s)
   unfolding item_with
@@ -188,7 +191,7 @@ module _ (all : List Lexeme) (numbered : IsNumbered all) (n : ℕ) (specs : Role
           length x.1 < length (t ∷ ts)
       by_semi true e =
           let y : (Item × Scopes) × List Lexeme = ((semi_item (record { token = t.at }), s), ts) in
-          subst (λ (x : (Item × Scopes) × List Lexeme). length x.1 < length (t ∷ ts)) (ok_is y x e) (omega arith)
+          subst (λ (x : (Item × Scopes) × List Lexeme). length x.1 < length (t ∷ ts)) {x = y} (ok_is y x e) (omega arith)
       by_semi false e = declaration_item_shrinks s (t ∷ ts) x e
 
   item_turn_shrinks : TurnShrinks (item_turn (specs declaring) declr)
@@ -201,7 +204,7 @@ module _ (all : List Lexeme) (numbered : IsNumbered all) (n : ℕ) (specs : Role
           let item = bind_ok (item_with (specs declaring) declr state.1 ts) (λ item. ends (state.0 ++ item.0.0 ∷ [], item.0.1) item.1) x e' in
           let less : length item.0.1 < length ts = item_shrinks state.1 ts item.0 item.1 in
           let y : (List Item × Scopes) × List Lexeme = ((state.0 ++ item.0.0.0 ∷ [], item.0.0.1), item.0.1) in
-          subst (λ (x : (List Item × Scopes) × List Lexeme). length x.1 < length ts) (ok_is y x item.2) less
+          subst (λ (x : (List Item × Scopes) × List Lexeme). length x.1 < length ts) {x = y} (ok_is y x item.2) less
 
   module _ (grow : DeclrsGrow) (least : 1 ≤ n) where
     -- a name may be declared before its declarator if it may behind it

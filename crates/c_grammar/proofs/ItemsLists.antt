@@ -1,6 +1,5 @@
 -- Lists of declarators and of items with one more at the end: their texts, rules and scopes.
-use Rattle.std.proofs.Common.{◌≡◌, ℕ, Bool, true, false, if◌then◌else◌, List, [], ◌∷◌, ◌++◌, length, ◌≤◌, ◌<◌, Option, Some, None, Ok, refl, sym, ◌∙◌, ap, subst, arith}
-use Rattle.c_lexer.specs.declared.kinds.Punct.{Punct}
+use Rattle.std.proofs.Common.{◌≡◌, ℕ, Bool, true, false, if◌then◌else◌, List, [], ◌∷◌, ◌++◌, length, ◌≤◌, ◌<◌, Option, Some, None, Ok, refl, ◌∙◌, ap, subst, arith}
 use Rattle.c_lexer.specs.declared.kinds.Punct.TheVariants.{Comma}
 use Rattle.c_lexer.specs.declared.kinds.TokenKind.{TokenKind}
 use Rattle.c_lexer.specs.declared.kinds.TokenKind.TheVariants as kinds
@@ -13,7 +12,7 @@ use Rattle.typedef_scope.specs.declared.kind.Kind.{Kind}
 use Rattle.typedef_scope.specs.Scopes.{Scopes}
 use Rattle.c_grammar.specs.Scoping.{behind, without, without_label, declared_name, declare_some, declr_scopes, init_declrs_scopes}
 use Rattle.c_grammar.specs.Units.{item_scopes, items_scopes}
-use Rattle.c_grammar.specs.Reading.{Read, IsTail}
+use Rattle.c_grammar.specs.Reading.{IsTail}
 use Rattle.c_grammar.specs.Eating.{after, is_comma}
 use Rattle.c_grammar.specs.Declaring.{present, declared_some}
 use Rattle.c_grammar.specs.Items.{with_init_declr}

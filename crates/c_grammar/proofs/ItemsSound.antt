@@ -1,15 +1,13 @@
 -- What the readers of declarations and of items take is spelled so, obeys the rules, and gives these scopes.
-use Rattle.std.proofs.Common.{◌≡◌, ℕ, Bool, true, false, if◌then◌else◌, List, [], ◌∷◌, ◌++◌, length, ◌≤◌, ◌<◌, Option, Some, None, Ok, refl, sym, ◌∙◌, ap, subst, arith}
+use Rattle.std.proofs.Common.{◌≡◌, ℕ, Bool, true, false, if◌then◌else◌, List, [], ◌∷◌, ◌++◌, length, ◌<◌, Option, Some, None, Ok, refl, sym, ◌∙◌, ap, subst, arith}
 use Rattle.std.specs.Prelude.{All}
 use Rattle.std.proofs.lemmas.List.Elements.{All-push}
 use Rattle.c_lexer.specs.declared.kinds.Punct.TheVariants.{Semicolon}
 use Rattle.c_lexer.specs.declared.kinds.TokenKind.{TokenKind}
 use Rattle.c_lexer.specs.declared.kinds.TokenKind.TheVariants as kinds
 use Rattle.c_tree.specs.declared.lexeme.Lexeme.{Lexeme}
-use Rattle.c_tree.specs.declared.parts.Semi.{Semi}
-use Rattle.c_tree.specs.Tree.{SpecWords, no_words, Declr, SomeDeclr, no_declr, some_declr, InitDeclrs, no_init_declrs, more_init_declrs, Declaration, declaration, decl_declaration}
+use Rattle.c_tree.specs.Tree.{SpecWords, no_words, Declr, SomeDeclr, some_declr, InitDeclrs, no_init_declrs, Declaration, declaration, decl_declaration}
 use Rattle.c_tree.specs.Text.{sign_text, separated, spec_words_text, some_declr_text, declr_text, init_declrs_text, declaration_text}
-use Rattle.c_tree.specs.Specifiers.{IsMix}
 use Rattle.c_tree.specs.Unit.{Item, decl_item, semi_item, item_text, items_text, IsItem}
 use Rattle.c_tree.specs.WellFormed.{AreSpecWords, IsDeclr, is_named, AreInitDeclrs, IsInitStart, IsDeclaration}
 use Rattle.typedef_scope.specs.declared.kind.Kind.{Kind}
@@ -21,11 +19,11 @@ use Rattle.c_grammar.specs.Eating.{token_at, after, begins, is_comma, is_end, is
 use Rattle.c_grammar.specs.Specifying.{Role, declaring}
 use Rattle.c_grammar.specs.Declaring.{Mode, with_name, present, declared_some, name_token}
 use Rattle.c_grammar.specs.Items.{with_init_declr, init_declr_with, init_declr_turn, init_declrs_with, declaration_with, item_with, item_turn, items_with}
-use Rattle.c_grammar.proofs.Aims.{IsNamed, SpecsLaws, DeclrLaws}
-use Rattle.c_grammar.proofs.LoopLemmas.{bind_ok, done, ok_is, op_parts, run-keep, TurnShrinks}
+use Rattle.c_grammar.proofs.Aims.{IsNamed, TakesWords, SpecsLaws, DeclrLaws}
+use Rattle.c_grammar.proofs.LoopLemmas.{bind_ok, done, ok_is, op_parts, run-keep}
 use Rattle.c_grammar.proofs.Tails.{tail_of}
 use Rattle.c_grammar.proofs.Taking.{token_taken}
-use Rattle.c_grammar.proofs.ItemsLists.{behind_some, present_taken, declared_taken, after_falls, HasFirst, with_has_first, with_start, with_scopes, with_text, with_are, items_text_more, comma_before, items_scopes_more}
+use Rattle.c_grammar.proofs.ItemsLists.{present_taken, declared_taken, HasFirst, with_has_first, with_start, with_scopes, with_text, with_are, items_text_more, comma_before, items_scopes_more}
 
 -- a semicolon that was read
 pub semi_is : (ts : List Lexeme) (t : Lexeme) (k : List Lexeme) → token_at is_semicolon ts ≡ Ok (t, k) → ts ≡ sign_text Semicolon t.at k
@@ -124,7 +122,7 @@ module _ (all : List Lexeme) (numbered : IsNumbered all) (n : ℕ) (specs : Role
       by_semi true e =
           let y : (InitDeclrs × Scopes) × List Lexeme = ((no_init_declrs, s), ts) in
           let same : y ≡ x = ok_is y x e in
-          subst (λ (x : (InitDeclrs × Scopes) × List Lexeme). TakesDeclrs kind s ts x.0.0 x.0.1 x.1) same (record { spelled = refl; begun = tt; fits = tt; named = refl; left = tail })
+          subst (λ (x : (InitDeclrs × Scopes) × List Lexeme). TakesDeclrs kind s ts x.0.0 x.0.1 x.1) {x = y} same (record { spelled = refl; begun = tt; fits = tt; named = refl; left = tail })
       by_semi false e =
           let read = bind_ok (init_declr_with (specs declaring) declr kind no_init_declrs s ts) (λ d. run (init_declr_turn (specs declaring) declr kind) d.0 d.1) x e in
           let first = init_declr_sound kind no_init_declrs s ts read.0 tail read.1 in
@@ -147,26 +145,37 @@ module _ (all : List Lexeme) (numbered : IsNumbered all) (n : ℕ) (specs : Role
     pub named : decl_scopes (decl_declaration d) s ≡ Some s'
     pub left : IsTail all k
 
+  declaration_taken : (s t s' : Scopes) (ts us vs k : List Lexeme) (ws : SpecWords) (ds : InitDeclrs) (semi : ℕ) → TakesWords all declaring no_words s ts ((ws, t), us) →
+      TakesDeclrs (declared_kind ws) t us ds s' vs → vs ≡ sign_text Semicolon semi k → TakesDeclaration s ts (declaration [] ws ds semi) s' k
+  declaration_taken s t s' ts us vs k ws ds semi of_words of_declrs semi_text =
+      let rest_is : of_words.rest ≡ ws = sym of_words.words_are in
+      record {
+        spelled = of_words.spelled ∙ ap (λ (ws : SpecWords). spec_words_text all ws us) rest_is ∙ ap (spec_words_text all ws) (of_declrs.spelled ∙ ap (init_declrs_text all ds) semi_text);
+        fits = (of_words.mix, subst (λ (ws : SpecWords). AreSpecWords all ws) rest_is of_words.fits, of_declrs.begun, of_declrs.fits);
+        named = rw (ap (λ (ws : SpecWords). spec_words_scopes ws s) (sym rest_is) ∙ of_words.named) of_declrs.named;
+        left = tail_of all (record { kind = kinds.Punct Semicolon; at = semi }) k (subst (λ (k : List Lexeme). IsTail all k) semi_text of_declrs.left);
+      }
+
   declaration_sound : (s : Scopes) (ts : List Lexeme) (x : (Declaration × Scopes) × List Lexeme) → IsTail all ts →
       declaration_with (specs declaring) declr s ts ≡ Ok x → TakesDeclaration s ts x.0.0 x.0.1 x.1
   unfolding declaration_with
   declaration_sound s ts x tail e =
       let w = bind_ok (specs declaring no_words s ts) (λ w. init_declrs_with (specs declaring) declr (declared_kind w.0.0) w.0.1 w.1 >>= λ ds. token_at is_semicolon ds.1 >>= λ semi. ends (declaration [] w.0.0 ds.0.0 semi.0.at, ds.0.1) semi.1) x e in
-      let of_words = words.sound declaring no_words s ts w.0 tail w.1 in
-      let ds = bind_ok (init_declrs_with (specs declaring) declr (declared_kind w.0.0.0) w.0.0.1 w.0.1) (λ ds. token_at is_semicolon ds.1 >>= λ semi. ends (declaration [] w.0.0.0 ds.0.0 semi.0.at, ds.0.1) semi.1) x w.2 in
-      let of_declrs = init_declrs_sound (declared_kind w.0.0.0) w.0.0.1 w.0.1 ds.0 of_words.left ds.1 in
-      let semi = bind_ok (token_at is_semicolon ds.0.1) (λ semi. ends (declaration [] w.0.0.0 ds.0.0.0 semi.0.at, ds.0.0.1) semi.1) x ds.2 in
-      let semi_text : ds.0.1 ≡ sign_text Semicolon semi.0.0.at semi.0.1 = semi_is ds.0.1 semi.0.0 semi.0.1 semi.1 in
-      let rest_is : of_words.rest ≡ w.0.0.0 = sym of_words.words_are in
-      let y : (Declaration × Scopes) × List Lexeme = ((declaration [] w.0.0.0 ds.0.0.0 semi.0.0.at, ds.0.0.1), semi.0.1) in
-      let same : y ≡ x = ok_is y x semi.2 in
-      let taken : TakesDeclaration s ts y.0.0 y.0.1 y.1 = record {
-        spelled = of_words.spelled ∙ ap (λ (ws : SpecWords). spec_words_text all ws w.0.1) rest_is ∙ ap (spec_words_text all w.0.0.0) (of_declrs.spelled ∙ ap (init_declrs_text all ds.0.0.0) semi_text);
-        fits = (of_words.mix, subst (λ (ws : SpecWords). AreSpecWords all ws) rest_is of_words.fits, of_declrs.begun, of_declrs.fits);
-        named = rw (ap (λ (ws : SpecWords). spec_words_scopes ws s) (sym rest_is) ∙ of_words.named) of_declrs.named;
-        left = tail_of all (record { kind = kinds.Punct Semicolon; at = semi.0.0.at }) semi.0.1 (subst (λ (k : List Lexeme). IsTail all k) semi_text of_declrs.left);
-      } in
-      subst (λ (x : (Declaration × Scopes) × List Lexeme). TakesDeclaration s ts x.0.0 x.0.1 x.1) same taken
+      by_words w.0 (words.sound declaring no_words s ts w.0 tail w.1) w.2
+    where
+      by_words : (w : (SpecWords × Scopes) × List Lexeme) → TakesWords all declaring no_words s ts w →
+          (init_declrs_with (specs declaring) declr (declared_kind w.0.0) w.0.1 w.1 >>= λ ds. token_at is_semicolon ds.1 >>= λ semi. ends (declaration [] w.0.0 ds.0.0 semi.0.at, ds.0.1) semi.1) ≡ Ok x → TakesDeclaration s ts x.0.0 x.0.1 x.1
+      by_words w of_words e =
+          let ds = bind_ok (init_declrs_with (specs declaring) declr (declared_kind w.0.0) w.0.1 w.1) (λ ds. token_at is_semicolon ds.1 >>= λ semi. ends (declaration [] w.0.0 ds.0.0 semi.0.at, ds.0.1) semi.1) x e in
+          by_declrs ds.0 (init_declrs_sound (declared_kind w.0.0) w.0.1 w.1 ds.0 of_words.left ds.1) ds.2
+        where
+          by_declrs : (ds : (InitDeclrs × Scopes) × List Lexeme) → TakesDeclrs (declared_kind w.0.0) w.0.1 w.1 ds.0.0 ds.0.1 ds.1 →
+              (token_at is_semicolon ds.1 >>= λ semi. ends (declaration [] w.0.0 ds.0.0 semi.0.at, ds.0.1) semi.1) ≡ Ok x → TakesDeclaration s ts x.0.0 x.0.1 x.1
+          by_declrs ds of_declrs e =
+              let semi = bind_ok (token_at is_semicolon ds.1) (λ semi. ends (declaration [] w.0.0 ds.0.0 semi.0.at, ds.0.1) semi.1) x e in
+              let y : (Declaration × Scopes) × List Lexeme = ((declaration [] w.0.0 ds.0.0 semi.0.0.at, ds.0.1), semi.0.1) in
+              subst (λ (x : (Declaration × Scopes) × List Lexeme). TakesDeclaration s ts x.0.0 x.0.1 x.1) {x = y} (ok_is y x semi.2)
+              (declaration_taken s w.0.1 ds.0.1 ts w.1 ds.1 semi.0.1 w.0.0 ds.0.0 semi.0.0.at of_words of_declrs (semi_is ds.1 semi.0.0 semi.0.1 semi.1))
 
   record TakesItem (s : Scopes) (ts : List Lexeme) (item : Item) (s' : Scopes) (k : List Lexeme) : Type 0 where
     pub spelled : ts ≡ item_text all item k
@@ -181,7 +190,7 @@ module _ (all : List Lexeme) (numbered : IsNumbered all) (n : ℕ) (specs : Role
       let taken = declaration_sound s ts d.0 tail d.1 in
       let y : (Item × Scopes) × List Lexeme = ((decl_item (decl_declaration d.0.0.0), d.0.0.1), d.0.1) in
       let same : y ≡ x = ok_is y x d.2 in
-      subst (λ (x : (Item × Scopes) × List Lexeme). TakesItem s ts x.0.0 x.0.1 x.1) same (record { spelled = taken.spelled; fits = taken.fits; named = taken.named; left = taken.left })
+      subst (λ (x : (Item × Scopes) × List Lexeme). TakesItem s ts x.0.0 x.0.1 x.1) {x = y} same (record { spelled = taken.spelled; fits = taken.fits; named = taken.named; left = taken.left })
 
   item_sound : (s : Scopes) (ts : List Lexeme) (x : (Item × Scopes) × List Lexeme) → IsTail all ts → item_with (specs declaring) declr s ts ≡ Ok x → TakesItem s ts x.0.0 x.0.1 x.1
   unfolding item_with
@@ -194,7 +203,7 @@ module _ (all : List Lexeme) (numbered : IsNumbered all) (n : ℕ) (specs : Role
           let y : (Item × Scopes) × List Lexeme = ((semi_item (record { token = t.at }), s), ts) in
           let same : y ≡ x = ok_is y x e in
           let spelled : t ∷ ts ≡ sign_text Semicolon t.at ts = semi_is (t ∷ ts) t ts (rw is refl) in
-          subst (λ (x : (Item × Scopes) × List Lexeme). TakesItem s (t ∷ ts) x.0.0 x.0.1 x.1) same (record { spelled = spelled; fits = tt; named = refl; left = tail_of all t ts tail })
+          subst (λ (x : (Item × Scopes) × List Lexeme). TakesItem s (t ∷ ts) x.0.0 x.0.1 x.1) {x = y} same (record { spelled = spelled; fits = tt; named = refl; left = tail_of all t ts tail })
       by_semi false is e = declaration_item s (t ∷ ts) x tail e
 
   pub record TakesItems (s : Scopes) (start : List Lexeme) (items : List Item) (s' : Scopes) (k : List Lexeme) : Type 0 where
@@ -213,16 +222,17 @@ module _ (all : List Lexeme) (numbered : IsNumbered all) (n : ℕ) (specs : Role
       by_end false e =
           let e' : (item_with (specs declaring) declr state.1 ts >>= λ item. ends (state.0 ++ item.0.0 ∷ [], item.0.1) item.1) ≡ done x = cc in
           let item = bind_ok (item_with (specs declaring) declr state.1 ts) (λ item. ends (state.0 ++ item.0.0 ∷ [], item.0.1) item.1) x e' in
-          let taken = item_sound state.1 ts item.0 known.left item.1 in
-          let y : (List Item × Scopes) × List Lexeme = ((state.0 ++ item.0.0.0 ∷ [], item.0.0.1), item.0.1) in
-          let same : y ≡ x = ok_is y x item.2 in
-          let next : TakesItems s start y.0.0 y.0.1 y.1 = record {
-            spelled = known.spelled ∙ ap (items_text all state.0) taken.spelled ∙ sym (items_text_more all state.0 item.0.0.0 item.0.1);
-            fits = All-push (IsItem all) state.0 item.0.0.0 known.fits taken.fits;
-            named = items_scopes_more state.0 item.0.0.0 s ∙ rw known.named taken.named;
-            left = taken.left;
-          } in
-          subst (λ (x : (List Item × Scopes) × List Lexeme). TakesItems s start x.0.0 x.0.1 x.1) same next
+          by_item item.0 (item_sound state.1 ts item.0 known.left item.1) item.2
+        where
+          by_item : (item : (Item × Scopes) × List Lexeme) → TakesItem state.1 ts item.0.0 item.0.1 item.1 → ends (state.0 ++ item.0.0 ∷ [], item.0.1) item.1 ≡ Ok x → TakesItems s start x.0.0 x.0.1 x.1
+          by_item item taken e =
+              let y : (List Item × Scopes) × List Lexeme = ((state.0 ++ item.0.0 ∷ [], item.0.1), item.1) in
+              subst (λ (x : (List Item × Scopes) × List Lexeme). TakesItems s start x.0.0 x.0.1 x.1) {x = y} (ok_is y x e) (record {
+                spelled = known.spelled ∙ ap (items_text all state.0) taken.spelled ∙ sym (items_text_more all state.0 item.0.0 item.1);
+                fits = All-push (IsItem all) state.0 item.0.0 known.fits taken.fits;
+                named = items_scopes_more state.0 item.0.0 s ∙ rw known.named taken.named;
+                left = taken.left;
+              })
 
   pub items_sound : (ts : List Lexeme) (x : (List Item × Scopes) × List Lexeme) → IsTail all ts → items_with (specs declaring) declr ts ≡ Ok x → TakesItems file_scope ts x.0.0 x.0.1 x.1
   unfolding items_with

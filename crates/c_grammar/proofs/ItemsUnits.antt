@@ -1,5 +1,5 @@
 -- What is read of all tokens of a unit is well formed, and what is well formed is read.
-use Rattle.std.proofs.Common.{◌≡◌, ℕ, suc, nat_le, Bool, true, false, if◌then◌else◌, List, [], ◌∷◌, length, ◌≤◌, Option, Some, None, Ok, refl, sym, ◌∙◌, ap, subst, arith}
+use Rattle.std.proofs.Common.{◌≡◌, ℕ, suc, nat_le, Bool, true, false, if◌then◌else◌, List, [], ◌∷◌, ◌≤◌, Option, Ok, refl, sym, ◌∙◌, ap, subst, arith}
 use Rattle.std.proofs.lemmas.Bool.{leb-true, le-leb}
 use Rattle.c_lexer.specs.declared.kinds.TokenKind.{TokenKind}
 use Rattle.c_lexer.specs.declared.kinds.TokenKind.TheVariants as kinds
@@ -15,7 +15,7 @@ use Rattle.c_grammar.specs.Eating.{token_at, is_end}
 use Rattle.c_grammar.specs.Specifying.{Role, declaring}
 use Rattle.c_grammar.specs.Declaring.{Mode}
 use Rattle.c_grammar.specs.Items.{items_with}
-use Rattle.c_grammar.specs.Knot.{specs_at, declr_at, most, alone, unit_at}
+use Rattle.c_grammar.specs.Knot.{specs_at, declr_at, most, alone}
 use Rattle.c_grammar.specs.UnitLaws.{UnitIsWellFormed, WellFormedIsRead, OneUnitAtMost}
 use Rattle.c_grammar.proofs.Aims.{DeclrsGrow, WordsBegin, SpecsLaws, DeclrLaws}
 use Rattle.c_grammar.proofs.LoopLemmas.{bind_ok, ok_is}

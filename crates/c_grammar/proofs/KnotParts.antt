@@ -1,16 +1,15 @@
 -- Heights of trees, what is read where no declarator stands, and the reader of the names of types.
-use Rattle.std.proofs.Common.{◌≡◌, ℕ, zero, suc, max, Bool, true, false, if◌then◌else◌, not, ◌&&◌, List, [], ◌∷◌, length, ◌≤◌, ◌<◌, ◌+◌, Option, Some, None, Ok, refl, sym, ◌∙◌, ap, subst, arith}
+use Rattle.std.proofs.Common.{◌≡◌, ℕ, suc, max, Bool, true, false, not, ◌&&◌, List, [], ◌∷◌, length, ◌≤◌, ◌<◌, ◌+◌, Option, None, Ok, refl, sym, ◌∙◌, ap, subst, arith}
 use Rattle.std.proofs.Math.Nat.{le-max_left, le-max_right}
 use Rattle.std.specs.Prelude.{is_some, nat_le}
 use Rattle.c_tree.specs.declared.lexeme.Lexeme.{Lexeme}
-use Rattle.c_lexer.specs.declared.kinds.TokenKind.{TokenKind}
-use Rattle.c_tree.specs.Tree.{Expr, operation, name_use, number_use, char_use, text_use, SpecWords, no_words, more_words, Declr, pointer, declr_name, abs_pointer, abs_paren, abs_array, abs_params, SomeDeclr, no_declr, some_declr}
+use Rattle.c_tree.specs.Tree.{Expr, name_use, number_use, char_use, text_use, SpecWords, no_words, more_words, Declr, declr_name, abs_pointer, abs_paren, abs_array, abs_params, SomeDeclr, no_declr, some_declr}
 use Rattle.c_tree.specs.Text.{spec_words_text, declr_text, some_declr_text}
 use Rattle.c_tree.specs.Height.{expr_height, spec_word_height, specs_height, declr_height, some_declr_height}
 use Rattle.c_tree.specs.WellFormed.{AreTypeWords, IsDeclr, IsSomeAbstract, is_named}
 use Rattle.typedef_scope.specs.declared.kind.Kind.{Kind}
 use Rattle.typedef_scope.specs.Scopes.{Scopes}
-use Rattle.c_grammar.specs.Scoping.{behind, spec_words_scopes, some_declr_scopes}
+use Rattle.c_grammar.specs.Scoping.{spec_words_scopes, some_declr_scopes}
 use Rattle.c_grammar.specs.Reading.{Read, Shrinks, IsTail, Turn, lowered, run, ends, ◌>>=◌}
 use Rattle.c_grammar.specs.Eating.{is_open_paren, is_open_bracket, is_open_brace, is_star}
 use Rattle.c_grammar.specs.Specifying.{Role, naming, kind_start, typed_start, is_start, spelled_name}
@@ -82,7 +81,7 @@ module _ (all : List Lexeme) where
         let d = bind_ok (declr without_name None w.0.0.1 w.0.1) (λ d. ends ((w.0.0.0, d.0.0), d.0.1) d.1) x w.2 in
         let falls : length d.0.1 ≤ length w.0.1 = declrs.falls without_name None w.0.0.1 w.0.1 d.0 d.1 in
         let y : (TypeName all × Scopes) × List Lexeme = (((w.0.0.0, d.0.0.0), d.0.0.1), d.0.1) in
-        subst (λ (x : (TypeName all × Scopes) × List Lexeme). length x.1 < length ts) (ok_is y x d.2) (omega (arith, less, falls))
+        subst (λ (x : (TypeName all × Scopes) × List Lexeme). length x.1 < length ts) {x = y} (ok_is y x d.2) (omega (arith, less, falls))
 
     pub type_name_sound : (s : Scopes) (ts : List Lexeme) (x : (TypeName all × Scopes) × List Lexeme) → IsTail all ts → type_name_with specs declr s ts ≡ Ok x →
         Takes all (type_name_text all) (FitsTypeName all) (type_name_scopes all) s ts x
@@ -99,7 +98,7 @@ module _ (all : List Lexeme) where
           named = rw (ap (λ (ws : SpecWords). spec_words_scopes ws s) (sym rest_is) ∙ of_words.named) of_declr.named;
           left = of_declr.left;
         } in
-        subst (λ (x : (TypeName all × Scopes) × List Lexeme). Takes all (type_name_text all) (FitsTypeName all) (type_name_scopes all) s ts x) (ok_is y x d.2) taken
+        subst (λ (x : (TypeName all × Scopes) × List Lexeme). Takes all (type_name_text all) (FitsTypeName all) (type_name_scopes all) s ts x) {x = y} (ok_is y x d.2) taken
 
     pub type_name_complete : IsComplete (suc n) (type_name_text all) (FitsTypeName all) (type_name_scopes all) (type_name_height all) ends_declr (type_name_with specs declr)
     type_name_complete t s s' k fits named low ends_here =

@@ -1,5 +1,5 @@
 -- The readers of all nonterminals are sound and complete for trees of at most a height, by induction on it.
-use Rattle.std.proofs.Common.{◌≡◌, ℕ, zero, suc, true, List, length, ◌≤◌, ◌<◌, ◌+◌, max, Option, Some, None, Ok, subst, arith}
+use Rattle.std.proofs.Common.{◌≡◌, ℕ, zero, suc, true, List, length, ◌≤◌, ◌<◌, Option, Some, None, Ok, subst, arith}
 use Rattle.c_tree.specs.declared.lexeme.Lexeme.{Lexeme}
 use Rattle.c_tree.specs.Tree.{Expr, SpecWords, no_words, Declr, SomeDeclr}
 use Rattle.c_tree.specs.Text.{expr_text, some_declr_text, spec_words_text}
