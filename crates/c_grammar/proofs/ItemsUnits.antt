@@ -74,10 +74,10 @@ module _ (all : List Lexeme) (numbered : IsNumbered all) (n : ℕ) (specs : Role
 module _ (steps : (all : List Lexeme) → IsNumbered all → Steps all) (begin : (all : List Lexeme) → IsNumbered all → WordsBegin all) where
   -- the laws of the readers that a unit is read with
   specs_laws : (all : List Lexeme) → IsNumbered all → (n m : ℕ) → suc n ≡ m → SpecsLaws all n (specs_at m)
-  specs_laws all numbered n m same = subst (λ (m : ℕ). SpecsLaws all n (specs_at m)) same (laws_at all (steps all numbered) n).laws.words
+  specs_laws all numbered n m same = subst (λ (m : ℕ). SpecsLaws all n (specs_at m)) same (laws_at all (steps all numbered) n).words
 
   declr_laws : (all : List Lexeme) → IsNumbered all → (n m : ℕ) → suc n ≡ m → DeclrLaws all n (declr_at m)
-  declr_laws all numbered n m same = subst (λ (m : ℕ). DeclrLaws all n (declr_at m)) same (laws_at all (steps all numbered) n).laws.declrs
+  declr_laws all numbered n m same = subst (λ (m : ℕ). DeclrLaws all n (declr_at m)) same (laws_at all (steps all numbered) n).declrs
 
   pub unit_is_well_formed : UnitIsWellFormed
   unit_is_well_formed all numbered items k e = unit_taken all numbered 499 (specs_at most) (declr_at most) (specs_laws all numbered 499 most refl) (declr_laws all numbered 499 most refl) items k e

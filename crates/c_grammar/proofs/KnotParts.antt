@@ -35,10 +35,6 @@ specs_high (more_words w ws) =
     let left : spec_word_height w + 1 ≤ max (spec_word_height w + 1) (specs_height ws) = le-max_left (spec_word_height w + 1) (specs_height ws) in
     omega (arith, left)
 
-pub declr_high : (d : Declr) → 1 ≤ declr_height d
-declr_high (declr_name token name) = omega arith
-declr_high d = high _
-
 pub type_name_high : (all : List Lexeme) (t : TypeName all) → 1 ≤ type_name_height all t
 type_name_high all t = high (max (specs_height t.0) (some_declr_height t.1))
 
@@ -54,9 +50,9 @@ words_end (t ∷ ts) h = by_tests (is_open_paren t.kind) (is_open_bracket t.kind
     by_tests false false false false false false h = refl
     by_tests a b c d e f h = absurd cc
 
--- whether a reader reads the declarators of at most a height, where it may read nothing
-abbrev pub ReadsDeclrs : List Lexeme → ℕ → (Mode → Option Kind → Scopes → List Lexeme → Read (SomeDeclr × Scopes)) → Type 0
-ReadsDeclrs all n declr = (mode : Mode) (wanted : Option Kind) → IsComplete n (some_declr_text all) (λ d s. FitsMode all mode d s × MayBeNamed wanted d s) some_declr_scopes some_declr_height ends_declr (declr mode wanted)
+-- nothing is read as no declarator, where none may stand
+abbrev pub ReadsNothing : (Mode → Option Kind → Scopes → List Lexeme → Read (SomeDeclr × Scopes)) → Type 0
+ReadsNothing declr = (mode : Mode) (wanted : Option Kind) (s : Scopes) (k : List Lexeme) → takes_nothing mode ≡ true → ends_declr k ≡ true → declr mode wanted s k ≡ Ok ((no_declr, s), k)
 
 module _ (all : List Lexeme) where
   declr_ends_words : (d : Declr) (k : List Lexeme) → IsDeclr all d → is_named d ≡ false → ends_specs k ≡ true → ends_specs (declr_text all d k) ≡ true
@@ -142,8 +138,7 @@ module _ (room : ℕ) (assign : Scopes → List Lexeme → Read (Expr × Scopes)
   no_suffix : (s : Scopes) (t : Lexeme) (ts : List Lexeme) → EndsAt t → suffix_turn room assign specs_from declr (no_declr, s) (t ∷ ts) ≡ None
   no_suffix s t ts is = rw (is.no_bracket, is.no_paren) (lowered_none (nat_le 1 room) t ts)
 
-  -- nothing is read as no declarator, where none may stand
-  nothing_read : (mode : Mode) (wanted : Option Kind) (s : Scopes) (k : List Lexeme) → takes_nothing mode ≡ true → ends_declr k ≡ true → declr_with room assign specs_from declr mode wanted s k ≡ Ok ((no_declr, s), k)
+  pub nothing_read : ReadsNothing (declr_with room assign specs_from declr)
   unfolding declr_with direct_with core_with
   nothing_read mode wanted s [] takes ends_here = rw takes (run_none (suffix_turn room assign specs_from declr) (no_declr, s) [] refl)
   nothing_read with_name wanted s (t ∷ ts) takes ends_here = absurd cc
@@ -153,13 +148,3 @@ module _ (room : ℕ) (assign : Scopes → List Lexeme → Read (Expr × Scopes)
   nothing_read either_way wanted s (t ∷ ts) takes ends_here =
       let is = ends_at t ts ends_here in
       rw (is.no_star, is.no_paren, is.no_name) (run_none (suffix_turn room assign specs_from declr) (no_declr, s) (t ∷ ts) (no_suffix s t ts is))
-
-  pub reads_nothing : (all : List Lexeme) → ReadsDeclrs all 0 (declr_with room assign specs_from declr)
-  reads_nothing all mode wanted (some_declr d) s s' k fits named low ends_here = absurd (none_low (declr_height d) (declr_high d) low)
-  reads_nothing all with_name wanted no_declr s s' k fits named low ends_here = absurd fits.0
-  reads_nothing all without_name wanted no_declr s s' k fits named low ends_here =
-      let same : s ≡ s' = cc in
-      nothing_read without_name wanted s k refl ends_here ∙ rw same refl
-  reads_nothing all either_way wanted no_declr s s' k fits named low ends_here =
-      let same : s ≡ s' = cc in
-      nothing_read either_way wanted s k refl ends_here ∙ rw same refl
