@@ -11,3 +11,7 @@ pub mod ItemsComplete
 pub mod KnotParts
 pub mod Knotting
 pub mod ItemsUnits
+pub mod ExprSoundTokens
+pub mod ExprSoundForms
+pub mod ExprSoundLists
+pub mod ExprSound
