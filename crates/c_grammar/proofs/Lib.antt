@@ -15,3 +15,7 @@ pub mod ExprSoundTokens
 pub mod ExprSoundForms
 pub mod ExprSoundLists
 pub mod ExprSound
+pub mod ExprShrinks
+pub mod ExprCompleteStarts
+pub mod ExprCompleteUnary
+pub mod ExprComplete
