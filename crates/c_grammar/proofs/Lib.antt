@@ -19,3 +19,6 @@ pub mod ExprShrinks
 pub mod ExprCompleteStarts
 pub mod ExprCompleteUnary
 pub mod ExprComplete
+pub mod DeclrSoundWords
+pub mod DeclrSoundParams
+pub mod DeclrSound
