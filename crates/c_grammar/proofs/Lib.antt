@@ -4,3 +4,4 @@ pub mod Taking
 pub mod Qualifying
 pub mod Aims
 pub mod Tails
+pub mod DeclrFalls
