@@ -5,3 +5,5 @@ pub mod Qualifying
 pub mod Aims
 pub mod Tails
 pub mod DeclrFalls
+pub mod DeclrCompleteWords
+pub mod DeclrCompleteParts
