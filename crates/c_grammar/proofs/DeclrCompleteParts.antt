@@ -199,7 +199,7 @@ no_qual : (start : Start) (t : Lexeme) → not (is_start start) ≡ true → qua
 no_qual no_start t e = refl
 no_qual start t e = absurd cc
 
-no_qual_at : (k : List Lexeme) → ends_specs k ≡ true → qual_at k ≡ None
+pub no_qual_at : (k : List Lexeme) → ends_specs k ≡ true → qual_at k ≡ None
 no_qual_at [] e = refl
 no_qual_at (t ∷ ts) e = no_qual (typed_start [] true (kind_start t.kind)) t (and_left (not (is_start (typed_start [] true (kind_start t.kind)))) (not (is_open_brace t.kind)) e)
 
@@ -229,7 +229,7 @@ module _ (all : List Lexeme) where
   abbrev pub IsBehindWords : List Lexeme → Type 0
   IsBehindWords ts = (ends_specs ts ≡ true) × (begins is_dots ts ≡ false)
 
-  declr_behind : (d : Declr) (k : List Lexeme) → IsBehindWords (declr_text all d k)
+  pub declr_behind : (d : Declr) (k : List Lexeme) → IsBehindWords (declr_text all d k)
   declr_behind (pointer star words d) k = (refl, refl)
   declr_behind (declr_name token name) k = (refl, refl)
   declr_behind (declr_paren opening attrs d closing) k = (refl, refl)

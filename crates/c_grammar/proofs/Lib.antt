@@ -7,3 +7,4 @@ pub mod Tails
 pub mod DeclrFalls
 pub mod DeclrCompleteWords
 pub mod DeclrCompleteParts
+pub mod DeclrComplete
