@@ -348,3 +348,88 @@ module _ (all : List Lexeme) (numbered : IsNumbered all) (n : ℕ) (expr : Reach
         ∙ run_on (suffix_turn (suc n) (expr assigned) (specs declaring) declr) suffix_shrinks (some_declr d, b.0) behind_it ((some_declr (with_params (some_declr d) opening ps dots closing), s'), k)
         (params_taken (some_declr d) opening ps dots closing b.0 s' k below fits.0.1 fits.0.2 b.2 params_low)
         ∙ rw fits.0.0.1 refl
+
+    inner_read : (mode : Mode) (wanted : Option Kind) (d : SomeDeclr) (s s' : Scopes) (k : List Lexeme) → FitsMode all mode d s → MayBeNamed wanted d s → some_declr_scopes d s ≡ Some s' → some_declr_height d ≤ n → ends_declr k ≡ true →
+        declr mode wanted s (some_declr_text all d k) ≡ Ok ((d, s'), k)
+    inner_read mode wanted no_declr s s' k fits may named low ends = let same : s ≡ s' = cc in nothing mode wanted s k (takes mode fits) ends ∙ rw same refl
+      where
+        takes : (mode : Mode) → FitsMode all mode no_declr s → takes_nothing mode ≡ true
+        takes with_name fits = absurd fits
+        takes without_name fits = refl
+        takes either_way fits = refl
+    inner_read mode wanted (some_declr d) s s' k fits may named low ends =
+        let high : 1 ≤ declr_height d = declr_high d in
+        inner.complete mode wanted (omega (arith, high, low)) (some_declr d) s s' k (fits, may) named low ends
+
+    stars_end : (d : SomeDeclr) (k : List Lexeme) → ends_declr k ≡ true → ends_specs (some_declr_text all d k) ≡ true
+    stars_end no_declr k ends = ends_words k ends
+    stars_end (some_declr d) k ends = (declr_behind all d k).0
+
+    pointer_read : (mode : Mode) (wanted : Option Kind) (star : ℕ) (ws : List PointerWord) (d : SomeDeclr) (s s' : Scopes) (k : List Lexeme) → All (IsPointerWord all) ws → FitsMode all mode d s → MayBeNamed wanted d s →
+        behind (without_attrs ws s) (some_declr_scopes d) ≡ Some s' → some_declr_height d ≤ n → ends_declr k ≡ true →
+        declr_with (suc n) (expr assigned) (specs declaring) declr mode wanted s (sign_text puncts.Star star (pointer_words_text all ws (some_declr_text all d k))) ≡ Ok ((some_declr (with_pointer mode star ws d), s'), k)
+    unfolding declr_with pointer_with
+    pointer_read mode wanted star ws d s s' k quals fits may named low ends =
+        let b = behind_some (without_attrs ws s) (some_declr_scopes d) s' named in
+        let p = pointer_quals all numbered ws s b.0 quals b.1 in
+        let inside : some_declr_scopes d s ≡ Some s' = ap (some_declr_scopes d) p.3 ∙ b.2 in
+        rw (p.4 (some_declr_text all d k), quals_read all numbered p.0 (some_declr_text all d k) p.2 (no_qual_at (some_declr_text all d k) (stars_end d k ends)), inner_read mode wanted d s s' k fits may inside low ends, p.1) refl
+
+    nothing_read : (mode : Mode) (wanted : Option Kind) (s : Scopes) (k : List Lexeme) → takes_nothing mode ≡ true → ends_declr k ≡ true →
+        declr_with (suc n) (expr assigned) (specs declaring) declr mode wanted s k ≡ run (suffix_turn (suc n) (expr assigned) (specs declaring) declr) (no_declr, s) k
+    unfolding declr_with direct_with core_with
+    nothing_read mode wanted s [] takes ends = rw takes refl
+    nothing_read with_name wanted s (t ∷ ts) takes ends = absurd cc
+    nothing_read without_name wanted s (t ∷ ts) takes ends = let p = ends_parts t ts ends in rw (p.2, p.0) refl
+    nothing_read either_way wanted s (t ∷ ts) takes ends = let p = ends_parts t ts ends in rw (p.2, p.0, p.3) refl
+
+    -- the loop of brackets and parameters ends
+    at_end : (d : SomeDeclr) (s : Scopes) (k : List Lexeme) → ends_declr k ≡ true → run (suffix_turn (suc n) (expr assigned) (specs declaring) declr) (d, s) k ≡ Ok ((d, s), k)
+    at_end d s k ends = run_done (suffix_turn (suc n) (expr assigned) (specs declaring) declr) suffix_shrinks (d, s) k (suffix_ends (d, s) k ends)
+
+    some_read : (mode : Mode) (wanted : Option Kind) (d : Declr) (s s' : Scopes) (k : List Lexeme) → Suits all mode d s → MayBeNamed wanted (some_declr d) s → declr_scopes d s ≡ Some s' → declr_height d ≤ suc n → ends_declr k ≡ true →
+        declr_with (suc n) (expr assigned) (specs declaring) declr mode wanted s (declr_text all d k) ≡ Ok ((some_declr d, s'), k)
+    some_read mode wanted (pointer star ws d) s s' k fits may named low ends =
+        let below : declr_height d ≤ n = omega (arith, low) in
+        let parted : Suits all mode d s = part_suits all mode (pointer star ws d) d s fits.0.1 fits.0.2 (λ e. e) fits in
+        pointer_read mode wanted star ws (some_declr d) s s' k fits.0.0 (to_mode all mode d s parted) may named below ends ∙ rw fits.0.2 refl
+    some_read mode wanted (abs_pointer star ws no_declr) s s' k fits may named low ends =
+        pointer_read mode wanted star ws no_declr s s' k fits.0.0 (abstract_suits all mode no_declr s fits.1 tt) (some_abstract_may all wanted no_declr s tt) named (omega arith) ends
+    some_read mode wanted (abs_pointer star ws (some_declr d)) s s' k fits may named low ends =
+        let below : declr_height d ≤ n = omega (arith, low) in
+        pointer_read mode wanted star ws (some_declr d) s s' k fits.0.0 (abstract_suits all mode (some_declr d) s fits.1 fits.0.1) (some_abstract_may all wanted (some_declr d) s fits.0.1) named below ends ∙ rw fits.0.1.1 refl
+    some_read mode wanted (declr_name token name) s s' k fits may named low ends = begun mode wanted (declr_name token name) s s' k refl fits may named low ∙ at_end (some_declr (declr_name token name)) s' k ends
+    some_read mode wanted (declr_paren a b c d) s s' k fits may named low ends = begun mode wanted (declr_paren a b c d) s s' k refl fits may named low ∙ at_end (some_declr (declr_paren a b c d)) s' k ends
+    some_read mode wanted (array a b c d e) s s' k fits may named low ends = begun mode wanted (array a b c d e) s s' k refl fits may named low ∙ at_end (some_declr (array a b c d e)) s' k ends
+    some_read mode wanted (params a b c d e) s s' k fits may named low ends = begun mode wanted (params a b c d e) s s' k refl fits may named low ∙ at_end (some_declr (params a b c d e)) s' k ends
+    some_read mode wanted (abs_paren a b c d) s s' k fits may named low ends = begun mode wanted (abs_paren a b c d) s s' k refl fits may named low ∙ at_end (some_declr (abs_paren a b c d)) s' k ends
+    some_read mode wanted (abs_array a b c d e) s s' k fits may named low ends = begun mode wanted (abs_array a b c d e) s s' k refl fits may named low ∙ at_end (some_declr (abs_array a b c d e)) s' k ends
+    some_read mode wanted (abs_params a b c d e) s s' k fits may named low ends = begun mode wanted (abs_params a b c d e) s s' k refl fits may named low ∙ at_end (some_declr (abs_params a b c d e)) s' k ends
+
+    -- where the reader inside reads that no declarator stands
+    pub declr_complete_over : (mode : Mode) (wanted : Option Kind) →
+        IsComplete (suc n) (some_declr_text all) (λ d s. FitsMode all mode d s × MayBeNamed wanted d s) some_declr_scopes some_declr_height ends_declr (declr_with (suc n) (expr assigned) (specs declaring) declr mode wanted)
+    declr_complete_over mode wanted no_declr s s' k fits named low ends =
+        let same : s ≡ s' = cc in
+        nothing_read mode wanted s k (takes mode fits.0) ends ∙ at_end no_declr s k ends ∙ rw same refl
+      where
+        takes : (mode : Mode) → FitsMode all mode no_declr s → takes_nothing mode ≡ true
+        takes with_name fits = absurd fits
+        takes without_name fits = refl
+        takes either_way fits = refl
+    declr_complete_over mode wanted (some_declr d) s s' k fits named low ends = some_read mode wanted d s s' k (from_mode all mode d s fits.0) fits.1 named low ends
+
+  pub declr_complete : 1 ≤ n → (mode : Mode) (wanted : Option Kind) →
+      IsComplete (suc n) (some_declr_text all) (λ d s. FitsMode all mode d s × MayBeNamed wanted d s) some_declr_scopes some_declr_height ends_declr (declr_with (suc n) (expr assigned) (specs declaring) declr mode wanted)
+  declr_complete one mode wanted = declr_complete_over nothing mode wanted
+    where
+      no_name : (wanted : Option Kind) (s : Scopes) → MayBeNamed wanted no_declr s
+      no_name wanted s name e = absurd cc
+
+      fits_nothing : (mode : Mode) (s : Scopes) → takes_nothing mode ≡ true → FitsMode all mode no_declr s
+      fits_nothing with_name s takes = absurd cc
+      fits_nothing without_name s takes = tt
+      fits_nothing either_way s takes = (tt, refl)
+
+      nothing : (mode : Mode) (wanted : Option Kind) (s : Scopes) (k : List Lexeme) → takes_nothing mode ≡ true → ends_declr k ≡ true → declr mode wanted s k ≡ Ok ((no_declr, s), k)
+      nothing mode wanted s k takes ends = inner.complete mode wanted one no_declr s s k (fits_nothing mode s takes, no_name wanted s) refl (omega arith) ends
