@@ -1,5 +1,5 @@
 -- The text of a declarator, before tokens that do not go on with it, is read as this declarator.
-use Rattle.std.proofs.Common.{◌≡◌, ℕ, suc, ◌+◌, ◌≤◌, max, nat_le, Bool, true, false, not, ◌&&◌, ◌||◌, is_some, if◌then◌else◌, List, [], ◌∷◌, length, Option, Some, None, Ok, All, refl, sym, ◌∙◌, ap, subst, arith}
+use Rattle.std.proofs.Common.{◌≡◌, ℕ, suc, ◌≤◌, Bool, true, false, not, ◌&&◌, ◌||◌, is_some, if◌then◌else◌, List, [], ◌∷◌, Option, Some, None, Ok, All, refl, sym, ◌∙◌, ap, arith}
 use Rattle.std.proofs.lemmas.Bool.{le-leb}
 use Rattle.c_lexer.specs.declared.kinds.Punct.TheVariants as puncts
 use Rattle.c_tree.specs.declared.lexeme.Lexeme.{Lexeme}
@@ -7,23 +7,23 @@ use Rattle.c_tree.specs.declared.parts.Attr.{Attr}
 use Rattle.c_tree.specs.declared.parts.PointerWord.{PointerWord}
 use Rattle.c_tree.specs.declared.parts.ArrayWord.{ArrayWord}
 use Rattle.c_tree.specs.Tree.{Expr, SpecWords, Declr, pointer, declr_name, declr_paren, array, params, abs_pointer, abs_paren, abs_array, abs_params, SomeDeclr, no_declr, some_declr, SomeSize, Params, no_params, more_params, Dots}
-use Rattle.c_tree.specs.Text.{sign_text, name_text, spec_words_text, declr_text, some_declr_text, some_size_text, params_text, other_params_text, dots_text, attrs_text, array_words_text, pointer_words_text, quals_text}
+use Rattle.c_tree.specs.Text.{sign_text, name_text, spec_words_text, declr_text, some_declr_text, some_size_text, params_text, other_params_text, dots_text, attrs_text, array_words_text, pointer_words_text}
 use Rattle.c_tree.specs.Height.{declr_height, some_declr_height, some_size_height, params_height}
-use Rattle.c_tree.specs.WellFormed.{IsDeclr, IsSomeAbstract, IsSomeDeclr, IsSize, IsPointerWord, IsArrayWord, AreParams, IsEllipsis, is_named, is_direct}
+use Rattle.c_tree.specs.WellFormed.{IsDeclr, IsSomeAbstract, IsSize, IsPointerWord, IsArrayWord, AreParams, IsEllipsis, is_named, is_direct}
 use Rattle.typedef_scope.specs.declared.kind.Kind.{Kind}
 use Rattle.typedef_scope.specs.declared.kind.Kind.TheVariants.{Value}
 use Rattle.typedef_scope.specs.Scopes.{Scopes, enter_scope, leave_scope}
 use Rattle.c_grammar.specs.Scoping.{behind, without, where_true, without_attrs, declare_some, in_own_scope, names_type, spec_words_scopes, declr_scopes, some_declr_scopes, some_size_scopes, params_scopes, first_name, begins_with_type, shows_no_type, some_shows_no_type, declared_name, some_declared_name}
-use Rattle.c_grammar.specs.Reading.{Read, run, ends, IsNumbered, ◌>>=◌}
+use Rattle.c_grammar.specs.Reading.{Read, run, ends, IsNumbered}
 use Rattle.c_grammar.specs.Eating.{begins, is_open_bracket, is_open_paren, is_close_paren, is_open_brace, is_star}
-use Rattle.c_grammar.specs.Specifying.{Role, declaring, naming, Start, name_start, no_start, is_start, kind_start, typed_start, begins_specs, spelled_name}
-use Rattle.c_grammar.specs.Declaring.{Mode, with_name, without_name, either_way, takes_name, takes_nothing, may_declare, pointer_words_of, with_pointer, with_paren, with_array, with_params, suffix_turn, paren_with, opens_params, core_with, direct_with, pointer_with, declr_with}
+use Rattle.c_grammar.specs.Specifying.{Role, declaring, Start, name_start, no_start, is_start, kind_start, typed_start, begins_specs, spelled_name}
+use Rattle.c_grammar.specs.Declaring.{Mode, with_name, without_name, either_way, takes_name, takes_nothing, may_declare, with_pointer, with_paren, with_array, with_params, suffix_turn, paren_with, opens_params, core_with, direct_with, pointer_with, declr_with}
 use Rattle.c_grammar.specs.Expressing.{Reach, assigned}
 use Rattle.c_grammar.proofs.LoopLemmas.{TurnShrinks}
-use Rattle.c_grammar.proofs.Aims.{IsComplete, ends_declr, ends_specs, MayBeNamed, DeclrsGrow, WordsBegin, IsNamed, FitsMode, ExprLaws, SpecsLaws, DeclrLaws}
+use Rattle.c_grammar.proofs.Aims.{IsComplete, ends_declr, ends_specs, MayBeNamed, DeclrsGrow, WordsBegin, FitsMode, ExprLaws, SpecsLaws, DeclrLaws}
 use Rattle.c_grammar.proofs.DeclrFalls.{suffix_turn_shrinks}
 use Rattle.c_grammar.proofs.DeclrCompleteWords.{quals_read, pointer_quals}
-use Rattle.c_grammar.proofs.DeclrCompleteParts.{behind_some, and_left, and_right, ends_words, no_qual_at, run_on, run_done, declr_behind, array_read, prototype_read}
+use Rattle.c_grammar.proofs.DeclrCompleteParts.{behind_some, and_right, ends_words, no_qual_at, run_on, run_done, declr_behind, array_read, prototype_read}
 
 -- what a declarator without a name has not
 abstract_shows : (d : Declr) (s : Scopes) → is_named d ≡ false → shows_no_type s d ≡ true

@@ -1,5 +1,5 @@
 -- Brackets and parameters behind a declarator are read as they stand.
-use Rattle.std.proofs.Common.{◌≡◌, ◌≢◌, ℕ, suc, ◌+◌, ◌≤◌, max, nat_le, Bool, true, false, not, ◌&&◌, ◌||◌, is_some, if◌then◌else◌, List, [], ◌∷◌, ◌++◌, length, Option, Some, None, Ok, All, refl, sym, ◌∙◌, ap, subst, arith}
+use Rattle.std.proofs.Common.{◌≡◌, ℕ, suc, ◌≤◌, Bool, true, false, not, ◌&&◌, is_some, List, [], ◌∷◌, Option, Some, None, Ok, All, refl, sym, ◌∙◌, ap, subst, arith}
 use Rattle.c_lexer.specs.declared.kinds.TokenKind.{TokenKind}
 use Rattle.c_lexer.specs.declared.kinds.TokenKind.TheVariants as kinds
 use Rattle.c_lexer.specs.declared.kinds.Punct.{Punct}
@@ -10,8 +10,8 @@ use Rattle.c_tree.specs.declared.lexeme.Lexeme.{Lexeme}
 use Rattle.c_tree.specs.declared.parts.Qual.{Qual}
 use Rattle.c_tree.specs.declared.parts.ArrayWord.{ArrayWord}
 use Rattle.c_tree.specs.Tree.{Expr, operation, cast, prefix, sizeof_value, sizeof_type, extension, index, call, dot, arrow, post, compound, name_use, number_use, char_use, text_use, paren, statement_expr, va_arg, va_start, va_copy, offset, Operator, comma, assign, cond, binary, SpecWords, no_words, Declr, pointer, declr_name, declr_paren, array, params, abs_pointer, abs_paren, abs_array, abs_params, SomeDeclr, no_declr, some_declr, SomeSize, no_size, some_size, size_value, size_star, Params, no_params, more_params, Dots}
-use Rattle.c_tree.specs.Text.{sign_text, expr_text, spec_words_text, declr_text, some_declr_text, some_size_text, params_text, other_params_text, dots_text, array_words_text, quals_text, separated, number_before}
-use Rattle.c_tree.specs.Height.{expr_height, specs_height, some_declr_height, some_size_height, params_height}
+use Rattle.c_tree.specs.Text.{sign_text, expr_text, spec_words_text, declr_text, some_declr_text, some_size_text, params_text, other_params_text, dots_text, array_words_text, separated, number_before}
+use Rattle.c_tree.specs.Height.{specs_height, some_declr_height, some_size_height, params_height}
 use Rattle.c_tree.specs.Levels.{binary_level, operator_level, expr_level}
 use Rattle.c_tree.specs.Specifiers.{IsMix}
 use Rattle.c_tree.specs.WellFormed.{IsExpr, prefix_level, is_sizeof, IsSize, IsQual, IsArrayWord, AreSpecWords, IsSomeDeclr, AreParams, IsEllipsis}
@@ -22,11 +22,11 @@ use Rattle.typedef_scope.specs.Scopes.{Scopes, declare_name, enter_scope, leave_
 use Rattle.c_grammar.specs.Scoping.{behind, without, where_true, in_own_scope, spec_words_scopes, some_declr_scopes, some_size_scopes, params_scopes, some_shows_no_type, some_declared_name, declare_some}
 use Rattle.c_grammar.specs.Reading.{Read, Turn, run, ends, IsNumbered, ◌>>=◌}
 use Rattle.c_grammar.specs.Eating.{begins, is_open_bracket, is_close_bracket, is_open_paren, is_close_paren, is_open_brace, is_star, is_dots}
-use Rattle.c_grammar.specs.Specifying.{Role, declaring, naming, Start, no_start, is_start, kind_start, typed_start, begins_specs, spelled_name}
-use Rattle.c_grammar.specs.Declaring.{Mode, with_name, without_name, either_way, may_declare, qual_by, qual_at, is_static, spec_words_of_quals, with_array, with_params, with_param, ParamState, size_with, array_with, param_with, next_param_with, param_turn, params_with, prototype_with}
+use Rattle.c_grammar.specs.Specifying.{Role, declaring, Start, no_start, is_start, kind_start, typed_start, begins_specs, spelled_name}
+use Rattle.c_grammar.specs.Declaring.{Mode, either_way, qual_by, qual_at, is_static, spec_words_of_quals, with_array, with_params, with_param, ParamState, size_with, array_with, param_with, next_param_with, param_turn, params_with, prototype_with}
 use Rattle.c_grammar.specs.Expressing.{Reach, assigned}
 use Rattle.c_grammar.proofs.LoopLemmas.{TurnShrinks, run_is}
-use Rattle.c_grammar.proofs.Aims.{ends_specs, ends_declr, MayBeNamed, DeclrsGrow, WordsBegin, FitsMode, ExprLaws, SpecsLaws, DeclrLaws}
+use Rattle.c_grammar.proofs.Aims.{ends_specs, ends_declr, MayBeNamed, DeclrsGrow, WordsBegin, ExprLaws, SpecsLaws, DeclrLaws}
 use Rattle.c_grammar.proofs.DeclrFalls.{param_turn_shrinks}
 use Rattle.c_grammar.proofs.DeclrCompleteWords.{IsPlain, IsNoWord, leading, others, split_words, split_scopes, split_height, split_text, split_quals, split_fits, mix_plain, quals_read, array_words_read}
 
@@ -129,7 +129,7 @@ opens_sizeof keywords.Alignof is = refl
 opens_sizeof keyword is = absurd cc
 
 -- a star that an expression begins with has an operand behind it
-abbrev pub IsOpening : List Lexeme → Type 0
+abbrev IsOpening : List Lexeme → Type 0
 IsOpening [] = ⊥
 IsOpening (t ∷ ts) = (opens t.kind ≡ true) × ((is_star t.kind && begins is_close_bracket ts) ≡ false)
 
@@ -138,7 +138,7 @@ opening_close [] h = absurd h
 opening_close (t ∷ ts) h = opens_close t.kind h.0
 
 module _ (all : List Lexeme) where
-  pub expr_opens : (e : Expr) (k : List Lexeme) → IsExpr all e → IsOpening (expr_text all e k)
+  expr_opens : (e : Expr) (k : List Lexeme) → IsExpr all e → IsOpening (expr_text all e k)
   expr_opens (operation e op token e2) k fits = expr_opens e _ fits.0
   expr_opens (cast opening ws d closing e) k fits = (refl, refl)
   expr_opens (prefix token p e) k fits =
@@ -173,11 +173,11 @@ pub behind_some : (o : Option Scopes) (next : Scopes → Option Scopes) (s' : Sc
 behind_some None next s' e = absurd cc
 behind_some (Some t) next s' e = (t, refl, e)
 
-pub where_is : (b : Bool) (s s' : Scopes) → where_true b s ≡ Some s' → (b ≡ true) × (s ≡ s')
+where_is : (b : Bool) (s s' : Scopes) → where_true b s ≡ Some s' → (b ≡ true) × (s ≡ s')
 where_is true s s' e = (refl, cc)
 where_is false s s' e = absurd cc
 
-pub and_left : (a b : Bool) → (a && b) ≡ true → a ≡ true
+and_left : (a b : Bool) → (a && b) ≡ true → a ≡ true
 and_left true b e = refl
 and_left false b e = absurd cc
 
@@ -203,7 +203,7 @@ pub no_qual_at : (k : List Lexeme) → ends_specs k ≡ true → qual_at k ≡ N
 no_qual_at [] e = refl
 no_qual_at (t ∷ ts) e = no_qual (typed_start [] true (kind_start t.kind)) t (and_left (not (is_start (typed_start [] true (kind_start t.kind)))) (not (is_open_brace t.kind)) e)
 
-pub specs_no_close : (s : Scopes) (ts : List Lexeme) → begins_specs s ts ≡ true → begins is_close_paren ts ≡ false
+specs_no_close : (s : Scopes) (ts : List Lexeme) → begins_specs s ts ≡ true → begins is_close_paren ts ≡ false
 specs_no_close s [] e = refl
 specs_no_close s (t ∷ ts) e = by_kind t.kind e
   where
@@ -212,7 +212,7 @@ specs_no_close s (t ∷ ts) e = by_kind t.kind e
     by_kind kind e = refl
 
 -- parameters, and more behind them
-abbrev pub append_params : Params → Params → Params
+abbrev append_params : Params → Params → Params
 append_params no_params more = more
 append_params (more_params ws d attrs ps) more = more_params ws d attrs (append_params ps more)
 
@@ -247,7 +247,7 @@ module _ (all : List Lexeme) where
   some_declr_behind (some_declr d) k h = declr_behind d k
 
   -- the tokens behind a parameter
-  abbrev pub closed_params : Params → Option Dots → ℕ → List Lexeme → List Lexeme
+  abbrev closed_params : Params → Option Dots → ℕ → List Lexeme → List Lexeme
   closed_params more dots closing k = other_params_text all more (dots_text all dots (sign_text puncts.CloseParen closing k))
 
   params_behind : (more : Params) (dots : Option Dots) (closing : ℕ) (k : List Lexeme) → (ends_declr (closed_params more dots closing k) ≡ true) × (begins is_dots (closed_params more dots closing k) ≡ false)
@@ -256,7 +256,7 @@ module _ (all : List Lexeme) where
   params_behind (more_params ws d attrs ps) dots closing k = (refl, refl)
 
 -- the scopes behind a parameter
-abbrev pub param_scopes : SpecWords → SomeDeclr → Scopes → Option Scopes
+abbrev param_scopes : SpecWords → SomeDeclr → Scopes → Option Scopes
 param_scopes ws d s = behind (behind (behind (spec_words_scopes ws s) (λ t. where_true (some_shows_no_type t d) t)) (some_declr_scopes d)) (declare_some (some_declared_name d) Value)
 
 words_scopes : (ws : SpecWords) (d : SomeDeclr) (s s' : Scopes) → param_scopes ws d s ≡ Some s' → (t : Scopes) × (spec_words_scopes ws s ≡ Some t)
@@ -276,7 +276,7 @@ no_attrs : {A : Type 0} (a : A) (attrs : List A) (o : Option Scopes) (next next2
 no_attrs a attrs None next next2 s' e = absurd cc
 no_attrs a attrs (Some t) next next2 s' e = absurd cc
 
-abbrev pub AreDots : List Lexeme → Option Dots → Type 0
+abbrev AreDots : List Lexeme → Option Dots → Type 0
 AreDots all None = Unit {0}
 AreDots all (Some d) = All (IsQual all) d.quals
 

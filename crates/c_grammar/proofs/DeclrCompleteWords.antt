@@ -1,5 +1,5 @@
 -- Qualifiers, and words in the brackets of an array, are read as they stand, up to a token that goes on with none of them.
-use Rattle.std.proofs.Common.{◌≡◌, ℕ, suc, ◌≤◌, max, Bool, true, false, ◌&&◌, ◌||◌, List, [], ◌∷◌, ◌++◌, length, Option, Some, None, Ok, All, Any, IsPermutation, inl, inr, ◌⊎◌, refl, sym, ◌∙◌, ap, subst, arith, append_assoc, append-nil}
+use Rattle.std.proofs.Common.{◌≡◌, ℕ, ◌≤◌, Bool, true, false, ◌||◌, List, [], ◌∷◌, ◌++◌, Some, None, Ok, All, Any, IsPermutation, inl, inr, refl, sym, ◌∙◌, ap, arith, append_assoc, append-nil}
 use Rattle.std.specs.List.{list_any}
 use Rattle.std.proofs.lemmas.List.Elements.{All-nil, All-cons, All-head, All-tail}
 use Rattle.std.proofs.lemmas.List.Folds.{list_any-from_Any}
@@ -15,18 +15,18 @@ use Rattle.c_tree.specs.declared.parts.PointerWord.{PointerWord}
 use Rattle.c_tree.specs.declared.parts.PointerWord.TheVariants as pointer_words
 use Rattle.c_tree.specs.declared.parts.ArrayWord.{ArrayWord}
 use Rattle.c_tree.specs.declared.parts.ArrayWord.TheVariants as array_words
-use Rattle.c_tree.specs.Tree.{SpecWords, no_words, more_words, SpecWord, storage, thread, inline_word, noreturn, qualifier, basic, struct_type, enum_type, typedef_name, attribute, enum_of}
-use Rattle.c_tree.specs.Text.{qual_text, quals_text, pointer_words_text, array_words_text, tokens_between, spec_word_text, spec_words_text}
-use Rattle.c_tree.specs.Height.{spec_word_height, specs_height}
+use Rattle.c_tree.specs.Tree.{SpecWords, no_words, more_words, storage, thread, inline_word, noreturn, qualifier, basic, struct_type, enum_type, typedef_name, attribute, enum_of}
+use Rattle.c_tree.specs.Text.{qual_text, quals_text, pointer_words_text, array_words_text, spec_words_text}
+use Rattle.c_tree.specs.Height.{specs_height}
 use Rattle.c_tree.specs.Specifiers.{type_words, basic_types, IsOneType, IsMix}
-use Rattle.c_tree.specs.WellFormed.{IsElementKind, IsQual, IsPointerWord, IsArrayWord, AreSpecWords, IsSpecWord, is_qual, is_storage, is_struct}
+use Rattle.c_tree.specs.WellFormed.{IsElementKind, IsQual, IsPointerWord, IsArrayWord, AreSpecWords, is_qual, is_storage, is_struct}
 use Rattle.c_specs.specs.Reading.{append_words}
 use Rattle.typedef_scope.specs.Scopes.{Scopes}
-use Rattle.c_grammar.specs.Scoping.{behind, without_attrs, spec_words_scopes, spec_word_scopes}
-use Rattle.c_grammar.specs.Reading.{run, ends, IsNumbered}
+use Rattle.c_grammar.specs.Scoping.{without_attrs, spec_words_scopes}
+use Rattle.c_grammar.specs.Reading.{run, IsNumbered}
 use Rattle.c_grammar.specs.Eating.{begins, is_dots}
-use Rattle.c_grammar.specs.Specifying.{Start, storage_start, thread_start, inline_start, noreturn_start, word_start, element_start, index_start, basic_start, struct_start, enum_start, name_start, no_start, keyword_start, kind_start, typed_start}
-use Rattle.c_grammar.specs.Declaring.{qual_by, qual_at, quals_by, quals_turn, quals_at, is_static, array_word_by, array_words_by, array_words_turn, array_words_at, pointer_words_of, spec_words_of_quals}
+use Rattle.c_grammar.specs.Specifying.{Start, storage_start, word_start, element_start, basic_start, struct_start, keyword_start, kind_start, typed_start}
+use Rattle.c_grammar.specs.Declaring.{qual_by, qual_at, quals_turn, quals_at, is_static, array_words_turn, array_words_at, pointer_words_of, spec_words_of_quals}
 use Rattle.c_grammar.proofs.LoopLemmas.{run_is}
 use Rattle.c_grammar.proofs.Tails.{element_spelled}
 use Rattle.c_grammar.proofs.DeclrFalls.{quals_shrink, array_words_shrink}

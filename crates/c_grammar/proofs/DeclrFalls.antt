@@ -5,7 +5,7 @@ use Rattle.c_tree.specs.declared.lexeme.Lexeme.{Lexeme}
 use Rattle.c_lexer.specs.declared.kinds.TokenKind.{TokenKind}
 use Rattle.c_tree.specs.declared.parts.Qual.{Qual}
 use Rattle.c_tree.specs.declared.parts.ArrayWord.{ArrayWord}
-use Rattle.c_tree.specs.Tree.{Expr, SpecWords, no_words, Declr, declr_name, SomeDeclr, no_declr, some_declr, SomeSize, no_size, some_size, size_value, size_star, Params, no_params, Dots}
+use Rattle.c_tree.specs.Tree.{Expr, SpecWords, no_words, declr_name, SomeDeclr, no_declr, some_declr, SomeSize, no_size, some_size, size_value, size_star, Params, no_params, Dots}
 use Rattle.c_tree.specs.Height.{some_declr_height}
 use Rattle.typedef_scope.specs.declared.kind.Kind.{Kind}
 use Rattle.typedef_scope.specs.declared.kind.Kind.TheVariants.{Value}
@@ -15,7 +15,7 @@ use Rattle.c_grammar.specs.Scoping.{declare_some, some_declared_name}
 use Rattle.c_grammar.specs.Reading.{Read, Turn, run, lowered, ends, refuses, Shrinks, ◌>>=◌}
 use Rattle.c_grammar.specs.Eating.{token_at, begins, is_open_paren, is_close_paren, is_open_bracket, is_close_bracket, is_comma, is_dots, is_star}
 use Rattle.c_grammar.specs.Specifying.{spelled_name}
-use Rattle.c_grammar.specs.Declaring.{Mode, with_name, without_name, either_way, takes_name, takes_nothing, may_declare, qual_at, quals_by, quals_turn, quals_at, array_word_by, array_words_by, array_words_turn, array_words_at, pointer_words_of, spec_words_of_quals, with_pointer, with_paren, with_array, with_params, with_param, some_name_token, present, declared_some, ParamState, size_with, array_with, param_with, next_param_with, param_turn_by, param_turn, params_with, prototype_with, suffix_by, suffix_turn, declr_name_by, paren_with, opens_params, core_with, needed, direct_with, pointer_with, declr_with}
+use Rattle.c_grammar.specs.Declaring.{Mode, with_name, either_way, takes_name, takes_nothing, may_declare, qual_at, quals_by, quals_turn, quals_at, array_word_by, array_words_by, array_words_turn, array_words_at, pointer_words_of, spec_words_of_quals, with_pointer, with_paren, with_array, with_params, with_param, some_name_token, present, declared_some, ParamState, size_with, array_with, param_with, next_param_with, param_turn_by, param_turn, params_with, prototype_with, suffix_by, suffix_turn, declr_name_by, paren_with, opens_params, core_with, needed, direct_with, pointer_with, declr_with}
 use Rattle.c_grammar.proofs.LoopLemmas.{bind_ok, ok_is, TurnShrinks, run-keep}
 use Rattle.c_grammar.proofs.Taking.{token_taken}
 use Rattle.c_grammar.proofs.Aims.{Falls}
@@ -34,21 +34,6 @@ bind_falls read next falls falls2 ts y e =
     let b = bind_ok (read ts) (λ x. next x.0 x.1) y e in
     let less : length b.0.1 ≤ length ts = falls ts b.0 b.1 in
     let less2 : length y.1 ≤ length b.0.1 = falls2 b.0.0 b.0.1 y b.2 in
-    omega (arith, less, less2)
-
--- where the first part takes a token, or the second
-pub first_shrinks : {A B : Type 0} (read : List Lexeme → Read A) (next : A → List Lexeme → Read B) → Shrinks read → ((a : A) → Falls (next a)) → Shrinks (λ ts. read ts >>= λ x. next x.0 x.1)
-first_shrinks read next shrinks falls2 ts y e =
-    let b = bind_ok (read ts) (λ x. next x.0 x.1) y e in
-    let less : length b.0.1 < length ts = shrinks ts b.0 b.1 in
-    let less2 : length y.1 ≤ length b.0.1 = falls2 b.0.0 b.0.1 y b.2 in
-    omega (arith, less, less2)
-
-pub second_shrinks : {A B : Type 0} (read : List Lexeme → Read A) (next : A → List Lexeme → Read B) → Falls read → ((a : A) → Shrinks (next a)) → Shrinks (λ ts. read ts >>= λ x. next x.0 x.1)
-second_shrinks read next falls shrinks2 ts y e =
-    let b = bind_ok (read ts) (λ x. next x.0 x.1) y e in
-    let less : length b.0.1 ≤ length ts = falls ts b.0 b.1 in
-    let less2 : length y.1 < length b.0.1 = shrinks2 b.0.0 b.0.1 y b.2 in
     omega (arith, less, less2)
 
 pub shrinks_fall : {A : Type 0} (read : List Lexeme → Read A) → Shrinks read → Falls read
