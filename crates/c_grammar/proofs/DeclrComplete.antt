@@ -14,7 +14,7 @@ use Rattle.typedef_scope.specs.declared.kind.Kind.{Kind}
 use Rattle.typedef_scope.specs.declared.kind.Kind.TheVariants.{Value}
 use Rattle.typedef_scope.specs.Scopes.{Scopes, enter_scope, leave_scope}
 use Rattle.c_grammar.specs.Scoping.{behind, without, where_true, without_attrs, declare_some, in_own_scope, names_type, spec_words_scopes, declr_scopes, some_declr_scopes, some_size_scopes, params_scopes, first_name, begins_with_type, shows_no_type, some_shows_no_type, declared_name, some_declared_name}
-use Rattle.c_grammar.specs.Reading.{Read, run, ends, IsNumbered}
+use Rattle.c_grammar.specs.Reading.{Read, Turn, run, ends, IsNumbered}
 use Rattle.c_grammar.specs.Eating.{begins, is_open_bracket, is_open_paren, is_close_paren, is_open_brace, is_star}
 use Rattle.c_grammar.specs.Specifying.{Role, declaring, Start, name_start, no_start, is_start, kind_start, typed_start, begins_specs, spelled_name}
 use Rattle.c_grammar.specs.Declaring.{Mode, with_name, without_name, either_way, takes_name, takes_nothing, may_declare, with_pointer, with_paren, with_array, with_params, suffix_turn, paren_with, opens_params, core_with, direct_with, pointer_with, declr_with}
@@ -88,7 +88,8 @@ specs_entered s (t ∷ ts) = by_start (kind_start t.kind)
     by_start start = refl
 
 -- the words of a parameter have scopes where it has
-words_named : (ws : SpecWords) (d : SomeDeclr) (attrs : List Attr) (ps : Params) (s s' : Scopes) → params_scopes (more_params ws d attrs ps) s ≡ Some s' → (t : Scopes) × (spec_words_scopes ws s ≡ Some t)
+words_named : (ws : SpecWords) (d : SomeDeclr) (attrs : List Attr) (ps : Params) (s s' : Scopes) → params_scopes (more_params ws d attrs ps) s ≡ Some s' →
+    (t : Scopes) × (spec_words_scopes ws s ≡ Some t)
 words_named ws d attrs ps s s' named = by_words (spec_words_scopes ws s) refl named
   where
     by_words : (o : Option Scopes) → spec_words_scopes ws s ≡ o →
@@ -136,7 +137,8 @@ module _ (all : List Lexeme) where
   to_mode either_way d s h = (h.0, h.2)
 
   -- a part of a declarator that has a name where the whole has one
-  part_suits : (mode : Mode) (whole d : Declr) (s : Scopes) → IsDeclr all d → is_named d ≡ is_named whole → (shows_no_type s whole ≡ true → shows_no_type s d ≡ true) → Suits mode whole s → Suits mode d s
+  part_suits : (mode : Mode) (whole d : Declr) (s : Scopes) → IsDeclr all d → is_named d ≡ is_named whole → (shows_no_type s whole ≡ true → shows_no_type s d ≡ true) → Suits mode whole s →
+      Suits mode d s
   part_suits mode whole d s fits named show h = (fits, rw named h.1, by_mode mode h.2)
     where
       by_mode : (mode : Mode) → shows mode s whole ≡ true → shows mode s d ≡ true
@@ -188,39 +190,45 @@ module _ (all : List Lexeme) where
 module _ (all : List Lexeme) (numbered : IsNumbered all) (n : ℕ) (expr : Reach → Scopes → List Lexeme → Read (Expr × Scopes))
     (specs : Role → SpecWords → Scopes → List Lexeme → Read (SpecWords × Scopes)) (declr : Mode → Option Kind → Scopes → List Lexeme → Read (SomeDeclr × Scopes))
     (exprs : ExprLaws all n expr) (words : SpecsLaws all n specs) (inner : DeclrLaws all n declr) (begin : WordsBegin all) (grow : DeclrsGrow) where
-  suffix_shrinks : TurnShrinks (suffix_turn (suc n) (expr assigned) (specs declaring) declr)
+  abbrev reader : Mode → Option Kind → Scopes → List Lexeme → Read (SomeDeclr × Scopes)
+  reader = declr_with (suc n) (expr assigned) (specs declaring) declr
+
+  abbrev suffix : Turn (SomeDeclr × Scopes)
+  suffix = suffix_turn (suc n) (expr assigned) (specs declaring) declr
+
+  suffix_shrinks : TurnShrinks suffix
   suffix_shrinks = suffix_turn_shrinks (suc n) (expr assigned) (specs declaring) declr (exprs.shrinks assigned) (words.falls declaring) inner.falls
 
-  suffix_ends : (state : SomeDeclr × Scopes) (k : List Lexeme) → ends_declr k ≡ true → suffix_turn (suc n) (expr assigned) (specs declaring) declr state k ≡ None
+  suffix_ends : (state : SomeDeclr × Scopes) (k : List Lexeme) → ends_declr k ≡ true → suffix state k ≡ None
   suffix_ends state [] e = refl
   suffix_ends state (t ∷ ts) e = let p = ends_parts t ts e in rw (p.0, p.1) refl
 
   array_taken : (d : SomeDeclr) (opening : ℕ) (ws : List ArrayWord) (size : SomeSize) (closing : ℕ) (s s' : Scopes) (k : List Lexeme) → some_declr_height d ≤ n →
       All (IsArrayWord all) ws → IsSize all size → some_size_scopes size s ≡ Some s' → some_size_height size ≤ n →
-      suffix_turn (suc n) (expr assigned) (specs declaring) declr (d, s) (sign_text puncts.OpenBracket opening (array_words_text all ws (some_size_text all size (sign_text puncts.CloseBracket closing k)))) ≡
+      suffix (d, s) (sign_text puncts.OpenBracket opening (array_words_text all ws (some_size_text all size (sign_text puncts.CloseBracket closing k)))) ≡
       Some (Ok ((some_declr (with_array d opening ws size closing), s'), k))
   array_taken d opening ws size closing s s' k low fits sized named low2 =
       rw (le-leb (suc (some_declr_height d)) (suc n) (omega (arith, low)), array_read all numbered n expr specs declr exprs words inner begin grow d opening ws size closing s s' k fits sized named low2) refl
 
   params_taken : (d : SomeDeclr) (opening : ℕ) (ps : Params) (dots : Option Dots) (closing : ℕ) (s s' : Scopes) (k : List Lexeme) → some_declr_height d ≤ n →
       AreParams all ps → IsEllipsis all ps dots → in_own_scope (params_scopes ps) s ≡ Some s' → params_height ps ≤ n →
-      suffix_turn (suc n) (expr assigned) (specs declaring) declr (d, s) (sign_text puncts.OpenParen opening (params_text all ps (dots_text all dots (sign_text puncts.CloseParen closing k)))) ≡
+      suffix (d, s) (sign_text puncts.OpenParen opening (params_text all ps (dots_text all dots (sign_text puncts.CloseParen closing k)))) ≡
       Some (Ok ((some_declr (with_params d opening ps dots closing), s'), k))
   params_taken d opening ps dots closing s s' k low fits dotted named low2 =
       rw (le-leb (suc (some_declr_height d)) (suc n) (omega (arith, low)), prototype_read all numbered n expr specs declr exprs words inner begin grow d opening ps dots closing s s' k fits dotted named low2) refl
 
   -- behind a bracket or a parenthesis of parameters no core stands
   no_core_bracket : (mode : Mode) (wanted : Option Kind) (opening : ℕ) (s : Scopes) (ts : List Lexeme) → takes_nothing mode ≡ true →
-      declr_with (suc n) (expr assigned) (specs declaring) declr mode wanted s (sign_text puncts.OpenBracket opening ts) ≡
-      run (suffix_turn (suc n) (expr assigned) (specs declaring) declr) (no_declr, s) (sign_text puncts.OpenBracket opening ts)
+      reader mode wanted s (sign_text puncts.OpenBracket opening ts) ≡
+      run suffix (no_declr, s) (sign_text puncts.OpenBracket opening ts)
   unfolding declr_with direct_with core_with
   no_core_bracket with_name wanted opening s ts takes = absurd cc
   no_core_bracket without_name wanted opening s ts takes = refl
   no_core_bracket either_way wanted opening s ts takes = refl
 
   no_core_paren : (mode : Mode) (wanted : Option Kind) (opening : ℕ) (s : Scopes) (ts : List Lexeme) → takes_nothing mode ≡ true → (begins is_close_paren ts || begins_specs s ts) ≡ true →
-      declr_with (suc n) (expr assigned) (specs declaring) declr mode wanted s (sign_text puncts.OpenParen opening ts) ≡
-      run (suffix_turn (suc n) (expr assigned) (specs declaring) declr) (no_declr, s) (sign_text puncts.OpenParen opening ts)
+      reader mode wanted s (sign_text puncts.OpenParen opening ts) ≡
+      run suffix (no_declr, s) (sign_text puncts.OpenParen opening ts)
   unfolding declr_with direct_with core_with
   no_core_paren mode wanted opening s ts takes opens = rw (takes, opens, takes) refl
 
@@ -239,8 +247,8 @@ module _ (all : List Lexeme) (numbered : IsNumbered all) (n : ℕ) (expr : Reach
       or_true false = refl
 
   name_read : (mode : Mode) (wanted : Option Kind) (token name : ℕ) (s : Scopes) (k : List Lexeme) → takes_name mode ≡ true → may_declare wanted s name ≡ true →
-      declr_with (suc n) (expr assigned) (specs declaring) declr mode wanted s (name_text name token k) ≡
-      run (suffix_turn (suc n) (expr assigned) (specs declaring) declr) (some_declr (declr_name token name), s) k
+      reader mode wanted s (name_text name token k) ≡
+      run suffix (some_declr (declr_name token name), s) k
   unfolding declr_with direct_with core_with
   name_read mode wanted token name s k takes may = rw (takes, may) refl
 
@@ -250,10 +258,11 @@ module _ (all : List Lexeme) (numbered : IsNumbered all) (n : ℕ) (expr : Reach
   no_params_open without_name s ts close specs = rw (close, specs refl) refl
   no_params_open either_way s ts close specs = rw (close, specs refl) refl
 
-  paren_read : (mode : Mode) (wanted : Option Kind) (opening : ℕ) (d : Declr) (closing : ℕ) (s s' : Scopes) (k : List Lexeme) → Suits all mode d s → MayBeNamed wanted (some_declr d) s → declr_scopes d s ≡ Some s' → declr_height d ≤ n →
+  paren_read : (mode : Mode) (wanted : Option Kind) (opening : ℕ) (d : Declr) (closing : ℕ) (s s' : Scopes) (k : List Lexeme) → Suits all mode d s → MayBeNamed wanted (some_declr d) s →
+      declr_scopes d s ≡ Some s' → declr_height d ≤ n →
       (takes_nothing mode ≡ true → begins_with_type s (first_name d) ≡ false) →
-      declr_with (suc n) (expr assigned) (specs declaring) declr mode wanted s (sign_text puncts.OpenParen opening (declr_text all d (sign_text puncts.CloseParen closing k))) ≡
-      run (suffix_turn (suc n) (expr assigned) (specs declaring) declr) (some_declr (with_paren opening d closing), s') k
+      reader mode wanted s (sign_text puncts.OpenParen opening (declr_text all d (sign_text puncts.CloseParen closing k))) ≡
+      run suffix (some_declr (with_paren opening d closing), s') k
   unfolding declr_with direct_with core_with paren_with
   paren_read mode wanted opening d closing s s' k fits may named low first =
       let behind_it : List Lexeme = sign_text puncts.CloseParen closing k in
@@ -264,8 +273,9 @@ module _ (all : List Lexeme) (numbered : IsNumbered all) (n : ℕ) (expr : Reach
 
   module _ (nothing : (mode : Mode) (wanted : Option Kind) (s : Scopes) (k : List Lexeme) → takes_nothing mode ≡ true → ends_declr k ≡ true → declr mode wanted s k ≡ Ok ((no_declr, s), k)) where
     -- a declarator without attributes, up to its last brackets or parameters
-    begun : (mode : Mode) (wanted : Option Kind) (d : Declr) (s s' : Scopes) (k : List Lexeme) → is_direct d ≡ true → Suits all mode d s → MayBeNamed wanted (some_declr d) s → declr_scopes d s ≡ Some s' → declr_height d ≤ suc n →
-        declr_with (suc n) (expr assigned) (specs declaring) declr mode wanted s (declr_text all d k) ≡ run (suffix_turn (suc n) (expr assigned) (specs declaring) declr) (some_declr d, s') k
+    begun : (mode : Mode) (wanted : Option Kind) (d : Declr) (s s' : Scopes) (k : List Lexeme) → is_direct d ≡ true → Suits all mode d s → MayBeNamed wanted (some_declr d) s →
+        declr_scopes d s ≡ Some s' → declr_height d ≤ suc n →
+        reader mode wanted s (declr_text all d k) ≡ run suffix (some_declr d, s') k
     begun mode wanted (pointer star ws d) s s' k direct fits may named low = absurd cc
     begun mode wanted (declr_name token name) s s' k direct fits may named low =
         let same : s ≡ s' = cc in
@@ -292,7 +302,7 @@ module _ (all : List Lexeme) (numbered : IsNumbered all) (n : ℕ) (expr : Reach
         let parted : Suits all mode d s = part_suits all mode (array d opening ws size closing) d s fits.0.0 fits.0.1 (λ e. e) fits in
         let behind_it : List Lexeme = sign_text puncts.OpenBracket opening (array_words_text all ws (some_size_text all size (sign_text puncts.CloseBracket closing k))) in
         begun mode wanted d s b.0 behind_it fits.0.2 parted may b.1 below2
-        ∙ run_on (suffix_turn (suc n) (expr assigned) (specs declaring) declr) suffix_shrinks (some_declr d, b.0) behind_it ((some_declr (with_array (some_declr d) opening ws size closing), s'), k)
+        ∙ run_on suffix suffix_shrinks (some_declr d, b.0) behind_it ((some_declr (with_array (some_declr d) opening ws size closing), s'), k)
         (array_taken (some_declr d) opening ws size closing b.0 s' k below fits.0.3 fits.0.4 b.2 size_low)
         ∙ rw fits.0.1 refl
     begun mode wanted (params d opening ps dots closing) s s' k direct fits may named low =
@@ -303,7 +313,7 @@ module _ (all : List Lexeme) (numbered : IsNumbered all) (n : ℕ) (expr : Reach
         let parted : Suits all mode d s = part_suits all mode (params d opening ps dots closing) d s fits.0.0 fits.0.1 (λ e. e) fits in
         let behind_it : List Lexeme = sign_text puncts.OpenParen opening (params_text all ps (dots_text all dots (sign_text puncts.CloseParen closing k))) in
         begun mode wanted d s b.0 behind_it fits.0.2 parted may b.1 below2
-        ∙ run_on (suffix_turn (suc n) (expr assigned) (specs declaring) declr) suffix_shrinks (some_declr d, b.0) behind_it ((some_declr (with_params (some_declr d) opening ps dots closing), s'), k)
+        ∙ run_on suffix suffix_shrinks (some_declr d, b.0) behind_it ((some_declr (with_params (some_declr d) opening ps dots closing), s'), k)
         (params_taken (some_declr d) opening ps dots closing b.0 s' k below fits.0.3 fits.0.4 b.2 params_low)
         ∙ rw fits.0.1 refl
     begun mode wanted (abs_pointer star ws d) s s' k direct fits may named low = absurd cc
@@ -317,7 +327,7 @@ module _ (all : List Lexeme) (numbered : IsNumbered all) (n : ℕ) (expr : Reach
         let zero_low : some_declr_height no_declr ≤ n = omega arith in
         let behind_it : List Lexeme = array_words_text all ws (some_size_text all size (sign_text puncts.CloseBracket closing k)) in
         no_core_bracket mode wanted opening s behind_it (suits_nothing mode fits.1)
-        ∙ run_on (suffix_turn (suc n) (expr assigned) (specs declaring) declr) suffix_shrinks (no_declr, s) (sign_text puncts.OpenBracket opening behind_it) ((some_declr (abs_array no_declr opening ws size closing), s'), k)
+        ∙ run_on suffix suffix_shrinks (no_declr, s) (sign_text puncts.OpenBracket opening behind_it) ((some_declr (abs_array no_declr opening ws size closing), s'), k)
         (array_taken no_declr opening ws size closing s s' k zero_low fits.0.1 fits.0.2 named size_low)
     begun mode wanted (abs_array (some_declr d) opening ws size closing) s s' k direct fits may named low =
         let b = behind_some (declr_scopes d s) (some_size_scopes size) s' named in
@@ -327,7 +337,7 @@ module _ (all : List Lexeme) (numbered : IsNumbered all) (n : ℕ) (expr : Reach
         let parted : Suits all mode d s = part_suits all mode (abs_array (some_declr d) opening ws size closing) d s fits.0.0.0 fits.0.0.1 (λ e. abstract_shows d s fits.0.0.1) fits in
         let behind_it : List Lexeme = sign_text puncts.OpenBracket opening (array_words_text all ws (some_size_text all size (sign_text puncts.CloseBracket closing k))) in
         begun mode wanted d s b.0 behind_it fits.0.0.2 parted (abstract_may wanted d s fits.0.0.1) b.1 below2
-        ∙ run_on (suffix_turn (suc n) (expr assigned) (specs declaring) declr) suffix_shrinks (some_declr d, b.0) behind_it ((some_declr (with_array (some_declr d) opening ws size closing), s'), k)
+        ∙ run_on suffix suffix_shrinks (some_declr d, b.0) behind_it ((some_declr (with_array (some_declr d) opening ws size closing), s'), k)
         (array_taken (some_declr d) opening ws size closing b.0 s' k below fits.0.1 fits.0.2 b.2 size_low)
         ∙ rw fits.0.0.1 refl
     begun mode wanted (abs_params no_declr opening ps dots closing) s s' k direct fits may named low =
@@ -335,7 +345,7 @@ module _ (all : List Lexeme) (numbered : IsNumbered all) (n : ℕ) (expr : Reach
         let zero_low : some_declr_height no_declr ≤ n = omega arith in
         let behind_it : List Lexeme = params_text all ps (dots_text all dots (sign_text puncts.CloseParen closing k)) in
         no_core_paren mode wanted opening s behind_it (suits_nothing mode fits.1) (params_open ps dots closing s s' k fits.0.1 fits.0.2 named)
-        ∙ run_on (suffix_turn (suc n) (expr assigned) (specs declaring) declr) suffix_shrinks (no_declr, s) (sign_text puncts.OpenParen opening behind_it) ((some_declr (abs_params no_declr opening ps dots closing), s'), k)
+        ∙ run_on suffix suffix_shrinks (no_declr, s) (sign_text puncts.OpenParen opening behind_it) ((some_declr (abs_params no_declr opening ps dots closing), s'), k)
         (params_taken no_declr opening ps dots closing s s' k zero_low fits.0.1 fits.0.2 named params_low)
     begun mode wanted (abs_params (some_declr d) opening ps dots closing) s s' k direct fits may named low =
         let b = behind_some (declr_scopes d s) (in_own_scope (params_scopes ps)) s' named in
@@ -345,11 +355,12 @@ module _ (all : List Lexeme) (numbered : IsNumbered all) (n : ℕ) (expr : Reach
         let parted : Suits all mode d s = part_suits all mode (abs_params (some_declr d) opening ps dots closing) d s fits.0.0.0 fits.0.0.1 (λ e. abstract_shows d s fits.0.0.1) fits in
         let behind_it : List Lexeme = sign_text puncts.OpenParen opening (params_text all ps (dots_text all dots (sign_text puncts.CloseParen closing k))) in
         begun mode wanted d s b.0 behind_it fits.0.0.2 parted (abstract_may wanted d s fits.0.0.1) b.1 below2
-        ∙ run_on (suffix_turn (suc n) (expr assigned) (specs declaring) declr) suffix_shrinks (some_declr d, b.0) behind_it ((some_declr (with_params (some_declr d) opening ps dots closing), s'), k)
+        ∙ run_on suffix suffix_shrinks (some_declr d, b.0) behind_it ((some_declr (with_params (some_declr d) opening ps dots closing), s'), k)
         (params_taken (some_declr d) opening ps dots closing b.0 s' k below fits.0.1 fits.0.2 b.2 params_low)
         ∙ rw fits.0.0.1 refl
 
-    inner_read : (mode : Mode) (wanted : Option Kind) (d : SomeDeclr) (s s' : Scopes) (k : List Lexeme) → FitsMode all mode d s → MayBeNamed wanted d s → some_declr_scopes d s ≡ Some s' → some_declr_height d ≤ n → ends_declr k ≡ true →
+    inner_read : (mode : Mode) (wanted : Option Kind) (d : SomeDeclr) (s s' : Scopes) (k : List Lexeme) → FitsMode all mode d s → MayBeNamed wanted d s → some_declr_scopes d s ≡ Some s' →
+        some_declr_height d ≤ n → ends_declr k ≡ true →
         declr mode wanted s (some_declr_text all d k) ≡ Ok ((d, s'), k)
     inner_read mode wanted no_declr s s' k fits may named low ends = let same : s ≡ s' = cc in nothing mode wanted s k (takes mode fits) ends ∙ rw same refl
       where
@@ -365,18 +376,20 @@ module _ (all : List Lexeme) (numbered : IsNumbered all) (n : ℕ) (expr : Reach
     stars_end no_declr k ends = ends_words k ends
     stars_end (some_declr d) k ends = (declr_behind all d k).0
 
-    pointer_read : (mode : Mode) (wanted : Option Kind) (star : ℕ) (ws : List PointerWord) (d : SomeDeclr) (s s' : Scopes) (k : List Lexeme) → All (IsPointerWord all) ws → FitsMode all mode d s → MayBeNamed wanted d s →
+    pointer_read : (mode : Mode) (wanted : Option Kind) (star : ℕ) (ws : List PointerWord) (d : SomeDeclr) (s s' : Scopes) (k : List Lexeme) → All (IsPointerWord all) ws → FitsMode all mode d s →
+        MayBeNamed wanted d s →
         behind (without_attrs ws s) (some_declr_scopes d) ≡ Some s' → some_declr_height d ≤ n → ends_declr k ≡ true →
-        declr_with (suc n) (expr assigned) (specs declaring) declr mode wanted s (sign_text puncts.Star star (pointer_words_text all ws (some_declr_text all d k))) ≡ Ok ((some_declr (with_pointer mode star ws d), s'), k)
+        reader mode wanted s (sign_text puncts.Star star (pointer_words_text all ws (some_declr_text all d k))) ≡ Ok ((some_declr (with_pointer mode star ws d), s'), k)
     unfolding declr_with pointer_with
     pointer_read mode wanted star ws d s s' k quals fits may named low ends =
         let b = behind_some (without_attrs ws s) (some_declr_scopes d) s' named in
         let p = pointer_quals all numbered ws s b.0 quals b.1 in
         let inside : some_declr_scopes d s ≡ Some s' = ap (some_declr_scopes d) p.3 ∙ b.2 in
-        rw (p.4 (some_declr_text all d k), quals_read all numbered p.0 (some_declr_text all d k) p.2 (no_qual_at (some_declr_text all d k) (stars_end d k ends)), inner_read mode wanted d s s' k fits may inside low ends, p.1) refl
+        rw (p.4 (some_declr_text all d k), quals_read all numbered p.0 (some_declr_text all d k) p.2 (no_qual_at (some_declr_text all d k) (stars_end d k ends)),
+            inner_read mode wanted d s s' k fits may inside low ends, p.1) refl
 
     nothing_read : (mode : Mode) (wanted : Option Kind) (s : Scopes) (k : List Lexeme) → takes_nothing mode ≡ true → ends_declr k ≡ true →
-        declr_with (suc n) (expr assigned) (specs declaring) declr mode wanted s k ≡ run (suffix_turn (suc n) (expr assigned) (specs declaring) declr) (no_declr, s) k
+        reader mode wanted s k ≡ run suffix (no_declr, s) k
     unfolding declr_with direct_with core_with
     nothing_read mode wanted s [] takes ends = rw takes refl
     nothing_read with_name wanted s (t ∷ ts) takes ends = absurd cc
@@ -384,11 +397,12 @@ module _ (all : List Lexeme) (numbered : IsNumbered all) (n : ℕ) (expr : Reach
     nothing_read either_way wanted s (t ∷ ts) takes ends = let p = ends_parts t ts ends in rw (p.2, p.0, p.3) refl
 
     -- the loop of brackets and parameters ends
-    at_end : (d : SomeDeclr) (s : Scopes) (k : List Lexeme) → ends_declr k ≡ true → run (suffix_turn (suc n) (expr assigned) (specs declaring) declr) (d, s) k ≡ Ok ((d, s), k)
-    at_end d s k ends = run_done (suffix_turn (suc n) (expr assigned) (specs declaring) declr) suffix_shrinks (d, s) k (suffix_ends (d, s) k ends)
+    at_end : (d : SomeDeclr) (s : Scopes) (k : List Lexeme) → ends_declr k ≡ true → run suffix (d, s) k ≡ Ok ((d, s), k)
+    at_end d s k ends = run_done suffix suffix_shrinks (d, s) k (suffix_ends (d, s) k ends)
 
-    some_read : (mode : Mode) (wanted : Option Kind) (d : Declr) (s s' : Scopes) (k : List Lexeme) → Suits all mode d s → MayBeNamed wanted (some_declr d) s → declr_scopes d s ≡ Some s' → declr_height d ≤ suc n → ends_declr k ≡ true →
-        declr_with (suc n) (expr assigned) (specs declaring) declr mode wanted s (declr_text all d k) ≡ Ok ((some_declr d, s'), k)
+    some_read : (mode : Mode) (wanted : Option Kind) (d : Declr) (s s' : Scopes) (k : List Lexeme) → Suits all mode d s → MayBeNamed wanted (some_declr d) s → declr_scopes d s ≡ Some s' →
+        declr_height d ≤ suc n → ends_declr k ≡ true →
+        reader mode wanted s (declr_text all d k) ≡ Ok ((some_declr d, s'), k)
     some_read mode wanted (pointer star ws d) s s' k fits may named low ends =
         let below : declr_height d ≤ n = omega (arith, low) in
         let parted : Suits all mode d s = part_suits all mode (pointer star ws d) d s fits.0.1 fits.0.2 (λ e. e) fits in
@@ -398,13 +412,17 @@ module _ (all : List Lexeme) (numbered : IsNumbered all) (n : ℕ) (expr : Reach
     some_read mode wanted (abs_pointer star ws (some_declr d)) s s' k fits may named low ends =
         let below : declr_height d ≤ n = omega (arith, low) in
         pointer_read mode wanted star ws (some_declr d) s s' k fits.0.0 (abstract_suits all mode (some_declr d) s fits.1 fits.0.1) (some_abstract_may all wanted (some_declr d) s fits.0.1) named below ends ∙ rw fits.0.1.1 refl
-    some_read mode wanted (declr_name token name) s s' k fits may named low ends = begun mode wanted (declr_name token name) s s' k refl fits may named low ∙ at_end (some_declr (declr_name token name)) s' k ends
-    some_read mode wanted (declr_paren a b c d) s s' k fits may named low ends = begun mode wanted (declr_paren a b c d) s s' k refl fits may named low ∙ at_end (some_declr (declr_paren a b c d)) s' k ends
+    some_read mode wanted (declr_name token name) s s' k fits may named low ends =
+        begun mode wanted (declr_name token name) s s' k refl fits may named low ∙ at_end (some_declr (declr_name token name)) s' k ends
+    some_read mode wanted (declr_paren a b c d) s s' k fits may named low ends =
+        begun mode wanted (declr_paren a b c d) s s' k refl fits may named low ∙ at_end (some_declr (declr_paren a b c d)) s' k ends
     some_read mode wanted (array a b c d e) s s' k fits may named low ends = begun mode wanted (array a b c d e) s s' k refl fits may named low ∙ at_end (some_declr (array a b c d e)) s' k ends
     some_read mode wanted (params a b c d e) s s' k fits may named low ends = begun mode wanted (params a b c d e) s s' k refl fits may named low ∙ at_end (some_declr (params a b c d e)) s' k ends
     some_read mode wanted (abs_paren a b c d) s s' k fits may named low ends = begun mode wanted (abs_paren a b c d) s s' k refl fits may named low ∙ at_end (some_declr (abs_paren a b c d)) s' k ends
-    some_read mode wanted (abs_array a b c d e) s s' k fits may named low ends = begun mode wanted (abs_array a b c d e) s s' k refl fits may named low ∙ at_end (some_declr (abs_array a b c d e)) s' k ends
-    some_read mode wanted (abs_params a b c d e) s s' k fits may named low ends = begun mode wanted (abs_params a b c d e) s s' k refl fits may named low ∙ at_end (some_declr (abs_params a b c d e)) s' k ends
+    some_read mode wanted (abs_array a b c d e) s s' k fits may named low ends =
+        begun mode wanted (abs_array a b c d e) s s' k refl fits may named low ∙ at_end (some_declr (abs_array a b c d e)) s' k ends
+    some_read mode wanted (abs_params a b c d e) s s' k fits may named low ends =
+        begun mode wanted (abs_params a b c d e) s s' k refl fits may named low ∙ at_end (some_declr (abs_params a b c d e)) s' k ends
 
     -- where the reader inside reads that no declarator stands
     pub declr_complete_over : (mode : Mode) (wanted : Option Kind) →

@@ -187,7 +187,8 @@ and_right false b e = absurd cc
 
 pub ends_words : (k : List Lexeme) → ends_declr k ≡ true → ends_specs k ≡ true
 ends_words [] e = refl
-ends_words (t ∷ ts) e = last_two (not (is_open_paren t.kind) && not (is_open_bracket t.kind) && not (is_star t.kind) && not (is_some (spelled_name t.kind))) (not (is_open_brace t.kind)) (not (is_start (typed_start [] true (kind_start t.kind)))) e
+ends_words (t ∷ ts) e =
+    last_two (not (is_open_paren t.kind) && not (is_open_bracket t.kind) && not (is_star t.kind) && not (is_some (spelled_name t.kind))) (not (is_open_brace t.kind)) (not (is_start (typed_start [] true (kind_start t.kind)))) e
   where
     last_two : (a b c : Bool) → (a && b && c) ≡ true → (c && b) ≡ true
     last_two true true true e = refl
@@ -250,7 +251,8 @@ module _ (all : List Lexeme) where
   abbrev closed_params : Params → Option Dots → ℕ → List Lexeme → List Lexeme
   closed_params more dots closing k = other_params_text all more (dots_text all dots (sign_text puncts.CloseParen closing k))
 
-  params_behind : (more : Params) (dots : Option Dots) (closing : ℕ) (k : List Lexeme) → (ends_declr (closed_params more dots closing k) ≡ true) × (begins is_dots (closed_params more dots closing k) ≡ false)
+  params_behind : (more : Params) (dots : Option Dots) (closing : ℕ) (k : List Lexeme) →
+      (ends_declr (closed_params more dots closing k) ≡ true) × (begins is_dots (closed_params more dots closing k) ≡ false)
   params_behind no_params None closing k = (refl, refl)
   params_behind no_params (Some d) closing k = (refl, refl)
   params_behind (more_params ws d attrs ps) dots closing k = (refl, refl)
@@ -272,7 +274,8 @@ run_on turn shrinks s ts x e = run_is turn shrinks s ts ∙ rw e refl
 pub run_done : {S : Type 0} (turn : Turn S) → TurnShrinks turn → (s : S) (ts : List Lexeme) → turn s ts ≡ None → run turn s ts ≡ Ok (s, ts)
 run_done turn shrinks s ts e = run_is turn shrinks s ts ∙ rw e refl
 
-no_attrs : {A : Type 0} (a : A) (attrs : List A) (o : Option Scopes) (next next2 : Scopes → Option Scopes) (s' : Scopes) → behind (behind o (λ t. behind (without (a ∷ attrs) t) next)) next2 ≡ Some s' → ⊥
+no_attrs : {A : Type 0} (a : A) (attrs : List A) (o : Option Scopes) (next next2 : Scopes → Option Scopes) (s' : Scopes) →
+    behind (behind o (λ t. behind (without (a ∷ attrs) t) next)) next2 ≡ Some s' → ⊥
 no_attrs a attrs None next next2 s' e = absurd cc
 no_attrs a attrs (Some t) next next2 s' e = absurd cc
 
@@ -345,13 +348,16 @@ module _ (all : List Lexeme) (numbered : IsNumbered all) (n : ℕ) (expr : Reach
   unfolding next_param_with
   dots_next d ps s us = refl
 
-  turn_shrinks : TurnShrinks (param_turn (suc n) (expr assigned) (specs declaring) declr)
+  abbrev turn : Turn ParamState
+  turn = param_turn (suc n) (expr assigned) (specs declaring) declr
+
+  turn_shrinks : TurnShrinks turn
   turn_shrinks = param_turn_shrinks (suc n) (expr assigned) (specs declaring) declr (exprs.shrinks assigned) (words.falls declaring) inner.falls
 
   -- a parameter behind a comma: its first qualifiers are read before its other words
   turn_read : (token : ℕ) (ps : Params) (ws : SpecWords) (d : SomeDeclr) (s s' : Scopes) (k : List Lexeme) → IsMix ws → AreSpecWords all ws → IsSomeDeclr all d → param_scopes ws d s ≡ Some s' →
       specs_height ws ≤ n → some_declr_height d ≤ n → 1 ≤ n → IsBehindWords all k → ends_declr k ≡ true →
-      param_turn (suc n) (expr assigned) (specs declaring) declr ((ps, None), s) (sign_text puncts.Comma token (spec_words_text all ws (some_declr_text all d k))) ≡ Some (Ok (((with_param ps ws d, None), s'), k))
+      turn ((ps, None), s) (sign_text puncts.Comma token (spec_words_text all ws (some_declr_text all d k))) ≡ Some (Ok (((with_param ps ws d, None), s'), k))
   turn_read token ps ws d s s' k mix fits is_declr named low low2 one plain ends =
       let behind_it : List Lexeme = some_declr_text all d k in
       let us : List Lexeme = spec_words_text all (others ws) behind_it in
@@ -363,20 +369,22 @@ module _ (all : List Lexeme) (numbered : IsNumbered all) (n : ℕ) (expr : Reach
       let named2 : param_scopes (others ws) d s ≡ Some s' =
           ap (λ (o : Option Scopes). behind (behind (behind o (λ t. where_true (some_shows_no_type t d) t)) (some_declr_scopes d)) (declare_some (some_declared_name d) Value)) (sym (split_scopes ws s)) ∙ named in
       let read = param_read ps (spec_words_of_quals (leading ws)) (others ws) d s s' k (subst (λ (ws : SpecWords). IsMix ws) (sym (split_words ws)) mix) (split_fits all ws fits) is_declr named2 less2 low2 one plain ends in
-      rw (split_text all ws behind_it, quals_read all numbered (leading ws) us (split_quals all ws fits) us_plain.0, next_is token ((ps, None), s) (leading ws) us us_plain.1, read, split_words ws) refl
+      rw (split_text all ws behind_it, quals_read all numbered (leading ws) us (split_quals all ws fits) us_plain.0, next_is token ((ps, None), s) (leading ws) us us_plain.1, read,
+          split_words ws) refl
 
   -- parameters behind others, and the dots
-  other_params_run : (more : Params) (dots : Option Dots) (closing : ℕ) (ps : Params) (s s' : Scopes) (k : List Lexeme) → AreParams all more → AreDots all dots → params_scopes more s ≡ Some s' → params_height more ≤ n →
-      run (param_turn (suc n) (expr assigned) (specs declaring) declr) ((ps, None), s) (closed_params all more dots closing k) ≡ Ok (((append_params ps more, dots), s'), sign_text puncts.CloseParen closing k)
+  other_params_run : (more : Params) (dots : Option Dots) (closing : ℕ) (ps : Params) (s s' : Scopes) (k : List Lexeme) → AreParams all more → AreDots all dots → params_scopes more s ≡ Some s' →
+      params_height more ≤ n →
+      run turn ((ps, None), s) (closed_params all more dots closing k) ≡ Ok (((append_params ps more, dots), s'), sign_text puncts.CloseParen closing k)
   other_params_run no_params None closing ps s s' k fits dotted named low =
       let same : s ≡ s' = cc in
-      run_is (param_turn (suc n) (expr assigned) (specs declaring) declr) turn_shrinks ((ps, None), s) (sign_text puncts.CloseParen closing k) ∙ rw (append_none ps, same) refl
+      run_is turn turn_shrinks ((ps, None), s) (sign_text puncts.CloseParen closing k) ∙ rw (append_none ps, same) refl
   other_params_run no_params (Some d) closing ps s s' k fits dotted named low =
       let same : s ≡ s' = cc in
       let behind_it : List Lexeme = sign_text puncts.CloseParen closing k in
-      run_is (param_turn (suc n) (expr assigned) (specs declaring) declr) turn_shrinks ((ps, None), s) (closed_params all no_params (Some d) closing k)
+      run_is turn turn_shrinks ((ps, None), s) (closed_params all no_params (Some d) closing k)
       ∙ rw (quals_read all numbered d.quals (sign_text puncts.Ellipsis d.dots behind_it) dotted refl, dots_next d ps s behind_it)
-      (run_is (param_turn (suc n) (expr assigned) (specs declaring) declr) turn_shrinks ((ps, Some d), s) behind_it ∙ rw (append_none ps, same) refl)
+      (run_is turn turn_shrinks ((ps, Some d), s) behind_it ∙ rw (append_none ps, same) refl)
   other_params_run (more_params ws d (a ∷ attrs) more) dots closing ps s s' k fits dotted named low =
       absurd (no_attrs a attrs (behind (behind (spec_words_scopes ws s) (λ t. where_true (some_shows_no_type t d) t)) (some_declr_scopes d)) (declare_some (some_declared_name d) Value) (params_scopes more) s' named)
   other_params_run (more_params ws d [] more) dots closing ps s s' k fits dotted named low =
@@ -388,12 +396,13 @@ module _ (all : List Lexeme) (numbered : IsNumbered all) (n : ℕ) (expr : Reach
       let one : 1 ≤ n = omega (arith, low) in
       let more_low : params_height more ≤ n = omega (arith, low) in
       let text : List Lexeme = spec_words_text all ws (some_declr_text all d behind_it) in
-      run_on (param_turn (suc n) (expr assigned) (specs declaring) declr) turn_shrinks ((ps, None), s) (separated text) (((with_param ps ws d, None), b.0), behind_it)
+      run_on turn turn_shrinks ((ps, None), s) (separated text) (((with_param ps ws d, None), b.0), behind_it)
       (turn_read (number_before text) ps ws d s b.0 behind_it fits.0 fits.1 fits.2 b.1 one_low one_low2 one (ends_words behind_it plain.0, plain.1) plain.0)
       ∙ other_params_run more dots closing (with_param ps ws d) b.0 s' k fits.5 dotted b.2 more_low ∙ rw (append_param ps ws d more) refl
 
   params_read : (ps : Params) (dots : Option Dots) (closing : ℕ) (s s' : Scopes) (k : List Lexeme) → AreParams all ps → IsEllipsis all ps dots → params_scopes ps s ≡ Some s' → params_height ps ≤ n →
-      params_with (suc n) (expr assigned) (specs declaring) declr s (params_text all ps (dots_text all dots (sign_text puncts.CloseParen closing k))) ≡ Ok (((ps, dots), s'), sign_text puncts.CloseParen closing k)
+      params_with (suc n) (expr assigned) (specs declaring) declr s (params_text all ps (dots_text all dots (sign_text puncts.CloseParen closing k))) ≡ Ok (((ps, dots), s'),
+          sign_text puncts.CloseParen closing k)
   unfolding params_with
   params_read no_params None closing s s' k fits dotted named low = let same : s ≡ s' = cc in rw same refl
   params_read no_params (Some d) closing s s' k fits dotted named low = absurd dotted

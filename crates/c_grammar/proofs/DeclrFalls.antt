@@ -106,7 +106,8 @@ module _ (room : ℕ) (assign : Scopes → List Lexeme → Read (Expr × Scopes)
   array_falls d opening s =
       bind_falls array_words_at (λ words ts. size_with room assign specs_from declr s ts >>= λ size. token_at is_close_bracket size.1 >>= λ close.
       ends (some_declr (with_array d opening words size.0.0 close.0.at), size.0.1) close.1) array_words_fall (λ words.
-      bind_falls (size_with room assign specs_from declr s) (λ size ts. token_at is_close_bracket ts >>= λ close. ends (some_declr (with_array d opening words size.0 close.0.at), size.1) close.1) (size_falls s) (λ size.
+      bind_falls (size_with room assign specs_from declr s) (λ size ts. token_at is_close_bracket ts >>= λ close. ends (some_declr (with_array d opening words size.0 close.0.at),
+          size.1) close.1) (size_falls s) (λ size.
       bind_falls (token_at is_close_bracket) (λ close. ends (some_declr (with_array d opening words size.0 close.at), size.1)) (shrinks_fall _ (token_shrinks is_close_bracket)) (λ close.
       ends_falls (some_declr (with_array d opening words size.0 close.at), size.1))))
 
@@ -161,7 +162,8 @@ module _ (room : ℕ) (assign : Scopes → List Lexeme → Read (Expr × Scopes)
       by_test : (b : Bool) → (if b then ends first ts
           else (param_with room assign specs_from declr no_params no_words s ts >>= λ ps. run (param_turn room assign specs_from declr) ((ps.0.0, None), ps.0.1) ps.1)) ≡ Ok x → length x.1 ≤ length ts
       by_test true e = ends_falls first ts x e
-      by_test false e = bind_falls (param_with room assign specs_from declr no_params no_words s) (λ ps. run (param_turn room assign specs_from declr) ((ps.0, None), ps.1)) (param_falls no_params no_words s)
+      by_test false e =
+          bind_falls (param_with room assign specs_from declr no_params no_words s) (λ ps. run (param_turn room assign specs_from declr) ((ps.0, None), ps.1)) (param_falls no_params no_words s)
           (λ ps. run_falls (param_turn room assign specs_from declr) param_turn_shrinks ((ps.0, None), ps.1)) ts x e
 
   prototype_falls : (d : SomeDeclr) (opening : ℕ) (s : Scopes) → Falls (prototype_with room assign specs_from declr d opening s)
@@ -176,7 +178,8 @@ module _ (room : ℕ) (assign : Scopes → List Lexeme → Read (Expr × Scopes)
   suffix_turn_shrinks state [] x e = absurd cc
   suffix_turn_shrinks state (t ∷ ts) x e = by_room (nat_le (suc (some_declr_height state.0)) room) (suffix_by room assign specs_from declr t state ts) refl e
     where
-      by_test : (a b : Bool) → (if a then Some (array_with room assign specs_from declr state.0 t.at state.1 ts) else (if b then Some (prototype_with room assign specs_from declr state.0 t.at state.1 ts) else None)) ≡ Some (Ok x) →
+      by_test : (a b : Bool) →
+          (if a then Some (array_with room assign specs_from declr state.0 t.at state.1 ts) else (if b then Some (prototype_with room assign specs_from declr state.0 t.at state.1 ts) else None)) ≡ Some (Ok x) →
           length x.1 < length (t ∷ ts)
       by_test true b e = let less : length x.1 ≤ length ts = array_falls state.0 t.at state.1 ts x cc in omega (arith, less)
       by_test false true e = let less : length x.1 ≤ length ts = prototype_falls state.0 t.at state.1 ts x cc in omega (arith, less)
@@ -247,7 +250,8 @@ module _ (room : ℕ) (assign : Scopes → List Lexeme → Read (Expr × Scopes)
   declr_falls mode wanted s [] x e = direct_falls mode wanted s [] x e
   declr_falls mode wanted s (t ∷ ts) x e = by_test (is_star t.kind) e
     where
-      by_test : (b : Bool) → (if b then pointer_with room assign specs_from declr mode wanted t.at s ts else direct_with room assign specs_from declr mode wanted s (t ∷ ts)) ≡ Ok x → length x.1 ≤ length (t ∷ ts)
+      by_test : (b : Bool) → (if b then pointer_with room assign specs_from declr mode wanted t.at s ts else direct_with room assign specs_from declr mode wanted s (t ∷ ts)) ≡ Ok x →
+          length x.1 ≤ length (t ∷ ts)
       by_test true e = let less : length x.1 ≤ length ts = pointer_falls mode wanted t.at s ts x e in omega (arith, less)
       by_test false e = direct_falls mode wanted s (t ∷ ts) x e
 
@@ -281,7 +285,8 @@ module _ (room : ℕ) (assign : Scopes → List Lexeme → Read (Expr × Scopes)
   core_cored wanted s [] x e = nothing_cored s [] x e
   core_cored wanted s (t ∷ ts) x e = by_test (is_open_paren t.kind) e
     where
-      by_test : (a : Bool) → (if a then paren_with room assign specs_from declr with_name wanted t.at s ts else declr_name_by room assign specs_from declr wanted (spelled_name t.kind) t s ts) ≡ Ok x → Cored (t ∷ ts) x
+      by_test : (a : Bool) →
+          (if a then paren_with room assign specs_from declr with_name wanted t.at s ts else declr_name_by room assign specs_from declr wanted (spelled_name t.kind) t s ts) ≡ Ok x → Cored (t ∷ ts) x
       by_test true e = let less : length x.1 ≤ length ts = paren_falls with_name wanted t.at s ts x e in cored_less (t ∷ ts) x (omega (arith, less))
       by_test false e = name_cored wanted (spelled_name t.kind) t s ts x e
 
@@ -291,7 +296,8 @@ module _ (room : ℕ) (assign : Scopes → List Lexeme → Read (Expr × Scopes)
       let b = bind_ok (core_with room assign specs_from declr with_name wanted s ts) (λ d. needed room assign specs_from declr with_name d.0 d.1 >>= λ known. run (suffix_turn room assign specs_from declr) known.0 known.1) x e in
       by_core b.0 (core_cored wanted s ts b.0 b.1) b.2
     where
-      by_core : (d : (SomeDeclr × Scopes) × List Lexeme) → Cored ts d → (needed room assign specs_from declr with_name d.0 d.1 >>= λ known. run (suffix_turn room assign specs_from declr) known.0 known.1) ≡ Ok x → length x.1 < length ts
+      by_core : (d : (SomeDeclr × Scopes) × List Lexeme) → Cored ts d →
+          (needed room assign specs_from declr with_name d.0 d.1 >>= λ known. run (suffix_turn room assign specs_from declr) known.0 known.1) ≡ Ok x → length x.1 < length ts
       by_core ((no_declr, s), us) less e = absurd cc
       by_core ((some_declr d, s), us) less e =
           let less2 : length x.1 ≤ length us = suffixes_fall (some_declr d, s) us x e in
@@ -302,6 +308,7 @@ module _ (room : ℕ) (assign : Scopes → List Lexeme → Read (Expr × Scopes)
   declr_shrinks wanted s [] x e = direct_shrinks wanted s [] x e
   declr_shrinks wanted s (t ∷ ts) x e = by_test (is_star t.kind) e
     where
-      by_test : (b : Bool) → (if b then pointer_with room assign specs_from declr with_name wanted t.at s ts else direct_with room assign specs_from declr with_name wanted s (t ∷ ts)) ≡ Ok x → length x.1 < length (t ∷ ts)
+      by_test : (b : Bool) → (if b then pointer_with room assign specs_from declr with_name wanted t.at s ts else direct_with room assign specs_from declr with_name wanted s (t ∷ ts)) ≡ Ok x →
+          length x.1 < length (t ∷ ts)
       by_test true e = let less : length x.1 ≤ length ts = pointer_falls with_name wanted t.at s ts x e in omega (arith, less)
       by_test false e = direct_shrinks wanted s (t ∷ ts) x e
