@@ -188,7 +188,8 @@ and_right false b e = absurd cc
 pub ends_words : (k : List Lexeme) → ends_declr k ≡ true → ends_specs k ≡ true
 ends_words [] e = refl
 ends_words (t ∷ ts) e =
-    last_two (not (is_open_paren t.kind) && not (is_open_bracket t.kind) && not (is_star t.kind) && not (is_some (spelled_name t.kind))) (not (is_open_brace t.kind)) (not (is_start (typed_start [] true (kind_start t.kind)))) e
+    last_two (not (is_open_paren t.kind) && not (is_open_bracket t.kind) && not (is_star t.kind) && not (is_some (spelled_name t.kind))) (not (is_open_brace t.kind))
+        (not (is_start (typed_start [] true (kind_start t.kind)))) e
   where
     last_two : (a b c : Bool) → (a && b && c) ≡ true → (c && b) ≡ true
     last_two true true true e = refl
@@ -367,8 +368,10 @@ module _ (all : List Lexeme) (numbered : IsNumbered all) (n : ℕ) (expr : Reach
       let less : specs_height (others ws) ≤ specs_height ws = split_height ws in
       let less2 : specs_height (others ws) ≤ n = omega (arith, less, low) in
       let named2 : param_scopes (others ws) d s ≡ Some s' =
-          ap (λ (o : Option Scopes). behind (behind (behind o (λ t. where_true (some_shows_no_type t d) t)) (some_declr_scopes d)) (declare_some (some_declared_name d) Value)) (sym (split_scopes ws s)) ∙ named in
-      let read = param_read ps (spec_words_of_quals (leading ws)) (others ws) d s s' k (subst (λ (ws : SpecWords). IsMix ws) (sym (split_words ws)) mix) (split_fits all ws fits) is_declr named2 less2 low2 one plain ends in
+          ap (λ (o : Option Scopes). behind (behind (behind o (λ t. where_true (some_shows_no_type t d) t)) (some_declr_scopes d)) (declare_some (some_declared_name d) Value))
+              (sym (split_scopes ws s)) ∙ named in
+      let read = param_read ps (spec_words_of_quals (leading ws)) (others ws) d s s' k (subst (λ (ws : SpecWords). IsMix ws) (sym (split_words ws)) mix)
+          (split_fits all ws fits) is_declr named2 less2 low2 one plain ends in
       rw (split_text all ws behind_it, quals_read all numbered (leading ws) us (split_quals all ws fits) us_plain.0, next_is token ((ps, None), s) (leading ws) us us_plain.1, read,
           split_words ws) refl
 
@@ -386,7 +389,8 @@ module _ (all : List Lexeme) (numbered : IsNumbered all) (n : ℕ) (expr : Reach
       ∙ rw (quals_read all numbered d.quals (sign_text puncts.Ellipsis d.dots behind_it) dotted refl, dots_next d ps s behind_it)
       (run_is turn turn_shrinks ((ps, Some d), s) behind_it ∙ rw (append_none ps, same) refl)
   other_params_run (more_params ws d (a ∷ attrs) more) dots closing ps s s' k fits dotted named low =
-      absurd (no_attrs a attrs (behind (behind (spec_words_scopes ws s) (λ t. where_true (some_shows_no_type t d) t)) (some_declr_scopes d)) (declare_some (some_declared_name d) Value) (params_scopes more) s' named)
+      absurd (no_attrs a attrs (behind (behind (spec_words_scopes ws s) (λ t. where_true (some_shows_no_type t d) t)) (some_declr_scopes d)) (declare_some (some_declared_name d) Value)
+          (params_scopes more) s' named)
   other_params_run (more_params ws d [] more) dots closing ps s s' k fits dotted named low =
       let behind_it : List Lexeme = closed_params all more dots closing k in
       let b = behind_some (param_scopes ws d s) (params_scopes more) s' named in
@@ -407,7 +411,8 @@ module _ (all : List Lexeme) (numbered : IsNumbered all) (n : ℕ) (expr : Reach
   params_read no_params None closing s s' k fits dotted named low = let same : s ≡ s' = cc in rw same refl
   params_read no_params (Some d) closing s s' k fits dotted named low = absurd dotted
   params_read (more_params ws d (a ∷ attrs) more) dots closing s s' k fits dotted named low =
-      absurd (no_attrs a attrs (behind (behind (spec_words_scopes ws s) (λ t. where_true (some_shows_no_type t d) t)) (some_declr_scopes d)) (declare_some (some_declared_name d) Value) (params_scopes more) s' named)
+      absurd (no_attrs a attrs (behind (behind (spec_words_scopes ws s) (λ t. where_true (some_shows_no_type t d) t)) (some_declr_scopes d)) (declare_some (some_declared_name d) Value)
+          (params_scopes more) s' named)
   params_read (more_params ws d [] more) dots closing s s' k fits dotted named low =
       let behind_it : List Lexeme = closed_params all more dots closing k in
       let b = behind_some (param_scopes ws d s) (params_scopes more) s' named in

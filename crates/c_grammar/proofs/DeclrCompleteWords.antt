@@ -138,7 +138,8 @@ module _ (all : List Lexeme) where
   others_plain (more_words (noreturn token) ws) s s' k fits basics named plain = (refl, refl)
   others_plain (more_words (qualifier qual) ws) s s' k fits basics named plain = others_plain ws s s' k fits.1 basics named plain
   others_plain (more_words (basic word) ws) s s' k fits basics named plain =
-      (other_start (keyword_start word.keyword) (record { kind = kinds.Keyword word.keyword; at = word.token }) (first_of (spells_other word.keyword) (list_any spells_other (type_words ws)) basics), refl)
+      (other_start (keyword_start word.keyword) (record { kind = kinds.Keyword word.keyword; at = word.token })
+          (first_of (spells_other word.keyword) (list_any spells_other (type_words ws)) basics), refl)
     where
       first_of : (a b : Bool) → (a || b) ≡ false → a ≡ false
       first_of true b is = absurd cc
