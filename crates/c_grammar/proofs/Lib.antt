@@ -22,3 +22,7 @@ pub mod ExprComplete
 pub mod DeclrSoundWords
 pub mod DeclrSoundParams
 pub mod DeclrSound
+pub mod DeclrFalls
+pub mod DeclrCompleteWords
+pub mod DeclrCompleteParts
+pub mod DeclrComplete
