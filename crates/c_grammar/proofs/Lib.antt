@@ -26,3 +26,6 @@ pub mod DeclrFalls
 pub mod DeclrCompleteWords
 pub mod DeclrCompleteParts
 pub mod DeclrComplete
+pub mod SpecsSoundBodies
+pub mod SpecsSoundEnums
+pub mod SpecsSound
