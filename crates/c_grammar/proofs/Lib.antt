@@ -29,3 +29,8 @@ pub mod DeclrComplete
 pub mod SpecsSoundBodies
 pub mod SpecsSoundEnums
 pub mod SpecsSound
+pub mod Firsts
+pub mod SpecsFalls
+pub mod SpecsCompleteParts
+pub mod SpecsCompleteEnums
+pub mod SpecsComplete
