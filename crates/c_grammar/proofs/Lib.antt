@@ -34,3 +34,4 @@ pub mod SpecsFalls
 pub mod SpecsCompleteParts
 pub mod SpecsCompleteEnums
 pub mod SpecsComplete
+pub mod KnottingSteps
