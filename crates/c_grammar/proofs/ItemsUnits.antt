@@ -79,17 +79,17 @@ module _ (steps : (all : List Lexeme) → IsNumbered all → Steps all) (begin :
   declr_laws : (all : List Lexeme) → IsNumbered all → (n m : ℕ) → suc n ≡ m → DeclrLaws all n (declr_at m)
   declr_laws all numbered n m same = subst (λ (m : ℕ). DeclrLaws all n (declr_at m)) same (laws_at all (steps all numbered) n).declrs
 
-  pub unit_is_well_formed : UnitIsWellFormed
-  unit_is_well_formed all numbered items k e = unit_taken all numbered 499 (specs_at most) (declr_at most) (specs_laws all numbered 499 most refl) (declr_laws all numbered 499 most refl) items k e
+  pub unit_is_well_formed_by : UnitIsWellFormed
+  unit_is_well_formed_by all numbered items k e = unit_taken all numbered 499 (specs_at most) (declr_at most) (specs_laws all numbered 499 most refl) (declr_laws all numbered 499 most refl) items k e
 
-  pub well_formed_is_read : WellFormedIsRead
-  well_formed_is_read all numbered items well =
+  pub well_formed_is_read_by : WellFormedIsRead
+  well_formed_is_read_by all numbered items well =
       unit_found all numbered 499 (specs_at most) (declr_at most) (specs_laws all numbered 499 most refl) (declr_laws all numbered 499 most refl) declrs_grow (begin all numbered) (omega arith) items well well.rules.low
 
-  pub one_unit_at_most : OneUnitAtMost
-  one_unit_at_most all numbered items others well other =
-      let read = well_formed_is_read all numbered items well in
-      let read2 = well_formed_is_read all numbered others other in
+  pub one_unit_at_most_by : OneUnitAtMost
+  one_unit_at_most_by all numbered items others well other =
+      let read = well_formed_is_read_by all numbered items well in
+      let read2 = well_formed_is_read_by all numbered others other in
       let x : List Item × List Lexeme = (items, read.0) in
       let y : List Item × List Lexeme = (others, read2.0) in
       ap (λ (z : List Item × List Lexeme). z.0) (ok_is x y (sym read.1 ∙ read2.1))
