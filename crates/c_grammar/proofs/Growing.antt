@@ -12,19 +12,19 @@ use Rattle.c_grammar.specs.Scoping.{behind, without, without_attrs, names_type, 
 use Rattle.c_grammar.proofs.Aims.{Grows, ExprsGrow, DeclrsGrow}
 
 -- the scopes round the innermost are the same, and this has no name less
-pub record Kept (s s' : Scopes) : Type 0 where
+record Kept (s s' : Scopes) : Type 0 where
   pub outer : leave_scope s' ≡ leave_scope s
   pub grows : Grows s s'
 
 -- what a part makes of scopes keeps them so
-pub record Keeps (part : Scopes → Option Scopes) : Type 0 where
+record Keeps (part : Scopes → Option Scopes) : Type 0 where
   pub keeps : (s s' : Scopes) → part s ≡ Some s' → Kept s s'
 
 kept_same : (s s' : Scopes) → s ≡ s' → Kept s s'
 kept_same s s' same = subst (λ (t : Scopes). Kept s t) same (record { outer = refl; grows = λ name kind h. h })
 
 -- the scopes behind both parts
-behind_parts : (o : Option Scopes) (next : Scopes → Option Scopes) (s' : Scopes) → behind o next ≡ Some s' → (t : Scopes) × (o ≡ Some t) × (next t ≡ Some s')
+pub behind_parts : (o : Option Scopes) (next : Scopes → Option Scopes) (s' : Scopes) → behind o next ≡ Some s' → (t : Scopes) × (o ≡ Some t) × (next t ≡ Some s')
 behind_parts None next s' h = absurd cc
 behind_parts (Some t) next s' h = (t, refl, h)
 
@@ -37,8 +37,8 @@ same_keeps = record { keeps = λ s s' h. kept_same s s' (some_is s s' h) }
 none_keeps : Keeps (λ s. None)
 none_keeps = record { keeps = λ s s' h. absurd cc }
 
-then_keeps : (part next : Scopes → Option Scopes) → Keeps part → Keeps next → Keeps (λ s. behind (part s) next)
-then_keeps part next first second = record { keeps = keeps }
+then_keeps : {part next : Scopes → Option Scopes} → Keeps part → Keeps next → Keeps (λ s. behind (part s) next)
+then_keeps {part} {next} first second = record { keeps = keeps }
   where
     keeps : (s s' : Scopes) → behind (part s) next ≡ Some s' → Kept s s'
     keeps s s' h =
@@ -63,8 +63,8 @@ where_true_keeps test = record { keeps = λ s s'. by_test s s' (test s) }
     by_test s s' true h = kept_same s s' (some_is s s' h)
     by_test s s' false h = absurd cc
 
-own_scope_keeps : (part : Scopes → Option Scopes) → Keeps part → Keeps (in_own_scope part)
-own_scope_keeps part inner = record { keeps = keeps }
+own_scope_keeps : {part : Scopes → Option Scopes} → Keeps part → Keeps (in_own_scope part)
+own_scope_keeps {part} inner = record { keeps = keeps }
   where
     keeps : (s s' : Scopes) → in_own_scope part s ≡ Some s' → Kept s s'
     keeps s s' h =
@@ -105,14 +105,14 @@ declare_some_keeps None kind = same_keeps
 declare_some_keeps (Some name) kind = declare_keeps name kind
 
 mutual
-  pub expr_keeps : (e : Expr) → Keeps (expr_scopes e)
-  expr_keeps (operation e op token e2) = then_keeps (λ s. behind (expr_scopes e s) (operator_scopes op)) (expr_scopes e2) (then_keeps (expr_scopes e) (operator_scopes op) (expr_keeps e) (operator_keeps op)) (expr_keeps e2)
-  expr_keeps (cast opening ws d closing e) = then_keeps (λ s. behind (spec_words_scopes ws s) (some_declr_scopes d)) (expr_scopes e) (then_keeps (spec_words_scopes ws) (some_declr_scopes d) (spec_words_keep ws) (some_declr_keeps d)) (expr_keeps e)
+  expr_keeps : (e : Expr) → Keeps (expr_scopes e)
+  expr_keeps (operation e op token e2) = then_keeps (then_keeps (expr_keeps e) (operator_keeps op)) (expr_keeps e2)
+  expr_keeps (cast opening ws d closing e) = then_keeps (then_keeps (spec_words_keep ws) (some_declr_keeps d)) (expr_keeps e)
   expr_keeps (prefix token p e) = expr_keeps e
   expr_keeps (sizeof_value word e) = expr_keeps e
-  expr_keeps (sizeof_type word opening ws d closing) = then_keeps (spec_words_scopes ws) (some_declr_scopes d) (spec_words_keep ws) (some_declr_keeps d)
-  expr_keeps (index e opening e2 closing) = then_keeps (expr_scopes e) (expr_scopes e2) (expr_keeps e) (expr_keeps e2)
-  expr_keeps (call e opening es closing) = then_keeps (expr_scopes e) (exprs_scopes es) (expr_keeps e) (exprs_keep es)
+  expr_keeps (sizeof_type word opening ws d closing) = then_keeps (spec_words_keep ws) (some_declr_keeps d)
+  expr_keeps (index e opening e2 closing) = then_keeps (expr_keeps e) (expr_keeps e2)
+  expr_keeps (call e opening es closing) = then_keeps (expr_keeps e) (exprs_keep es)
   expr_keeps (dot e token name) = expr_keeps e
   expr_keeps (arrow e token name) = expr_keeps e
   expr_keeps (post e token p) = expr_keeps e
@@ -133,14 +133,14 @@ mutual
 
   exprs_keep : (es : Exprs) → Keeps (exprs_scopes es)
   exprs_keep no_exprs = same_keeps
-  exprs_keep (more_exprs e es) = then_keeps (expr_scopes e) (exprs_scopes es) (expr_keeps e) (exprs_keep es)
+  exprs_keep (more_exprs e es) = then_keeps (expr_keeps e) (exprs_keep es)
 
-  pub spec_words_keep : (ws : SpecWords) → Keeps (spec_words_scopes ws)
+  spec_words_keep : (ws : SpecWords) → Keeps (spec_words_scopes ws)
   spec_words_keep no_words = same_keeps
-  spec_words_keep (more_words w ws) = then_keeps (spec_word_scopes w) (spec_words_scopes ws) (spec_word_keeps w) (spec_words_keep ws)
+  spec_words_keep (more_words w ws) = then_keeps (spec_word_keeps w) (spec_words_keep ws)
 
   spec_word_keeps : (w : SpecWord) → Keeps (spec_word_scopes w)
-  spec_word_keeps (struct_type word attrs tag body) = then_keeps (without attrs) (some_body_scopes body) (without_keeps attrs) (some_body_keeps body)
+  spec_word_keeps (struct_type word attrs tag body) = then_keeps (without_keeps attrs) (some_body_keeps body)
   spec_word_keeps (enum_type enum) = enum_type_keeps enum
   spec_word_keeps (typedef_name name) = where_true_keeps (λ s. names_type s name.name)
   spec_word_keeps (attribute attr) = none_keeps
@@ -152,30 +152,27 @@ mutual
 
   struct_items_keep : (items : StructItems) → Keeps (struct_items_scopes items)
   struct_items_keep no_struct_items = same_keeps
-  struct_items_keep (more_struct_items item items) = then_keeps (struct_item_scopes item) (struct_items_scopes items) (struct_item_keeps item) (struct_items_keep items)
+  struct_items_keep (more_struct_items item items) = then_keeps (struct_item_keeps item) (struct_items_keep items)
 
   struct_item_keeps : (item : StructItem) → Keeps (struct_item_scopes item)
-  struct_item_keeps (member exts ws ds semi) =
-      then_keeps (λ s. behind (without exts s) (spec_words_scopes ws)) (mem_declrs_scopes ds) (then_keeps (without exts) (spec_words_scopes ws) (without_keeps exts) (spec_words_keep ws)) (mem_declrs_keep ds)
+  struct_item_keeps (member exts ws ds semi) = then_keeps (then_keeps (without_keeps exts) (spec_words_keep ws)) (mem_declrs_keep ds)
   struct_item_keeps (member_semi semi) = same_keeps
   struct_item_keeps (member_assert it) = none_keeps
 
   mem_declrs_keep : (ds : MemDeclrs) → Keeps (mem_declrs_scopes ds)
   mem_declrs_keep no_mem_declrs = same_keeps
-  mem_declrs_keep (more_mem_declrs attrs d ds) =
-      then_keeps (λ s. behind (without attrs s) (mem_declr_scopes d)) (mem_declrs_scopes ds) (then_keeps (without attrs) (mem_declr_scopes d) (without_keeps attrs) (mem_declr_keeps d)) (mem_declrs_keep ds)
+  mem_declrs_keep (more_mem_declrs attrs d ds) = then_keeps (then_keeps (without_keeps attrs) (mem_declr_keeps d)) (mem_declrs_keep ds)
 
   mem_declr_keeps : (d : MemDeclr) → Keeps (mem_declr_scopes d)
-  mem_declr_keeps (named d width attrs) =
-      then_keeps (λ s. behind (declr_scopes d s) (some_value_scopes width)) (without attrs) (then_keeps (declr_scopes d) (some_value_scopes width) (declr_keeps d) (some_value_keeps width)) (without_keeps attrs)
-  mem_declr_keeps (unnamed colon e attrs) = then_keeps (expr_scopes e) (without attrs) (expr_keeps e) (without_keeps attrs)
+  mem_declr_keeps (named d width attrs) = then_keeps (then_keeps (declr_keeps d) (some_value_keeps width)) (without_keeps attrs)
+  mem_declr_keeps (unnamed colon e attrs) = then_keeps (expr_keeps e) (without_keeps attrs)
 
   some_value_keeps : (value : SomeValue) → Keeps (some_value_scopes value)
   some_value_keeps no_value = same_keeps
   some_value_keeps (some_value token e) = expr_keeps e
 
   enum_type_keeps : (enum : EnumType) → Keeps (enum_type_scopes enum)
-  enum_type_keeps (enum_of keyword attrs tag body) = then_keeps (without attrs) (some_enum_body_scopes body) (without_keeps attrs) (some_enum_body_keeps body)
+  enum_type_keeps (enum_of keyword attrs tag body) = then_keeps (without_keeps attrs) (some_enum_body_keeps body)
 
   some_enum_body_keeps : (body : SomeEnumBody) → Keeps (some_enum_body_scopes body)
   some_enum_body_keeps no_enum_body = same_keeps
@@ -184,22 +181,20 @@ mutual
   enumerators_keep : (es : Enumerators) → Keeps (enumerators_scopes es)
   enumerators_keep no_enumerators = same_keeps
   enumerators_keep (more_enumerators name attrs value es) =
-      then_keeps (λ s. behind (behind (without attrs s) (some_value_scopes value)) (λ t. declare_name t name.name Constant)) (enumerators_scopes es)
-      (then_keeps (λ s. behind (without attrs s) (some_value_scopes value)) (λ t. declare_name t name.name Constant)
-      (then_keeps (without attrs) (some_value_scopes value) (without_keeps attrs) (some_value_keeps value)) (declare_keeps name.name Constant)) (enumerators_keep es)
+      then_keeps (then_keeps (then_keeps (without_keeps attrs) (some_value_keeps value)) (declare_keeps name.name Constant)) (enumerators_keep es)
 
-  pub declr_keeps : (d : Declr) → Keeps (declr_scopes d)
-  declr_keeps (pointer star words d) = then_keeps (without_attrs words) (declr_scopes d) (without_attrs_keeps words) (declr_keeps d)
+  declr_keeps : (d : Declr) → Keeps (declr_scopes d)
+  declr_keeps (pointer star words d) = then_keeps (without_attrs_keeps words) (declr_keeps d)
   declr_keeps (declr_name token name) = same_keeps
-  declr_keeps (declr_paren opening attrs d closing) = then_keeps (without attrs) (declr_scopes d) (without_keeps attrs) (declr_keeps d)
-  declr_keeps (array d opening words size closing) = then_keeps (declr_scopes d) (some_size_scopes size) (declr_keeps d) (some_size_keeps size)
-  declr_keeps (params d opening ps dots closing) = then_keeps (declr_scopes d) (in_own_scope (params_scopes ps)) (declr_keeps d) (own_scope_keeps (params_scopes ps) (params_keep ps))
-  declr_keeps (abs_pointer star words d) = then_keeps (without_attrs words) (some_declr_scopes d) (without_attrs_keeps words) (some_declr_keeps d)
-  declr_keeps (abs_paren opening attrs d closing) = then_keeps (without attrs) (declr_scopes d) (without_keeps attrs) (declr_keeps d)
-  declr_keeps (abs_array d opening words size closing) = then_keeps (some_declr_scopes d) (some_size_scopes size) (some_declr_keeps d) (some_size_keeps size)
-  declr_keeps (abs_params d opening ps dots closing) = then_keeps (some_declr_scopes d) (in_own_scope (params_scopes ps)) (some_declr_keeps d) (own_scope_keeps (params_scopes ps) (params_keep ps))
+  declr_keeps (declr_paren opening attrs d closing) = then_keeps (without_keeps attrs) (declr_keeps d)
+  declr_keeps (array d opening words size closing) = then_keeps (declr_keeps d) (some_size_keeps size)
+  declr_keeps (params d opening ps dots closing) = then_keeps (declr_keeps d) (own_scope_keeps (params_keep ps))
+  declr_keeps (abs_pointer star words d) = then_keeps (without_attrs_keeps words) (some_declr_keeps d)
+  declr_keeps (abs_paren opening attrs d closing) = then_keeps (without_keeps attrs) (declr_keeps d)
+  declr_keeps (abs_array d opening words size closing) = then_keeps (some_declr_keeps d) (some_size_keeps size)
+  declr_keeps (abs_params d opening ps dots closing) = then_keeps (some_declr_keeps d) (own_scope_keeps (params_keep ps))
 
-  pub some_declr_keeps : (d : SomeDeclr) → Keeps (some_declr_scopes d)
+  some_declr_keeps : (d : SomeDeclr) → Keeps (some_declr_scopes d)
   some_declr_keeps no_declr = same_keeps
   some_declr_keeps (some_declr d) = declr_keeps d
 
@@ -214,11 +209,8 @@ mutual
   params_keep : (ps : Params) → Keeps (params_scopes ps)
   params_keep no_params = same_keeps
   params_keep (more_params ws d attrs ps) =
-      then_keeps (λ s. behind (behind (behind (spec_words_scopes ws s) (λ t. where_true (some_shows_no_type t d) t)) (some_declr_scopes d)) (λ t. behind (without attrs t) (declare_some (some_declared_name d) Value))) (params_scopes ps)
-      (then_keeps (λ s. behind (behind (spec_words_scopes ws s) (λ t. where_true (some_shows_no_type t d) t)) (some_declr_scopes d)) (λ t. behind (without attrs t) (declare_some (some_declared_name d) Value))
-      (then_keeps (λ s. behind (spec_words_scopes ws s) (λ t. where_true (some_shows_no_type t d) t)) (some_declr_scopes d)
-      (then_keeps (spec_words_scopes ws) (λ t. where_true (some_shows_no_type t d) t) (spec_words_keep ws) (where_true_keeps (λ t. some_shows_no_type t d))) (some_declr_keeps d))
-      (then_keeps (without attrs) (declare_some (some_declared_name d) Value) (without_keeps attrs) (declare_some_keeps (some_declared_name d) Value))) (params_keep ps)
+      then_keeps (then_keeps (then_keeps (then_keeps (spec_words_keep ws) (where_true_keeps (λ t. some_shows_no_type t d))) (some_declr_keeps d))
+      (then_keeps (without_keeps attrs) (declare_some_keeps (some_declared_name d) Value))) (params_keep ps)
 
 pub exprs_grow : ExprsGrow
 exprs_grow e s s' h = ((expr_keeps e).keeps s s' h).grows

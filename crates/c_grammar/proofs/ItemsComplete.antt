@@ -25,8 +25,9 @@ use Rattle.c_grammar.specs.Declaring.{Mode, with_name, may_declare}
 use Rattle.c_grammar.specs.Items.{with_init_declr, init_declr_with, init_declr_turn, init_declrs_with, declaration_with, item_with, item_turn, items_with}
 use Rattle.c_grammar.proofs.Aims.{DeclrsGrow, WordsBegin, SpecsLaws, DeclrLaws, ends_specs, ends_declr}
 use Rattle.c_grammar.proofs.LoopLemmas.{bind_ok, done, ok_is, TurnShrinks, op_shrinks, op_goes_on, op_done, run_is, run-keep}
-use Rattle.c_grammar.proofs.ItemsLists.{behind_parts, after_falls}
-use Rattle.c_grammar.proofs.ItemsSound.{semi_is, init_declr_shrinks}
+use Rattle.c_grammar.proofs.Growing.{behind_parts}
+use Rattle.c_grammar.proofs.ItemsLists.{after_falls}
+use Rattle.c_grammar.proofs.ItemsSound.{semi_is, declaration_end, declaration_as_item, with_item, init_declr_shrinks}
 
 semi_longer : (ts : List Lexeme) (t : Lexeme) (k : List Lexeme) → token_at is_semicolon ts ≡ Ok (t, k) → length ts ≡ suc (length k)
 semi_longer ts t k e = ap (λ (us : List Lexeme). length us) (semi_is ts t k e)
@@ -62,7 +63,13 @@ first_scopes kind d ds s s' h =
     let all = behind_parts (behind (behind (declr_scopes d s) (declare_some (declared_name d) kind)) (λ t. Some t)) (init_declrs_scopes kind ds) s' h in
     let named = behind_parts (behind (declr_scopes d s) (declare_some (declared_name d) kind)) (λ t. Some t) all.0 all.1 in
     let of_declr = behind_parts (declr_scopes d s) (declare_some (declared_name d) kind) named.0 named.1 in
-    record { declarator = of_declr.0; name = named.0; of_declr = of_declr.1; of_name = of_declr.2; of_others = subst (λ (o : Option Scopes). behind o (init_declrs_scopes kind ds) ≡ Some s') (sym named.2) all.2 }
+    record {
+      declarator = of_declr.0;
+      name = named.0;
+      of_declr = of_declr.1;
+      of_name = of_declr.2;
+      of_others = subst (λ (o : Option Scopes). behind o (init_declrs_scopes kind ds) ≡ Some s') (sym named.2) all.2;
+    }
 
 plain_is : (kind : Kind) (attrs attrs2 : List Attr) (d : Declr) (asm_label : Option AsmLabel) (init : SomeInit) (ds : InitDeclrs) (s s' : Scopes) →
     init_declrs_scopes kind (more_init_declrs attrs d asm_label attrs2 init ds) s ≡ Some s' → is_plain attrs asm_label attrs2 init ≡ true
@@ -146,7 +153,8 @@ module _ (all : List Lexeme) (numbered : IsNumbered all) (n : ℕ) (specs : Role
   unfolding init_declrs_with
   init_declrs_fall kind s ts x e = by_semi (begins is_semicolon ts) e
     where
-      by_semi : (b : Bool) → (if b then ends (no_init_declrs, s) ts else (init_declr_with (specs declaring) declr kind no_init_declrs s ts >>= λ d. run (init_declr_turn (specs declaring) declr kind) d.0 d.1)) ≡ Ok x →
+      by_semi : (b : Bool) →
+          (if b then ends (no_init_declrs, s) ts else (init_declr_with (specs declaring) declr kind no_init_declrs s ts >>= λ d. run (init_declr_turn (specs declaring) declr kind) d.0 d.1)) ≡ Ok x →
           length x.1 ≤ length ts
       by_semi true e =
           let y : (InitDeclrs × Scopes) × List Lexeme = ((no_init_declrs, s), ts) in
@@ -164,9 +172,9 @@ module _ (all : List Lexeme) (numbered : IsNumbered all) (n : ℕ) (specs : Role
   declaration_shrinks : (s : Scopes) → Shrinks (declaration_with (specs declaring) declr s)
   unfolding declaration_with
   declaration_shrinks s ts x e =
-      let w = bind_ok (specs declaring no_words s ts) (λ w. init_declrs_with (specs declaring) declr (declared_kind w.0.0) w.0.1 w.1 >>= λ ds. token_at is_semicolon ds.1 >>= λ semi. ends (declaration [] w.0.0 ds.0.0 semi.0.at, ds.0.1) semi.1) x e in
+      let w = bind_ok (specs declaring no_words s ts) (λ w. init_declrs_with (specs declaring) declr (declared_kind w.0.0) w.0.1 w.1 >>= λ ds. declaration_end w.0.0 ds) x e in
       let less : length w.0.1 < length ts = words.shrinks declaring s ts w.0 w.1 in
-      let ds = bind_ok (init_declrs_with (specs declaring) declr (declared_kind w.0.0.0) w.0.0.1 w.0.1) (λ ds. token_at is_semicolon ds.1 >>= λ semi. ends (declaration [] w.0.0.0 ds.0.0 semi.0.at, ds.0.1) semi.1) x w.2 in
+      let ds = bind_ok (init_declrs_with (specs declaring) declr (declared_kind w.0.0.0) w.0.0.1 w.0.1) (declaration_end w.0.0.0) x w.2 in
       let falls : length ds.0.1 ≤ length w.0.1 = init_declrs_fall (declared_kind w.0.0.0) w.0.0.1 w.0.1 ds.0 ds.1 in
       let semi = bind_ok (token_at is_semicolon ds.0.1) (λ semi. ends (declaration [] w.0.0.0 ds.0.0.0 semi.0.at, ds.0.0.1) semi.1) x ds.2 in
       let semi_long : length ds.0.1 ≡ suc (length semi.0.1) = semi_longer ds.0.1 semi.0.0 semi.0.1 semi.1 in
@@ -175,9 +183,9 @@ module _ (all : List Lexeme) (numbered : IsNumbered all) (n : ℕ) (specs : Role
       subst (λ (x : (Declaration × Scopes) × List Lexeme). length x.1 < length ts) {x = y} same (omega (arith, less, falls, semi_long))
 
   declaration_item_shrinks : (s : Scopes) (ts : List Lexeme) (x : (Item × Scopes) × List Lexeme) →
-      (declaration_with (specs declaring) declr s ts >>= λ d. ends (decl_item (decl_declaration d.0.0), d.0.1) d.1) ≡ Ok x → length x.1 < length ts
+      (declaration_with (specs declaring) declr s ts >>= declaration_as_item) ≡ Ok x → length x.1 < length ts
   declaration_item_shrinks s ts x e =
-      let d = bind_ok (declaration_with (specs declaring) declr s ts) (λ d. ends (decl_item (decl_declaration d.0.0), d.0.1) d.1) x e in
+      let d = bind_ok (declaration_with (specs declaring) declr s ts) (declaration_as_item) x e in
       let less : length d.0.1 < length ts = declaration_shrinks s ts d.0 d.1 in
       let y : (Item × Scopes) × List Lexeme = ((decl_item (decl_declaration d.0.0.0), d.0.0.1), d.0.1) in
       subst (λ (x : (Item × Scopes) × List Lexeme). length x.1 < length ts) {x = y} (ok_is y x d.2) less
@@ -187,7 +195,7 @@ module _ (all : List Lexeme) (numbered : IsNumbered all) (n : ℕ) (specs : Role
   item_shrinks s [] x e = declaration_item_shrinks s [] x e
   item_shrinks s (t ∷ ts) x e = by_semi (is_semicolon t.kind) e
     where
-      by_semi : (b : Bool) → (if b then ends (semi_item (record { token = t.at }), s) ts else (declaration_with (specs declaring) declr s (t ∷ ts) >>= λ d. ends (decl_item (decl_declaration d.0.0), d.0.1) d.1)) ≡ Ok x →
+      by_semi : (b : Bool) → (if b then ends (semi_item (record { token = t.at }), s) ts else (declaration_with (specs declaring) declr s (t ∷ ts) >>= declaration_as_item)) ≡ Ok x →
           length x.1 < length (t ∷ ts)
       by_semi true e =
           let y : (Item × Scopes) × List Lexeme = ((semi_item (record { token = t.at }), s), ts) in
@@ -197,11 +205,11 @@ module _ (all : List Lexeme) (numbered : IsNumbered all) (n : ℕ) (specs : Role
   item_turn_shrinks : TurnShrinks (item_turn (specs declaring) declr)
   item_turn_shrinks state ts x e = by_end (begins is_end ts) e
     where
-      by_end : (b : Bool) → (if b then None else Some (item_with (specs declaring) declr state.1 ts >>= λ item. ends (state.0 ++ item.0.0 ∷ [], item.0.1) item.1)) ≡ Some (done x) → length x.1 < length ts
+      by_end : (b : Bool) → (if b then None else Some (item_with (specs declaring) declr state.1 ts >>= with_item state.0)) ≡ Some (done x) → length x.1 < length ts
       by_end true e = absurd cc
       by_end false e =
-          let e' : (item_with (specs declaring) declr state.1 ts >>= λ item. ends (state.0 ++ item.0.0 ∷ [], item.0.1) item.1) ≡ done x = cc in
-          let item = bind_ok (item_with (specs declaring) declr state.1 ts) (λ item. ends (state.0 ++ item.0.0 ∷ [], item.0.1) item.1) x e' in
+          let e' : (item_with (specs declaring) declr state.1 ts >>= with_item state.0) ≡ done x = cc in
+          let item = bind_ok (item_with (specs declaring) declr state.1 ts) (with_item state.0) x e' in
           let less : length item.0.1 < length ts = item_shrinks state.1 ts item.0 item.1 in
           let y : (List Item × Scopes) × List Lexeme = ((state.0 ++ item.0.0.0 ∷ [], item.0.0.1), item.0.1) in
           subst (λ (x : (List Item × Scopes) × List Lexeme). length x.1 < length ts) {x = y} (ok_is y x item.2) less
@@ -237,11 +245,11 @@ module _ (all : List Lexeme) (numbered : IsNumbered all) (n : ℕ) (specs : Role
     other_declrs_are kind (more_init_declrs [] d None [] no_init ds) before s s' semi k are named low =
         let scopes = first_scopes kind d ds s s' named in
         let lows = first_low d ds n low in
+        let rest : List Lexeme = other_init_declrs_text all ds (sign_text Semicolon semi k) in
         op_goes_on (after is_comma) (λ (state : InitDeclrs × Scopes). init_declr_with (specs declaring) declr kind state.0 state.1) (λ state (next : InitDeclrs × Scopes). next)
         (after_falls is_comma) (λ state. init_declr_shrinks all numbered n specs declr words declrs kind state.0 state.1) (before, s)
-        (separated (declr_text all d (other_init_declrs_text all ds (sign_text Semicolon semi k)))) (declr_text all d (other_init_declrs_text all ds (sign_text Semicolon semi k)))
-        (with_init_declr before d, scopes.name) (other_init_declrs_text all ds (sign_text Semicolon semi k)) refl
-        (init_declr_is kind before d s scopes.declarator scopes.name (other_init_declrs_text all ds (sign_text Semicolon semi k)) are.1 are.2 scopes.of_declr scopes.of_name lows.0 (others_end all ds semi k))
+        (separated (declr_text all d rest)) (declr_text all d rest) (with_init_declr before d, scopes.name) rest refl
+        (init_declr_is kind before d s scopes.declarator scopes.name rest are.1 are.2 scopes.of_declr scopes.of_name lows.0 (others_end all ds semi k))
         ∙ other_declrs_are kind ds (with_init_declr before d) scopes.name s' semi k are.6 scopes.of_others lows.1
         ∙ rw (append_with before d ds) refl
     other_declrs_are kind (more_init_declrs attrs d asm_label attrs2 init ds) before s s' semi k are named low =
@@ -257,15 +265,17 @@ module _ (all : List Lexeme) (numbered : IsNumbered all) (n : ℕ) (specs : Role
     declrs_are kind (more_init_declrs [] d None [] no_init ds) s s' semi k are named low =
         let scopes = first_scopes kind d ds s s' named in
         let lows = first_low d ds n low in
-        let begun = declr_begins all d (other_init_declrs_text all ds (sign_text Semicolon semi k)) are.1 are.2 in
-        rw (begun.no_semi, init_declr_is kind no_init_declrs d s scopes.declarator scopes.name (other_init_declrs_text all ds (sign_text Semicolon semi k)) are.1 are.2 scopes.of_declr scopes.of_name lows.0 (others_end all ds semi k))
+        let rest : List Lexeme = other_init_declrs_text all ds (sign_text Semicolon semi k) in
+        let begun = declr_begins all d rest are.1 are.2 in
+        rw (begun.no_semi, init_declr_is kind no_init_declrs d s scopes.declarator scopes.name rest are.1 are.2 scopes.of_declr scopes.of_name lows.0 (others_end all ds semi k))
         (other_declrs_are kind ds (with_init_declr no_init_declrs d) scopes.name s' semi k are.6 scopes.of_others lows.1)
     declrs_are kind (more_init_declrs attrs d asm_label attrs2 init ds) s s' semi k are named low =
         let plain = plain_is kind attrs attrs2 d asm_label init ds s s' named in
         absurd cc
 
-    declaration_is : (ws : SpecWords) (ds : InitDeclrs) (semi : ℕ) (s s' : Scopes) (k : List Lexeme) → IsDeclaration all (declaration [] ws ds semi) → decl_scopes (decl_declaration (declaration [] ws ds semi)) s ≡ Some s' →
-        declaration_height (declaration [] ws ds semi) ≤ n → declaration_with (specs declaring) declr s (declaration_text all (declaration [] ws ds semi) k) ≡ Ok ((declaration [] ws ds semi, s'), k)
+    declaration_is : (ws : SpecWords) (ds : InitDeclrs) (semi : ℕ) (s s' : Scopes) (k : List Lexeme) → IsDeclaration all (declaration [] ws ds semi) →
+        decl_scopes (decl_declaration (declaration [] ws ds semi)) s ≡ Some s' → declaration_height (declaration [] ws ds semi) ≤ n →
+        declaration_with (specs declaring) declr s (declaration_text all (declaration [] ws ds semi) k) ≡ Ok ((declaration [] ws ds semi, s'), k)
     unfolding declaration_with
     declaration_is ws ds semi s s' k is named low =
         let scopes = behind_parts (spec_words_scopes ws s) (init_declrs_scopes (declared_kind ws) ds) s' named in

@@ -20,11 +20,6 @@ use Rattle.c_grammar.specs.Reading.{IsNumbered}
 use Rattle.c_grammar.proofs.LoopLemmas.{ok_is}
 use Rattle.c_grammar.proofs.Tails.{tail_of, comma_is}
 
--- the scopes behind both parts
-pub behind_parts : (o : Option Scopes) (next : Scopes → Option Scopes) (s' : Scopes) → behind o next ≡ Some s' → (t : Scopes) × (o ≡ Some t) × (next t ≡ Some s')
-behind_parts None next s' h = absurd cc
-behind_parts (Some t) next s' h = (t, refl, h)
-
 pub behind_some : (o : Option Scopes) → behind o (λ t. Some t) ≡ o
 behind_some None = refl
 behind_some (Some t) = refl
@@ -41,7 +36,8 @@ present_taken (some_declr d) t ts x e =
     let same : y ≡ x = ok_is y x e in
     (ap (λ (z : (Declr × Scopes) × List Lexeme). some_declr z.0.0) same, ap (λ (z : (Declr × Scopes) × List Lexeme). z.0.1) same, ap (λ (z : (Declr × Scopes) × List Lexeme). z.1) same)
 
-pub declared_taken : {A : Type 0} (a : A) (token : ℕ) (o : Option Scopes) (ts : List Lexeme) (x : (A × Scopes) × List Lexeme) → declared_some a token o ts ≡ Ok x → (o ≡ Some x.0.1) × (a ≡ x.0.0) × (ts ≡ x.1)
+pub declared_taken : {A : Type 0} (a : A) (token : ℕ) (o : Option Scopes) (ts : List Lexeme) (x : (A × Scopes) × List Lexeme) → declared_some a token o ts ≡ Ok x →
+    (o ≡ Some x.0.1) × (a ≡ x.0.0) × (ts ≡ x.1)
 declared_taken a token None ts x e = absurd cc
 declared_taken {A} a token (Some s) ts x e =
     let y : (A × Scopes) × List Lexeme = ((a, s), ts) in
@@ -78,7 +74,8 @@ with_start (more_init_declrs attrs first asm_label attrs2 init ds) d h = h
 
 pub with_scopes : (kind : Kind) (ds : InitDeclrs) (d : Declr) (s : Scopes) →
     init_declrs_scopes kind (with_init_declr ds d) s ≡ behind (init_declrs_scopes kind ds s) (λ t. behind (declr_scopes d t) (declare_some (declared_name d) kind))
-with_scopes kind no_init_declrs d s = behind_some (behind (behind (declr_scopes d s) (declare_some (declared_name d) kind)) (λ t. Some t)) ∙ behind_some (behind (declr_scopes d s) (declare_some (declared_name d) kind))
+with_scopes kind no_init_declrs d s =
+    behind_some (behind (behind (declr_scopes d s) (declare_some (declared_name d) kind)) (λ t. Some t)) ∙ behind_some (behind (declr_scopes d s) (declare_some (declared_name d) kind))
 with_scopes kind (more_init_declrs attrs first asm_label attrs2 no_init ds) d s =
     behind_same (behind (behind (behind (without attrs s) (declr_scopes first)) (declare_some (declared_name first) kind)) (λ t. behind (without_label asm_label t) (without attrs2)))
     (init_declrs_scopes kind (with_init_declr ds d)) (init_declrs_scopes kind ds) (λ t. behind (declr_scopes d t) (declare_some (declared_name d) kind)) (λ t. with_scopes kind ds d t)

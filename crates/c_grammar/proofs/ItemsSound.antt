@@ -12,7 +12,7 @@ use Rattle.c_tree.specs.Unit.{Item, decl_item, semi_item, item_text, items_text,
 use Rattle.c_tree.specs.WellFormed.{AreSpecWords, IsDeclr, is_named, AreInitDeclrs, IsInitStart, IsDeclaration}
 use Rattle.typedef_scope.specs.declared.kind.Kind.{Kind}
 use Rattle.typedef_scope.specs.Scopes.{Scopes, file_scope}
-use Rattle.c_grammar.specs.Scoping.{behind, spec_words_scopes, some_declr_scopes, declr_scopes, declared_kind, declared_name, some_declared_name, declare_some, init_declrs_scopes, decl_scopes}
+use Rattle.c_grammar.specs.Scoping.{behind, spec_words_scopes, some_declr_scopes, declr_scopes, declared_kind, declared_name, declare_some, init_declrs_scopes, decl_scopes}
 use Rattle.c_grammar.specs.Units.{item_scopes, items_scopes}
 use Rattle.c_grammar.specs.Reading.{Read, Shrinks, IsNumbered, IsTail, run, ends, ◌>>=◌}
 use Rattle.c_grammar.specs.Eating.{token_at, after, begins, is_comma, is_end, is_semicolon}
@@ -35,6 +35,19 @@ semi_is ts t k e =
     by_kind (kinds.Punct Semicolon) h = refl
     by_kind kind h = absurd cc
 
+-- what the readers do behind each part: a name is declared, a declaration ends, and is an item, which is the last of its list
+abbrev pub name_declared : Kind → InitDeclrs → (Declr × Scopes) × List Lexeme → Read (InitDeclrs × Scopes)
+name_declared kind before d = declared_some (with_init_declr before d.0.0) (name_token d.0.0) (declare_some (declared_name d.0.0) kind d.0.1) d.1
+
+abbrev pub declaration_end : SpecWords → (InitDeclrs × Scopes) × List Lexeme → Read (Declaration × Scopes)
+declaration_end ws ds = token_at is_semicolon ds.1 >>= λ semi. ends (declaration [] ws ds.0.0 semi.0.at, ds.0.1) semi.1
+
+abbrev pub declaration_as_item : (Declaration × Scopes) × List Lexeme → Read (Item × Scopes)
+declaration_as_item d = ends (decl_item (decl_declaration d.0.0), d.0.1) d.1
+
+abbrev pub with_item : List Item → (Item × Scopes) × List Lexeme → Read (List Item × Scopes)
+with_item items item = ends (items ++ item.0.0 ∷ [], item.0.1) item.1
+
 module _ (all : List Lexeme) (numbered : IsNumbered all) (n : ℕ) (specs : Role → SpecWords → Scopes → List Lexeme → Read (SpecWords × Scopes))
     (declr : Mode → Option Kind → Scopes → List Lexeme → Read (SomeDeclr × Scopes)) (words : SpecsLaws all n specs) (declrs : DeclrLaws all n declr) where
   -- one more declarator of a declaration
@@ -51,9 +64,9 @@ module _ (all : List Lexeme) (numbered : IsNumbered all) (n : ℕ) (specs : Role
       init_declr_with (specs declaring) declr kind before s ts ≡ Ok x → TakesDeclr kind before s ts x
   unfolding init_declr_with
   init_declr_sound kind before s ts x tail e =
-      let read = bind_ok (declr with_name (Some kind) s ts) (λ d. present d.0 d.1 >>= λ known. declared_some (with_init_declr before known.0.0) (name_token known.0.0) (declare_some (some_declared_name (some_declr known.0.0)) kind known.0.1) known.1) x e in
+      let read = bind_ok (declr with_name (Some kind) s ts) (λ d. present d.0 d.1 >>= λ known. name_declared kind before known) x e in
       let take = declrs.sound with_name (Some kind) s ts read.0 tail read.1 in
-      let there = bind_ok (present read.0.0 read.0.1) (λ known. declared_some (with_init_declr before known.0.0) (name_token known.0.0) (declare_some (some_declared_name (some_declr known.0.0)) kind known.0.1) known.1) x read.2 in
+      let there = bind_ok (present read.0.0 read.0.1) (λ known. name_declared kind before known) x read.2 in
       let is = present_taken read.0.0.0 read.0.0.1 read.0.1 there.0 there.1 in
       let known = declared_taken (with_init_declr before there.0.0.0) (name_token there.0.0.0) (declare_some (declared_name there.0.0.0) kind there.0.0.1) there.0.1 x there.2 in
       let fits : IsNamed all (some_declr there.0.0.0) = subst (λ (d : SomeDeclr). IsNamed all d) is.0 take.fits in
@@ -71,9 +84,9 @@ module _ (all : List Lexeme) (numbered : IsNumbered all) (n : ℕ) (specs : Role
   pub init_declr_shrinks : (kind : Kind) (before : InitDeclrs) (s : Scopes) → Shrinks (init_declr_with (specs declaring) declr kind before s)
   unfolding init_declr_with
   init_declr_shrinks kind before s ts x e =
-      let read = bind_ok (declr with_name (Some kind) s ts) (λ d. present d.0 d.1 >>= λ known. declared_some (with_init_declr before known.0.0) (name_token known.0.0) (declare_some (some_declared_name (some_declr known.0.0)) kind known.0.1) known.1) x e in
+      let read = bind_ok (declr with_name (Some kind) s ts) (λ d. present d.0 d.1 >>= λ known. name_declared kind before known) x e in
       let less : length read.0.1 < length ts = declrs.shrinks (Some kind) s ts read.0 read.1 in
-      let there = bind_ok (present read.0.0 read.0.1) (λ known. declared_some (with_init_declr before known.0.0) (name_token known.0.0) (declare_some (some_declared_name (some_declr known.0.0)) kind known.0.1) known.1) x read.2 in
+      let there = bind_ok (present read.0.0 read.0.1) (λ known. name_declared kind before known) x read.2 in
       let is = present_taken read.0.0.0 read.0.0.1 read.0.1 there.0 there.1 in
       let known = declared_taken (with_init_declr before there.0.0.0) (name_token there.0.0.0) (declare_some (declared_name there.0.0.0) kind there.0.0.1) there.0.1 x there.2 in
       subst (λ (k : List Lexeme). length k < length ts) (is.2 ∙ known.2) less
@@ -117,7 +130,8 @@ module _ (all : List Lexeme) (numbered : IsNumbered all) (n : ℕ) (specs : Role
   unfolding init_declrs_with
   init_declrs_sound kind s ts x tail e = by_semi (begins is_semicolon ts) e
     where
-      by_semi : (b : Bool) → (if b then ends (no_init_declrs, s) ts else (init_declr_with (specs declaring) declr kind no_init_declrs s ts >>= λ d. run (init_declr_turn (specs declaring) declr kind) d.0 d.1)) ≡ Ok x →
+      by_semi : (b : Bool) →
+          (if b then ends (no_init_declrs, s) ts else (init_declr_with (specs declaring) declr kind no_init_declrs s ts >>= λ d. run (init_declr_turn (specs declaring) declr kind) d.0 d.1)) ≡ Ok x →
           TakesDeclrs kind s ts x.0.0 x.0.1 x.1
       by_semi true e =
           let y : (InitDeclrs × Scopes) × List Lexeme = ((no_init_declrs, s), ts) in
@@ -160,17 +174,17 @@ module _ (all : List Lexeme) (numbered : IsNumbered all) (n : ℕ) (specs : Role
       declaration_with (specs declaring) declr s ts ≡ Ok x → TakesDeclaration s ts x.0.0 x.0.1 x.1
   unfolding declaration_with
   declaration_sound s ts x tail e =
-      let w = bind_ok (specs declaring no_words s ts) (λ w. init_declrs_with (specs declaring) declr (declared_kind w.0.0) w.0.1 w.1 >>= λ ds. token_at is_semicolon ds.1 >>= λ semi. ends (declaration [] w.0.0 ds.0.0 semi.0.at, ds.0.1) semi.1) x e in
+      let w = bind_ok (specs declaring no_words s ts) (λ w. init_declrs_with (specs declaring) declr (declared_kind w.0.0) w.0.1 w.1 >>= λ ds. declaration_end w.0.0 ds) x e in
       by_words w.0 (words.sound declaring no_words s ts w.0 tail w.1) w.2
     where
       by_words : (w : (SpecWords × Scopes) × List Lexeme) → TakesWords all declaring no_words s ts w →
-          (init_declrs_with (specs declaring) declr (declared_kind w.0.0) w.0.1 w.1 >>= λ ds. token_at is_semicolon ds.1 >>= λ semi. ends (declaration [] w.0.0 ds.0.0 semi.0.at, ds.0.1) semi.1) ≡ Ok x → TakesDeclaration s ts x.0.0 x.0.1 x.1
+          (init_declrs_with (specs declaring) declr (declared_kind w.0.0) w.0.1 w.1 >>= λ ds. declaration_end w.0.0 ds) ≡ Ok x → TakesDeclaration s ts x.0.0 x.0.1 x.1
       by_words w of_words e =
-          let ds = bind_ok (init_declrs_with (specs declaring) declr (declared_kind w.0.0) w.0.1 w.1) (λ ds. token_at is_semicolon ds.1 >>= λ semi. ends (declaration [] w.0.0 ds.0.0 semi.0.at, ds.0.1) semi.1) x e in
+          let ds = bind_ok (init_declrs_with (specs declaring) declr (declared_kind w.0.0) w.0.1 w.1) (λ ds. declaration_end w.0.0 ds) x e in
           by_declrs ds.0 (init_declrs_sound (declared_kind w.0.0) w.0.1 w.1 ds.0 of_words.left ds.1) ds.2
         where
           by_declrs : (ds : (InitDeclrs × Scopes) × List Lexeme) → TakesDeclrs (declared_kind w.0.0) w.0.1 w.1 ds.0.0 ds.0.1 ds.1 →
-              (token_at is_semicolon ds.1 >>= λ semi. ends (declaration [] w.0.0 ds.0.0 semi.0.at, ds.0.1) semi.1) ≡ Ok x → TakesDeclaration s ts x.0.0 x.0.1 x.1
+              declaration_end w.0.0 ds ≡ Ok x → TakesDeclaration s ts x.0.0 x.0.1 x.1
           by_declrs ds of_declrs e =
               let semi = bind_ok (token_at is_semicolon ds.1) (λ semi. ends (declaration [] w.0.0 ds.0.0 semi.0.at, ds.0.1) semi.1) x e in
               let y : (Declaration × Scopes) × List Lexeme = ((declaration [] w.0.0 ds.0.0 semi.0.0.at, ds.0.1), semi.0.1) in
@@ -184,9 +198,9 @@ module _ (all : List Lexeme) (numbered : IsNumbered all) (n : ℕ) (specs : Role
     pub left : IsTail all k
 
   declaration_item : (s : Scopes) (ts : List Lexeme) (x : (Item × Scopes) × List Lexeme) → IsTail all ts →
-      (declaration_with (specs declaring) declr s ts >>= λ d. ends (decl_item (decl_declaration d.0.0), d.0.1) d.1) ≡ Ok x → TakesItem s ts x.0.0 x.0.1 x.1
+      (declaration_with (specs declaring) declr s ts >>= declaration_as_item) ≡ Ok x → TakesItem s ts x.0.0 x.0.1 x.1
   declaration_item s ts x tail e =
-      let d = bind_ok (declaration_with (specs declaring) declr s ts) (λ d. ends (decl_item (decl_declaration d.0.0), d.0.1) d.1) x e in
+      let d = bind_ok (declaration_with (specs declaring) declr s ts) (declaration_as_item) x e in
       let taken = declaration_sound s ts d.0 tail d.1 in
       let y : (Item × Scopes) × List Lexeme = ((decl_item (decl_declaration d.0.0.0), d.0.0.1), d.0.1) in
       let same : y ≡ x = ok_is y x d.2 in
@@ -198,7 +212,7 @@ module _ (all : List Lexeme) (numbered : IsNumbered all) (n : ℕ) (specs : Role
   item_sound s (t ∷ ts) x tail e = by_semi (is_semicolon t.kind) refl e
     where
       by_semi : (b : Bool) → is_semicolon t.kind ≡ b →
-          (if b then ends (semi_item (record { token = t.at }), s) ts else (declaration_with (specs declaring) declr s (t ∷ ts) >>= λ d. ends (decl_item (decl_declaration d.0.0), d.0.1) d.1)) ≡ Ok x → TakesItem s (t ∷ ts) x.0.0 x.0.1 x.1
+          (if b then ends (semi_item (record { token = t.at }), s) ts else (declaration_with (specs declaring) declr s (t ∷ ts) >>= declaration_as_item)) ≡ Ok x → TakesItem s (t ∷ ts) x.0.0 x.0.1 x.1
       by_semi true is e =
           let y : (Item × Scopes) × List Lexeme = ((semi_item (record { token = t.at }), s), ts) in
           let same : y ≡ x = ok_is y x e in
@@ -216,15 +230,15 @@ module _ (all : List Lexeme) (numbered : IsNumbered all) (n : ℕ) (specs : Role
       TakesItems s start state.0 state.1 ts → item_turn (specs declaring) declr state ts ≡ Some (done x) → TakesItems s start x.0.0 x.0.1 x.1
   item_turn_keeps s start state ts x known e = by_end (begins is_end ts) e
     where
-      by_end : (b : Bool) → (if b then None else Some (item_with (specs declaring) declr state.1 ts >>= λ item. ends (state.0 ++ item.0.0 ∷ [], item.0.1) item.1)) ≡ Some (done x) →
+      by_end : (b : Bool) → (if b then None else Some (item_with (specs declaring) declr state.1 ts >>= with_item state.0)) ≡ Some (done x) →
           TakesItems s start x.0.0 x.0.1 x.1
       by_end true e = absurd cc
       by_end false e =
-          let e' : (item_with (specs declaring) declr state.1 ts >>= λ item. ends (state.0 ++ item.0.0 ∷ [], item.0.1) item.1) ≡ done x = cc in
-          let item = bind_ok (item_with (specs declaring) declr state.1 ts) (λ item. ends (state.0 ++ item.0.0 ∷ [], item.0.1) item.1) x e' in
+          let e' : (item_with (specs declaring) declr state.1 ts >>= with_item state.0) ≡ done x = cc in
+          let item = bind_ok (item_with (specs declaring) declr state.1 ts) (with_item state.0) x e' in
           by_item item.0 (item_sound state.1 ts item.0 known.left item.1) item.2
         where
-          by_item : (item : (Item × Scopes) × List Lexeme) → TakesItem state.1 ts item.0.0 item.0.1 item.1 → ends (state.0 ++ item.0.0 ∷ [], item.0.1) item.1 ≡ Ok x → TakesItems s start x.0.0 x.0.1 x.1
+          by_item : (item : (Item × Scopes) × List Lexeme) → TakesItem state.1 ts item.0.0 item.0.1 item.1 → with_item state.0 item ≡ Ok x → TakesItems s start x.0.0 x.0.1 x.1
           by_item item taken e =
               let y : (List Item × Scopes) × List Lexeme = ((state.0 ++ item.0.0 ∷ [], item.0.1), item.1) in
               subst (λ (x : (List Item × Scopes) × List Lexeme). TakesItems s start x.0.0 x.0.1 x.1) {x = y} (ok_is y x e) (record {

@@ -68,7 +68,8 @@ module _ (all : List Lexeme) (numbered : IsNumbered all) (n : ℕ) (specs : Role
   unit_found grow begin least items well low =
       let k : List Lexeme = record { kind = kinds.End; at = well.tokens.last } ∷ [] in
       let read : items_with (specs declaring) declr all ≡ Ok ((items, well.scopes), k) =
-          ap (items_with (specs declaring) declr) well.tokens.spelled ∙ items_complete all numbered n specs declr words declrs grow least begin items well.scopes k well.rules.parts well.named low refl in
+          ap (items_with (specs declaring) declr) well.tokens.spelled
+          ∙ items_complete all numbered n specs declr words declrs grow least begin items well.scopes k well.rules.parts well.named low refl in
       (k, rw (read, le-leb (unit_height items) most well.rules.low) refl)
 
 module _ (steps : (all : List Lexeme) → IsNumbered all → Steps all) (begin : (all : List Lexeme) → IsNumbered all → WordsBegin all) where
@@ -84,7 +85,8 @@ module _ (steps : (all : List Lexeme) → IsNumbered all → Steps all) (begin :
 
   pub well_formed_is_read_by : WellFormedIsRead
   well_formed_is_read_by all numbered items well =
-      unit_found all numbered 499 (specs_at most) (declr_at most) (specs_laws all numbered 499 most refl) (declr_laws all numbered 499 most refl) declrs_grow (begin all numbered) (omega arith) items well well.rules.low
+      unit_found all numbered 499 (specs_at most) (declr_at most) (specs_laws all numbered 499 most refl) (declr_laws all numbered 499 most refl)
+      declrs_grow (begin all numbered) (omega arith) items well well.rules.low
 
   pub one_unit_at_most_by : OneUnitAtMost
   one_unit_at_most_by all numbered items others well other =

@@ -3,9 +3,9 @@ use Rattle.std.proofs.Common.{◌≡◌, ℕ, suc, max, Bool, true, false, not, 
 use Rattle.std.proofs.Math.Nat.{le-max_left, le-max_right}
 use Rattle.std.specs.Prelude.{is_some, nat_le}
 use Rattle.c_tree.specs.declared.lexeme.Lexeme.{Lexeme}
-use Rattle.c_tree.specs.Tree.{Expr, name_use, number_use, char_use, text_use, SpecWords, no_words, more_words, Declr, declr_name, abs_pointer, abs_paren, abs_array, abs_params, SomeDeclr, no_declr, some_declr}
+use Rattle.c_tree.specs.Tree.{Expr, name_use, number_use, char_use, text_use, SpecWords, no_words, more_words, Declr, abs_pointer, abs_paren, abs_array, abs_params, SomeDeclr, no_declr, some_declr}
 use Rattle.c_tree.specs.Text.{spec_words_text, declr_text, some_declr_text}
-use Rattle.c_tree.specs.Height.{expr_height, spec_word_height, specs_height, declr_height, some_declr_height}
+use Rattle.c_tree.specs.Height.{expr_height, spec_word_height, specs_height, some_declr_height}
 use Rattle.c_tree.specs.WellFormed.{AreTypeWords, IsDeclr, IsSomeAbstract, is_named}
 use Rattle.typedef_scope.specs.declared.kind.Kind.{Kind}
 use Rattle.typedef_scope.specs.Scopes.{Scopes}
@@ -15,9 +15,9 @@ use Rattle.c_grammar.specs.Eating.{is_open_paren, is_open_bracket, is_open_brace
 use Rattle.c_grammar.specs.Specifying.{Role, naming, kind_start, typed_start, is_start, spelled_name}
 use Rattle.c_grammar.specs.Declaring.{Mode, with_name, without_name, either_way, takes_nothing, declr_with, direct_with, core_with, suffix_turn}
 use Rattle.c_grammar.specs.Knot.{type_name_with}
-use Rattle.c_grammar.proofs.Aims.{Takes, IsComplete, ends_specs, ends_declr, FitsMode, MayBeNamed, TypeName, type_name_text, FitsTypeName, type_name_scopes, type_name_height, SpecsLaws, DeclrLaws}
+use Rattle.c_grammar.proofs.Aims.{Takes, IsComplete, ends_specs, ends_declr, TypeName, type_name_text, FitsTypeName, type_name_scopes, type_name_height, SpecsLaws, DeclrLaws}
 use Rattle.c_grammar.proofs.LoopLemmas.{bind_ok, ok_is, turns-suc}
-use Rattle.c_grammar.proofs.ItemsLists.{behind_parts}
+use Rattle.c_grammar.proofs.Growing.{behind_parts}
 
 high : (m : ℕ) → 1 ≤ m + 1
 high m = omega arith
@@ -44,7 +44,8 @@ none_low m high low = omega arith
 -- Where a declarator ends, words of specifiers end.
 pub words_end : (k : List Lexeme) → ends_declr k ≡ true → ends_specs k ≡ true
 words_end [] h = refl
-words_end (t ∷ ts) h = by_tests (is_open_paren t.kind) (is_open_bracket t.kind) (is_star t.kind) (is_some (spelled_name t.kind)) (is_open_brace t.kind) (is_start (typed_start [] true (kind_start t.kind))) h
+words_end (t ∷ ts) h =
+    by_tests (is_open_paren t.kind) (is_open_bracket t.kind) (is_star t.kind) (is_some (spelled_name t.kind)) (is_open_brace t.kind) (is_start (typed_start [] true (kind_start t.kind))) h
   where
     by_tests : (a b c d e f : Bool) → (not a && not b && not c && not d && not e && not f) ≡ true → (not f && not e) ≡ true
     by_tests false false false false false false h = refl
@@ -122,7 +123,9 @@ record EndsAt (t : Lexeme) : Type 0 where
   pub no_name : spelled_name t.kind ≡ None
 
 ends_at : (t : Lexeme) (ts : List Lexeme) → ends_declr (t ∷ ts) ≡ true → EndsAt t
-ends_at t ts h = by_tests (is_open_paren t.kind) (is_open_bracket t.kind) (is_star t.kind) (spelled_name t.kind) (is_open_brace t.kind) (is_start (typed_start [] true (kind_start t.kind))) refl refl refl refl h
+ends_at t ts h =
+    by_tests (is_open_paren t.kind) (is_open_bracket t.kind) (is_star t.kind) (spelled_name t.kind) (is_open_brace t.kind) (is_start (typed_start [] true (kind_start t.kind)))
+    refl refl refl refl h
   where
     by_tests : (a b c : Bool) (d : Option ℕ) (e f : Bool) → is_open_paren t.kind ≡ a → is_open_bracket t.kind ≡ b → is_star t.kind ≡ c → spelled_name t.kind ≡ d →
         (not a && not b && not c && not (is_some d) && not e && not f) ≡ true → EndsAt t

@@ -109,7 +109,12 @@ refusing all = record {
   exprs = record { shrinks = λ reach s ts x e. absurd cc; sound = λ reach s ts x tail e. absurd cc; complete = no_exprs_read all (expr_at 0) };
   types = record { shrinks = λ s ts x e. absurd cc; sound = λ s ts x tail e. absurd cc; complete = no_type_names_read all (type_name_at 0) };
   words = record { falls = λ role words s ts x e. absurd cc; shrinks = λ role s ts x e. absurd cc; sound = λ role words s ts x tail e. absurd cc; complete = no_specs_read all (specs_at 0) };
-  declrs = record { falls = λ mode wanted s ts x e. absurd cc; shrinks = λ wanted s ts x e. absurd cc; sound = λ mode wanted s ts x tail e. absurd cc; complete = λ mode wanted least. absurd (none_low 0 least (omega arith)) };
+  declrs = record {
+    falls = λ mode wanted s ts x e. absurd cc;
+    shrinks = λ wanted s ts x e. absurd cc;
+    sound = λ mode wanted s ts x tail e. absurd cc;
+    complete = λ mode wanted least. absurd (none_low 0 least (omega arith));
+  };
 }
 
 module _ (all : List Lexeme) (steps : Steps all) where
@@ -131,8 +136,10 @@ module _ (all : List Lexeme) (steps : Steps all) where
       complete = reads_type_names;
     };
     words = record {
-      falls = steps.specs_falls (expr conditional) (λ role. specs role no_words) (named_declr declr) (inner.exprs.shrinks conditional) inner.words.shrinks (named_shrinks declr inner.declrs.shrinks);
-      shrinks = steps.specs_shrinks (expr conditional) (λ role. specs role no_words) (named_declr declr) (inner.exprs.shrinks conditional) inner.words.shrinks (named_shrinks declr inner.declrs.shrinks);
+      falls = steps.specs_falls (expr conditional) (λ role. specs role no_words) (named_declr declr) (inner.exprs.shrinks conditional) inner.words.shrinks
+          (named_shrinks declr inner.declrs.shrinks);
+      shrinks = steps.specs_shrinks (expr conditional) (λ role. specs role no_words) (named_declr declr) (inner.exprs.shrinks conditional) inner.words.shrinks
+          (named_shrinks declr inner.declrs.shrinks);
       sound = steps.specs_sound n expr specs declr inner.exprs inner.words inner.declrs;
       complete = reads_specs;
     };

@@ -1,7 +1,7 @@
 -- The readers of all nonterminals, each over the readers of lower trees.
 --
--- A reader of n reads trees that are lower than n: each part inside is read with less. A declarator may have nothing behind
--- its star, which is no tree but is read with less too.
+-- A reader of n reads trees that are lower than n: each part inside is read with less, and so is the nothing that may stand
+-- behind the star of a declarator.
 use Rattle.std.specs.Prelude.{ℕ, zero, suc, nat_le, Bool, true, false, List, [], ◌∷◌, Option, None, Some, Ok, if◌then◌else◌}
 use Rattle.c_tree.specs.declared.lexeme.Lexeme.{Lexeme}
 use Rattle.c_tree.specs.Tree.{Expr, SpecWords, no_words, Declr, SomeDeclr}
