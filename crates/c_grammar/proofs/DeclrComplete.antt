@@ -64,7 +64,8 @@ declr_high (abs_params a b c d e) = omega arith
 -- tokens that do not go on with a declarator
 ends_parts : (t : Lexeme) (ts : List Lexeme) → ends_declr (t ∷ ts) ≡ true → (is_open_paren t.kind ≡ false) × (is_open_bracket t.kind ≡ false) × (is_star t.kind ≡ false) × (spelled_name t.kind ≡ None)
 ends_parts t ts e =
-    let p = parts (is_open_paren t.kind) (is_open_bracket t.kind) (is_star t.kind) (is_some (spelled_name t.kind)) (not (is_open_brace t.kind)) (not (is_start (typed_start [] true (kind_start t.kind)))) e in
+    let p = parts (is_open_paren t.kind) (is_open_bracket t.kind) (is_star t.kind) (is_some (spelled_name t.kind)) (not (is_open_brace t.kind))
+        (not (is_start (typed_start [] true (kind_start t.kind)))) e in
     (p.0, p.1, p.2, none (spelled_name t.kind) p.3)
   where
     parts : (a b c d e f : Bool) → (not a && not b && not c && not d && e && f) ≡ true → (a ≡ false) × (b ≡ false) × (c ≡ false) × (d ≡ false)
@@ -93,7 +94,8 @@ words_named : (ws : SpecWords) (d : SomeDeclr) (attrs : List Attr) (ps : Params)
 words_named ws d attrs ps s s' named = by_words (spec_words_scopes ws s) refl named
   where
     by_words : (o : Option Scopes) → spec_words_scopes ws s ≡ o →
-        behind (behind (behind (behind o (λ t. where_true (some_shows_no_type t d) t)) (some_declr_scopes d)) (λ t. behind (without attrs t) (declare_some (some_declared_name d) Value))) (params_scopes ps) ≡ Some s' →
+        behind (behind (behind (behind o (λ t. where_true (some_shows_no_type t d) t)) (some_declr_scopes d)) (λ t. behind (without attrs t) (declare_some (some_declared_name d) Value)))
+            (params_scopes ps) ≡ Some s' →
         (t : Scopes) × (spec_words_scopes ws s ≡ Some t)
     by_words None is e = absurd cc
     by_words (Some t) is e = (t, is)
@@ -208,14 +210,16 @@ module _ (all : List Lexeme) (numbered : IsNumbered all) (n : ℕ) (expr : Reach
       suffix (d, s) (sign_text puncts.OpenBracket opening (array_words_text all ws (some_size_text all size (sign_text puncts.CloseBracket closing k)))) ≡
       Some (Ok ((some_declr (with_array d opening ws size closing), s'), k))
   array_taken d opening ws size closing s s' k low fits sized named low2 =
-      rw (le-leb (suc (some_declr_height d)) (suc n) (omega (arith, low)), array_read all numbered n expr specs declr exprs words inner begin grow d opening ws size closing s s' k fits sized named low2) refl
+      rw (le-leb (suc (some_declr_height d)) (suc n) (omega (arith, low)),
+          array_read all numbered n expr specs declr exprs words inner begin grow d opening ws size closing s s' k fits sized named low2) refl
 
   params_taken : (d : SomeDeclr) (opening : ℕ) (ps : Params) (dots : Option Dots) (closing : ℕ) (s s' : Scopes) (k : List Lexeme) → some_declr_height d ≤ n →
       AreParams all ps → IsEllipsis all ps dots → in_own_scope (params_scopes ps) s ≡ Some s' → params_height ps ≤ n →
       suffix (d, s) (sign_text puncts.OpenParen opening (params_text all ps (dots_text all dots (sign_text puncts.CloseParen closing k)))) ≡
       Some (Ok ((some_declr (with_params d opening ps dots closing), s'), k))
   params_taken d opening ps dots closing s s' k low fits dotted named low2 =
-      rw (le-leb (suc (some_declr_height d)) (suc n) (omega (arith, low)), prototype_read all numbered n expr specs declr exprs words inner begin grow d opening ps dots closing s s' k fits dotted named low2) refl
+      rw (le-leb (suc (some_declr_height d)) (suc n) (omega (arith, low)),
+          prototype_read all numbered n expr specs declr exprs words inner begin grow d opening ps dots closing s s' k fits dotted named low2) refl
 
   -- behind a bracket or a parenthesis of parameters no core stands
   no_core_bracket : (mode : Mode) (wanted : Option Kind) (opening : ℕ) (s : Scopes) (ts : List Lexeme) → takes_nothing mode ≡ true →
@@ -233,7 +237,8 @@ module _ (all : List Lexeme) (numbered : IsNumbered all) (n : ℕ) (expr : Reach
   no_core_paren mode wanted opening s ts takes opens = rw (takes, opens, takes) refl
 
   params_open : (ps : Params) (dots : Option Dots) (closing : ℕ) (s s' : Scopes) (k : List Lexeme) → AreParams all ps → IsEllipsis all ps dots → in_own_scope (params_scopes ps) s ≡ Some s' →
-      (begins is_close_paren (params_text all ps (dots_text all dots (sign_text puncts.CloseParen closing k))) || begins_specs s (params_text all ps (dots_text all dots (sign_text puncts.CloseParen closing k)))) ≡ true
+      (begins is_close_paren (params_text all ps (dots_text all dots (sign_text puncts.CloseParen closing k))) || begins_specs s
+          (params_text all ps (dots_text all dots (sign_text puncts.CloseParen closing k)))) ≡ true
   params_open no_params None closing s s' k fits dotted named = refl
   params_open no_params (Some d) closing s s' k fits dotted named = absurd dotted
   params_open (more_params ws d attrs ps) dots closing s s' k fits dotted named =
@@ -411,7 +416,8 @@ module _ (all : List Lexeme) (numbered : IsNumbered all) (n : ℕ) (expr : Reach
         pointer_read mode wanted star ws no_declr s s' k fits.0.0 (abstract_suits all mode no_declr s fits.1 tt) (some_abstract_may all wanted no_declr s tt) named (omega arith) ends
     some_read mode wanted (abs_pointer star ws (some_declr d)) s s' k fits may named low ends =
         let below : declr_height d ≤ n = omega (arith, low) in
-        pointer_read mode wanted star ws (some_declr d) s s' k fits.0.0 (abstract_suits all mode (some_declr d) s fits.1 fits.0.1) (some_abstract_may all wanted (some_declr d) s fits.0.1) named below ends ∙ rw fits.0.1.1 refl
+        pointer_read mode wanted star ws (some_declr d) s s' k fits.0.0 (abstract_suits all mode (some_declr d) s fits.1 fits.0.1)
+            (some_abstract_may all wanted (some_declr d) s fits.0.1) named below ends ∙ rw fits.0.1.1 refl
     some_read mode wanted (declr_name token name) s s' k fits may named low ends =
         begun mode wanted (declr_name token name) s s' k refl fits may named low ∙ at_end (some_declr (declr_name token name)) s' k ends
     some_read mode wanted (declr_paren a b c d) s s' k fits may named low ends =
@@ -426,7 +432,8 @@ module _ (all : List Lexeme) (numbered : IsNumbered all) (n : ℕ) (expr : Reach
 
     -- where the reader inside reads that no declarator stands
     pub declr_complete_over : (mode : Mode) (wanted : Option Kind) →
-        IsComplete (suc n) (some_declr_text all) (λ d s. FitsMode all mode d s × MayBeNamed wanted d s) some_declr_scopes some_declr_height ends_declr (declr_with (suc n) (expr assigned) (specs declaring) declr mode wanted)
+        IsComplete (suc n) (some_declr_text all) (λ d s. FitsMode all mode d s × MayBeNamed wanted d s) some_declr_scopes some_declr_height ends_declr
+            (declr_with (suc n) (expr assigned) (specs declaring) declr mode wanted)
     declr_complete_over mode wanted no_declr s s' k fits named low ends =
         let same : s ≡ s' = cc in
         nothing_read mode wanted s k (takes mode fits.0) ends ∙ at_end no_declr s k ends ∙ rw same refl
@@ -438,7 +445,8 @@ module _ (all : List Lexeme) (numbered : IsNumbered all) (n : ℕ) (expr : Reach
     declr_complete_over mode wanted (some_declr d) s s' k fits named low ends = some_read mode wanted d s s' k (from_mode all mode d s fits.0) fits.1 named low ends
 
   pub declr_complete : 1 ≤ n → (mode : Mode) (wanted : Option Kind) →
-      IsComplete (suc n) (some_declr_text all) (λ d s. FitsMode all mode d s × MayBeNamed wanted d s) some_declr_scopes some_declr_height ends_declr (declr_with (suc n) (expr assigned) (specs declaring) declr mode wanted)
+      IsComplete (suc n) (some_declr_text all) (λ d s. FitsMode all mode d s × MayBeNamed wanted d s) some_declr_scopes some_declr_height ends_declr
+          (declr_with (suc n) (expr assigned) (specs declaring) declr mode wanted)
   declr_complete one mode wanted = declr_complete_over nothing mode wanted
     where
       no_name : (wanted : Option Kind) (s : Scopes) → MayBeNamed wanted no_declr s

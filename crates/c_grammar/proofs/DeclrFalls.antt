@@ -116,7 +116,8 @@ module _ (room : ℕ) (assign : Scopes → List Lexeme → Read (Expr × Scopes)
   param_falls ps words s =
       bind_falls (specs_from words s) (λ w ts. declr either_way (Some Value) w.1 ts >>= λ d.
       declared_some (with_param ps w.0 d.0.0) (some_name_token d.0.0) (declare_some (some_declared_name d.0.0) Value d.0.1) d.1) (falls_specs words s) (λ w.
-      bind_falls (declr either_way (Some Value) w.1) (λ d. declared_some (with_param ps w.0 d.0) (some_name_token d.0) (declare_some (some_declared_name d.0) Value d.1)) (falls_declr either_way (Some Value) w.1) (λ d.
+      bind_falls (declr either_way (Some Value) w.1) (λ d. declared_some (with_param ps w.0 d.0) (some_name_token d.0) (declare_some (some_declared_name d.0) Value d.1))
+          (falls_declr either_way (Some Value) w.1) (λ d.
       declared_some_falls (with_param ps w.0 d.0) (some_name_token d.0) (declare_some (some_declared_name d.0) Value d.1)))
 
   -- a parameter, and that no more arguments came yet
@@ -179,7 +180,8 @@ module _ (room : ℕ) (assign : Scopes → List Lexeme → Read (Expr × Scopes)
   suffix_turn_shrinks state (t ∷ ts) x e = by_room (nat_le (suc (some_declr_height state.0)) room) (suffix_by room assign specs_from declr t state ts) refl e
     where
       by_test : (a b : Bool) →
-          (if a then Some (array_with room assign specs_from declr state.0 t.at state.1 ts) else (if b then Some (prototype_with room assign specs_from declr state.0 t.at state.1 ts) else None)) ≡ Some (Ok x) →
+          (if a then Some (array_with room assign specs_from declr state.0 t.at state.1 ts) else (if b then Some (prototype_with room assign specs_from declr state.0 t.at state.1 ts) else None))
+              ≡ Some (Ok x) →
           length x.1 < length (t ∷ ts)
       by_test true b e = let less : length x.1 ≤ length ts = array_falls state.0 t.at state.1 ts x cc in omega (arith, less)
       by_test false true e = let less : length x.1 ≤ length ts = prototype_falls state.0 t.at state.1 ts x cc in omega (arith, less)
@@ -234,7 +236,8 @@ module _ (room : ℕ) (assign : Scopes → List Lexeme → Read (Expr × Scopes)
   direct_falls : (mode : Mode) (wanted : Option Kind) (s : Scopes) → Falls (direct_with room assign specs_from declr mode wanted s)
   unfolding direct_with
   direct_falls mode wanted s =
-      bind_falls (core_with room assign specs_from declr mode wanted s) (λ d ts. needed room assign specs_from declr mode d ts >>= λ known. run (suffix_turn room assign specs_from declr) known.0 known.1)
+      bind_falls (core_with room assign specs_from declr mode wanted s)
+          (λ d ts. needed room assign specs_from declr mode d ts >>= λ known. run (suffix_turn room assign specs_from declr) known.0 known.1)
       (core_falls mode wanted s) (λ d.
       bind_falls (needed room assign specs_from declr mode d) (run (suffix_turn room assign specs_from declr)) (needed_falls mode d) suffixes_fall)
 
@@ -293,7 +296,8 @@ module _ (room : ℕ) (assign : Scopes → List Lexeme → Read (Expr × Scopes)
   direct_shrinks : (wanted : Option Kind) (s : Scopes) → Shrinks (direct_with room assign specs_from declr with_name wanted s)
   unfolding direct_with
   direct_shrinks wanted s ts x e =
-      let b = bind_ok (core_with room assign specs_from declr with_name wanted s ts) (λ d. needed room assign specs_from declr with_name d.0 d.1 >>= λ known. run (suffix_turn room assign specs_from declr) known.0 known.1) x e in
+      let b = bind_ok (core_with room assign specs_from declr with_name wanted s ts)
+          (λ d. needed room assign specs_from declr with_name d.0 d.1 >>= λ known. run (suffix_turn room assign specs_from declr) known.0 known.1) x e in
       by_core b.0 (core_cored wanted s ts b.0 b.1) b.2
     where
       by_core : (d : (SomeDeclr × Scopes) × List Lexeme) → Cored ts d →
