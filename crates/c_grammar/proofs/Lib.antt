@@ -4,6 +4,13 @@ pub mod Taking
 pub mod Qualifying
 pub mod Aims
 pub mod Tails
+pub mod Growing
+pub mod ItemsLists
+pub mod ItemsSound
+pub mod ItemsComplete
+pub mod KnotParts
+pub mod Knotting
+pub mod ItemsUnits
 pub mod ExprSoundTokens
 pub mod ExprSoundForms
 pub mod ExprSoundLists
@@ -18,8 +25,13 @@ pub mod SpecsSound
 pub mod DeclrSoundWords
 pub mod DeclrSoundParams
 pub mod DeclrSound
+pub mod DeclrFalls
+pub mod DeclrCompleteWords
+pub mod DeclrCompleteParts
+pub mod DeclrComplete
 pub mod Firsts
 pub mod SpecsFalls
 pub mod SpecsCompleteParts
 pub mod SpecsCompleteEnums
 pub mod SpecsComplete
+pub mod KnottingSteps

@@ -1,6 +1,7 @@
 -- The readers of all nonterminals, each over the readers of lower trees.
 --
--- A reader of n reads trees of height at most n: each part inside is read with less.
+-- A reader of n reads trees that are lower than n: each part inside is read with less, and so is the nothing that may stand
+-- behind the star of a declarator.
 use Rattle.std.specs.Prelude.{ℕ, zero, suc, nat_le, Bool, true, false, List, [], ◌∷◌, Option, None, Some, Ok, if◌then◌else◌}
 use Rattle.c_tree.specs.declared.lexeme.Lexeme.{Lexeme}
 use Rattle.c_tree.specs.Tree.{Expr, SpecWords, no_words, Declr, SomeDeclr}
@@ -27,7 +28,7 @@ named_declr declr s ts = declr with_name None s ts >>= λ d. present d.0 d.1
 abbrev mutual
   pub expr_at : ℕ → Reach → Scopes → List Lexeme → Read (Expr × Scopes)
   expr_at zero reach s ts = refuses TooDeep ts
-  expr_at (suc n) reach s ts = expr_with (suc n) (expr_at n) (type_name_at n) reach s ts
+  expr_at (suc n) reach s ts = expr_with n (expr_at n) (type_name_at n) reach s ts
 
   pub type_name_at : ℕ → Scopes → List Lexeme → Read ((SpecWords × SomeDeclr) × Scopes)
   type_name_at zero s ts = refuses TooDeep ts
@@ -39,7 +40,7 @@ abbrev mutual
 
   pub declr_at : ℕ → Mode → Option Kind → Scopes → List Lexeme → Read (SomeDeclr × Scopes)
   declr_at zero mode wanted s ts = refuses TooDeep ts
-  declr_at (suc n) mode wanted s ts = declr_with (suc n) (expr_at n assigned) (specs_at n declaring) (declr_at n) mode wanted s ts
+  declr_at (suc n) mode wanted s ts = declr_with n (expr_at n assigned) (specs_at n declaring) (declr_at n) mode wanted s ts
 
 -- the greatest height of a unit
 abbrev pub most : ℕ

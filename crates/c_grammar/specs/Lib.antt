@@ -9,3 +9,4 @@ pub mod Items
 pub mod Knot
 pub mod Local
 pub mod Laws
+pub mod UnitLaws
