@@ -12,6 +12,7 @@ pub mod declaration;
 pub mod declarator;
 pub mod ends;
 pub mod expression;
+pub mod height;
 pub mod initialiser;
 pub mod laws;
 pub mod lexeme;
