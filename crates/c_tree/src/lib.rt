@@ -16,6 +16,7 @@ pub mod height;
 pub mod initialiser;
 pub mod laws;
 pub mod lexeme;
+pub mod making;
 pub mod parts;
 pub mod specifier;
 pub mod statement;
