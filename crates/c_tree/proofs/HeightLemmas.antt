@@ -39,7 +39,7 @@ module _ {A : Type 0} (all : List A → ℕ) (item : A → ℕ) (more : (x : A) 
   begins (x ∷ xs) = max_is _ _ _ _ (more x xs) (begins xs)
 
   pub loop_begins : (start : ℕ) → start ≡ capped (all []) → (xs : List A) → IsGreatestSoFar all xs 0 start
-  loop_begins start is xs = record { before = all []; is = is; least = omega arith; left = begins xs; }
+  loop_begins start is xs = record { before = all []; is = is; least = omega arith; left = begins xs }
 
   pub loop_goes_on : (xs : List A) (i height part greater : ℕ) (x : A) → IsGreatestSoFar all xs i height → i < length xs → x ≡ get_or xs i x → part ≡ capped (item x) →
       ((one other : ℕ) → height ≡ capped one → part ≡ capped other → greater ≡ capped (max one other)) → IsGreatestSoFar all xs (i + 1) greater

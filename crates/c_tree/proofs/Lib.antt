@@ -1,3 +1,5 @@
 pub mod EndLemmas
 mod HeightLemmas
+mod LastLemmas
+mod ListHeights
 mod ViewLemmas

@@ -191,7 +191,7 @@ pub offset_is : (keyword opening : ℕ) (t : rust_type_name.TypeName) (separator
     expr_of (rust_expr.Offset keyword opening t separator name steps closing) ≡ tree.offset keyword opening (spec_words_from t.specs.words.items) (some_declr_from t.declr) separator name (desigs_from steps.items) closing
 offset_is keyword opening t separator name steps closing =
     both (λ (ws : tree.SpecWords) (d : tree.SomeDeclr). tree.offset keyword opening ws d separator name (desigs_of (rows.hidden-the_row-Desig-4 steps)) closing) (words_hidden t.specs.words) (declr_held t.declr) ∙
-      ap (λ (ds : tree.Desigs). tree.offset keyword opening (spec_words_from t.specs.words.items) (some_declr_from t.declr) separator name ds closing) (desigs_hidden steps)
+    ap (λ (ds : tree.Desigs). tree.offset keyword opening (spec_words_from t.specs.words.items) (some_declr_from t.declr) separator name ds closing) (desigs_hidden steps)
 
 pub struct_is : (s : rust_struct.Struct) → spec_word_of (rust_spec_word.Struct s) ≡ tree.struct_type s.keyword s.attrs.items s.tag (some_body_from s.body)
 struct_is s = ap (λ (body : tree.SomeBody). tree.struct_type s.keyword s.attrs.items s.tag body) (body_held s.body)

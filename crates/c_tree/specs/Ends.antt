@@ -1,5 +1,5 @@
 -- The first and the last token of an expression, and the token that it is known by.
-use Rattle.std.specs.Prelude.{◌≡◌, ℕ, ◌-◌, List, [], ◌∷◌, length, slice_get, Option, None, Some}
+use Rattle.std.specs.Prelude.{◌≡◌, ℕ, ◌-◌, List, [], ◌∷◌, ◌++◌, length, slice_get, Option, None, Some}
 use Rattle.c_tree.specs.declared.lexeme.Lexeme.{Lexeme}
 use Rattle.c_tree.specs.Tree.{Expr, operation, cast, prefix, sizeof_value, sizeof_type, extension, index, call, dot, arrow, post, compound, name_use, number_use, char_use, text_use, paren, statement_expr, va_arg, va_start, va_copy, offset, InitList, init_list}
 use Rattle.c_tree.specs.Text.{expr_text}
@@ -87,3 +87,14 @@ number_of_first (t ∷ k) = Some t.at
 -- the tokens of a well formed expression begin with its first
 abbrev pub FirstBegins : Type 0
 FirstBegins = (all : List Lexeme) (e : Expr) (k : List Lexeme) → IsExpr all e → number_of_first (expr_text all e k) ≡ Some (first_token e)
+
+-- tokens that are some, then one of this number, and then others
+pub record EndsAt (tokens : List Lexeme) (number : ℕ) (k : List Lexeme) : Type 0 where
+  pub front : List Lexeme
+  pub last : Lexeme
+  pub spelled : tokens ≡ front ++ last ∷ k
+  pub is : last.at ≡ number
+
+-- the tokens of a well formed expression end with its last, right before what comes after it
+abbrev pub LastEnds : Type 0
+LastEnds = (all : List Lexeme) (e : Expr) (k : List Lexeme) → IsExpr all e → EndsAt (expr_text all e k) (last_token e) k
