@@ -7,3 +7,4 @@ mod MixSteps
 mod StorageSteps
 mod StorageTable
 mod WholeMixes
+mod WordsRead

@@ -2,5 +2,6 @@
 #![tactic(auto)]
 
 pub mod basic;
+pub mod laws;
 pub mod mix;
 pub mod storage;
