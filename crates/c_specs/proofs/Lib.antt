@@ -6,5 +6,6 @@ mod Counting
 mod MixSteps
 mod StorageSteps
 mod StorageTable
+mod Typed
 mod WholeMixes
 mod WordsRead

@@ -5,7 +5,7 @@ use Rattle.std.proofs.lemmas.List.Sorted.{IsPermutation-refl}
 use Rattle.c_tree.specs.Tree.{SpecWords, no_words, more_words, SpecWord, storage, thread, inline_word, noreturn, qualifier, basic, struct_type, enum_type, typedef_name, attribute}
 use Rattle.c_tree.specs.Specifiers.{IsMix}
 use Rattle.c_specs.specs.declared.mix.Mix.{Mix}
-use Rattle.c_specs.specs.Mix.{with_word, class_of, with_class, no_mix, then_class, mix_from, mix_of, goes_on, whole_in, is_whole_mix}
+use Rattle.c_specs.specs.Mix.{with_word, class_of, with_class, no_mix, then_class, mix_from, mix_of, whole_in}
 use Rattle.c_specs.specs.Reading.{append_words, pushed, Begins, AreRead}
 use Rattle.c_specs.specs.Laws.{WholeAreMixes, MixesGoOn}
 use Rattle.c_specs.proofs.MixSteps.{with_right}

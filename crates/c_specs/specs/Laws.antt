@@ -1,10 +1,9 @@
 -- What the step functions of a mix say of the listed mixes.
-use Rattle.std.specs.Prelude.{◌≡◌, ◌↔◌, Bool, true, false, Some}
+use Rattle.std.specs.Prelude.{◌≡◌, ◌↔◌, true}
 use Rattle.c_tree.specs.Tree.{SpecWords, more_words, SpecWord}
 use Rattle.c_tree.specs.Specifiers.{IsMix}
-use Rattle.c_specs.specs.Mix.{class_of, goes_on, is_whole_mix, type_stands, mix_of}
-use Rattle.c_specs.specs.declared.mix.Mix.{Mix}
-use Rattle.c_specs.specs.Reading.{append_words, Begins, pushed}
+use Rattle.c_specs.specs.Mix.{class_of, goes_on, is_whole_mix}
+use Rattle.c_specs.specs.Reading.{append_words}
 
 -- the words of a mix, and no others, are whole
 abbrev pub WholeAreMixes : Type 0
