@@ -8,4 +8,5 @@ mod StorageSteps
 mod StorageTable
 mod Typed
 mod WholeMixes
+mod WordLists
 mod WordsRead

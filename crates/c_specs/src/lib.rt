@@ -4,4 +4,5 @@
 pub mod basic;
 pub mod laws;
 pub mod mix;
+pub mod reading;
 pub mod storage;
