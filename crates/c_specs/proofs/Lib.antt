@@ -4,6 +4,7 @@ mod Begun
 mod Codes
 mod Counting
 mod MixSteps
+mod OneFault
 mod StorageSteps
 mod StorageTable
 mod Typed

@@ -29,7 +29,7 @@ class_step mix (attribute a) = refl
 abbrev pub Stands : SpecWords → Option Mix → Type 0
 Stands ws o = MatchOption o (Begins ws → ⊥) (λ m. AreRead m ws)
 
-append_next : (front : SpecWords) (w : SpecWord) (ws : SpecWords) → append_words (pushed front w) ws ≡ append_words front (more_words w ws)
+pub append_next : (front : SpecWords) (w : SpecWord) (ws : SpecWords) → append_words (pushed front w) ws ≡ append_words front (more_words w ws)
 append_next no_words w ws = refl
 append_next (more_words v front) w ws = ap (more_words v) (append_next front w ws)
 

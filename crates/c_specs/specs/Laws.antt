@@ -3,7 +3,9 @@ use Rattle.std.specs.Prelude.{◌≡◌, ◌↔◌, true}
 use Rattle.c_tree.specs.Tree.{SpecWords, more_words, SpecWord}
 use Rattle.c_tree.specs.Specifiers.{IsMix}
 use Rattle.c_specs.specs.Mix.{class_of, goes_on, is_whole_mix}
+use Rattle.c_specs.specs.declared.reading.SpecFault.{SpecFault}
 use Rattle.c_specs.specs.Reading.{append_words}
+use Rattle.c_specs.specs.Faults.{IsFault}
 
 -- the words of a mix, and no others, are whole
 abbrev pub WholeAreMixes : Type 0
@@ -12,3 +14,11 @@ WholeAreMixes = (ws : SpecWords) → (is_whole_mix ws ≡ true) ↔ IsMix ws
 -- a word of a mix goes on with those before it
 abbrev pub MixesGoOn : Type 0
 MixesGoOn = (ws : SpecWords) (w : SpecWord) (more : SpecWords) → IsMix (append_words ws (more_words w more)) → goes_on ws (class_of w) ≡ true
+
+-- the words of a mix have no fault
+abbrev pub MixesHaveNoFault : Type 0
+MixesHaveNoFault = (ws : SpecWords) (fault : SpecFault) → IsMix ws → IsFault ws fault → ⊥
+
+-- and no words have two
+abbrev pub OneFaultAtMost : Type 0
+OneFaultAtMost = (ws : SpecWords) (one other : SpecFault) → IsFault ws one → IsFault ws other → one ≡ other
