@@ -1,3 +1,4 @@
+mod BadTokens
 mod BasicSteps
 mod BasicTable
 mod Begun

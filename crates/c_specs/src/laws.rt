@@ -1,6 +1,6 @@
 //! What the definitions of a mix that is read word by word say of the listed mixes.
 
-ghost use Rattle.c_specs.specs.Laws.{WholeAreMixes, MixesGoOn, MixesHaveNoFault, OneFaultAtMost};
+ghost use Rattle.c_specs.specs.Laws.{WholeAreMixes, MixesGoOn, MixesHaveNoFault, OneFaultAtMost, BadTokensBegin};
 
 /// Words after which a whole mix stands are a mix, and no others are.
 pub fn whole_are_mixes()
@@ -20,4 +20,9 @@ pub fn mixes_have_no_fault()
 /// Words have one fault at most, and so one first token of a word with which no mix begins.
 pub fn one_fault_at_most()
     ensures { OneFaultAtMost }
+{}
+
+/// The tokens of a word with which no mix begins begin with that of the fault.
+pub fn bad_tokens_begin()
+    ensures { BadTokensBegin }
 {}
