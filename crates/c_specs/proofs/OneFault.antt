@@ -23,7 +23,7 @@ first_same P less (more_words v front) (more_words u front') w w' more more' sam
     let e : u ≡ v = cc in
     let rest : append_words front (more_words w more) ≡ append_words front' (more_words w' more') = cc in
     first_same (λ ws. P (more_words v ws)) (λ a b p. less (more_words v a) b p) front front' w w' more more' rest begun bad
-        (subst (λ (x : SpecWord). P (more_words x front')) e begun') (λ p. bad' (subst (λ (x : SpecWord). P (more_words x (pushed front' w'))) (sym e) p))
+    (subst (λ (x : SpecWord). P (more_words x front')) e begun') (λ p. bad' (subst (λ (x : SpecWord). P (more_words x (pushed front' w'))) (sym e) p))
 
 same_place : (ws : SpecWords) (one other : ℕ) → IsFirstBadWord ws one → IsFirstBadWord ws other → one ≡ other
 same_place ws one other bad bad' =

@@ -1,6 +1,5 @@
 use Rattle.std.proofs.Common.{◌+◌, sym, subst, take, drop}
 use Rattle.c_tree.specs.Tree.{SpecWords}
-use Rattle.c_tree.specs.Specifiers.{IsMix}
 use Rattle.c_tree.specs.View.{spec_word_of}
 use Rattle.c_tree.specs.Unit.{spec_words_from}
 use Rattle.c_specs.specs.Reading.{AreRead}
@@ -18,7 +17,7 @@ returns-in-None-clause-fault c =
       parts = words_split c.args.words.now c.loop-word.word-index c.word-item.result c.loop-word-test.true c.word-item.is;
       begun = begun c.loop-word.mix front c.loop-word.invariant;
       bad = c.in-None.ensures.read front c.loop-word.invariant;
-      place = c.word_token.ensures
+      place = c.word_token.ensures;
     }
 
 pub loop-word-preserved : goal.loop-word-preserved
@@ -34,6 +33,7 @@ returns-then-is_whole-clause-whole c =
 
 pub returns-else-is_whole-clause-fault : goal.returns-else-is_whole-clause-fault
 returns-else-is_whole-clause-fault c =
-    let all = subst (λ (ws : SpecWords). AreRead c.loop-word.mix ws) (words_all c.args.words.now c.loop-word.word-index c.loop-word-test.false) c.loop-word.invariant in
-    (begun c.loop-word.mix (spec_words_from c.args.words.now) all,
-    λ is. let whole = (c.is_whole.ensures.listed (spec_words_from c.args.words.now) all).1 is in let none = c.if-is_whole.false in absurd cc)
+    let all = subst (λ (ws : SpecWords). AreRead c.loop-word.mix ws) (words_all c.args.words.now c.loop-word.word-index c.loop-word-test.false) c.loop-word.invariant in (
+      begun c.loop-word.mix (spec_words_from c.args.words.now) all,
+      λ is. let whole = (c.is_whole.ensures.listed (spec_words_from c.args.words.now) all).1 is in let none = c.if-is_whole.false in absurd cc,
+    )
