@@ -11,6 +11,7 @@ use Rattle.c_tree.specs.declared.parts.Qual.TheVariants as quals
 use Rattle.c_specs.specs.declared.mix.Class.{Class}
 use Rattle.c_specs.specs.declared.mix.Class.TheVariants as classes
 use Rattle.c_specs.specs.Mix.{goes_on, is_whole_mix}
+pub use Rattle.c_specs.specs.Mix.{is_type_word, is_typed}
 use Rattle.c_tree.specs.Tree.{Expr, SpecWords, no_words, more_words, SpecWord, storage, thread, inline_word, noreturn, qualifier, basic, struct_type, enum_type, typedef_name, SomeBody, no_body, some_body, StructItems, no_struct_items, more_struct_items, StructItem, member, member_semi, MemDeclrs, no_mem_declrs, more_mem_declrs, MemDeclr, named, unnamed, SomeValue, no_value, some_value, enum_of, SomeEnumBody, no_enum_body, some_enum_body, Enumerators, no_enumerators, more_enumerators, Declr}
 use Rattle.typedef_scope.specs.declared.kind.Kind.TheVariants.{Constant}
 use Rattle.typedef_scope.specs.Scopes.{Scopes, declare_name}
@@ -113,18 +114,6 @@ is_declaring start = false
 abbrev pub may_stand : Role → Start → Bool
 may_stand declaring start = true
 may_stand naming start = not (is_declaring start)
-
--- a type stands among the words
-abbrev pub is_type_word : SpecWord → Bool
-is_type_word (basic word) = true
-is_type_word (struct_type word attrs tag body) = true
-is_type_word (enum_type enum) = true
-is_type_word (typedef_name name) = true
-is_type_word word = false
-
-abbrev pub is_typed : SpecWords → Bool
-is_typed no_words = false
-is_typed (more_words word words) = if is_type_word word then true else is_typed words
 
 -- words with one more at the end
 abbrev pub with_word : SpecWords → SpecWord → SpecWords

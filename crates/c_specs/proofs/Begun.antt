@@ -14,7 +14,7 @@ use Rattle.c_specs.specs.Reading.{append_words, pushed, Begins, AreRead}
 use Rattle.c_specs.proofs.MixSteps.{with_right}
 use Rattle.c_specs.proofs.WholeMixes.{whole_right}
 
-append_none : (ws : SpecWords) → append_words ws no_words ≡ ws
+pub append_none : (ws : SpecWords) → append_words ws no_words ≡ ws
 append_none no_words = refl
 append_none (more_words w ws) = ap (more_words w) (append_none ws)
 

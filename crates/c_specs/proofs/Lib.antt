@@ -1,9 +1,14 @@
+mod BadTokens
 mod BasicSteps
 mod BasicTable
 mod Begun
 mod Codes
 mod Counting
 mod MixSteps
+mod OneFault
 mod StorageSteps
 mod StorageTable
+mod Typed
 mod WholeMixes
+mod WordLists
+mod WordsRead

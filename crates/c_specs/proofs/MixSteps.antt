@@ -86,7 +86,7 @@ full : (n : ℕ) (ks : List Keyword) → 1 ≤ length ks → NoType (n + 1) ks
 full n [] some m more h = absurd (omega arith)
 full n (k ∷ ks) some m more h = elim h [ inl nought ↦ absurd (let e = nought.0 in omega arith) | inr last ↦ absurd (let e = last.1 in cc) ]
 
-many : (b : Base) (m : Mark) (ks : List Keyword) → 1 ≤ length (base_words b) → IsPermutation ks (words_of b m) → 1 ≤ length ks
+pub many : (b : Base) (m : Mark) (ks : List Keyword) → 1 ≤ length (base_words b) → IsPermutation ks (words_of b m) → 1 ≤ length ks
 many b marks.Unmarked ks some here = let e = length_permutation ks (base_words b) here in omega arith
 many b marks.Signed ks some here = let e = length_permutation ks (words.Signed ∷ base_words b) here in omega arith
 many b marks.Unsigned ks some here = let e = length_permutation ks (words.Unsigned ∷ base_words b) here in omega arith

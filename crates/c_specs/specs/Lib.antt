@@ -1,4 +1,5 @@
 pub mod Basic
+pub mod Faults
 pub mod Mix
 pub mod Reading
 pub mod Storage

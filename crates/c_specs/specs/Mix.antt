@@ -116,3 +116,15 @@ is_whole_mix ws = whole_in (mix_of ws)
 abbrev pub type_stands : Types → Bool
 type_stands (Words bases.Nothing marks.Unmarked) = false
 type_stands _ = true
+
+-- a type stands among the words
+abbrev pub is_type_word : SpecWord → Bool
+is_type_word (basic word) = true
+is_type_word (struct_type word attrs tag body) = true
+is_type_word (enum_type enum) = true
+is_type_word (typedef_name name) = true
+is_type_word word = false
+
+abbrev pub is_typed : SpecWords → Bool
+is_typed no_words = false
+is_typed (more_words word words) = if is_type_word word then true else is_typed words

@@ -2,5 +2,7 @@
 #![tactic(auto)]
 
 pub mod basic;
+pub mod laws;
 pub mod mix;
+pub mod reading;
 pub mod storage;

@@ -1,10 +1,10 @@
 //! What stands of a mix of declaration specifiers (C99, 6.7).
 
-ghost use Rattle.std.specs.Prelude.{◌≡◌, ◌↔◌, IsTrue, MatchOption};
+ghost use Rattle.std.specs.Prelude.{◌≡◌, ◌↔◌, IsTrue, MatchOption, Some};
 ghost use Rattle.c_tree.specs.Tree.{SpecWords, no_words};
 ghost use Rattle.c_tree.specs.View.{spec_word_of};
 ghost use Rattle.c_tree.specs.Specifiers.{IsMix};
-ghost use Rattle.c_specs.specs.Mix.{whole_of, type_stands, with_part, with_named, with_core, with_mark, fitting, with_word, with_types, with_storage};
+ghost use Rattle.c_specs.specs.Mix.{whole_of, type_stands, with_part, with_named, with_core, with_mark, fitting, with_types, with_storage, class_of, with_class, no_mix, mix_of, is_typed};
 ghost use Rattle.c_specs.specs.Basic.{part_of};
 ghost use Rattle.c_specs.specs.declared.mix.Mix.{Mix};
 ghost use Rattle.c_specs.specs.Reading.{AreRead, Begins, pushed};
@@ -99,7 +99,8 @@ fn with_named(types: Types) -> Option<Types>
 impl Mix {
     /// No words.
     pub fn new() -> Mix
-        ensures { AreRead result no_words }
+        ensures read { AreRead result no_words }
+        ensures none { result ≡ no_mix }
     {
         Mix {
             types: Types::Words(Base::Nothing, Mark::Unmarked),
@@ -133,44 +134,64 @@ impl Mix {
         }
     }
 
-    /// The mix with one more word, by what the word is.
-    fn step(self, word: &SpecWord) -> Option<Mix>
-        ensures { result ≡ with_word self (spec_word_of word.now) }
+    /// The mix with one more word of a class, or none where no mix goes on so. Takes no memory, and constant time.
+    pub fn with_class(self, class: Class) -> Option<Mix>
+        ensures { result ≡ with_class self class }
     {
-        match word {
-            SpecWord::Storage(word) => self.with_storage(storing(word.keyword)),
-            SpecWord::Thread { .. } => self.with_storage(Storage::Thread),
-            SpecWord::Type(word) => self.with_types(with_part(self.types, word.keyword)),
-            SpecWord::Struct(_) => self.with_types(with_named(self.types)),
-            SpecWord::Enum(_) => self.with_types(with_named(self.types)),
-            SpecWord::TypedefName(_) => self.with_types(with_named(self.types)),
-            _ => Some(self),
+        match class {
+            Class::Stores(keyword) => self.with_storage(storing(keyword)),
+            Class::Free => Some(self),
+            Class::Spells(keyword) => self.with_types(with_part(self.types, keyword)),
+            Class::Named => self.with_types(with_named(self.types)),
         }
     }
 
     /// The mix with one more word, or none where no mix begins with the words and this one. Takes no memory, and
     /// constant time.
     pub fn with(self, word: &SpecWord) -> Option<Mix>
-        ensures { (ws : SpecWords) → AreRead self ws → MatchOption result (Begins (pushed ws (spec_word_of word.now)) → ⊥) (λ mix. AreRead mix (pushed ws (spec_word_of word.now))) }
+        ensures read { (ws : SpecWords) → AreRead self ws → MatchOption result (Begins (pushed ws (spec_word_of word.now)) → ⊥) (λ mix. AreRead mix (pushed ws (spec_word_of word.now))) }
+        ensures steps { result ≡ with_class self (class_of (spec_word_of word.now)) }
     {
-        self.step(word)
+        self.with_class(class_of(word))
     }
 
     /// Whether a type stands: a word of a basic type, or a struct, union, enum or typedef name. Constant time.
     pub fn has_type(self) -> bool
-        ensures { result ≡ type_stands self.types }
+        ensures stands { result ≡ type_stands self.types }
+        ensures typed { (ws : SpecWords) → mix_of ws ≡ Some self → result ≡ is_typed ws }
     {
-        match self.types {
-            Types::Words(Base::Nothing, Mark::Unmarked) => false,
-            _ => true,
-        }
+        stands(self.types)
     }
 
     /// Whether the words are a whole mix. Takes no memory, and constant time.
     pub fn is_whole(self) -> bool
-        ensures { (ws : SpecWords) → AreRead self ws → IsTrue result ↔ IsMix ws }
+        ensures listed { (ws : SpecWords) → AreRead self ws → IsTrue result ↔ IsMix ws }
+        ensures stands { result ≡ whole_of self.types }
     {
         is_whole_type(self.types)
+    }
+}
+
+/// What a word is in a mix.
+pub fn class_of(word: &SpecWord) -> Class
+    ensures { result ≡ class_of (spec_word_of word.now) }
+{
+    match word {
+        SpecWord::Storage(word) => Class::Stores(word.keyword),
+        SpecWord::Thread { .. } => Class::Stores(Keyword::Thread),
+        SpecWord::Type(word) => Class::Spells(word.keyword),
+        SpecWord::Struct(_) | SpecWord::Enum(_) | SpecWord::TypedefName(_) => Class::Named,
+        _ => Class::Free,
+    }
+}
+
+/// Whether a type stands.
+fn stands(types: Types) -> bool
+    ensures { result ≡ type_stands types }
+{
+    match types {
+        Types::Words(Base::Nothing, Mark::Unmarked) => false,
+        _ => true,
     }
 }
 
