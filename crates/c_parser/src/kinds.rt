@@ -197,7 +197,7 @@ pub(crate) fn begins_specs(scopes: &Scopes, tokens: &[Lexeme]) -> bool
 }
 
 /// What a token of a kind is behind a postfix form.
-pub(crate) fn closing(kind: TokenKind) -> Closing
+pub(crate) fn closing_at(kind: TokenKind) -> Closing
     ensures { closing_in result ≡ closing_of kind }
 {
     match kind {
@@ -237,14 +237,14 @@ fn sign_opening(sign: Punct) -> Opening
 }
 
 /// What an operand begins with, of which the first token has a kind.
-pub(crate) fn opening(kind: TokenKind) -> Opening
+pub(crate) fn opening_at(kind: TokenKind) -> Opening
     ensures { opening_in result ≡ opening_of kind }
 {
-    match kind {
-        TokenKind::Punct(sign) => sign_opening(sign),
+    match &kind {
+        TokenKind::Punct(sign) => sign_opening(*sign),
         TokenKind::Keyword(Keyword::Sizeof) => Opening::Sizeof(Keyword::Sizeof),
         TokenKind::Keyword(Keyword::Alignof) => Opening::Sizeof(Keyword::Alignof),
-        TokenKind::Name(name) => Opening::Name(name),
+        TokenKind::Name(name) => Opening::Name(*name),
         TokenKind::Number => Opening::Number,
         TokenKind::Char => Opening::Char,
         TokenKind::Text => Opening::Text,
@@ -301,7 +301,7 @@ fn sign_between(sign: Punct) -> Between
 }
 
 /// What a token of a kind is between two operands.
-pub(crate) fn between(kind: TokenKind) -> Between
+pub(crate) fn between_at(kind: TokenKind) -> Between
     ensures { between_in result ≡ between kind }
 {
     match kind {
