@@ -10,3 +10,5 @@ pub mod Knot
 pub mod Local
 pub mod Laws
 pub mod UnitLaws
+pub mod Gives
+pub mod Kinds

@@ -1,5 +1,14 @@
 //! What may be wrong at a token.
 
+ghost use Rattle.std.specs.Prelude.{◌≡◌};
+ghost use Rattle.c_parser.specs.Reading.{number_at};
+ghost use Rattle.c_parser.specs.declared.fault.ReadError.TheVariants as errors;
+ghost use Rattle.c_parser.specs.declared.fault.ReadError.TheVariants.{NoMemory};
+
+use c_tree::lexeme::Lexeme;
+use qual_base::ids::{Numbered, TokenId};
+use std::alloc::{AllocError, AllocFailed};
+
 /// Why no well-formed unit goes on with a token.
 #[derive(Clone, Copy, PartialEq, Eq, Debug)]
 pub enum Fault {
@@ -13,4 +22,44 @@ pub enum Fault {
     BadMix,
     /// The left side of an assignment is no unary form.
     BadTarget,
+}
+
+/// Why a reader gives up: a fault at a token, or want of memory.
+#[derive(Clone, Copy, PartialEq, Eq, Debug)]
+pub enum ReadError {
+    Fault(Fault, TokenId),
+    NoMemory,
+}
+
+impl From<AllocError> for ReadError {
+    ghost from_gives = { λ _ e. e ≡ NoMemory };
+
+    fn from(_error: AllocError) -> ReadError {
+        ReadError::NoMemory
+    }
+}
+
+impl<T: Drop> From<AllocFailed<T>> for ReadError {
+    ghost from_gives = { λ _ e. e ≡ NoMemory };
+
+    fn from(_error: AllocFailed<T>) -> ReadError {
+        ReadError::NoMemory
+    }
+}
+
+/// The number of the first token, 0 where there is none.
+pub(crate) fn number_at(tokens: &[Lexeme]) -> TokenId
+    ensures { result ≡ number_at tokens.now }
+{
+    match tokens {
+        [first, ..] => first.at,
+        [] => TokenId::new(0),
+    }
+}
+
+/// The first token is refused.
+pub(crate) fn refused(fault: Fault, tokens: &[Lexeme]) -> ReadError
+    ensures { result ≡ errors.Fault fault (number_at tokens.now) }
+{
+    ReadError::Fault(fault, number_at(tokens))
 }

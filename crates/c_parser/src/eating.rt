@@ -1,0 +1,382 @@
+//! Readers of one token.
+
+ghost use Rattle.std.specs.Prelude.{◌≡◌, ◌<◌, ◌≤◌, length, option_map, IfOk, IfSome, Ok};
+ghost use Rattle.c_parser.specs.Gives.{Gives};
+ghost use Rattle.c_parser.specs.Eating.{token_at, after, begins, is_open_paren, is_close_paren, is_open_bracket, is_close_bracket, is_open_brace, is_close_brace, is_colon, is_comma, is_dots, is_equal, is_semicolon, is_star, is_end};
+ghost use Rattle.c_parser.specs.Specifying.{name_at, tag_at, spelled_name};
+ghost use Rattle.c_parser.specs.Expressing.{is_text};
+
+use crate::fault::{Fault, ReadError, refused};
+use c_lexer::kinds::{Punct, TokenKind};
+use c_tree::lexeme::Lexeme;
+use c_tree::parts::Identifier;
+use qual_base::ids::NameId;
+
+/// Whether a token of a kind is `(`.
+pub(crate) fn is_open_paren(kind: TokenKind) -> bool
+    ensures { result ≡ is_open_paren kind }
+{
+    match kind {
+        TokenKind::Punct(Punct::OpenParen) => true,
+        _ => false,
+    }
+}
+
+/// Whether a token of a kind is `)`.
+pub(crate) fn is_close_paren(kind: TokenKind) -> bool
+    ensures { result ≡ is_close_paren kind }
+{
+    match kind {
+        TokenKind::Punct(Punct::CloseParen) => true,
+        _ => false,
+    }
+}
+
+/// Whether a token of a kind is `[`.
+pub(crate) fn is_open_bracket(kind: TokenKind) -> bool
+    ensures { result ≡ is_open_bracket kind }
+{
+    match kind {
+        TokenKind::Punct(Punct::OpenBracket) => true,
+        _ => false,
+    }
+}
+
+/// Whether a token of a kind is `]`.
+pub(crate) fn is_close_bracket(kind: TokenKind) -> bool
+    ensures { result ≡ is_close_bracket kind }
+{
+    match kind {
+        TokenKind::Punct(Punct::CloseBracket) => true,
+        _ => false,
+    }
+}
+
+/// Whether a token of a kind is `{`.
+pub(crate) fn is_open_brace(kind: TokenKind) -> bool
+    ensures { result ≡ is_open_brace kind }
+{
+    match kind {
+        TokenKind::Punct(Punct::OpenBrace) => true,
+        _ => false,
+    }
+}
+
+/// Whether a token of a kind is `}`.
+pub(crate) fn is_close_brace(kind: TokenKind) -> bool
+    ensures { result ≡ is_close_brace kind }
+{
+    match kind {
+        TokenKind::Punct(Punct::CloseBrace) => true,
+        _ => false,
+    }
+}
+
+/// Whether a token of a kind is `:`.
+pub(crate) fn is_colon(kind: TokenKind) -> bool
+    ensures { result ≡ is_colon kind }
+{
+    match kind {
+        TokenKind::Punct(Punct::Colon) => true,
+        _ => false,
+    }
+}
+
+/// Whether a token of a kind is `,`.
+pub(crate) fn is_comma(kind: TokenKind) -> bool
+    ensures { result ≡ is_comma kind }
+{
+    match kind {
+        TokenKind::Punct(Punct::Comma) => true,
+        _ => false,
+    }
+}
+
+/// Whether a token of a kind is `...`.
+pub(crate) fn is_dots(kind: TokenKind) -> bool
+    ensures { result ≡ is_dots kind }
+{
+    match kind {
+        TokenKind::Punct(Punct::Ellipsis) => true,
+        _ => false,
+    }
+}
+
+/// Whether a token of a kind is `=`.
+pub(crate) fn is_equal(kind: TokenKind) -> bool
+    ensures { result ≡ is_equal kind }
+{
+    match kind {
+        TokenKind::Punct(Punct::Equal) => true,
+        _ => false,
+    }
+}
+
+/// Whether a token of a kind is `;`.
+pub(crate) fn is_semicolon(kind: TokenKind) -> bool
+    ensures { result ≡ is_semicolon kind }
+{
+    match kind {
+        TokenKind::Punct(Punct::Semicolon) => true,
+        _ => false,
+    }
+}
+
+/// Whether a token of a kind is `*`.
+pub(crate) fn is_star(kind: TokenKind) -> bool
+    ensures { result ≡ is_star kind }
+{
+    match kind {
+        TokenKind::Punct(Punct::Star) => true,
+        _ => false,
+    }
+}
+
+/// Whether a token of a kind is the end of the unit.
+pub(crate) fn is_end(kind: TokenKind) -> bool
+    ensures { result ≡ is_end kind }
+{
+    match kind {
+        TokenKind::End => true,
+        _ => false,
+    }
+}
+
+/// Whether a token of a kind is a string.
+pub(crate) fn is_text(kind: TokenKind) -> bool
+    ensures { result ≡ is_text kind }
+{
+    match kind {
+        TokenKind::Text => true,
+        _ => false,
+    }
+}
+
+/// Takes `)`, which must stand first.
+pub(crate) fn close_paren(tokens: &[Lexeme]) -> Result<(Lexeme, &[Lexeme]), ReadError>
+    ensures value { Gives (λ x. (x.0, x.1.now)) result (token_at is_close_paren tokens.now) }
+    ensures shorter { IfOk result (λ x. length x.1.now < length tokens.now) }
+{
+    match tokens {
+        [first, rest @ ..] => {
+            if is_close_paren(first.kind) {
+                Ok((*first, rest))
+            } else {
+                Err(refused(Fault::Unexpected, tokens))
+            }
+        }
+        [] => Err(refused(Fault::Unexpected, tokens)),
+    }
+}
+
+/// Takes `]`, which must stand first.
+pub(crate) fn close_bracket(tokens: &[Lexeme]) -> Result<(Lexeme, &[Lexeme]), ReadError>
+    ensures value { Gives (λ x. (x.0, x.1.now)) result (token_at is_close_bracket tokens.now) }
+    ensures shorter { IfOk result (λ x. length x.1.now < length tokens.now) }
+{
+    match tokens {
+        [first, rest @ ..] => {
+            if is_close_bracket(first.kind) {
+                Ok((*first, rest))
+            } else {
+                Err(refused(Fault::Unexpected, tokens))
+            }
+        }
+        [] => Err(refused(Fault::Unexpected, tokens)),
+    }
+}
+
+/// Takes `}`, which must stand first.
+pub(crate) fn close_brace(tokens: &[Lexeme]) -> Result<(Lexeme, &[Lexeme]), ReadError>
+    ensures value { Gives (λ x. (x.0, x.1.now)) result (token_at is_close_brace tokens.now) }
+    ensures shorter { IfOk result (λ x. length x.1.now < length tokens.now) }
+{
+    match tokens {
+        [first, rest @ ..] => {
+            if is_close_brace(first.kind) {
+                Ok((*first, rest))
+            } else {
+                Err(refused(Fault::Unexpected, tokens))
+            }
+        }
+        [] => Err(refused(Fault::Unexpected, tokens)),
+    }
+}
+
+/// Takes `:`, which must stand first.
+pub(crate) fn colon(tokens: &[Lexeme]) -> Result<(Lexeme, &[Lexeme]), ReadError>
+    ensures value { Gives (λ x. (x.0, x.1.now)) result (token_at is_colon tokens.now) }
+    ensures shorter { IfOk result (λ x. length x.1.now < length tokens.now) }
+{
+    match tokens {
+        [first, rest @ ..] => {
+            if is_colon(first.kind) {
+                Ok((*first, rest))
+            } else {
+                Err(refused(Fault::Unexpected, tokens))
+            }
+        }
+        [] => Err(refused(Fault::Unexpected, tokens)),
+    }
+}
+
+/// Takes `;`, which must stand first.
+pub(crate) fn semicolon(tokens: &[Lexeme]) -> Result<(Lexeme, &[Lexeme]), ReadError>
+    ensures value { Gives (λ x. (x.0, x.1.now)) result (token_at is_semicolon tokens.now) }
+    ensures shorter { IfOk result (λ x. length x.1.now < length tokens.now) }
+{
+    match tokens {
+        [first, rest @ ..] => {
+            if is_semicolon(first.kind) {
+                Ok((*first, rest))
+            } else {
+                Err(refused(Fault::Unexpected, tokens))
+            }
+        }
+        [] => Err(refused(Fault::Unexpected, tokens)),
+    }
+}
+
+/// Takes the end of the unit, which must stand first.
+pub(crate) fn end(tokens: &[Lexeme]) -> Result<(Lexeme, &[Lexeme]), ReadError>
+    ensures value { Gives (λ x. (x.0, x.1.now)) result (token_at is_end tokens.now) }
+    ensures shorter { IfOk result (λ x. length x.1.now < length tokens.now) }
+{
+    match tokens {
+        [first, rest @ ..] => {
+            if is_end(first.kind) {
+                Ok((*first, rest))
+            } else {
+                Err(refused(Fault::Unexpected, tokens))
+            }
+        }
+        [] => Err(refused(Fault::Unexpected, tokens)),
+    }
+}
+
+/// Whether `)` stands first.
+pub(crate) fn begins_close_paren(tokens: &[Lexeme]) -> bool
+    ensures { result ≡ begins is_close_paren tokens.now }
+{
+    match tokens {
+        [first, ..] => is_close_paren(first.kind),
+        [] => false,
+    }
+}
+
+/// Whether `]` stands first.
+pub(crate) fn begins_close_bracket(tokens: &[Lexeme]) -> bool
+    ensures { result ≡ begins is_close_bracket tokens.now }
+{
+    match tokens {
+        [first, ..] => is_close_bracket(first.kind),
+        [] => false,
+    }
+}
+
+/// Whether `}` stands first.
+pub(crate) fn begins_close_brace(tokens: &[Lexeme]) -> bool
+    ensures { result ≡ begins is_close_brace tokens.now }
+{
+    match tokens {
+        [first, ..] => is_close_brace(first.kind),
+        [] => false,
+    }
+}
+
+/// Whether `:` stands first.
+pub(crate) fn begins_colon(tokens: &[Lexeme]) -> bool
+    ensures { result ≡ begins is_colon tokens.now }
+{
+    match tokens {
+        [first, ..] => is_colon(first.kind),
+        [] => false,
+    }
+}
+
+/// Whether `;` stands first.
+pub(crate) fn begins_semicolon(tokens: &[Lexeme]) -> bool
+    ensures { result ≡ begins is_semicolon tokens.now }
+{
+    match tokens {
+        [first, ..] => is_semicolon(first.kind),
+        [] => false,
+    }
+}
+
+/// Whether the end of the unit stands first.
+pub(crate) fn begins_end(tokens: &[Lexeme]) -> bool
+    ensures { result ≡ begins is_end tokens.now }
+{
+    match tokens {
+        [first, ..] => is_end(first.kind),
+        [] => false,
+    }
+}
+
+/// What stands behind a comma, where one stands first.
+pub(crate) fn comma(tokens: &[Lexeme]) -> Option<&[Lexeme]>
+    ensures value { option_map (λ x. x.now) result ≡ after is_comma tokens.now }
+    ensures shorter { IfSome result (λ x. length x.now < length tokens.now) }
+{
+    match tokens {
+        [first, rest @ ..] => {
+            if is_comma(first.kind) {
+                Some(rest)
+            } else {
+                None
+            }
+        }
+        [] => None,
+    }
+}
+
+/// The name that a token of a kind spells.
+pub(crate) fn spelled(kind: TokenKind) -> Option<NameId>
+    ensures { result ≡ spelled_name kind }
+{
+    match kind {
+        TokenKind::Name(name) => Some(name),
+        _ => None,
+    }
+}
+
+/// Takes a name, which must stand first.
+pub(crate) fn name(tokens: &[Lexeme]) -> Result<(Identifier, &[Lexeme]), ReadError>
+    ensures value { Gives (λ x. (x.0, x.1.now)) result (name_at tokens.now) }
+    ensures shorter { IfOk result (λ x. length x.1.now < length tokens.now) }
+{
+    match tokens {
+        [first, rest @ ..] => match spelled(first.kind) {
+            Some(name) => Ok((
+                Identifier {
+                    token: first.at,
+                    name,
+                },
+                rest,
+            )),
+            None => Err(refused(Fault::Unexpected, tokens)),
+        },
+        [] => Err(refused(Fault::Unexpected, tokens)),
+    }
+}
+
+/// Takes a tag, where a name stands first.
+pub(crate) fn tag(tokens: &[Lexeme]) -> (Option<Identifier>, &[Lexeme])
+    ensures value { tag_at tokens.now ≡ Ok (result.0, result.1.now) }
+    ensures within { length result.1.now ≤ length tokens.now }
+{
+    match tokens {
+        [first, rest @ ..] => match spelled(first.kind) {
+            Some(name) => (
+                Some(Identifier {
+                    token: first.at,
+                    name,
+                }),
+                rest,
+            ),
+            None => (None, tokens),
+        },
+        [] => (None, tokens),
+    }
+}
