@@ -35,3 +35,4 @@ pub mod SpecsCompleteParts
 pub mod SpecsCompleteEnums
 pub mod SpecsComplete
 pub mod KnottingSteps
+pub mod KnotShrinks
