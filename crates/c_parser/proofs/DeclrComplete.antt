@@ -65,7 +65,7 @@ declr_high (abs_params a b c d e) = omega arith
 ends_parts : (t : Lexeme) (ts : List Lexeme) → ends_declr (t ∷ ts) ≡ true → (is_open_paren t.kind ≡ false) × (is_open_bracket t.kind ≡ false) × (is_star t.kind ≡ false) × (spelled_name t.kind ≡ None)
 ends_parts t ts e =
     let p = parts (is_open_paren t.kind) (is_open_bracket t.kind) (is_star t.kind) (is_some (spelled_name t.kind)) (not (is_open_brace t.kind))
-        (not (is_start (typed_start [] true (kind_start t.kind)))) e in
+    (not (is_start (typed_start [] true (kind_start t.kind)))) e in
     (p.0, p.1, p.2, none (spelled_name t.kind) p.3)
   where
     parts : (a b c d e f : Bool) → (not a && not b && not c && not d && e && f) ≡ true → (a ≡ false) × (b ≡ false) × (c ≡ false) × (d ≡ false)
@@ -95,7 +95,7 @@ words_named ws d attrs ps s s' named = by_words (spec_words_scopes ws s) refl na
   where
     by_words : (o : Option Scopes) → spec_words_scopes ws s ≡ o →
         behind (behind (behind (behind o (λ t. where_true (some_shows_no_type t d) t)) (some_declr_scopes d)) (λ t. behind (without attrs t) (declare_some (some_declared_name d) Value)))
-            (params_scopes ps) ≡ Some s' →
+        (params_scopes ps) ≡ Some s' →
         (t : Scopes) × (spec_words_scopes ws s ≡ Some t)
     by_words None is e = absurd cc
     by_words (Some t) is e = (t, is)
@@ -210,16 +210,20 @@ module _ (all : List Lexeme) (numbered : IsNumbered all) (n : ℕ) (expr : Reach
       suffix (d, s) (sign_text puncts.OpenBracket opening (array_words_text all ws (some_size_text all size (sign_text puncts.CloseBracket closing k)))) ≡
       Some (Ok ((some_declr (with_array d opening ws size closing), s'), k))
   array_taken d opening ws size closing s s' k low fits sized named low2 =
-      rw (le-leb (suc (some_declr_height d)) (suc n) (omega (arith, low)),
-          array_read all numbered n expr specs declr exprs words inner begin grow d opening ws size closing s s' k fits sized named low2) refl
+      rw (
+        le-leb (suc (some_declr_height d)) (suc n) (omega (arith, low)),
+        array_read all numbered n expr specs declr exprs words inner begin grow d opening ws size closing s s' k fits sized named low2,
+      ) refl
 
   params_taken : (d : SomeDeclr) (opening : ℕ) (ps : Params) (dots : Option Dots) (closing : ℕ) (s s' : Scopes) (k : List Lexeme) → some_declr_height d ≤ n →
       AreParams all ps → IsEllipsis all ps dots → in_own_scope (params_scopes ps) s ≡ Some s' → params_height ps ≤ n →
       suffix (d, s) (sign_text puncts.OpenParen opening (params_text all ps (dots_text all dots (sign_text puncts.CloseParen closing k)))) ≡
       Some (Ok ((some_declr (with_params d opening ps dots closing), s'), k))
   params_taken d opening ps dots closing s s' k low fits dotted named low2 =
-      rw (le-leb (suc (some_declr_height d)) (suc n) (omega (arith, low)),
-          prototype_read all numbered n expr specs declr exprs words inner begin grow d opening ps dots closing s s' k fits dotted named low2) refl
+      rw (
+        le-leb (suc (some_declr_height d)) (suc n) (omega (arith, low)),
+        prototype_read all numbered n expr specs declr exprs words inner begin grow d opening ps dots closing s s' k fits dotted named low2,
+      ) refl
 
   -- behind a bracket or a parenthesis of parameters no core stands
   no_core_bracket : (mode : Mode) (wanted : Option Kind) (opening : ℕ) (s : Scopes) (ts : List Lexeme) → takes_nothing mode ≡ true →
@@ -238,7 +242,7 @@ module _ (all : List Lexeme) (numbered : IsNumbered all) (n : ℕ) (expr : Reach
 
   params_open : (ps : Params) (dots : Option Dots) (closing : ℕ) (s s' : Scopes) (k : List Lexeme) → AreParams all ps → IsEllipsis all ps dots → in_own_scope (params_scopes ps) s ≡ Some s' →
       (begins is_close_paren (params_text all ps (dots_text all dots (sign_text puncts.CloseParen closing k))) || begins_specs s
-          (params_text all ps (dots_text all dots (sign_text puncts.CloseParen closing k)))) ≡ true
+      (params_text all ps (dots_text all dots (sign_text puncts.CloseParen closing k)))) ≡ true
   params_open no_params None closing s s' k fits dotted named = refl
   params_open no_params (Some d) closing s s' k fits dotted named = absurd dotted
   params_open (more_params ws d attrs ps) dots closing s s' k fits dotted named =
@@ -273,8 +277,10 @@ module _ (all : List Lexeme) (numbered : IsNumbered all) (n : ℕ) (expr : Reach
       let behind_it : List Lexeme = sign_text puncts.CloseParen closing k in
       let high : 1 ≤ declr_height d = declr_high d in
       let one : 1 ≤ n = omega (arith, high, low) in
-      rw (no_params_open mode s (declr_text all d behind_it) (declr_close all d behind_it) (λ takes. declr_specs all d s behind_it fits.0 ∙ first takes),
-      inner.complete mode wanted one (some_declr d) s s' behind_it (to_mode all mode d s fits, may) named low refl) refl
+      rw (
+        no_params_open mode s (declr_text all d behind_it) (declr_close all d behind_it) (λ takes. declr_specs all d s behind_it fits.0 ∙ first takes),
+        inner.complete mode wanted one (some_declr d) s s' behind_it (to_mode all mode d s fits, may) named low refl,
+      ) refl
 
   module _ (nothing : (mode : Mode) (wanted : Option Kind) (s : Scopes) (k : List Lexeme) → takes_nothing mode ≡ true → ends_declr k ≡ true → declr mode wanted s k ≡ Ok ((no_declr, s), k)) where
     -- a declarator without attributes, up to its last brackets or parameters
@@ -390,8 +396,12 @@ module _ (all : List Lexeme) (numbered : IsNumbered all) (n : ℕ) (expr : Reach
         let b = behind_some (without_attrs ws s) (some_declr_scopes d) s' named in
         let p = pointer_quals all numbered ws s b.0 quals b.1 in
         let inside : some_declr_scopes d s ≡ Some s' = ap (some_declr_scopes d) p.3 ∙ b.2 in
-        rw (p.4 (some_declr_text all d k), quals_read all numbered p.0 (some_declr_text all d k) p.2 (no_qual_at (some_declr_text all d k) (stars_end d k ends)),
-            inner_read mode wanted d s s' k fits may inside low ends, p.1) refl
+        rw (
+          p.4 (some_declr_text all d k),
+          quals_read all numbered p.0 (some_declr_text all d k) p.2 (no_qual_at (some_declr_text all d k) (stars_end d k ends)),
+          inner_read mode wanted d s s' k fits may inside low ends,
+          p.1,
+        ) refl
 
     nothing_read : (mode : Mode) (wanted : Option Kind) (s : Scopes) (k : List Lexeme) → takes_nothing mode ≡ true → ends_declr k ≡ true →
         reader mode wanted s k ≡ run suffix (no_declr, s) k
@@ -417,7 +427,7 @@ module _ (all : List Lexeme) (numbered : IsNumbered all) (n : ℕ) (expr : Reach
     some_read mode wanted (abs_pointer star ws (some_declr d)) s s' k fits may named low ends =
         let below : declr_height d ≤ n = omega (arith, low) in
         pointer_read mode wanted star ws (some_declr d) s s' k fits.0.0 (abstract_suits all mode (some_declr d) s fits.1 fits.0.1)
-            (some_abstract_may all wanted (some_declr d) s fits.0.1) named below ends ∙ rw fits.0.1.1 refl
+        (some_abstract_may all wanted (some_declr d) s fits.0.1) named below ends ∙ rw fits.0.1.1 refl
     some_read mode wanted (declr_name token name) s s' k fits may named low ends =
         begun mode wanted (declr_name token name) s s' k refl fits may named low ∙ at_end (some_declr (declr_name token name)) s' k ends
     some_read mode wanted (declr_paren a b c d) s s' k fits may named low ends =
@@ -433,7 +443,7 @@ module _ (all : List Lexeme) (numbered : IsNumbered all) (n : ℕ) (expr : Reach
     -- where the reader inside reads that no declarator stands
     pub declr_complete_over : (mode : Mode) (wanted : Option Kind) →
         IsComplete (suc n) (some_declr_text all) (λ d s. FitsMode all mode d s × MayBeNamed wanted d s) some_declr_scopes some_declr_height ends_declr
-            (declr_with (suc n) (expr assigned) (specs declaring) declr mode wanted)
+        (declr_with (suc n) (expr assigned) (specs declaring) declr mode wanted)
     declr_complete_over mode wanted no_declr s s' k fits named low ends =
         let same : s ≡ s' = cc in
         nothing_read mode wanted s k (takes mode fits.0) ends ∙ at_end no_declr s k ends ∙ rw same refl
@@ -446,7 +456,7 @@ module _ (all : List Lexeme) (numbered : IsNumbered all) (n : ℕ) (expr : Reach
 
   pub declr_complete : 1 ≤ n → (mode : Mode) (wanted : Option Kind) →
       IsComplete (suc n) (some_declr_text all) (λ d s. FitsMode all mode d s × MayBeNamed wanted d s) some_declr_scopes some_declr_height ends_declr
-          (declr_with (suc n) (expr assigned) (specs declaring) declr mode wanted)
+      (declr_with (suc n) (expr assigned) (specs declaring) declr mode wanted)
   declr_complete one mode wanted = declr_complete_over nothing mode wanted
     where
       no_name : (wanted : Option Kind) (s : Scopes) → MayBeNamed wanted no_declr s

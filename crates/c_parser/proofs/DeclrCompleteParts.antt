@@ -189,7 +189,7 @@ pub ends_words : (k : List Lexeme) → ends_declr k ≡ true → ends_specs k �
 ends_words [] e = refl
 ends_words (t ∷ ts) e =
     last_two (not (is_open_paren t.kind) && not (is_open_bracket t.kind) && not (is_star t.kind) && not (is_some (spelled_name t.kind))) (not (is_open_brace t.kind))
-        (not (is_start (typed_start [] true (kind_start t.kind)))) e
+    (not (is_start (typed_start [] true (kind_start t.kind)))) e
   where
     last_two : (a b c : Bool) → (a && b && c) ≡ true → (c && b) ≡ true
     last_two true true true e = refl
@@ -334,8 +334,11 @@ module _ (all : List Lexeme) (numbered : IsNumbered all) (n : ℕ) (expr : Reach
       let a = behind_some (spec_words_scopes rest s) (λ t. where_true (some_shows_no_type t d) t) b.0 b.1 in
       let w = where_is (some_shows_no_type a.0 d) a.0 b.0 a.2 in
       let inside : some_declr_scopes d a.0 ≡ Some c.0 = ap (some_declr_scopes d) w.1 ∙ b.2 in
-      rw (words.complete declaring known rest s a.0 (some_declr_text all d k) mix fits a.1 low (some_declr_behind all d k plain).0,
-      inner.complete either_way (Some Value) one d a.0 c.0 k ((is_declr, w.0), may_be d a.0 c.0 s' inside c.2) inside low2 ends, c.2) refl
+      rw (
+        words.complete declaring known rest s a.0 (some_declr_text all d k) mix fits a.1 low (some_declr_behind all d k plain).0,
+        inner.complete either_way (Some Value) one d a.0 c.0 k ((is_declr, w.0), may_be d a.0 c.0 s' inside c.2) inside low2 ends,
+        c.2,
+      ) refl
 
   next_is : (token : ℕ) (state : ParamState) (known : List Qual) (us : List Lexeme) → begins is_dots us ≡ false →
       next_param_with (suc n) (expr assigned) (specs declaring) declr token state known us ≡
@@ -368,12 +371,17 @@ module _ (all : List Lexeme) (numbered : IsNumbered all) (n : ℕ) (expr : Reach
       let less : specs_height (others ws) ≤ specs_height ws = split_height ws in
       let less2 : specs_height (others ws) ≤ n = omega (arith, less, low) in
       let named2 : param_scopes (others ws) d s ≡ Some s' =
-          ap (λ (o : Option Scopes). behind (behind (behind o (λ t. where_true (some_shows_no_type t d) t)) (some_declr_scopes d)) (declare_some (some_declared_name d) Value))
-              (sym (split_scopes ws s)) ∙ named in
+      ap (λ (o : Option Scopes). behind (behind (behind o (λ t. where_true (some_shows_no_type t d) t)) (some_declr_scopes d)) (declare_some (some_declared_name d) Value))
+      (sym (split_scopes ws s)) ∙ named in
       let read = param_read ps (spec_words_of_quals (leading ws)) (others ws) d s s' k (subst (λ (ws : SpecWords). IsMix ws) (sym (split_words ws)) mix)
-          (split_fits all ws fits) is_declr named2 less2 low2 one plain ends in
-      rw (split_text all ws behind_it, quals_read all numbered (leading ws) us (split_quals all ws fits) us_plain.0, next_is token ((ps, None), s) (leading ws) us us_plain.1, read,
-          split_words ws) refl
+      (split_fits all ws fits) is_declr named2 less2 low2 one plain ends in
+      rw (
+        split_text all ws behind_it,
+        quals_read all numbered (leading ws) us (split_quals all ws fits) us_plain.0,
+        next_is token ((ps, None), s) (leading ws) us us_plain.1,
+        read,
+        split_words ws,
+      ) refl
 
   -- parameters behind others, and the dots
   other_params_run : (more : Params) (dots : Option Dots) (closing : ℕ) (ps : Params) (s s' : Scopes) (k : List Lexeme) → AreParams all more → AreDots all dots → params_scopes more s ≡ Some s' →
@@ -390,7 +398,7 @@ module _ (all : List Lexeme) (numbered : IsNumbered all) (n : ℕ) (expr : Reach
       (run_is turn turn_shrinks ((ps, Some d), s) behind_it ∙ rw (append_none ps, same) refl)
   other_params_run (more_params ws d (a ∷ attrs) more) dots closing ps s s' k fits dotted named low =
       absurd (no_attrs a attrs (behind (behind (spec_words_scopes ws s) (λ t. where_true (some_shows_no_type t d) t)) (some_declr_scopes d)) (declare_some (some_declared_name d) Value)
-          (params_scopes more) s' named)
+      (params_scopes more) s' named)
   other_params_run (more_params ws d [] more) dots closing ps s s' k fits dotted named low =
       let behind_it : List Lexeme = closed_params all more dots closing k in
       let b = behind_some (param_scopes ws d s) (params_scopes more) s' named in
@@ -405,14 +413,16 @@ module _ (all : List Lexeme) (numbered : IsNumbered all) (n : ℕ) (expr : Reach
       ∙ other_params_run more dots closing (with_param ps ws d) b.0 s' k fits.5 dotted b.2 more_low ∙ rw (append_param ps ws d more) refl
 
   params_read : (ps : Params) (dots : Option Dots) (closing : ℕ) (s s' : Scopes) (k : List Lexeme) → AreParams all ps → IsEllipsis all ps dots → params_scopes ps s ≡ Some s' → params_height ps ≤ n →
-      params_with (suc n) (expr assigned) (specs declaring) declr s (params_text all ps (dots_text all dots (sign_text puncts.CloseParen closing k))) ≡ Ok (((ps, dots), s'),
-          sign_text puncts.CloseParen closing k)
+      params_with (suc n) (expr assigned) (specs declaring) declr s (params_text all ps (dots_text all dots (sign_text puncts.CloseParen closing k))) ≡ Ok (
+        ((ps, dots), s'),
+        sign_text puncts.CloseParen closing k,
+      )
   unfolding params_with
   params_read no_params None closing s s' k fits dotted named low = let same : s ≡ s' = cc in rw same refl
   params_read no_params (Some d) closing s s' k fits dotted named low = absurd dotted
   params_read (more_params ws d (a ∷ attrs) more) dots closing s s' k fits dotted named low =
       absurd (no_attrs a attrs (behind (behind (spec_words_scopes ws s) (λ t. where_true (some_shows_no_type t d) t)) (some_declr_scopes d)) (declare_some (some_declared_name d) Value)
-          (params_scopes more) s' named)
+      (params_scopes more) s' named)
   params_read (more_params ws d [] more) dots closing s s' k fits dotted named low =
       let behind_it : List Lexeme = closed_params all more dots closing k in
       let b = behind_some (param_scopes ws d s) (params_scopes more) s' named in
@@ -423,7 +433,7 @@ module _ (all : List Lexeme) (numbered : IsNumbered all) (n : ℕ) (expr : Reach
       let one : 1 ≤ n = omega (arith, low) in
       let more_low : params_height more ≤ n = omega (arith, low) in
       let opens_it : begins is_close_paren (spec_words_text all ws (some_declr_text all d behind_it)) ≡ false =
-          specs_no_close s (spec_words_text all ws (some_declr_text all d behind_it)) (begin ws s c.0 (some_declr_text all d behind_it) fits.0 fits.1 c.1) in
+      specs_no_close s (spec_words_text all ws (some_declr_text all d behind_it)) (begin ws s c.0 (some_declr_text all d behind_it) fits.0 fits.1 c.1) in
       rw (opens_it, param_read no_params no_words ws d s b.0 behind_it fits.0 fits.1 fits.2 b.1 one_low one_low2 one (ends_words behind_it plain.0, plain.1) plain.0)
       (other_params_run more dots closing (more_params ws d [] no_params) b.0 s' k fits.5 (dots_are dots dotted) b.2 more_low)
     where

@@ -137,9 +137,11 @@ module _ (all : List Lexeme) where
   others_plain (more_words (inline_word token) ws) s s' k fits basics named plain = (refl, refl)
   others_plain (more_words (noreturn token) ws) s s' k fits basics named plain = (refl, refl)
   others_plain (more_words (qualifier qual) ws) s s' k fits basics named plain = others_plain ws s s' k fits.1 basics named plain
-  others_plain (more_words (basic word) ws) s s' k fits basics named plain =
-      (other_start (keyword_start word.keyword) (record { kind = kinds.Keyword word.keyword; at = word.token })
-          (first_of (spells_other word.keyword) (list_any spells_other (type_words ws)) basics), refl)
+  others_plain (more_words (basic word) ws) s s' k fits basics named plain = (
+    other_start (keyword_start word.keyword) (record { kind = kinds.Keyword word.keyword; at = word.token })
+        (first_of (spells_other word.keyword) (list_any spells_other (type_words ws)) basics),
+    refl,
+  )
     where
       first_of : (a b : Bool) → (a || b) ≡ false → a ≡ false
       first_of true b is = absurd cc
@@ -167,7 +169,7 @@ module _ (all : List Lexeme) where
         let t = qual_token q (All-head (IsQual all) q qs fits) in
         let rest : List Lexeme = quals_text all qs k in
         ap (run quals_turn known) (t.1 rest) ∙ run_is quals_turn quals_shrink known (t.0 ∷ rest) ∙ rw (t.2 rest) (quals_run qs (known ++ q ∷ []) k (All-tail (IsQual all) q qs fits) stops
-            ∙ rw (append_assoc known (q ∷ []) qs) refl)
+        ∙ rw (append_assoc known (q ∷ []) qs) refl)
 
     pub quals_read : (qs : List Qual) (k : List Lexeme) → All (IsQual all) qs → qual_at k ≡ None → quals_at (quals_text all qs k) ≡ Ok (qs, k)
     unfolding quals_at
@@ -178,9 +180,13 @@ module _ (all : List Lexeme) where
         (qs : List Qual) × (pointer_words_of qs ≡ words) × All (IsQual all) qs × (s ≡ s') × ((k : List Lexeme) → pointer_words_text all words k ≡ quals_text all qs k)
     pointer_quals [] s s' fits named = ([], refl, All-nil (IsQual all), cc, λ k. refl)
     pointer_quals (pointer_words.Qual q ∷ words) s s' fits named =
-        let p = pointer_quals words s s' (All-tail (IsPointerWord all) (pointer_words.Qual q) words fits) named in
-        (q ∷ p.0, ap (λ (ws : List PointerWord). pointer_words.Qual q ∷ ws) p.1, All-cons (IsQual all) q p.0 (All-head (IsPointerWord all) (pointer_words.Qual q) words fits) p.2, p.3,
-            λ k. ap (qual_text all q) (p.4 k))
+        let p = pointer_quals words s s' (All-tail (IsPointerWord all) (pointer_words.Qual q) words fits) named in (
+          q ∷ p.0,
+          ap (λ (ws : List PointerWord). pointer_words.Qual q ∷ ws) p.1,
+          All-cons (IsQual all) q p.0 (All-head (IsPointerWord all) (pointer_words.Qual q) words fits) p.2,
+          p.3,
+          λ k. ap (qual_text all q) (p.4 k),
+        )
     pointer_quals (pointer_words.Attr a ∷ words) s s' fits named = absurd cc
 
     -- where the words of an array end
@@ -198,13 +204,13 @@ module _ (all : List Lexeme) where
         let rest : List Lexeme = array_words_text all words k in
         let t : Lexeme = record { kind = kinds.Keyword keywords.Static; at = token } in
         run_is array_words_turn array_words_shrink known (t ∷ rest) ∙ array_words_run words (known ++ w ∷ []) k (All-tail (IsArrayWord all) w words fits) stops
-            ∙ rw (append_assoc known (w ∷ []) words) refl
+        ∙ rw (append_assoc known (w ∷ []) words) refl
     array_words_run (array_words.Qual q ∷ words) known k fits stops =
         let w : ArrayWord = array_words.Qual q in
         let t = qual_token q (All-head (IsArrayWord all) w words fits) in
         let rest : List Lexeme = array_words_text all words k in
         ap (run array_words_turn known) (t.1 rest) ∙ run_is array_words_turn array_words_shrink known (t.0 ∷ rest)
-            ∙ rw (t.2 rest) (array_words_run words (known ++ w ∷ []) k (All-tail (IsArrayWord all) w words fits) stops ∙ rw (append_assoc known (w ∷ []) words) refl)
+        ∙ rw (t.2 rest) (array_words_run words (known ++ w ∷ []) k (All-tail (IsArrayWord all) w words fits) stops ∙ rw (append_assoc known (w ∷ []) words) refl)
 
     pub array_words_read : (words : List ArrayWord) (k : List Lexeme) → All (IsArrayWord all) words → IsNoWord k → array_words_at (array_words_text all words k) ≡ Ok (words, k)
     unfolding array_words_at

@@ -106,8 +106,10 @@ module _ (room : ℕ) (assign : Scopes → List Lexeme → Read (Expr × Scopes)
   array_falls d opening s =
       bind_falls array_words_at (λ words ts. size_with room assign specs_from declr s ts >>= λ size. token_at is_close_bracket size.1 >>= λ close.
       ends (some_declr (with_array d opening words size.0.0 close.0.at), size.0.1) close.1) array_words_fall (λ words.
-      bind_falls (size_with room assign specs_from declr s) (λ size ts. token_at is_close_bracket ts >>= λ close. ends (some_declr (with_array d opening words size.0 close.0.at),
-          size.1) close.1) (size_falls s) (λ size.
+      bind_falls (size_with room assign specs_from declr s) (λ size ts. token_at is_close_bracket ts >>= λ close. ends (
+        some_declr (with_array d opening words size.0 close.0.at),
+        size.1,
+      ) close.1) (size_falls s) (λ size.
       bind_falls (token_at is_close_bracket) (λ close. ends (some_declr (with_array d opening words size.0 close.at), size.1)) (shrinks_fall _ (token_shrinks is_close_bracket)) (λ close.
       ends_falls (some_declr (with_array d opening words size.0 close.at), size.1))))
 
@@ -117,7 +119,7 @@ module _ (room : ℕ) (assign : Scopes → List Lexeme → Read (Expr × Scopes)
       bind_falls (specs_from words s) (λ w ts. declr either_way (Some Value) w.1 ts >>= λ d.
       declared_some (with_param ps w.0 d.0.0) (some_name_token d.0.0) (declare_some (some_declared_name d.0.0) Value d.0.1) d.1) (falls_specs words s) (λ w.
       bind_falls (declr either_way (Some Value) w.1) (λ d. declared_some (with_param ps w.0 d.0) (some_name_token d.0) (declare_some (some_declared_name d.0) Value d.1))
-          (falls_declr either_way (Some Value) w.1) (λ d.
+      (falls_declr either_way (Some Value) w.1) (λ d.
       declared_some_falls (with_param ps w.0 d.0) (some_name_token d.0) (declare_some (some_declared_name d.0) Value d.1)))
 
   -- a parameter, and that no more arguments came yet
@@ -181,7 +183,7 @@ module _ (room : ℕ) (assign : Scopes → List Lexeme → Read (Expr × Scopes)
     where
       by_test : (a b : Bool) →
           (if a then Some (array_with room assign specs_from declr state.0 t.at state.1 ts) else (if b then Some (prototype_with room assign specs_from declr state.0 t.at state.1 ts) else None))
-              ≡ Some (Ok x) →
+          ≡ Some (Ok x) →
           length x.1 < length (t ∷ ts)
       by_test true b e = let less : length x.1 ≤ length ts = array_falls state.0 t.at state.1 ts x cc in omega (arith, less)
       by_test false true e = let less : length x.1 ≤ length ts = prototype_falls state.0 t.at state.1 ts x cc in omega (arith, less)
@@ -237,7 +239,7 @@ module _ (room : ℕ) (assign : Scopes → List Lexeme → Read (Expr × Scopes)
   unfolding direct_with
   direct_falls mode wanted s =
       bind_falls (core_with room assign specs_from declr mode wanted s)
-          (λ d ts. needed room assign specs_from declr mode d ts >>= λ known. run (suffix_turn room assign specs_from declr) known.0 known.1)
+      (λ d ts. needed room assign specs_from declr mode d ts >>= λ known. run (suffix_turn room assign specs_from declr) known.0 known.1)
       (core_falls mode wanted s) (λ d.
       bind_falls (needed room assign specs_from declr mode d) (run (suffix_turn room assign specs_from declr)) (needed_falls mode d) suffixes_fall)
 
@@ -297,7 +299,7 @@ module _ (room : ℕ) (assign : Scopes → List Lexeme → Read (Expr × Scopes)
   unfolding direct_with
   direct_shrinks wanted s ts x e =
       let b = bind_ok (core_with room assign specs_from declr with_name wanted s ts)
-          (λ d. needed room assign specs_from declr with_name d.0 d.1 >>= λ known. run (suffix_turn room assign specs_from declr) known.0 known.1) x e in
+      (λ d. needed room assign specs_from declr with_name d.0 d.1 >>= λ known. run (suffix_turn room assign specs_from declr) known.0 known.1) x e in
       by_core b.0 (core_cored wanted s ts b.0 b.1) b.2
     where
       by_core : (d : (SomeDeclr × Scopes) × List Lexeme) → Cored ts d →

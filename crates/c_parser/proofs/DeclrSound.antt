@@ -143,7 +143,7 @@ module _ (all : List Lexeme) where
       record { spelled = λ k. refl; fits = λ h direct. (tt, fit, fits); direct = refl; named = λ s. refl; as_named = refl; shows = λ s h. refl }
   array_suffixed (some_declr d) opening words size closing fit fits =
       by_named (Suffixed (some_declr d) (array_text opening words size closing) (some_size_scopes size)) (is_named d)
-        (array d opening words size closing) (abs_array (some_declr d) opening words size closing)
+      (array d opening words size closing) (abs_array (some_declr d) opening words size closing)
       (λ is. record { spelled = λ k. refl; fits = λ h direct. (h, is, direct, fit, fits); direct = refl; named = λ s. refl; as_named = sym is; shows = λ s h. h })
       (λ is. record { spelled = λ k. refl; fits = λ h direct. ((h, is, direct), fit, fits); direct = refl; named = λ s. refl; as_named = sym is; shows = λ s h. refl })
 
@@ -156,7 +156,7 @@ module _ (all : List Lexeme) where
       record { spelled = λ k. refl; fits = λ h direct. (tt, fit, ending); direct = refl; named = λ s. refl; as_named = refl; shows = λ s h. refl }
   params_suffixed (some_declr d) opening ps dots closing fit ending =
       by_named (Suffixed (some_declr d) (prototype_text opening ps dots closing) (in_own_scope (params_scopes ps))) (is_named d)
-        (params d opening ps dots closing) (abs_params (some_declr d) opening ps dots closing)
+      (params d opening ps dots closing) (abs_params (some_declr d) opening ps dots closing)
       (λ is. record { spelled = λ k. refl; fits = λ h direct. (h, is, direct, fit, ending); direct = refl; named = λ s. refl; as_named = sym is; shows = λ s h. h })
       (λ is. record { spelled = λ k. refl; fits = λ h direct. ((h, is, direct), fit, ending); direct = refl; named = λ s. refl; as_named = sym is; shows = λ s h. refl })
 
@@ -272,23 +272,23 @@ module _ (all : List Lexeme) where
     array_kept mode s start state t ts x h is e =
         let a = array_sound all numbered room n expr (specs declaring) declr exprs state.0 t.at state.1 ts x (tail_of all t ts h.left) e in
         suffixed mode s start state (t ∷ ts) (array_text t.at a.words a.size a.closing) (some_size_scopes a.size) (with_array state.0 t.at a.words a.size a.closing) x h
-          (array_suffixed state.0 t.at a.words a.size a.closing a.word_fit a.size_fits) a.declr_is
-          (token_is t (kinds.Punct OpenBracket) ts (open_bracket_is t.kind is) ∙ ap (sign_text OpenBracket t.at) a.spelled) a.named a.left
+        (array_suffixed state.0 t.at a.words a.size a.closing a.word_fit a.size_fits) a.declr_is
+        (token_is t (kinds.Punct OpenBracket) ts (open_bracket_is t.kind is) ∙ ap (sign_text OpenBracket t.at) a.spelled) a.named a.left
 
     prototype_kept : (mode : Mode) (s : Scopes) (start : List Lexeme) (state : SomeDeclr × Scopes) (t : Lexeme) (ts : List Lexeme) (x : DeclrRead) →
         Begun (Suits mode s) s start (state, t ∷ ts) → is_open_paren t.kind ≡ true → prototype_reader state.0 t.at state.1 ts ≡ Ok x → Begun (Suits mode s) s start x
     prototype_kept mode s start state t ts x h is e =
         let p = prototype_sound all numbered room n expr specs declr exprs words inner state.0 t.at state.1 ts x (tail_of all t ts h.left) e in
         suffixed mode s start state (t ∷ ts) (prototype_text t.at p.ps p.dots p.closing) (in_own_scope (params_scopes p.ps)) (with_params state.0 t.at p.ps p.dots p.closing) x h
-          (params_suffixed state.0 t.at p.ps p.dots p.closing p.fit p.ending) p.declr_is
-          (token_is t (kinds.Punct OpenParen) ts (open_paren_is t.kind is) ∙ ap (sign_text OpenParen t.at) p.spelled) p.named p.left
+        (params_suffixed state.0 t.at p.ps p.dots p.closing p.fit p.ending) p.declr_is
+        (token_is t (kinds.Punct OpenParen) ts (open_paren_is t.kind is) ∙ ap (sign_text OpenParen t.at) p.spelled) p.named p.left
 
     suffix_kept : (mode : Mode) (s : Scopes) (start : List Lexeme) (state : SomeDeclr × Scopes) (ts : List Lexeme) (x : DeclrRead) → Begun (Suits mode s) s start (state, ts) →
         turn state ts ≡ Some (Ok x) → Begun (Suits mode s) s start x
     suffix_kept mode s start state [] x h e = absurd cc
     suffix_kept mode s start state (t ∷ ts) x h e =
         by_bracket (is_open_bracket t.kind) refl
-          (lowered_ok (nat_le (suc (some_declr_height state.0)) room) t ts (suffix_by room (expr assigned) (specs declaring) declr t state ts) x e)
+        (lowered_ok (nat_le (suc (some_declr_height state.0)) room) t ts (suffix_by room (expr assigned) (specs declaring) declr t state ts) x e)
       where
         by_paren : (b : Bool) → is_open_paren t.kind ≡ b → (if b then Some (prototype_reader state.0 t.at state.1 ts) else None) ≡ Some (Ok x) → Begun (Suits mode s) s start x
         by_paren false is e = absurd cc
@@ -415,7 +415,7 @@ module _ (all : List Lexeme) where
         let pointed_words = pointer_words_of w.0.0 in
         let p = pointed mode t.at pointed_words d.0.0.0 in
         let spelled : ts ≡ pointer_words_text all pointed_words (some_declr_text all d.0.0.0 d.0.1) =
-            known.0 ∙ ap (quals_text all w.0.0) h.spelled ∙ sym (pointer_words_spelled w.0.0 (some_declr_text all d.0.0.0 d.0.1)) in
+        known.0 ∙ ap (quals_text all w.0.0) h.spelled ∙ sym (pointer_words_spelled w.0.0 (some_declr_text all d.0.0.0 d.0.1)) in
         let e : Declr = with_pointer mode t.at pointed_words d.0.0.0 in
         let y : DeclrRead = ((some_declr e, d.0.0.1), d.0.1) in
         ok_holds (TakesDeclr mode s (t ∷ ts)) y x d.2 (record {

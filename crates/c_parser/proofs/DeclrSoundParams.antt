@@ -51,8 +51,8 @@ pub params_named : (ps : Params) (ws : SpecWords) (d : SomeDeclr) (s : Scopes) �
 params_named no_params ws d s = behind_some (param_scopes ws d s)
 params_named (more_params ws₁ d₁ attrs ps) ws d s =
     behind_by (behind (behind (behind (spec_words_scopes ws₁ s) (λ t. where_true (some_shows_no_type t d₁) t)) (some_declr_scopes d₁))
-        (λ t. behind (without attrs t) (declare_some (some_declared_name d₁) Value)))
-      (params_scopes (with_param ps ws d)) (params_scopes ps) (param_scopes ws d) (λ s. params_named ps ws d s)
+    (λ t. behind (without attrs t) (declare_some (some_declared_name d₁) Value)))
+    (params_scopes (with_param ps ws d)) (params_scopes ps) (param_scopes ws d) (λ s. params_named ps ws d s)
 
 -- qualifiers change no scopes
 known_scopes : (known : List Qual) (rest : SpecWords) (s : Scopes) → spec_words_scopes (append_words (spec_words_of_quals known) rest) s ≡ spec_words_scopes rest s
@@ -189,7 +189,8 @@ module _ (all : List Lexeme) where
             ending = tt;
             named = ap (λ (ps : Params). params_scopes ps s) h.params_are ∙ params_named ps h.words h.declr s ∙ rw named h.named;
             left = h.left;
-          })
+          },
+        )
 
     abbrev next_reader : ℕ → ParamState → List Qual → List Lexeme → Read ParamState
     next_reader = next_param_with room (expr assigned) (specs declaring) declr
@@ -214,14 +215,17 @@ module _ (all : List Lexeme) where
         by_dots true dots e =
             let last : Dots = record { comma = comma.at; quals = known; dots = t.at } in
             let y : ParamState × List Lexeme = (((ps, Some last), now), rest) in
-            ok_holds (λ (x : ParamState × List Lexeme). AreListed s start x.0 x.1) y x e (some, record {
-              spelled = spelled ∙ ap (params_text all ps) (token_is comma (kinds.Punct Comma) ts kind
-                  ∙ ap (sign_text Comma comma.at) (is ∙ ap (quals_text all known) (token_is t (kinds.Punct Ellipsis) rest (dots_is t.kind dots))));
-              fit = fit;
-              ending = dots_fit ps last some quals_fit;
-              named = named;
-              left = tail_of all t rest left;
-            })
+            ok_holds (λ (x : ParamState × List Lexeme). AreListed s start x.0 x.1) y x e (
+              some,
+              record {
+                spelled = spelled ∙ ap (params_text all ps) (token_is comma (kinds.Punct Comma) ts kind
+                    ∙ ap (sign_text Comma comma.at) (is ∙ ap (quals_text all known) (token_is t (kinds.Punct Ellipsis) rest (dots_is t.kind dots))));
+                fit = fit;
+                ending = dots_fit ps last some quals_fit;
+                named = named;
+                left = tail_of all t rest left;
+              },
+            )
 
     -- a parameter takes a token at least
     no_param : (ps : Params) (s : Scopes) (x : ParamsRead) → param_reader ps no_words s [] ≡ Ok x → ⊥
@@ -284,13 +288,16 @@ module _ (all : List Lexeme) where
         by_close false e =
             let b = bind_ok (param_reader no_params no_words s ts) all_params x e in
             let h = param_sound [] no_params s ts b.0 left (All-nil (IsQual all)) b.1 in
-            let first : AreListed s ts ((b.0.0.0, None), b.0.0.1) b.0.1 = (subst HasParam (sym h.params_are) (has_param no_params h.words h.declr), record {
-              spelled = h.spelled ∙ ap (λ (ps : Params). params_text all ps b.0.1) (sym h.params_are);
-              fit = subst (AreParams all) (sym h.params_are) (params_fit no_params h.words h.declr tt h.mix h.word_fit h.declr_fits);
-              ending = tt;
-              named = ap (λ (ps : Params). params_scopes ps s) h.params_are ∙ params_named no_params h.words h.declr s ∙ h.named;
-              left = h.left;
-            }) in
+            let first : AreListed s ts ((b.0.0.0, None), b.0.0.1) b.0.1 = (
+              subst HasParam (sym h.params_are) (has_param no_params h.words h.declr),
+              record {
+                spelled = h.spelled ∙ ap (λ (ps : Params). params_text all ps b.0.1) (sym h.params_are);
+                fit = subst (AreParams all) (sym h.params_are) (params_fit no_params h.words h.declr tt h.mix h.word_fit h.declr_fits);
+                ending = tt;
+                named = ap (λ (ps : Params). params_scopes ps s) h.params_are ∙ params_named no_params h.words h.declr s ∙ h.named;
+                left = h.left;
+              },
+            ) in
             (run-keep turn (AreListed s ts) (listed s ts) ((b.0.0.0, None), b.0.0.1) b.0.1 x first b.2).1
 
     abbrev closed_as : SomeDeclr → ℕ → ParamState → Lexeme × List Lexeme → Read (SomeDeclr × Scopes)

@@ -139,9 +139,11 @@ module _ (all : List Lexeme) where
             let y : List Qual × List Lexeme = (known ++ q ∷ [], ts) in
             let same : y ≡ x = ok_is y x cc in
             let one = qual_taken t ts q h.2 is in
-            subst (λ (x : List Qual × List Lexeme). AreQuals start x.0 x.1) same
-              (h.0 ∙ ap (quals_text all known) one.0 ∙ sym (quals_push known q ts),
-              All-append (IsQual all) known (q ∷ []) h.1 (All-cons (IsQual all) q [] one.1 (All-nil (IsQual all))), tail_of all t ts h.2)
+            subst (λ (x : List Qual × List Lexeme). AreQuals start x.0 x.1) same (
+              h.0 ∙ ap (quals_text all known) one.0 ∙ sym (quals_push known q ts),
+              All-append (IsQual all) known (q ∷ []) h.1 (All-cons (IsQual all) q [] one.1 (All-nil (IsQual all))),
+              tail_of all t ts h.2,
+            )
 
     -- qualifiers
     pub quals_sound : (ts : List Lexeme) (x : List Qual × List Lexeme) → IsTail all ts → quals_at ts ≡ Ok x → (ts ≡ quals_text all x.0 x.1) × All (IsQual all) x.0 × IsTail all x.1
@@ -180,9 +182,11 @@ module _ (all : List Lexeme) where
             let y : List ArrayWord × List Lexeme = (known ++ word ∷ [], ts) in
             let same : y ≡ x = ok_is y x cc in
             let one = array_word_taken t ts word h.2 is in
-            subst (λ (x : List ArrayWord × List Lexeme). AreArrayWords start x.0 x.1) same
-              (h.0 ∙ ap (array_words_text all known) one.0 ∙ sym (array_words_push known word ts),
-              All-append (IsArrayWord all) known (word ∷ []) h.1 (All-cons (IsArrayWord all) word [] one.1 (All-nil (IsArrayWord all))), tail_of all t ts h.2)
+            subst (λ (x : List ArrayWord × List Lexeme). AreArrayWords start x.0 x.1) same (
+              h.0 ∙ ap (array_words_text all known) one.0 ∙ sym (array_words_push known word ts),
+              All-append (IsArrayWord all) known (word ∷ []) h.1 (All-cons (IsArrayWord all) word [] one.1 (All-nil (IsArrayWord all))),
+              tail_of all t ts h.2,
+            )
 
     -- the words in the brackets of an array
     pub array_words_sound : (ts : List Lexeme) (x : List ArrayWord × List Lexeme) → IsTail all ts → array_words_at ts ≡ Ok x →

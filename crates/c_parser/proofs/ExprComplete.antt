@@ -135,8 +135,10 @@ module _ (all : List Lexeme) (numbered : IsNumbered all) (n : ℕ) (expr : Reach
   unfolding middle_with
   middle_complete no_expr s s' colon k h m d = ap (λ (s : Scopes). Ok ((no_expr, s), sign_text Colon colon k)) (some_is s s' m)
   middle_complete (some_expr e) s s' colon k h m d =
-      rw (no_colon (expr_text all e (sign_text Colon colon k)) (begins_no_end all e s s' (sign_text Colon colon k) h m),
-          inner.complete whole e s s' (sign_text Colon colon k) (h, omega arith) m d refl) refl
+      rw (
+        no_colon (expr_text all e (sign_text Colon colon k)) (begins_no_end all e s s' (sign_text Colon colon k) h m),
+        inner.complete whole e s s' (sign_text Colon colon k) (h, omega arith) m d refl,
+      ) refl
 
   question_complete : (list : Operations) (token : ℕ) (e : SomeExpr) (s s' : Scopes) (colon : ℕ) (k : List Lexeme) → IsSomeExpr all e → some_expr_scopes e s ≡ Some s' → some_expr_height e ≤ n →
       question_with (suc n) expr type_name (list, s) token (some_expr_text all e (sign_text Colon colon k)) ≡ operand_with (suc n) expr type_name list (cond e colon) token s' k
@@ -152,18 +154,18 @@ module _ (all : List Lexeme) (numbered : IsNumbered all) (n : ℕ) (expr : Reach
   operator_read reach comma token list s s' k h i m d r b =
       run_is (operation_turn (suc n) expr type_name reach) (operation_shrinks (suc n) expr type_name inner.shrinks types.shrinks reach) (list, s) (operator_text all comma token k)
       ∙ rw (comma_taken reach r)
-        (ap (λ (s : Scopes). operand_with (suc n) expr type_name list comma token s k >>= λ x. run (operation_turn (suc n) expr type_name reach) x.0 x.1) (some_is s s' m))
+      (ap (λ (s : Scopes). operand_with (suc n) expr type_name list comma token s k >>= λ x. run (operation_turn (suc n) expr type_name reach) x.0 x.1) (some_is s s' m))
   operator_read reach (assign p) token list s s' k h i m d r b =
       run_is (operation_turn (suc n) expr type_name reach) (operation_shrinks (suc n) expr type_name inner.shrinks types.shrinks reach) (list, s) (operator_text all (assign p) token k)
       ∙ rw ((assign_is p h).0, b, assign_taken reach r)
-        (ap (λ (s : Scopes). operand_with (suc n) expr type_name list (assign p) token s k >>= λ x. run (operation_turn (suc n) expr type_name reach) x.0 x.1) (some_is s s' m))
+      (ap (λ (s : Scopes). operand_with (suc n) expr type_name list (assign p) token s k >>= λ x. run (operation_turn (suc n) expr type_name reach) x.0 x.1) (some_is s s' m))
   operator_read reach (cond e colon) token list s s' k h i m d r b =
       run_is (operation_turn (suc n) expr type_name reach) (operation_shrinks (suc n) expr type_name inner.shrinks types.shrinks reach) (list, s) (operator_text all (cond e colon) token k)
       ∙ rw (question_complete list token e s s' colon k i m d) refl
   operator_read reach (binary p) token list s s' k h i m d r b =
       run_is (operation_turn (suc n) expr type_name reach) (operation_shrinks (suc n) expr type_name inner.shrinks types.shrinks reach) (list, s) (operator_text all (binary p) token k)
       ∙ rw ((binary_is p h).0)
-        (ap (λ (s : Scopes). operand_with (suc n) expr type_name list (binary p) token s k >>= λ x. run (operation_turn (suc n) expr type_name reach) x.0 x.1) (some_is s s' m))
+      (ap (λ (s : Scopes). operand_with (suc n) expr type_name list (binary p) token s k >>= λ x. run (operation_turn (suc n) expr type_name reach) x.0 x.1) (some_is s s' m))
 
   -- the operands and operators of a tree so far, before more of them
   operations_begun : (reach : Reach) (e : Expr) (place : Place) (s s' : Scopes) (k : List Lexeme) → IsExpr all e → reach_level reach ≤ expr_level e → expr_scopes e s ≡ Some s' →
@@ -178,7 +180,7 @@ module _ (all : List Lexeme) (numbered : IsNumbered all) (n : ℕ) (expr : Reach
       let clean : bad_target (put (right_of list op token) (in_order e2 [])) ≡ None = ap bad_target (sym same) ∙ c in
       let parts = clean_before list op token (in_order e2 []) clean in
       operations_begun reach e place s q.0 (operator_text all op token (expr_text all e2 k)) h.0 (omega (arith, r, h.4, level_left op)) q.1 (omega (arith, d)) parts.0
-          (ends_operand all op token (expr_text all e2 k) h.2)
+      (ends_operand all op token (expr_text all e2 k) h.2)
       ∙ operator_read reach op token list q.0 p.0 (expr_text all e2 k) h.2 h.3 q.2 (omega (arith, d)) r parts.1
       ∙ operand_is (cast_with (suc n) expr type_name p.0 (expr_text all e2 k)) list op token (run (operation_turn (suc n) expr type_name reach))
       ∙ operations_begun reach e2 (right_of list op token) p.0 s' k h.1 (omega (arith, r, h.5, level_right op)) p.2 (omega (arith, d)) clean f

@@ -93,15 +93,15 @@ module _ (all : List Lexeme) (numbered : IsNumbered all) (n : ℕ) (expr : Reach
       run (arg_turn (suc n) expr type_name) (known, s) (other_exprs_text all es (sign_text CloseParen closing k)) ≡ Ok ((with_exprs known es, s'), sign_text CloseParen closing k)
   others_complete no_exprs known s s' closing k h m d =
       op_done (after is_comma) (λ (state : Exprs × Scopes). expr assigned state.1) (λ state e. (with_expr state.0 e.0, e.1)) (after_falls is_comma) (λ state. inner.shrinks assigned state.1)
-          (known, s) (sign_text CloseParen closing k) refl
+      (known, s) (sign_text CloseParen closing k) refl
       ∙ ap (λ (es : Exprs). Ok ((es, s), sign_text CloseParen closing k)) (sym (with_none known))
       ∙ ap (λ (s : Scopes). Ok ((with_exprs known no_exprs, s), sign_text CloseParen closing k)) (some_is s s' m)
   others_complete (more_exprs e es) known s s' closing k h m d =
       let p = behind_some (expr_scopes e s) (exprs_scopes es) s' m in
       let rest : List Lexeme = other_exprs_text all es (sign_text CloseParen closing k) in
       op_goes_on (after is_comma) (λ (state : Exprs × Scopes). expr assigned state.1) (λ state e. (with_expr state.0 e.0, e.1)) (after_falls is_comma) (λ state. inner.shrinks assigned state.1)
-          (known, s) (separated (expr_text all e rest)) (expr_text all e rest) (e, p.0) rest refl
-          (inner.complete assigned e s p.0 rest (h.0, h.1) p.1 (omega (arith, d)) (ends_argument es closing k))
+      (known, s) (separated (expr_text all e rest)) (expr_text all e rest) (e, p.0) rest refl
+      (inner.complete assigned e s p.0 rest (h.0, h.1) p.1 (omega (arith, d)) (ends_argument es closing k))
       ∙ others_complete es (with_expr known e) p.0 s' closing k h.2 p.2 (omega (arith, d))
       ∙ ap (λ (es : Exprs). Ok ((es, s'), sign_text CloseParen closing k)) (with_one known e es)
 
@@ -112,8 +112,10 @@ module _ (all : List Lexeme) (numbered : IsNumbered all) (n : ℕ) (expr : Reach
   args_complete (more_exprs e es) s s' closing k h m d =
       let p = behind_some (expr_scopes e s) (exprs_scopes es) s' m in
       let rest : List Lexeme = other_exprs_text all es (sign_text CloseParen closing k) in
-      rw (no_close_paren (expr_text all e rest) (begins_no_end all e s p.0 rest h.0 p.1),
-          inner.complete assigned e s p.0 rest (h.0, h.1) p.1 (omega (arith, d)) (ends_argument es closing k))
+      rw (
+        no_close_paren (expr_text all e rest) (begins_no_end all e s p.0 rest h.0 p.1),
+        inner.complete assigned e s p.0 rest (h.0, h.1) p.1 (omega (arith, d)) (ends_argument es closing k),
+      )
       (others_complete es (more_exprs e no_exprs) p.0 s' closing k h.2 p.2 (omega (arith, d)))
 
   -- Postfix forms.
@@ -151,13 +153,13 @@ module _ (all : List Lexeme) (numbered : IsNumbered all) (n : ℕ) (expr : Reach
       let rest : List Lexeme = expr_text all e2 (sign_text CloseBracket closing k) in
       unary_begun e s p.0 (sign_text OpenBracket opening rest) h.0 h.2 p.1 (omega (arith, d)) refl
       ∙ goes_on e p.0 (record { kind = kinds.Punct OpenBracket; at = opening }) rest ((index e opening e2 closing, s'), k) (omega (arith, d))
-          (rw (inner.complete whole e2 p.0 s' (sign_text CloseBracket closing k) (h.1, omega arith) p.2 (omega (arith, d)) refl) refl)
+      (rw (inner.complete whole e2 p.0 s' (sign_text CloseBracket closing k) (h.1, omega arith) p.2 (omega (arith, d)) refl) refl)
   unary_begun (call e opening es closing) s s' k h l m d f =
       let p = behind_some (expr_scopes e s) (exprs_scopes es) s' m in
       let rest : List Lexeme = exprs_text all es (sign_text CloseParen closing k) in
       unary_begun e s p.0 (sign_text OpenParen opening rest) h.0 h.2 p.1 (omega (arith, d)) refl
       ∙ goes_on e p.0 (record { kind = kinds.Punct OpenParen; at = opening }) rest ((call e opening es closing, s'), k) (omega (arith, d))
-          (rw (args_complete es p.0 s' closing k h.1 p.2 (omega (arith, d))) refl)
+      (rw (args_complete es p.0 s' closing k h.1 p.2 (omega (arith, d))) refl)
   unary_begun (dot e token name) s s' k h l m d f =
       unary_begun e s s' (sign_text Dot token (identifier_text name k)) h.0 h.1 m (omega (arith, d)) refl
       ∙ goes_on e s' (record { kind = kinds.Punct Dot; at = token }) (identifier_text name k) ((dot e token name, s'), k) (omega (arith, d)) refl
@@ -205,7 +207,7 @@ module _ (all : List Lexeme) (numbered : IsNumbered all) (n : ℕ) (expr : Reach
   unfolding sizeof_with sizeof_type_with
   sizeof_type_complete word opening ws dr closing s s' k h m d =
       let known : type_name s (spec_words_text all ws (some_declr_text all dr (sign_text CloseParen closing k))) ≡ Ok (((ws, dr), s'), sign_text CloseParen closing k) =
-          types.complete (ws, dr) s s' (sign_text CloseParen closing k) (h.0, h.1, h.2) m (omega (arith, d)) refl in
+      types.complete (ws, dr) s s' (sign_text CloseParen closing k) (h.0, h.1, h.2) m (omega (arith, d)) refl in
       rw (begins_type ws dr s s' (sign_text CloseParen closing k) h.0 h.1 m, known) refl
 
   pub unary_complete : (e : Expr) (s s' : Scopes) (k : List Lexeme) → IsExpr all e → 14 ≤ expr_level e → expr_scopes e s ≡ Some s' → expr_height e ≤ suc n → ends_expr unary k ≡ true →
@@ -216,7 +218,7 @@ module _ (all : List Lexeme) (numbered : IsNumbered all) (n : ℕ) (expr : Reach
   unary_complete (prefix token p e) s s' k h l m d f =
       let q = is_prefix p (omega (arith, h.1, expr_most e)) in
       let known : expr q.reach s (expr_text all e k) ≡ Ok ((e, s'), k) =
-          inner.complete q.reach e s s' k (h.0, omega (arith, q.level, h.1)) m (omega (arith, d)) (ends_inside unary q.reach k q.stops f) in
+      inner.complete q.reach e s s' k (h.0, omega (arith, q.level, h.1)) m (omega (arith, d)) (ends_inside unary q.reach k q.stops f) in
       rw (q.opening, known) refl
   unary_complete (sizeof_value word e) s s' k h l m d f = rw ((sizeof_is word.keyword h.1).1) (sizeof_value_complete word e s s' k h.0 h.2 m (omega (arith, d)) f)
   unary_complete (sizeof_type word opening ws dr closing) s s' k h l m d f = rw ((sizeof_is word.keyword h.3).1) (sizeof_type_complete word opening ws dr closing s s' k h m d)
@@ -245,7 +247,7 @@ module _ (all : List Lexeme) (numbered : IsNumbered all) (n : ℕ) (expr : Reach
       let p = behind_some (behind (spec_words_scopes ws s) (some_declr_scopes dr)) (expr_scopes e) s' m in
       let rest : List Lexeme = expr_text all e k in
       let known : type_name s (spec_words_text all ws (some_declr_text all dr (sign_text CloseParen closing rest))) ≡ Ok (((ws, dr), p.0), sign_text CloseParen closing rest) =
-          types.complete (ws, dr) s p.0 (sign_text CloseParen closing rest) (h.0, h.1, h.2) p.1 (omega (arith, d)) refl in
+      types.complete (ws, dr) s p.0 (sign_text CloseParen closing rest) (h.0, h.1, h.2) p.1 (omega (arith, d)) refl in
       rw (begins_type ws dr s p.0 (sign_text CloseParen closing rest) h.0 h.1 p.1, known, inner.complete castable e p.0 s' k (h.3, h.4) p.2 (omega (arith, d)) f) refl
   cast_complete (extension keyword e) s s' k h l m d f = absurd cc
   cast_complete e s s' k h l m d f = cast_of_unary e s s' k h (omega arith) m d f

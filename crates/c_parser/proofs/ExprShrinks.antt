@@ -93,7 +93,7 @@ module _ (room : ℕ) (expr : Reach → Scopes → List Lexeme → Read (Expr ×
   postfix_by_shrinks call_closing t state ts x e =
       let read : Read (Expr × Scopes) = args_with room expr type_name state.1 ts >>= λ es. token_at is_close_paren es.1 >>= λ close. ends (call state.0 t.at es.0.0 close.0.at, es.0.1) close.1 in
       let b = bind_ok (args_with room expr type_name state.1 ts)
-          (λ es. token_at is_close_paren es.1 >>= λ close. ends (call state.0 t.at es.0.0 close.0.at, es.0.1) close.1) x (some_is read (Ok x) e) in
+      (λ es. token_at is_close_paren es.1 >>= λ close. ends (call state.0 t.at es.0.0 close.0.at, es.0.1) close.1) x (some_is read (Ok x) e) in
       let c = bind_ok (token_at is_close_paren b.0.1) (λ close. ends (call state.0 t.at b.0.0.0 close.0.at, b.0.0.1) close.1) x b.2 in
       let less : length b.0.1 ≤ length ts = args_falls state.1 ts b.0 b.1 in
       let less2 : length c.0.1 < length b.0.1 = token_shrinks is_close_paren b.0.1 c.0 c.1 in
@@ -203,7 +203,7 @@ module _ (room : ℕ) (expr : Reach → Scopes → List Lexeme → Read (Expr ×
           ends (cast t.at known.0.0.0 known.0.0.1 close.0.at e.0.0, e.0.1) e.1) else unary_with room expr type_name s (t ∷ ts)) ≡ Ok x → length x.1 < length (t ∷ ts)
       by_test true e =
           let b = bind_ok (type_name s ts)
-              (λ known. token_at is_close_paren known.1 >>= λ close. expr castable known.0.1 close.1 >>= λ e. ends (cast t.at known.0.0.0 known.0.0.1 close.0.at e.0.0, e.0.1) e.1) x e in
+          (λ known. token_at is_close_paren known.1 >>= λ close. expr castable known.0.1 close.1 >>= λ e. ends (cast t.at known.0.0.0 known.0.0.1 close.0.at e.0.0, e.0.1) e.1) x e in
           let c = bind_ok (token_at is_close_paren b.0.1) (λ close. expr castable b.0.0.1 close.1 >>= λ e. ends (cast t.at b.0.0.0.0 b.0.0.0.1 close.0.at e.0.0, e.0.1) e.1) x b.2 in
           let d = bind_ok (expr castable b.0.0.1 c.0.1) (λ e. ends (cast t.at b.0.0.0.0 b.0.0.0.1 c.0.0.at e.0.0, e.0.1) e.1) x c.2 in
           let less : length b.0.1 < length ts = falls_type s ts b.0 b.1 in
@@ -233,7 +233,7 @@ module _ (room : ℕ) (expr : Reach → Scopes → List Lexeme → Read (Expr ×
   unfolding question_with
   question_shrinks state token ts x e =
       let b = bind_ok (middle_with room expr type_name state.1 ts)
-          (λ middle. token_at is_colon middle.1 >>= λ colon. operand_with room expr type_name state.0 (cond middle.0.0 colon.0.at) token middle.0.1 colon.1) x e in
+      (λ middle. token_at is_colon middle.1 >>= λ colon. operand_with room expr type_name state.0 (cond middle.0.0 colon.0.at) token middle.0.1 colon.1) x e in
       let c = bind_ok (token_at is_colon b.0.1) (λ colon. operand_with room expr type_name state.0 (cond b.0.0.0 colon.0.at) token b.0.0.1 colon.1) x b.2 in
       let less : length b.0.1 ≤ length ts = middle_falls state.1 ts b.0 b.1 in
       let less2 : length c.0.1 < length b.0.1 = token_shrinks is_colon b.0.1 c.0 c.1 in

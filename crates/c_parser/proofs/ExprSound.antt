@@ -55,8 +55,10 @@ module _ (all : List Lexeme) (numbered : IsNumbered all) (room n : ℕ) (expr : 
       let i = cast_sound all numbered room n expr type_name inner types t m b.0 tail b.1 in
       at_end (AreRead least s ts) ((with_entry state.0 op token b.0.0.0, b.0.0.1), b.0.1) x b.2 (record {
         spelled = h.spelled ∙ ap (list_text all state.0) (spelled ∙ ap (operator_text all op token) i.spelled) ∙ sym (list_text_push all state.0 op token b.0.0.0 b.0.1);
-        fits = (fits_push all least state.0 op token b.0.0.0 h.fits.0 (record { table = table; middle = middle; right = i.fits.0; tight = i.fits.1; loose = loose }),
-            bad_target_push state.0 op token b.0.0.0 h.fits.1 good);
+        fits = (
+          fits_push all least state.0 op token b.0.0.0 h.fits.0 (record { table = table; middle = middle; right = i.fits.0; tight = i.fits.1; loose = loose }),
+          bad_target_push state.0 op token b.0.0.0 h.fits.1 good,
+        );
         named = list_scopes_push state.0 op token b.0.0.0 s state.1 t b.0.0.1 h.named scoped i.named;
         left = i.left;
       })
@@ -66,7 +68,7 @@ module _ (all : List Lexeme) (numbered : IsNumbered all) (room n : ℕ) (expr : 
   unfolding question_with
   question_taken least s ts state t k x low h is e =
       let b = bind_ok (middle_with room expr type_name state.1 k)
-          (λ middle. token_at is_colon middle.1 >>= λ colon. operand_with room expr type_name state.0 (cond middle.0.0 colon.0.at) t.at middle.0.1 colon.1) x e in
+      (λ middle. token_at is_colon middle.1 >>= λ colon. operand_with room expr type_name state.0 (cond middle.0.0 colon.0.at) t.at middle.0.1 colon.1) x e in
       let i = middle_sound all numbered room n expr type_name inner types state.1 k b.0 (tail_of all t k h.left) b.1 in
       let c = bind_ok (token_at is_colon b.0.1) (λ colon. operand_with room expr type_name state.0 (cond b.0.0.0 colon.0.at) t.at b.0.0.1 colon.1) x b.2 in
       let colon = sign_taken all is_colon puncts.Colon colon_kind b.0.1 c.0 i.left c.1 in

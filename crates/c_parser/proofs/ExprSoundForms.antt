@@ -100,7 +100,6 @@ module _ (all : List Lexeme) where
 
   module _ (numbered : IsNumbered all) (room n : ℕ) (expr : Reach → Scopes → List Lexeme → Read (Expr × Scopes)) (type_name : Scopes → List Lexeme → Read ((SpecWords × SomeDeclr) × Scopes))
       (inner : ExprLaws all n expr) (types : TypeNameLaws all n type_name) where
-
     -- one more argument, behind a comma
     arg_taken : (s : Scopes) (ts : List Lexeme) (state : Exprs × Scopes) (k : List Lexeme) (x : (Exprs × Scopes) × List Lexeme) → AreSpelled s ts (state, k) × HasFirst state.0 →
         arg_turn room expr type_name state k ≡ Some (Ok x) → AreSpelled s ts x × HasFirst x.0.0
@@ -111,12 +110,15 @@ module _ (all : List Lexeme) where
         let i = inner.sound assigned state.1 p.0 p.1 (tail_of all c.0 p.0 tail) p.3 in
         let less : length p.1.1 < length p.0 = inner.shrinks assigned state.1 p.0 p.1 p.3 in
         let comma : c.0 ∷ p.0 ≡ separated p.0 = comma_before all numbered c.0 p.0 tail c.2 (omega (arith, less)) in
-        subst (λ (x : (Exprs × Scopes) × List Lexeme). AreSpelled s ts x × HasFirst x.0.0) p.4 (record {
-          spelled = h.0.spelled ∙ ap (exprs_text all state.0) (c.1 ∙ comma ∙ ap separated i.spelled) ∙ sym (text_push state.0 p.1.0.0 p.1.1 h.1);
-          fits = are_push state.0 p.1.0.0 h.0.fits i.fits.0 i.fits.1;
-          named = scopes_push state.0 p.1.0.0 s state.1 p.1.0.1 h.0.named i.named;
-          left = i.left;
-        }, first_push state.0 p.1.0.0)
+        subst (λ (x : (Exprs × Scopes) × List Lexeme). AreSpelled s ts x × HasFirst x.0.0) p.4 (
+          record {
+            spelled = h.0.spelled ∙ ap (exprs_text all state.0) (c.1 ∙ comma ∙ ap separated i.spelled) ∙ sym (text_push state.0 p.1.0.0 p.1.1 h.1);
+            fits = are_push state.0 p.1.0.0 h.0.fits i.fits.0 i.fits.1;
+            named = scopes_push state.0 p.1.0.0 s state.1 p.1.0.1 h.0.named i.named;
+            left = i.left;
+          },
+          first_push state.0 p.1.0.0,
+        )
 
     pub args_sound : IsSound all (exprs_text all) (λ es s. AreArguments all es) exprs_scopes (args_with room expr type_name)
     unfolding args_with

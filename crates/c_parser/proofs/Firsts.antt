@@ -113,7 +113,6 @@ pub element_starts : (kind : TokenKind) → IsElementKind kind → kind_start ki
 element_starts (kinds.Qual lattice elem) h = refl
 element_starts kind h = absurd h
 
-
 -- a typedef name
 abbrev pub is_name : SpecWord → Bool
 is_name (typedef_name n) = true

@@ -232,7 +232,7 @@ module _ (all : List Lexeme) (numbered : IsNumbered all) (n : ℕ) (specs : Role
     unfolding init_declr_with
     init_declr_is kind before d s t u k is has_name of_declr of_name low ends_here =
         let read : declr with_name (Some kind) s (declr_text all d k) ≡ Ok ((some_declr d, t), k) =
-            declrs.complete with_name (Some kind) least (some_declr d) s t k ((is, has_name), may_be_named kind d s t u of_declr of_name) of_declr low ends_here in
+        declrs.complete with_name (Some kind) least (some_declr d) s t k ((is, has_name), may_be_named kind d s t u of_declr of_name) of_declr low ends_here in
         rw (read, of_name) refl
 
     other_declrs_are : (kind : Kind) (ds before : InitDeclrs) (s s' : Scopes) (semi : ℕ) (k : List Lexeme) → AreInitDeclrs all ds → init_declrs_scopes kind ds s ≡ Some s' → init_declrs_height ds ≤ n →
@@ -282,8 +282,8 @@ module _ (all : List Lexeme) (numbered : IsNumbered all) (n : ℕ) (specs : Role
         let left : specs_height ws ≤ max (specs_height ws) (init_declrs_height ds) = le-max_left (specs_height ws) (init_declrs_height ds) in
         let right : init_declrs_height ds ≤ max (specs_height ws) (init_declrs_height ds) = le-max_right (specs_height ws) (init_declrs_height ds) in
         let words_read : specs declaring no_words s (declaration_text all (declaration [] ws ds semi) k) ≡ Ok ((ws, scopes.0), init_declrs_text all ds (sign_text Semicolon semi k)) =
-            words.complete declaring no_words ws s scopes.0 (init_declrs_text all ds (sign_text Semicolon semi k)) is.0 is.1 scopes.1 (omega (arith, left, low))
-            (declrs_end_words all (declared_kind ws) ds scopes.0 s' semi k is.3 scopes.2) in
+        words.complete declaring no_words ws s scopes.0 (init_declrs_text all ds (sign_text Semicolon semi k)) is.0 is.1 scopes.1 (omega (arith, left, low))
+        (declrs_end_words all (declared_kind ws) ds scopes.0 s' semi k is.3 scopes.2) in
         rw (words_read, declrs_are (declared_kind ws) ds scopes.0 s' semi k is.3 scopes.2 (omega (arith, right, low))) refl
 
     module _ (begin : WordsBegin all) where

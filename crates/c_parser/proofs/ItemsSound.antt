@@ -150,7 +150,7 @@ module _ (all : List Lexeme) (numbered : IsNumbered all) (n : ℕ) (specs : Role
           } in
           let start2 : Listed kind s ts read.0.0.0 read.0.0.1 read.0.1 = subst (λ (ds : InitDeclrs). Listed kind s ts ds read.0.0.1 read.0.1) first.list_is start in
           let all_read = run-keep (init_declr_turn (specs declaring) declr kind) (λ (state : InitDeclrs × Scopes) (us : List Lexeme). Listed kind s ts state.0 state.1 us)
-              (λ state us x. init_declr_turn_keeps kind s ts state us x) read.0.0 read.0.1 x start2 read.2 in
+          (λ state us x. init_declr_turn_keeps kind s ts state us x) read.0.0 read.0.1 x start2 read.2 in
           record { spelled = all_read.spelled; begun = all_read.begun; fits = all_read.fits; named = all_read.named; left = all_read.left }
 
   record TakesDeclaration (s : Scopes) (ts : List Lexeme) (d : Declaration) (s' : Scopes) (k : List Lexeme) : Type 0 where

@@ -55,7 +55,7 @@ module _ (all : List Lexeme) (numbered : IsNumbered all) (n : ℕ) (specs : Role
       let of_last = token_taken is_end read.0.1 last.0.0 last.0.1 last.1 in
       let is = alone_taken read.0.0.0 read.0.1 last.0.1 x last.2 in
       let end_is : read.0.1 ≡ record { kind = kinds.End; at = last.0.0.at } ∷ [] =
-          of_last.0 ∙ ap (λ (ts : List Lexeme). last.0.0 ∷ ts) is.0 ∙ ap (λ (kind : TokenKind). record { kind = kind; at = last.0.0.at } ∷ []) (end_kind last.0.0.kind of_last.1) in
+      of_last.0 ∙ ap (λ (ts : List Lexeme). last.0.0 ∷ ts) is.0 ∙ ap (λ (kind : TokenKind). record { kind = kind; at = last.0.0.at } ∷ []) (end_kind last.0.0.kind of_last.1) in
       let well : IsWellFormed all read.0.0.0 = record {
         tokens = record { last = last.0.0.at; spelled = taken.spelled ∙ ap (items_text all read.0.0.0) end_is };
         rules = record { parts = taken.fits; low = is.1 };
@@ -68,8 +68,8 @@ module _ (all : List Lexeme) (numbered : IsNumbered all) (n : ℕ) (specs : Role
   unit_found grow begin least items well low =
       let k : List Lexeme = record { kind = kinds.End; at = well.tokens.last } ∷ [] in
       let read : items_with (specs declaring) declr all ≡ Ok ((items, well.scopes), k) =
-          ap (items_with (specs declaring) declr) well.tokens.spelled
-          ∙ items_complete all numbered n specs declr words declrs grow least begin items well.scopes k well.rules.parts well.named low refl in
+      ap (items_with (specs declaring) declr) well.tokens.spelled
+      ∙ items_complete all numbered n specs declr words declrs grow least begin items well.scopes k well.rules.parts well.named low refl in
       (k, rw (read, le-leb (unit_height items) most well.rules.low) refl)
 
 module _ (steps : (all : List Lexeme) → IsNumbered all → Steps all) (begin : (all : List Lexeme) → IsNumbered all → WordsBegin all) where

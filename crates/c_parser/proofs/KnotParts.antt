@@ -105,9 +105,9 @@ module _ (all : List Lexeme) where
         let words_low : specs_height t.0 ≤ n = omega (arith, left, low) in
         let words_high = specs_high t.0 in
         let words_read : specs naming no_words s (type_name_text all t k) ≡ Ok ((t.0, scopes.0), some_declr_text all t.1 k) =
-            words.complete naming no_words t.0 s scopes.0 (some_declr_text all t.1 k) fits.0 fits.1 scopes.1 words_low (abstract_ends_words t.1 k fits.2 ends_here) in
+        words.complete naming no_words t.0 s scopes.0 (some_declr_text all t.1 k) fits.0 fits.1 scopes.1 words_low (abstract_ends_words t.1 k fits.2 ends_here) in
         let declr_read : declr without_name None scopes.0 (some_declr_text all t.1 k) ≡ Ok ((t.1, s'), k) =
-            declrs.complete without_name None (omega (arith, words_high, words_low)) t.1 scopes.0 s' k (fits.2, λ name is. refl) scopes.2 (omega (arith, right, low)) ends_here in
+        declrs.complete without_name None (omega (arith, words_high, words_low)) t.1 scopes.0 s' k (fits.2, λ name is. refl) scopes.2 (omega (arith, right, low)) ends_here in
         rw (words_read, declr_read) refl
 
 -- a loop whose first turn does nothing

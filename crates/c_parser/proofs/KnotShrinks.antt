@@ -34,7 +34,7 @@ module _ (specs : Role → SpecWords → Scopes → List Lexeme → Read (SpecWo
   type_name_shrinks : ((mode : Mode) (wanted : Option Kind) (s : Scopes) → Falls (declr mode wanted s)) → (s : Scopes) → Shrinks (type_name_with specs declr s)
   type_name_shrinks falls_declr s ts =
       below_bind (length ts) (length ts) (shrinks_specs naming s ts) (λ w less. below_bind (suc (length w.1)) (length ts)
-          (falls_below (declr without_name None w.0.1) (falls_declr without_name None w.0.1) w.1) (λ d less2. below_ok (length ts) _ d.1 (omega (arith, less, less2))))
+      (falls_below (declr without_name None w.0.1) (falls_declr without_name None w.0.1) w.1) (λ d less2. below_ok (length ts) _ d.1 (omega (arith, less, less2))))
 
   named_shrinks : (s : Scopes) → Shrinks (named_declr declr s)
   named_shrinks s ts =
@@ -44,32 +44,32 @@ module _ (specs : Role → SpecWords → Scopes → List Lexeme → Read (SpecWo
   unfolding init_declr_with
   init_declr_shrinks kind ds s ts =
       below_bind (length ts) (length ts) (shrinks_declr (Some kind) s ts) (λ d less. below_bind (suc (length d.1)) (length ts) (present_below d.0 d.1)
-          (λ known less2. below_more (suc (length known.1)) (length ts) (omega (arith, less, less2)) (declared_some_below _ _ _ known.1)))
+      (λ known less2. below_more (suc (length known.1)) (length ts) (omega (arith, less, less2)) (declared_some_below _ _ _ known.1)))
 
   init_declr_turn_shrinks : (kind : Kind) → TurnShrinks (init_declr_turn (specs declaring) declr kind)
   init_declr_turn_shrinks kind =
       op_shrinks (after is_comma) (λ (state : InitDeclrs × Scopes). init_declr_with (specs declaring) declr kind state.0 state.1) (λ state (next : InitDeclrs × Scopes). next)
-          (after_falls is_comma) (λ state. init_declr_shrinks kind state.0 state.1)
+      (after_falls is_comma) (λ state. init_declr_shrinks kind state.0 state.1)
 
   init_declrs_below : (kind : Kind) (s : Scopes) (ts : List Lexeme) → Below (suc (length ts)) (init_declrs_with (specs declaring) declr kind s ts)
   unfolding init_declrs_with
   init_declrs_below kind s ts =
       below_by (suc (length ts)) (begins is_semicolon ts) (below_ok (suc (length ts)) _ ts (omega arith))
-          (below_bind (length ts) (suc (length ts)) (init_declr_shrinks kind _ s ts)
-              (λ d less. below_more (suc (length d.1)) (suc (length ts)) (omega (arith, less)) (run_falls (init_declr_turn (specs declaring) declr kind) (init_declr_turn_shrinks kind) d.0 d.1)))
+      (below_bind (length ts) (suc (length ts)) (init_declr_shrinks kind _ s ts)
+      (λ d less. below_more (suc (length d.1)) (suc (length ts)) (omega (arith, less)) (run_falls (init_declr_turn (specs declaring) declr kind) (init_declr_turn_shrinks kind) d.0 d.1)))
 
   declaration_shrinks : (s : Scopes) → Shrinks (declaration_with (specs declaring) declr s)
   unfolding declaration_with
   declaration_shrinks s ts =
       below_bind (length ts) (length ts) (shrinks_specs declaring s ts) (λ w less. below_bind (suc (length w.1)) (length ts) (init_declrs_below _ w.0.1 w.1)
-          (λ ds less2. below_bind (length ds.1) (length ts) (token_below is_semicolon ds.1) (λ semi less3. below_ok (length ts) _ semi.1 (omega (arith, less, less2, less3)))))
+      (λ ds less2. below_bind (length ds.1) (length ts) (token_below is_semicolon ds.1) (λ semi less3. below_ok (length ts) _ semi.1 (omega (arith, less, less2, less3)))))
 
   item_shrinks : (s : Scopes) → Shrinks (item_with (specs declaring) declr s)
   unfolding item_with
   item_shrinks s [] = below_bind 0 0 (declaration_shrinks s []) (λ d less. below_ok 0 _ d.1 less)
   item_shrinks s (t ∷ ts) =
       below_by (suc (length ts)) (is_semicolon t.kind) (below_ok (suc (length ts)) _ ts (omega arith))
-          (below_bind (suc (length ts)) (suc (length ts)) (declaration_shrinks s (t ∷ ts)) (λ d less. below_ok (suc (length ts)) _ d.1 less))
+      (below_bind (suc (length ts)) (suc (length ts)) (declaration_shrinks s (t ∷ ts)) (λ d less. below_ok (suc (length ts)) _ d.1 less))
 
   item_turn_shrinks : TurnShrinks (item_turn (specs declaring) declr)
   item_turn_shrinks state ts x e = by_end (begins is_end ts) _ below e

@@ -214,25 +214,37 @@ module _ (all : List Lexeme) (numbered : IsNumbered all) (n : ℕ) (expr : Reach
   read_word (noreturn a) s s' k fits scopes high no_brace = (_, k, refl, ap (λ (s : Scopes). Ok ((noreturn a, s), k)) (some_is s s' scopes))
   read_word (qualifier (quals.Word w)) s s' k fits scopes high no_brace = (_, k, refl, ap (λ (s : Scopes). Ok ((qualifier (quals.Word w), s), k)) (some_is s s' scopes))
   read_word (qualifier (quals.Element token)) s s' k fits scopes high no_brace =
-      let e = element_spelled all numbered token fits in
-      (e.0, k, ap (λ (ts : List Lexeme). ts ++ k) e.1, ap (λ (a : ℕ). Ok ((qualifier (quals.Element a), s), k)) e.2
-          ∙ ap (λ (s : Scopes). Ok ((qualifier (quals.Element token), s), k)) (some_is s s' scopes))
+      let e = element_spelled all numbered token fits in (
+        e.0,
+        k,
+        ap (λ (ts : List Lexeme). ts ++ k) e.1,
+        ap (λ (a : ℕ). Ok ((qualifier (quals.Element a), s), k)) e.2
+            ∙ ap (λ (s : Scopes). Ok ((qualifier (quals.Element token), s), k)) (some_is s s' scopes),
+      )
   read_word (qualifier (quals.Index token)) s s' k fits scopes high no_brace = (_, k, refl, ap (λ (s : Scopes). Ok ((qualifier (quals.Index token), s), k)) (some_is s s' scopes))
   read_word (basic w) s s' k fits scopes high no_brace = (_, k, refl, ap (λ (s : Scopes). Ok ((basic w, s), k)) (some_is s s' scopes))
-  read_word (struct_type w [] tag body) s s' k fits scopes high no_brace =
-      (_, _, refl, struct_is all numbered n (expr conditional) (λ role. specs role no_words) (named_declr declr) (exprs.shrinks conditional) (λ role s. inner.shrinks role s) declr_shrinks
-          (λ e s s' k fits level scopes high end. exprs.complete conditional e s s' k (fits, level) scopes high end)
-          (λ ws s s' k mix fits scopes high end. inner.complete declaring no_words ws s s' k mix fits scopes high end) declr_is
-          w tag body s s' k fits.2 fits.3 scopes (omega (arith, high)) no_brace)
+  read_word (struct_type w [] tag body) s s' k fits scopes high no_brace = (
+    _,
+    _,
+    refl,
+    struct_is all numbered n (expr conditional) (λ role. specs role no_words) (named_declr declr) (exprs.shrinks conditional) (λ role s. inner.shrinks role s) declr_shrinks
+        (λ e s s' k fits level scopes high end. exprs.complete conditional e s s' k (fits, level) scopes high end)
+        (λ ws s s' k mix fits scopes high end. inner.complete declaring no_words ws s s' k mix fits scopes high end) declr_is
+        w tag body s s' k fits.2 fits.3 scopes (omega (arith, high)) no_brace,
+  )
   read_word (struct_type w (a ∷ attrs) tag body) s s' k fits scopes high no_brace = absurd cc
-  read_word (enum_type (enum_of keyword [] tag body)) s s' k fits scopes high no_brace =
-      (_, _, refl, enum_is all n (expr conditional) (λ role. specs role no_words) (named_declr declr) (exprs.shrinks conditional) (λ role s. inner.shrinks role s) declr_shrinks
-          (λ v s s' k fits scopes high end no_sign. value_is all numbered n (expr conditional) (λ role. specs role no_words) (named_declr declr) (exprs.shrinks conditional)
-              (λ role s. inner.shrinks role s) declr_shrinks
-              (λ e s s' k fits level scopes high end. exprs.complete conditional e s s' k (fits, level) scopes high end)
-              (λ ws s s' k mix fits scopes high end. inner.complete declaring no_words ws s s' k mix fits scopes high end) declr_is
-              Equal is_equal v s s' k refl fits scopes high end no_sign)
-          grow keyword tag body s s' k fits.1 fits.2 scopes (omega (arith, high)) no_brace)
+  read_word (enum_type (enum_of keyword [] tag body)) s s' k fits scopes high no_brace = (
+    _,
+    _,
+    refl,
+    enum_is all n (expr conditional) (λ role. specs role no_words) (named_declr declr) (exprs.shrinks conditional) (λ role s. inner.shrinks role s) declr_shrinks
+        (λ v s s' k fits scopes high end no_sign. value_is all numbered n (expr conditional) (λ role. specs role no_words) (named_declr declr) (exprs.shrinks conditional)
+        (λ role s. inner.shrinks role s) declr_shrinks
+        (λ e s s' k fits level scopes high end. exprs.complete conditional e s s' k (fits, level) scopes high end)
+        (λ ws s s' k mix fits scopes high end. inner.complete declaring no_words ws s s' k mix fits scopes high end) declr_is
+        Equal is_equal v s s' k refl fits scopes high end no_sign)
+        grow keyword tag body s s' k fits.1 fits.2 scopes (omega (arith, high)) no_brace,
+  )
   read_word (enum_type (enum_of keyword (a ∷ attrs) tag body)) s s' k fits scopes high no_brace = absurd cc
   read_word (typedef_name name) s s' k fits scopes high no_brace = (_, k, refl, ap (λ (s : Scopes). Ok ((typedef_name name, s), k)) (where_is (names_type s name.name) s s' scopes))
   read_word (attribute a) s s' k fits scopes high no_brace = absurd cc
@@ -248,7 +260,7 @@ module _ (all : List Lexeme) (numbered : IsNumbered all) (n : ℕ) (expr : Reach
       let on' : goes_on words (class_of_start (start_of w)) ≡ true = ap (goes_on words) (class_is w) ∙ on in
       ap (word_turn (expr conditional) (λ role. specs role no_words) (named_declr declr) role (words, s)) read.2
       ∙ ap (λ (start : Start). word_turn_by (expr conditional) (λ role. specs role no_words) (named_declr declr) role (words, s) start read.0 read.1)
-          (sym (ap (start_at s (is_typed words)) read.2) ∙ start)
+      (sym (ap (start_at s (is_typed words)) read.2) ∙ start)
       ∙ rw (starts s s' w scopes, stand, on', read.3) refl
 
   no_brace_behind : (role : Role) (ws : SpecWords) (k : List Lexeme) → FitsRole all role ws → ends_specs k ≡ true → begins is_open_brace (spec_words_text all ws k) ≡ false
@@ -267,18 +279,18 @@ module _ (all : List Lexeme) (numbered : IsNumbered all) (n : ℕ) (expr : Reach
       run (word_turn (expr conditional) (λ role. specs role no_words) (named_declr declr) role) (words, s) (spec_words_text all rest k) ≡ Ok ((append_words words rest, s'), k)
   words_are role words no_words s s' k mix fits scopes high end =
       run_is (word_turn (expr conditional) (λ role. specs role no_words) (named_declr declr) role)
-          (word_turn_shrinks (expr conditional) (λ role. specs role no_words) (named_declr declr) (exprs.shrinks conditional) (λ role s. inner.shrinks role s) declr_shrinks role) (words, s) k
+      (word_turn_shrinks (expr conditional) (λ role. specs role no_words) (named_declr declr) (exprs.shrinks conditional) (λ role s. inner.shrinks role s) declr_shrinks role) (words, s) k
       ∙ rw (turn_ends role words s k (subst IsMix (words_none words) mix) end) refl
       ∙ ap (λ (s : Scopes). Ok ((words, s), k)) (some_is s s' scopes)
       ∙ ap (λ (words : SpecWords). Ok ((words, s'), k)) (sym (words_none words))
   words_are role words (more_words w rest) s s' k mix fits scopes high end =
       let parts = behind_some (spec_word_scopes w s) (spec_words_scopes rest) s' scopes in
       run_is (word_turn (expr conditional) (λ role. specs role no_words) (named_declr declr) role)
-          (word_turn_shrinks (expr conditional) (λ role. specs role no_words) (named_declr declr) (exprs.shrinks conditional) (λ role s. inner.shrinks role s) declr_shrinks role) (words, s)
-              (spec_word_text all w (spec_words_text all rest k))
+      (word_turn_shrinks (expr conditional) (λ role. specs role no_words) (named_declr declr) (exprs.shrinks conditional) (λ role s. inner.shrinks role s) declr_shrinks role) (words, s)
+      (spec_word_text all w (spec_words_text all rest k))
       ∙ rw (turn_is role words w s parts.0 (spec_words_text all rest k) (role_word all role w rest fits) parts.1 (omega (arith, high))
-          (no_brace_behind role rest k (role_words all role w rest fits) end)
-          (role_stands all role w rest fits) (goes words w rest mix) (named_once words w rest mix)) refl
+      (no_brace_behind role rest k (role_words all role w rest fits) end)
+      (role_stands all role w rest fits) (goes words w rest mix) (named_once words w rest mix)) refl
       ∙ words_are role (with_word words w) rest parts.0 s' k (subst IsMix (sym (words_pushed words w rest)) mix) (role_words all role w rest fits) parts.2 (omega (arith, high)) end
       ∙ ap (λ (words : SpecWords). Ok ((words, s'), k)) (words_pushed words w rest)
 

@@ -50,23 +50,23 @@ module _ (all : List Lexeme) (n : ℕ) (cond : Scopes → List Lexeme → Read (
     (declr : Scopes → List Lexeme → Read (Declr × Scopes))
     (falls_cond : (s : Scopes) → Shrinks (cond s)) (falls_specs : (role : Role) (s : Scopes) → Shrinks (specs role s)) (falls_declr : (s : Scopes) → Shrinks (declr s))
     (value_is : (v : SomeValue) (s s' : Scopes) (k : List Lexeme) → IsSomeValue all v → some_value_scopes v s ≡ Some s' → some_value_height v ≤ n → ends_expr conditional k ≡ true →
-        begins is_equal k ≡ false →
-      value_with cond specs declr is_equal s (some_value_text all Equal v k) ≡ Ok ((v, s'), k))
+    begins is_equal k ≡ false →
+    value_with cond specs declr is_equal s (some_value_text all Equal v k) ≡ Ok ((v, s'), k))
     (grow : ExprsGrow) where
   enumerator_is : (known : Enumerators) (name : Identifier) (v : SomeValue) (s t t' : Scopes) (k : List Lexeme) → IsSomeValue all v → some_value_scopes v s ≡ Some t →
       declare_name t name.name Constant ≡ Some t' → some_value_height v ≤ n →
       ends_expr conditional k ≡ true → begins is_equal k ≡ false → enumerator_with cond specs declr known s (identifier_text name (some_value_text all Equal v k)) ≡
-          Ok ((with_enumerator known name v, t'), k)
+      Ok ((with_enumerator known name v, t'), k)
   unfolding enumerator_with
   enumerator_is known name v s t t' k fits scopes is high end no_sign =
       let early = some_there (declare_name s name.name Constant) (declared_before grow name.name v s t t' scopes is) in
       bind_is _ ((name, early.0), some_value_text all Equal v k) (declared_is name name.token (declare_name s name.name Constant) early.0 (some_value_text all Equal v k) early.1)
-          (bind_is _ ((v, t), k) (value_is v s t k fits scopes high end no_sign) (declared_is (with_enumerator known name v) name.token (declare_name t name.name Constant) t' k is))
+      (bind_is _ ((v, t), k) (value_is v s t k fits scopes high end no_sign) (declared_is (with_enumerator known name v) name.token (declare_name t name.name Constant) t' k is))
 
   -- tokens behind an enumerator
   ends_enumerator : (es : Enumerators) (last : Option ℕ) (closing : ℕ) (k : List Lexeme) →
       (ends_expr conditional (other_enumerators_text all es (some_sign_text Comma last (sign_text CloseBrace closing k))) ≡ true) ×
-          (begins is_equal (other_enumerators_text all es (some_sign_text Comma last (sign_text CloseBrace closing k))) ≡ false)
+      (begins is_equal (other_enumerators_text all es (some_sign_text Comma last (sign_text CloseBrace closing k))) ≡ false)
   ends_enumerator no_enumerators None closing k = (refl, refl)
   ends_enumerator no_enumerators (Some comma) closing k = (refl, refl)
   ends_enumerator (more_enumerators name attrs value es) last closing k = (refl, refl)
@@ -75,7 +75,7 @@ module _ (all : List Lexeme) (n : ℕ) (cond : Scopes → List Lexeme → Read (
   other_enumerators_is : (known es : Enumerators) (last : Option ℕ) (s s' : Scopes) (closing : ℕ) (k : List Lexeme) → AreEnumerators all es → enumerators_scopes es s ≡ Some s' →
       enumerators_height es ≤ n →
       run (enumerator_turn cond specs declr) ((known, None), s) (other_enumerators_text all es (some_sign_text Comma last (sign_text CloseBrace closing k))) ≡
-          Ok (((append_enumerators known es, last), s'), sign_text CloseBrace closing k)
+      Ok (((append_enumerators known es, last), s'), sign_text CloseBrace closing k)
   unfolding next_enumerator_with
   other_enumerators_is known no_enumerators None s s' closing k fits scopes high =
       run_is (enumerator_turn cond specs declr) (enumerator_turn_shrinks cond specs declr falls_cond falls_specs falls_declr) ((known, None), s) (sign_text CloseBrace closing k)
@@ -83,7 +83,7 @@ module _ (all : List Lexeme) (n : ℕ) (cond : Scopes → List Lexeme → Read (
       ∙ ap (λ (es : Enumerators). Ok (((es, None), s'), sign_text CloseBrace closing k)) (sym (enumerators_none known))
   other_enumerators_is known no_enumerators (Some comma) s s' closing k fits scopes high =
       run_is (enumerator_turn cond specs declr) (enumerator_turn_shrinks cond specs declr falls_cond falls_specs falls_declr) ((known, None), s)
-          (sign_text Comma comma (sign_text CloseBrace closing k))
+      (sign_text Comma comma (sign_text CloseBrace closing k))
       ∙ run_is (enumerator_turn cond specs declr) (enumerator_turn_shrinks cond specs declr falls_cond falls_specs falls_declr) ((known, Some comma), s) (sign_text CloseBrace closing k)
       ∙ ap (λ (s : Scopes). Ok (((known, Some comma), s), sign_text CloseBrace closing k)) (some_is s s' scopes)
       ∙ ap (λ (es : Enumerators). Ok (((es, Some comma), s'), sign_text CloseBrace closing k)) (sym (enumerators_none known))
@@ -93,7 +93,7 @@ module _ (all : List Lexeme) (n : ℕ) (cond : Scopes → List Lexeme → Read (
       let rest : List Lexeme = other_enumerators_text all es (some_sign_text Comma last (sign_text CloseBrace closing k)) in
       let end = ends_enumerator es last closing k in
       run_is (enumerator_turn cond specs declr) (enumerator_turn_shrinks cond specs declr falls_cond falls_specs falls_declr) ((known, None), s)
-          (separated (identifier_text name (some_value_text all Equal v rest)))
+      (separated (identifier_text name (some_value_text all Equal v rest)))
       ∙ rw (enumerator_is known name v s value.0 parts.0 rest fits.1 value.1 value.2 (omega (arith, high)) end.0 end.1) refl
       ∙ other_enumerators_is (with_enumerator known name v) es last parts.0 s' closing k fits.2 parts.2 (omega (arith, high))
       ∙ ap (λ (es : Enumerators). Ok (((es, last), s'), sign_text CloseBrace closing k)) (enumerators_pushed known name v es)
@@ -110,8 +110,8 @@ module _ (all : List Lexeme) (n : ℕ) (cond : Scopes → List Lexeme → Read (
       let rest : List Lexeme = other_enumerators_text all es (some_sign_text Comma last (sign_text CloseBrace closing k)) in
       let end = ends_enumerator es last closing k in
       bind_is _ ((more_enumerators name [] v no_enumerators, parts.0), rest) (enumerator_is no_enumerators name v s value.0 parts.0 rest fits.1.1 value.1 value.2 (omega (arith, high)) end.0 end.1)
-          (bind_is _ (((more_enumerators name [] v es, last), s'), sign_text CloseBrace closing k)
-              (other_enumerators_is (more_enumerators name [] v no_enumerators) es last parts.0 s' closing k fits.1.2 parts.2 (omega (arith, high))) refl)
+      (bind_is _ (((more_enumerators name [] v es, last), s'), sign_text CloseBrace closing k)
+      (other_enumerators_is (more_enumerators name [] v no_enumerators) es last parts.0 s' closing k fits.1.2 parts.2 (omega (arith, high))) refl)
   some_body_is tag opening (more_enumerators name (a ∷ attrs) v es) last closing s s' k fits scopes high = absurd cc
 
   body_is : (tag : Option Identifier) (body : SomeEnumBody) (s s' : Scopes) (k : List Lexeme) → HasTagOrEnumBody tag body → IsEnumBody all body → some_enum_body_scopes body s ≡ Some s' →

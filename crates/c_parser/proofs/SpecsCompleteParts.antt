@@ -224,11 +224,11 @@ module _ (all : List Lexeme) (numbered : IsNumbered all) where
   module _ (n : ℕ) (cond : Scopes → List Lexeme → Read (Expr × Scopes)) (specs : Role → Scopes → List Lexeme → Read (SpecWords × Scopes)) (declr : Scopes → List Lexeme → Read (Declr × Scopes))
       (falls_cond : (s : Scopes) → Shrinks (cond s)) (falls_specs : (role : Role) (s : Scopes) → Shrinks (specs role s)) (falls_declr : (s : Scopes) → Shrinks (declr s))
       (cond_is : (e : Expr) (s s' : Scopes) (k : List Lexeme) → IsExpr all e → 2 ≤ expr_level e → expr_scopes e s ≡ Some s' → expr_height e ≤ n → ends_expr conditional k ≡ true →
-          cond s (expr_text all e k) ≡ Ok ((e, s'), k))
+      cond s (expr_text all e k) ≡ Ok ((e, s'), k))
       (specs_is : (ws : SpecWords) (s s' : Scopes) (k : List Lexeme) → IsMix ws → AreSpecWords all ws → spec_words_scopes ws s ≡ Some s' → specs_height ws ≤ n → ends_specs k ≡ true →
-          specs declaring s (spec_words_text all ws k) ≡ Ok ((ws, s'), k))
+      specs declaring s (spec_words_text all ws k) ≡ Ok ((ws, s'), k))
       (declr_is : (d : Declr) (s s' : Scopes) (k : List Lexeme) → IsDeclr all d → is_named d ≡ true → declr_scopes d s ≡ Some s' → declr_height d ≤ n → ends_declr k ≡ true →
-          declr s (declr_text all d k) ≡ Ok ((d, s'), k)) where
+      declr s (declr_text all d k) ≡ Ok ((d, s'), k)) where
     value_none : (test : TokenKind → Bool) (s : Scopes) (k : List Lexeme) → begins test k ≡ false → value_with cond specs declr test s k ≡ Ok ((no_value, s), k)
     unfolding value_with
     value_none test s [] h = refl
@@ -256,7 +256,7 @@ module _ (all : List Lexeme) (numbered : IsNumbered all) where
         read : named_with cond specs declr s (declr_text all d (some_value_text all Colon v k)) ≡ Ok ((named d v [], s'), k)
         read =
             bind_is _ ((d, s1), some_value_text all Colon v k) (declr_is d s s1 (some_value_text all Colon v k) fits is scopes high (behind_it v))
-                (bind_is _ ((v, s'), k) (value_is Colon is_colon v s1 s' k refl value_fits value_scopes value_high end.0 end.1) refl)
+            (bind_is _ ((v, s'), k) (value_is Colon is_colon v s1 s' k refl value_fits value_scopes value_high end.0 end.1) refl)
 
         by_first : (ts : List Lexeme) → declr_text all d (some_value_text all Colon v k) ≡ ts → begins is_colon ts ≡ false → mem_declr_with cond specs declr s ts ≡ Ok ((named d v [], s'), k)
         by_first [] same no_colon = ap (λ (ts : List Lexeme). named_with cond specs declr s ts) (sym same) ∙ read
@@ -285,17 +285,17 @@ module _ (all : List Lexeme) (numbered : IsNumbered all) where
         run (mem_declr_turn cond specs declr) (known, s) (other_mem_declrs_text all ds (sign_text Semicolon semi k)) ≡ Ok ((append_mem_declrs known ds, s'), sign_text Semicolon semi k)
     other_mem_declrs_is known no_mem_declrs s s' semi k fits scopes high =
         op_done (after is_comma) (λ state. mem_declr_with cond specs declr state.1) (λ state d. (with_mem_declr state.0 d.0, d.1)) (after_falls is_comma)
-            (λ state. mem_declr_shrinks cond specs declr falls_cond falls_specs falls_declr state.1)
-            (known, s) (sign_text Semicolon semi k) refl
+        (λ state. mem_declr_shrinks cond specs declr falls_cond falls_specs falls_declr state.1)
+        (known, s) (sign_text Semicolon semi k) refl
         ∙ ap (λ (s : Scopes). Ok ((known, s), sign_text Semicolon semi k)) (some_is s s' scopes)
         ∙ ap (λ (ds : MemDeclrs). Ok ((ds, s'), sign_text Semicolon semi k)) (sym (mem_declrs_none known))
     other_mem_declrs_is known (more_mem_declrs [] d ds) s s' semi k fits scopes high =
         let parts = behind_some (mem_declr_scopes d s) (mem_declrs_scopes ds) s' scopes in
         op_goes_on (after is_comma) (λ state. mem_declr_with cond specs declr state.1) (λ state d. (with_mem_declr state.0 d.0, d.1)) (after_falls is_comma)
-            (λ state. mem_declr_shrinks cond specs declr falls_cond falls_specs falls_declr state.1)
-            (known, s) (separated (mem_declr_text all d (other_mem_declrs_text all ds (sign_text Semicolon semi k)))) (mem_declr_text all d (other_mem_declrs_text all ds (sign_text Semicolon semi k)))
-            (d, parts.0) (other_mem_declrs_text all ds (sign_text Semicolon semi k)) refl
-            (mem_declr_is d s parts.0 (other_mem_declrs_text all ds (sign_text Semicolon semi k)) fits.1 parts.1 (omega (arith, high)) (ends_member ds semi k))
+        (λ state. mem_declr_shrinks cond specs declr falls_cond falls_specs falls_declr state.1)
+        (known, s) (separated (mem_declr_text all d (other_mem_declrs_text all ds (sign_text Semicolon semi k)))) (mem_declr_text all d (other_mem_declrs_text all ds (sign_text Semicolon semi k)))
+        (d, parts.0) (other_mem_declrs_text all ds (sign_text Semicolon semi k)) refl
+        (mem_declr_is d s parts.0 (other_mem_declrs_text all ds (sign_text Semicolon semi k)) fits.1 parts.1 (omega (arith, high)) (ends_member ds semi k))
         ∙ other_mem_declrs_is (with_mem_declr known d) ds parts.0 s' semi k fits.2 parts.2 (omega (arith, high))
         ∙ ap (λ (ds : MemDeclrs). Ok ((ds, s'), sign_text Semicolon semi k)) (mem_declrs_pushed known d ds)
     other_mem_declrs_is known (more_mem_declrs (a ∷ attrs) d ds) s s' semi k fits scopes high = absurd cc
@@ -307,19 +307,19 @@ module _ (all : List Lexeme) (numbered : IsNumbered all) where
     mem_declrs_is (more_mem_declrs [] d ds) s s' semi k begun fits scopes high =
         let parts = behind_some (mem_declr_scopes d s) (mem_declrs_scopes ds) s' scopes in
         rw (mem_declr_no_semicolon d (other_mem_declrs_text all ds (sign_text Semicolon semi k)) fits.1) (bind_is _ ((d, parts.0), other_mem_declrs_text all ds (sign_text Semicolon semi k))
-            (mem_declr_is d s parts.0 (other_mem_declrs_text all ds (sign_text Semicolon semi k)) fits.1 parts.1 (omega (arith, high)) (ends_member ds semi k))
-            (other_mem_declrs_is (more_mem_declrs [] d no_mem_declrs) ds parts.0 s' semi k fits.2 parts.2 (omega (arith, high))))
+        (mem_declr_is d s parts.0 (other_mem_declrs_text all ds (sign_text Semicolon semi k)) fits.1 parts.1 (omega (arith, high)) (ends_member ds semi k))
+        (other_mem_declrs_is (more_mem_declrs [] d no_mem_declrs) ds parts.0 s' semi k fits.2 parts.2 (omega (arith, high))))
     mem_declrs_is (more_mem_declrs (a ∷ attrs) d ds) s s' semi k begun fits scopes high = absurd cc
 
     member_is : (ws : SpecWords) (ds : MemDeclrs) (s t s' : Scopes) (semi : ℕ) (k : List Lexeme) → IsMix ws → AreSpecWords all ws → IsMemStart ds → AreMemDeclrs all ds →
         spec_words_scopes ws s ≡ Some t → mem_declrs_scopes ds t ≡ Some s' →
         specs_height ws ≤ n → mem_declrs_height ds ≤ n → member_with cond specs declr s (spec_words_text all ws (mem_declrs_text all ds (sign_text Semicolon semi k))) ≡
-            Ok ((member [] ws ds semi, s'), k)
+        Ok ((member [] ws ds semi, s'), k)
     unfolding member_with
     member_is ws ds s t s' semi k mix fits begun ds_fit scopes ds_scopes high ds_high =
         bind_is _ ((ws, t), mem_declrs_text all ds (sign_text Semicolon semi k)) (specs_is ws s t (mem_declrs_text all ds (sign_text Semicolon semi k)) mix fits scopes high
-            (mem_declrs_end_specs ds semi k begun ds_fit))
-            (bind_is _ ((ds, s'), sign_text Semicolon semi k) (mem_declrs_is ds t s' semi k begun ds_fit ds_scopes ds_high) refl)
+        (mem_declrs_end_specs ds semi k begun ds_fit))
+        (bind_is _ ((ds, s'), sign_text Semicolon semi k) (mem_declrs_is ds t s' semi k begun ds_fit ds_scopes ds_high) refl)
 
     struct_item_is : (item : StructItem) (s s' : Scopes) (k : List Lexeme) → IsStructItem all item → struct_item_scopes item s ≡ Some s' → struct_item_height item ≤ n →
         struct_item_with cond specs declr s (struct_item_text all item k) ≡ Ok ((item, s'), k)
@@ -327,7 +327,7 @@ module _ (all : List Lexeme) (numbered : IsNumbered all) where
     struct_item_is (member [] ws ds semi) s s' k fits scopes high =
         let parts = behind_some (spec_words_scopes ws s) (mem_declrs_scopes ds) s' scopes in
         by_first (spec_words_text all ws (mem_declrs_text all ds (sign_text Semicolon semi k))) (word_no_semicolon _ (mix_begins ws _ fits.0 fits.1))
-            (member_is ws ds s parts.0 s' semi k fits.0 fits.1 fits.2 fits.3 parts.1 parts.2 (omega (arith, high)) (omega (arith, high)))
+        (member_is ws ds s parts.0 s' semi k fits.0 fits.1 fits.2 fits.3 parts.1 parts.2 (omega (arith, high)) (omega (arith, high)))
       where
         by_first : (ts : List Lexeme) → begins is_semicolon ts ≡ false → member_with cond specs declr s ts ≡ Ok ((member [] ws ds semi, s'), k) →
             struct_item_with cond specs declr s ts ≡ Ok ((member [] ws ds semi, s'), k)

@@ -83,22 +83,22 @@ module _ (cond : Scopes → List Lexeme → Read (Expr × Scopes)) (specs : Role
   value_below test s [] = below_ok 1 _ [] (omega arith)
   value_below test s (t ∷ ts) =
       below_by (suc (suc (length ts))) (test t.kind)
-          (below_bind (length ts) (suc (suc (length ts))) (falls_cond s ts) (λ e less. below_ok (suc (suc (length ts))) _ e.1 (omega (arith, less))))
-          (below_ok (suc (suc (length ts))) _ (t ∷ ts) (omega arith))
+      (below_bind (length ts) (suc (suc (length ts))) (falls_cond s ts) (λ e less. below_ok (suc (suc (length ts))) _ e.1 (omega (arith, less))))
+      (below_ok (suc (suc (length ts))) _ (t ∷ ts) (omega arith))
 
   named_below : (s : Scopes) (ts : List Lexeme) → Below (length ts) (named_with cond specs declr s ts)
   unfolding named_with
   named_below s ts =
       below_bind (length ts) (length ts) (falls_declr s ts) (λ d less. below_bind (suc (length d.1)) (length ts) (value_below is_colon d.0.1 d.1)
-          (λ w less2. below_ok (length ts) _ w.1 (omega (arith, less, less2))))
+      (λ w less2. below_ok (length ts) _ w.1 (omega (arith, less, less2))))
 
   pub mem_declr_shrinks : (s : Scopes) → Shrinks (mem_declr_with cond specs declr s)
   unfolding mem_declr_with
   mem_declr_shrinks s [] = named_below s []
   mem_declr_shrinks s (t ∷ ts) =
       below_by (suc (length ts)) (is_colon t.kind)
-          (below_bind (length ts) (suc (length ts)) (falls_cond s ts) (λ e less. below_ok (suc (length ts)) _ e.1 (omega (arith, less))))
-          (named_below s (t ∷ ts))
+      (below_bind (length ts) (suc (length ts)) (falls_cond s ts) (λ e less. below_ok (suc (length ts)) _ e.1 (omega (arith, less))))
+      (named_below s (t ∷ ts))
 
   pub mem_declr_turn_shrinks : TurnShrinks (mem_declr_turn cond specs declr)
   mem_declr_turn_shrinks = op_shrinks (after is_comma) (λ state. mem_declr_with cond specs declr state.1) _ (after_falls is_comma) (λ state. mem_declr_shrinks state.1)
@@ -107,14 +107,14 @@ module _ (cond : Scopes → List Lexeme → Read (Expr × Scopes)) (specs : Role
   unfolding mem_declrs_with
   mem_declrs_below s ts =
       below_by (suc (length ts)) (begins is_semicolon ts) (below_ok (suc (length ts)) _ ts (omega arith))
-          (below_bind (length ts) (suc (length ts)) (mem_declr_shrinks s ts)
-              (λ d less. below_more (suc (length d.1)) (suc (length ts)) (omega (arith, less)) (run_falls (mem_declr_turn cond specs declr) mem_declr_turn_shrinks _ d.1)))
+      (below_bind (length ts) (suc (length ts)) (mem_declr_shrinks s ts)
+      (λ d less. below_more (suc (length d.1)) (suc (length ts)) (omega (arith, less)) (run_falls (mem_declr_turn cond specs declr) mem_declr_turn_shrinks _ d.1)))
 
   pub member_shrinks : (s : Scopes) → Shrinks (member_with cond specs declr s)
   unfolding member_with
   member_shrinks s ts =
       below_bind (length ts) (length ts) (falls_specs _ s ts) (λ w less. below_bind (suc (length w.1)) (length ts) (mem_declrs_below w.0.1 w.1)
-          (λ ds less2. below_bind (length ds.1) (length ts) (token_below is_semicolon ds.1) (λ semi less3. below_ok (length ts) _ semi.1 (omega (arith, less, less2, less3)))))
+      (λ ds less2. below_bind (length ds.1) (length ts) (token_below is_semicolon ds.1) (λ semi less3. below_ok (length ts) _ semi.1 (omega (arith, less, less2, less3)))))
 
   pub struct_item_shrinks : (s : Scopes) → Shrinks (struct_item_with cond specs declr s)
   unfolding struct_item_with
@@ -136,30 +136,30 @@ module _ (cond : Scopes → List Lexeme → Read (Expr × Scopes)) (specs : Role
   body_below tag s [] = without_body_below tag _ []
   body_below tag s (t ∷ ts) =
       below_by (suc (suc (length ts))) (is_open_brace t.kind)
-          (below_bind (suc (length ts)) (suc (suc (length ts))) (run_falls (struct_item_turn cond specs declr) struct_item_turn_shrinks _ ts)
-              (λ items less. below_bind (length items.1) (suc (suc (length ts))) (token_below is_close_brace items.1)
-                  (λ close less2. below_ok (suc (suc (length ts))) _ close.1 (omega (arith, less, less2)))))
-          (without_body_below tag _ (t ∷ ts))
+      (below_bind (suc (length ts)) (suc (suc (length ts))) (run_falls (struct_item_turn cond specs declr) struct_item_turn_shrinks _ ts)
+      (λ items less. below_bind (length items.1) (suc (suc (length ts))) (token_below is_close_brace items.1)
+      (λ close less2. below_ok (suc (suc (length ts))) _ close.1 (omega (arith, less, less2)))))
+      (without_body_below tag _ (t ∷ ts))
 
   struct_below : (word : Word) (s : Scopes) (ts : List Lexeme) → Below (suc (length ts)) (struct_with cond specs declr word s ts)
   unfolding struct_with
   struct_below word s ts =
       below_bind (suc (length ts)) (suc (length ts)) (tag_below ts) (λ tag less. below_bind (suc (length tag.1)) (suc (length ts)) (body_below tag.0 s tag.1)
-          (λ body less2. below_ok (suc (length ts)) _ body.1 (omega (arith, less, less2))))
+      (λ body less2. below_ok (suc (length ts)) _ body.1 (omega (arith, less, less2))))
 
   pub enumerator_shrinks : (es : Enumerators) (s : Scopes) → Shrinks (enumerator_with cond specs declr es s)
   unfolding enumerator_with
   enumerator_shrinks es s ts =
       below_bind (length ts) (length ts) (name_below ts) (λ name less. below_bind (suc (length name.1)) (length ts) (declared_below name.0 name.0.token (declare_name s name.0.name Constant) name.1)
-          (λ known less2. below_bind (suc (length known.1)) (length ts) (value_below is_equal s known.1)
-              (λ value less3. below_more (suc (length value.1)) (length ts) (omega (arith, less, less2, less3))
-                  (declared_below (with_enumerator es name.0 value.0.0) name.0.token (declare_name value.0.1 name.0.name Constant) value.1))))
+      (λ known less2. below_bind (suc (length known.1)) (length ts) (value_below is_equal s known.1)
+      (λ value less3. below_more (suc (length value.1)) (length ts) (omega (arith, less, less2, less3))
+      (declared_below (with_enumerator es name.0 value.0.0) name.0.token (declare_name value.0.1 name.0.name Constant) value.1))))
 
   next_enumerator_below : (comma : ℕ) (state : EnumState) (ts : List Lexeme) → Below (suc (length ts)) (next_enumerator_with cond specs declr comma state ts)
   unfolding next_enumerator_with
   next_enumerator_below comma state ts =
       below_by (suc (length ts)) (begins is_close_brace ts) (below_ok (suc (length ts)) _ ts (omega arith))
-          (below_bind (length ts) (suc (length ts)) (enumerator_shrinks state.0.0 state.1 ts) (λ es less. below_ok (suc (length ts)) _ es.1 (omega (arith, less))))
+      (below_bind (length ts) (suc (length ts)) (enumerator_shrinks state.0.0 state.1 ts) (λ es less. below_ok (suc (length ts)) _ es.1 (omega (arith, less))))
 
   pub enumerator_turn_shrinks : TurnShrinks (enumerator_turn cond specs declr)
   enumerator_turn_shrinks state ts x e = by_last state.0.1 ts e
@@ -178,17 +178,17 @@ module _ (cond : Scopes → List Lexeme → Read (Expr × Scopes)) (specs : Role
   enum_body_below tag s [] = without_body_below tag _ []
   enum_body_below tag s (t ∷ ts) =
       below_by (suc (suc (length ts))) (is_open_brace t.kind)
-          (below_bind (length ts) (suc (suc (length ts))) (enumerator_shrinks no_enumerators s ts)
-              (λ es less. below_bind (suc (length es.1)) (suc (suc (length ts))) (run_falls (enumerator_turn cond specs declr) enumerator_turn_shrinks _ es.1)
-                  (λ some less2. below_bind (length some.1) (suc (suc (length ts))) (token_below is_close_brace some.1)
-                      (λ close less3. below_ok (suc (suc (length ts))) _ close.1 (omega (arith, less, less2, less3))))))
-          (without_body_below tag _ (t ∷ ts))
+      (below_bind (length ts) (suc (suc (length ts))) (enumerator_shrinks no_enumerators s ts)
+      (λ es less. below_bind (suc (length es.1)) (suc (suc (length ts))) (run_falls (enumerator_turn cond specs declr) enumerator_turn_shrinks _ es.1)
+      (λ some less2. below_bind (length some.1) (suc (suc (length ts))) (token_below is_close_brace some.1)
+      (λ close less3. below_ok (suc (suc (length ts))) _ close.1 (omega (arith, less, less2, less3))))))
+      (without_body_below tag _ (t ∷ ts))
 
   enum_below : (keyword : ℕ) (s : Scopes) (ts : List Lexeme) → Below (suc (length ts)) (enum_with cond specs declr keyword s ts)
   unfolding enum_with
   enum_below keyword s ts =
       below_bind (suc (length ts)) (suc (length ts)) (tag_below ts) (λ tag less. below_bind (suc (length tag.1)) (suc (length ts)) (enum_body_below tag.0 s tag.1)
-          (λ body less2. below_ok (suc (length ts)) _ body.1 (omega (arith, less, less2))))
+      (λ body less2. below_ok (suc (length ts)) _ body.1 (omega (arith, less, less2))))
 
   word_by_below : (start : Start) (t : Lexeme) (s : Scopes) (ts : List Lexeme) → Below (suc (length ts)) (word_by cond specs declr start t s ts)
   unfolding word_by
@@ -209,8 +209,8 @@ module _ (cond : Scopes → List Lexeme → Read (Expr × Scopes)) (specs : Role
   unfolding word_with
   word_below role words start t s ts =
       below_by (suc (length ts)) (may_stand role start)
-          (below_by (suc (length ts)) (goes_on words (class_of_start start)) (word_by_below start t s ts) (below_err (suc (length ts)) _))
-          (below_err (suc (length ts)) _)
+      (below_by (suc (length ts)) (goes_on words (class_of_start start)) (word_by_below start t s ts) (below_err (suc (length ts)) _))
+      (below_err (suc (length ts)) _)
 
   pub word_turn_shrinks : (role : Role) → TurnShrinks (word_turn cond specs declr role)
   word_turn_shrinks role state [] x e = absurd cc
@@ -234,7 +234,7 @@ module _ (cond : Scopes → List Lexeme → Read (Expr × Scopes)) (specs : Role
   unfolding specs_from
   specs_below role words s ts =
       below_bind (suc (length ts)) (suc (length ts)) (run_falls (word_turn cond specs declr role) (word_turn_shrinks role) (words, s) ts)
-          (λ some less. below_more (suc (length some.1)) (suc (length ts)) (omega (arith, less)) (whole_below some.0 some.1))
+      (λ some less. below_more (suc (length some.1)) (suc (length ts)) (omega (arith, less)) (whole_below some.0 some.1))
 
   pub specs_falls : (role : Role) (words : SpecWords) (s : Scopes) → Falls (specs_from cond specs declr role words s)
   specs_falls role words s ts x e = let less : length x.1 < suc (length ts) = specs_below role words s ts x e in omega (arith, less)
@@ -252,6 +252,6 @@ module _ (cond : Scopes → List Lexeme → Read (Expr × Scopes)) (specs : Role
       by_turn (Some (Ok y)) is e =
           let less : length y.1 < length ts = word_turn_shrinks role (no_words, s) ts y is in
           let low : length x.1 < suc (length y.1) =
-              below_bind (suc (length y.1)) (suc (length y.1)) (run_falls (word_turn cond specs declr role) (word_turn_shrinks role) y.0 y.1)
-                  (λ some less2. below_more (suc (length some.1)) (suc (length y.1)) (omega (arith, less2)) (whole_below some.0 some.1)) x e in
+          below_bind (suc (length y.1)) (suc (length y.1)) (run_falls (word_turn cond specs declr role) (word_turn_shrinks role) y.0 y.1)
+          (λ some less2. below_more (suc (length some.1)) (suc (length y.1)) (omega (arith, less2)) (whole_below some.0 some.1)) x e in
           omega (arith, less, low)

@@ -241,7 +241,7 @@ module _ (all : List Lexeme) (numbered : IsNumbered all) (cond : Scopes → List
   words_sound whole_are role words s ts x h e =
       let r = bind_ok (run (word_turn cond specs declr role) (words, s) ts) _ x e in
       let of_r = run-keep (word_turn cond specs declr role) (TakesRest all role words s ts) (words_keep role words s ts) (words, s) ts r.0
-          (record { rest = no_words; words_are = append_none words; spelled = refl; fits = none_fit all role; named = refl; left = h }) r.1 in
+      (record { rest = no_words; words_are = append_none words; spelled = refl; fits = none_fit all role; named = refl; left = h }) r.1 in
       by_whole r.0 of_r (if_ok (is_whole_mix r.0.0.0) _ _ x r.2)
     where
       by_whole : (y : (SpecWords × Scopes) × List Lexeme) → TakesRest all role words s ts y.0 y.1 →

@@ -255,7 +255,7 @@ module _ (all : List Lexeme) (numbered : IsNumbered all) (cond : Scopes → List
       TakesSomeDeclrs all s ts (state, k) → mem_declr_turn cond specs declr state k ≡ Some (done x) → TakesSomeDeclrs all s ts (x.0, x.1)
   mem_declrs_keep s ts state k x h e =
       let p = op_parts (after is_comma) (λ (state : MemDeclrs × Scopes). mem_declr_with cond specs declr state.1)
-          (λ (state : MemDeclrs × Scopes) (d : MemDeclr × Scopes). (with_mem_declr state.0 d.0, d.1)) state k x e in
+      (λ (state : MemDeclrs × Scopes) (d : MemDeclr × Scopes). (with_mem_declr state.0 d.0, d.1)) state k x e in
       let sep = comma_before all numbered k p.0 h.left p.2 (λ is. some_mem_declr state.1 p.1 (subst (λ (k : List Lexeme). mem_declr_with cond specs declr state.1 k ≡ Ok p.1) is p.3)) in
       let of_d = mem_declr_sound state.1 p.0 p.1 sep.1 p.3 in
       subst (TakesSomeDeclrs all s ts) p.4 (record {
@@ -283,7 +283,7 @@ module _ (all : List Lexeme) (numbered : IsNumbered all) (cond : Scopes → List
             left = of_d.left;
           } in
           let all_of = run-keep (mem_declr_turn cond specs declr) (λ (state : MemDeclrs × Scopes) (k : List Lexeme). TakesSomeDeclrs all s ts (state, k)) (mem_declrs_keep s ts)
-              (more_mem_declrs [] d.0.0.0 no_mem_declrs, d.0.0.1) d.0.1 x known d.2 in
+          (more_mem_declrs [] d.0.0.0 no_mem_declrs, d.0.0.1) d.0.1 x known d.2 in
           record { spelled = all_of.spelled; fits = (declrs_start x.0.0 all_of.fits.0, all_of.fits.1); named = all_of.named; left = all_of.left }
 
   member_sound : (s : Scopes) (ts : List Lexeme) (x : (StructItem × Scopes) × List Lexeme) → IsTail all ts → member_with cond specs declr s ts ≡ Ok x → TakesItem all s ts x
@@ -344,7 +344,7 @@ module _ (all : List Lexeme) (numbered : IsNumbered all) (cond : Scopes → List
       by_open (inl g) =
           let items = bind_ok (run (struct_item_turn cond specs declr) (no_struct_items, s) ts) _ x g.1 in
           let of_items = run-keep (struct_item_turn cond specs declr) (λ (state : StructItems × Scopes) (k : List Lexeme). TakesItems all s ts (state, k)) (items_keep s ts)
-              (no_struct_items, s) ts items.0 (record { spelled = refl; fits = tt; named = refl; left = tail_of all t ts h }) items.1 in
+          (no_struct_items, s) ts items.0 (record { spelled = refl; fits = tt; named = refl; left = tail_of all t ts h }) items.1 in
           let close = bind_ok (token_at is_close_brace items.0.1) _ x items.2 in
           let of_close = sign_taken all is_close_brace CloseBrace close_brace_signs items.0.1 close.0 of_items.left close.1 in
           subst (TakesBody all tag s (t ∷ ts)) (ok_is ((some_body t.at items.0.0.0 close.0.0.at, items.0.0.1), close.0.1) x close.2) (record {

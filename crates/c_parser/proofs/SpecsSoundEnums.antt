@@ -145,7 +145,7 @@ module _ (all : List Lexeme) (numbered : IsNumbered all) (cond : Scopes → List
       by_end (inr g) =
           let es = bind_ok (enumerator_with cond specs declr state.0.0 state.1 k) _ x g.1 in
           let sep = comma_before all numbered (t ∷ k) k h.left (rw is refl)
-              (λ no. some_enumerator state.0.0 state.1 es.0 (subst (λ (k : List Lexeme). enumerator_with cond specs declr state.0.0 state.1 k ≡ Ok es.0) no es.1)) in
+          (λ no. some_enumerator state.0.0 state.1 es.0 (subst (λ (k : List Lexeme). enumerator_with cond specs declr state.0.0 state.1 k ≡ Ok es.0) no es.1)) in
           let new = enumerator_sound state.0.0 state.1 k es.0 sep.1 es.1 in
           subst (λ (x : EnumState × List Lexeme). TakesEnumerators all s ts x.0 x.1) (ok_is (((es.0.0.0, None), es.0.0.1), es.0.1) x es.2) (record {
             spelled = spelled ∙ ap (enumerators_text all state.0.0) (sep.0 ∙ ap (λ (k : List Lexeme). separated k) new.spelled)
@@ -200,7 +200,7 @@ module _ (all : List Lexeme) (numbered : IsNumbered all) (cond : Scopes → List
           } in
           let known = bind_ok (run (enumerator_turn cond specs declr) ((es.0.0.0, None), es.0.0.1) es.0.1) _ x es.2 in
           let all_of = run-keep (enumerator_turn cond specs declr) (λ (state : EnumState) (k : List Lexeme). TakesEnumerators all s ts state k) (enumerators_keep s ts)
-              ((es.0.0.0, None), es.0.0.1) es.0.1 known.0 begun known.1 in
+          ((es.0.0.0, None), es.0.0.1) es.0.1 known.0 begun known.1 in
           let close = bind_ok (token_at is_close_brace known.0.1) _ x known.2 in
           let of_close = sign_taken all is_close_brace CloseBrace close_brace_signs known.0.1 close.0 all_of.left close.1 in
           by_parts g.0 known.0 close.0 all_of of_close.0 of_close.1 (ok_is ((some_enum_body t.at known.0.0.0.0 known.0.0.0.1 close.0.0.at, known.0.0.1), close.0.1) x close.2)

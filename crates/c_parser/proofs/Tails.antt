@@ -40,7 +40,7 @@ module _ (all : List Lexeme) where
         let next : u.at ≡ suc t.at = number_next t u ts h in
         let before : t.at ≡ u.at - 1 = omega (arith, next) in
         let same : t ≡ record { kind = kinds.Punct Comma; at = u.at - 1 } =
-            ap (λ (kind : TokenKind). record { kind = kind; at = t.at }) is ∙ ap (λ (n : ℕ). record { kind = kinds.Punct Comma; at = n }) before in
+        ap (λ (kind : TokenKind). record { kind = kind; at = t.at }) is ∙ ap (λ (n : ℕ). record { kind = kinds.Punct Comma; at = n }) before in
         ap (λ (t : Lexeme). t ∷ u ∷ ts) same
 
     -- the tokens from the number of a token to this number are that token

@@ -1,6 +1,10 @@
-//! Laws of the readers of one token, of a name and of a tag.
+//! Laws of the readers of token lists: of units, and of the smallest ones.
 
+ghost use Rattle.c_parser.specs.UnitLaws.{UnitIsWellFormed, WellFormedIsRead, OneUnitAtMost};
 ghost use Rattle.c_parser.specs.Laws.{TokenIsTaken, TokenIsFound, TokenIsLocal, NameIsTaken, NameIsFound, TagIsTaken, QualsAreLocal};
+
+use c_ops::laws::{no_tree_of_a_bad_target, the_tree_of_a_list};
+use c_specs::laws::{mixes_go_on, whole_are_mixes};
 
 /// The reader of one token takes the first token, and this passes the test.
 pub fn token_is_taken()
@@ -36,3 +40,33 @@ pub fn tag_is_taken()
 pub fn quals_are_local()
     ensures { QualsAreLocal }
 {}
+
+/// What the reader of units answers is a well-formed unit with these tokens.
+pub fn unit_is_well_formed()
+    ensures { UnitIsWellFormed }
+{
+    the_tree_of_a_list();
+    no_tree_of_a_bad_target();
+    whole_are_mixes();
+    mixes_go_on();
+}
+
+/// Every well-formed unit with these tokens is the one that the reader of units answers.
+pub fn well_formed_is_read()
+    ensures { WellFormedIsRead }
+{
+    the_tree_of_a_list();
+    no_tree_of_a_bad_target();
+    whole_are_mixes();
+    mixes_go_on();
+}
+
+/// Tokens are those of one well-formed unit at most.
+pub fn one_unit_at_most()
+    ensures { OneUnitAtMost }
+{
+    the_tree_of_a_list();
+    no_tree_of_a_bad_target();
+    whole_are_mixes();
+    mixes_go_on();
+}

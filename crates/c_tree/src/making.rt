@@ -12,12 +12,9 @@ use crate::declaration::{Declaration, InitDeclr};
 use crate::declarator::{ArraySize, Declr, Param, TypeName};
 use crate::expression::Expr;
 use crate::parts::{
-    ArrayWord, Attr, Braced, BracedList, Ellipsis, Listed, Marked, PointerWord, Word,
+    ArrayWord, Attr, Braced, BracedList, Ellipsis, Identifier, Listed, Marked, PointerWord, Word,
 };
-use crate::specifier::{
-    Enum, Enumerator, MemDeclr, Member, SpecWord, Specs, Struct, StructItem,
-};
-use crate::parts::Identifier;
+use crate::specifier::{Enum, Enumerator, MemDeclr, Member, SpecWord, Specs, Struct, StructItem};
 use qual_base::ids::TokenId;
 
 /// A cast.
