@@ -1,1 +1,3 @@
 pub mod EndLemmas
+mod HeightLemmas
+mod ViewLemmas

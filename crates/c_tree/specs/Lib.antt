@@ -9,3 +9,5 @@ pub mod WellFormed
 pub mod Unit
 pub mod Laws
 pub mod Ends
+pub mod Capped
+pub mod Lists

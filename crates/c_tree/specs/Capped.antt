@@ -1,0 +1,5 @@
+-- Numbers that are kept at most 2^32 - 1.
+use Rattle.std.specs.Prelude.{ℕ, min}
+
+unfoldable pub capped : ℕ → ℕ
+capped n = min n 4294967295
