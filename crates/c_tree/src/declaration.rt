@@ -36,7 +36,6 @@ pub enum Item {
 
 /// `decl = Declaration | Assert`.
 #[cycle(tree)]
-#[derive(Drop)]
 pub enum Decl {
     Declaration(Declaration),
     Assert(Assert),
@@ -44,7 +43,6 @@ pub enum Decl {
 
 /// `Declaration = ext* Specs [InitDeclr (, Attr* InitDeclr)*] ;`.
 #[cycle(tree)]
-#[derive(Drop)]
 pub struct Declaration {
     pub extensions: Vec<TokenId>,
     pub specs: Specs,
@@ -54,10 +52,43 @@ pub struct Declaration {
 
 /// `InitDeclr = declr [AsmLabel] Attr* [= init]`.
 #[cycle(tree)]
-#[derive(Drop)]
 pub struct InitDeclr {
     pub declr: Declr,
     pub label: Option<AsmLabel>,
     pub attrs: Vec<Attr>,
     pub init: Option<Marked<Init>>,
+}
+
+impl Drop for Decl {
+    #[cycle(tree)]
+    fn drop(self) {
+        match self {
+            Decl::Declaration(_part) => {}
+            Decl::Assert(_part) => {}
+        }
+    }
+}
+
+impl Drop for Declaration {
+    #[cycle(tree)]
+    fn drop(self) {
+        let Declaration {
+            extensions: _extensions,
+            specs: _specs,
+            declrs: _declrs,
+            semi: _semi,
+        } = self;
+    }
+}
+
+impl Drop for InitDeclr {
+    #[cycle(tree)]
+    fn drop(self) {
+        let InitDeclr {
+            declr: _declr,
+            label: _label,
+            attrs: _attrs,
+            init: _init,
+        } = self;
+    }
 }

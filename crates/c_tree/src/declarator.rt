@@ -8,7 +8,6 @@ use qual_base::ids::{NameId, TokenId};
 /// The nodes of `declr = Pointer | direct`, with `direct = DeclName | DeclParen | Array | Params`, and of
 /// `absdeclr = AbsPointer | absdirect`, with `absdirect = AbsParen | AbsArray | AbsParams`.
 #[cycle(tree)]
-#[derive(Drop)]
 pub enum Declr {
     /// `Pointer = * (qual | Attr)* declr`.
     Pointer {
@@ -77,7 +76,6 @@ pub enum Declr {
 
 /// What stands for an array's size: `assign | *`.
 #[cycle(tree)]
-#[derive(Drop)]
 pub enum ArraySize {
     Value(Box<Expr>),
     Star { token: TokenId },
@@ -85,7 +83,6 @@ pub enum ArraySize {
 
 /// `Param = Specs [declr | absdeclr] Attr*`.
 #[cycle(tree)]
-#[derive(Drop)]
 pub struct Param {
     pub specs: Specs,
     pub declr: Option<Box<Declr>>,
@@ -94,8 +91,100 @@ pub struct Param {
 
 /// `TypeName = Specs [absdeclr]`, without storage words, `thread`, `inline` and `_Noreturn`.
 #[cycle(tree)]
-#[derive(Drop)]
 pub struct TypeName {
     pub specs: Specs,
     pub declr: Option<Box<Declr>>,
+}
+
+impl Drop for Declr {
+    #[cycle(tree)]
+    fn drop(self) {
+        match self {
+            Declr::Pointer {
+                star: _star,
+                words: _words,
+                inner: _inner,
+            } => {}
+            Declr::DeclName {
+                token: _token,
+                name: _name,
+            } => {}
+            Declr::DeclParen {
+                open: _open,
+                attrs: _attrs,
+                inner: _inner,
+                close: _close,
+            } => {}
+            Declr::Array {
+                inner: _inner,
+                open: _open,
+                words: _words,
+                size: _size,
+                close: _close,
+            } => {}
+            Declr::Params {
+                inner: _inner,
+                open: _open,
+                params: _params,
+                ellipsis: _ellipsis,
+                close: _close,
+            } => {}
+            Declr::AbsPointer {
+                star: _star,
+                words: _words,
+                inner: _inner,
+            } => {}
+            Declr::AbsParen {
+                open: _open,
+                attrs: _attrs,
+                inner: _inner,
+                close: _close,
+            } => {}
+            Declr::AbsArray {
+                inner: _inner,
+                open: _open,
+                words: _words,
+                size: _size,
+                close: _close,
+            } => {}
+            Declr::AbsParams {
+                inner: _inner,
+                open: _open,
+                params: _params,
+                ellipsis: _ellipsis,
+                close: _close,
+            } => {}
+        }
+    }
+}
+
+impl Drop for ArraySize {
+    #[cycle(tree)]
+    fn drop(self) {
+        match self {
+            ArraySize::Value(_part) => {}
+            ArraySize::Star { token: _token } => {}
+        }
+    }
+}
+
+impl Drop for Param {
+    #[cycle(tree)]
+    fn drop(self) {
+        let Param {
+            specs: _specs,
+            declr: _declr,
+            attrs: _attrs,
+        } = self;
+    }
+}
+
+impl Drop for TypeName {
+    #[cycle(tree)]
+    fn drop(self) {
+        let TypeName {
+            specs: _specs,
+            declr: _declr,
+        } = self;
+    }
 }

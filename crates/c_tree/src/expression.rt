@@ -9,7 +9,6 @@ use qual_base::ids::{NameId, TokenId};
 
 /// The nodes of `expr`. The binary operators are left associative, and each has a node of its own.
 #[cycle(tree)]
-#[derive(Drop)]
 pub enum Expr {
     /// `Comma = expr , assign`.
     Comma {
@@ -273,4 +272,228 @@ pub enum Expr {
         steps: Vec<Desig>,
         close: TokenId,
     },
+}
+
+impl Drop for Expr {
+    #[cycle(tree)]
+    fn drop(self) {
+        match self {
+            Expr::Comma {
+                left: _left,
+                token: _token,
+                right: _right,
+            } => {}
+            Expr::Assign {
+                left: _left,
+                token: _token,
+                sign: _sign,
+                right: _right,
+            } => {}
+            Expr::Cond {
+                condition: _condition,
+                question: _question,
+                middle: _middle,
+                colon: _colon,
+                otherwise: _otherwise,
+            } => {}
+            Expr::Or {
+                left: _left,
+                token: _token,
+                right: _right,
+            } => {}
+            Expr::And {
+                left: _left,
+                token: _token,
+                right: _right,
+            } => {}
+            Expr::BitOr {
+                left: _left,
+                token: _token,
+                right: _right,
+            } => {}
+            Expr::BitXor {
+                left: _left,
+                token: _token,
+                right: _right,
+            } => {}
+            Expr::BitAnd {
+                left: _left,
+                token: _token,
+                right: _right,
+            } => {}
+            Expr::Equal {
+                left: _left,
+                token: _token,
+                right: _right,
+            } => {}
+            Expr::NotEqual {
+                left: _left,
+                token: _token,
+                right: _right,
+            } => {}
+            Expr::Less {
+                left: _left,
+                token: _token,
+                right: _right,
+            } => {}
+            Expr::Greater {
+                left: _left,
+                token: _token,
+                right: _right,
+            } => {}
+            Expr::LessEqual {
+                left: _left,
+                token: _token,
+                right: _right,
+            } => {}
+            Expr::GreaterEqual {
+                left: _left,
+                token: _token,
+                right: _right,
+            } => {}
+            Expr::ShiftLeft {
+                left: _left,
+                token: _token,
+                right: _right,
+            } => {}
+            Expr::ShiftRight {
+                left: _left,
+                token: _token,
+                right: _right,
+            } => {}
+            Expr::Plus {
+                left: _left,
+                token: _token,
+                right: _right,
+            } => {}
+            Expr::Minus {
+                left: _left,
+                token: _token,
+                right: _right,
+            } => {}
+            Expr::Times {
+                left: _left,
+                token: _token,
+                right: _right,
+            } => {}
+            Expr::Divide {
+                left: _left,
+                token: _token,
+                right: _right,
+            } => {}
+            Expr::Remainder {
+                left: _left,
+                token: _token,
+                right: _right,
+            } => {}
+            Expr::Cast {
+                open: _open,
+                type_name: _type_name,
+                close: _close,
+                operand: _operand,
+            } => {}
+            Expr::Prefix {
+                token: _token,
+                sign: _sign,
+                operand: _operand,
+            } => {}
+            Expr::Sizeof {
+                keyword: _keyword,
+                operand: _operand,
+            } => {}
+            Expr::SizeofType {
+                keyword: _keyword,
+                open: _open,
+                type_name: _type_name,
+                close: _close,
+            } => {}
+            Expr::Ext {
+                keyword: _keyword,
+                operand: _operand,
+            } => {}
+            Expr::Index {
+                base: _base,
+                open: _open,
+                index: _index,
+                close: _close,
+            } => {}
+            Expr::Call {
+                callee: _callee,
+                open: _open,
+                arguments: _arguments,
+                close: _close,
+            } => {}
+            Expr::Dot {
+                base: _base,
+                token: _token,
+                member: _member,
+            } => {}
+            Expr::Arrow {
+                base: _base,
+                token: _token,
+                member: _member,
+            } => {}
+            Expr::Post {
+                operand: _operand,
+                token: _token,
+                sign: _sign,
+            } => {}
+            Expr::Compound {
+                open: _open,
+                type_name: _type_name,
+                close: _close,
+                list: _list,
+            } => {}
+            Expr::NameUse {
+                token: _token,
+                name: _name,
+            } => {}
+            Expr::NumberUse { token: _token } => {}
+            Expr::CharUse { token: _token } => {}
+            Expr::TextUse { texts: _texts } => {}
+            Expr::Paren {
+                open: _open,
+                inner: _inner,
+                close: _close,
+            } => {}
+            Expr::StmtExpr {
+                open: _open,
+                block: _block,
+                close: _close,
+            } => {}
+            Expr::VaArg {
+                keyword: _keyword,
+                open: _open,
+                list: _list,
+                comma: _comma,
+                type_name: _type_name,
+                close: _close,
+            } => {}
+            Expr::VaStart {
+                keyword: _keyword,
+                open: _open,
+                list: _list,
+                comma: _comma,
+                last: _last,
+                close: _close,
+            } => {}
+            Expr::VaCopy {
+                keyword: _keyword,
+                open: _open,
+                target: _target,
+                comma: _comma,
+                source: _source,
+                close: _close,
+            } => {}
+            Expr::Offset {
+                keyword: _keyword,
+                open: _open,
+                type_name: _type_name,
+                comma: _comma,
+                member: _member,
+                steps: _steps,
+                close: _close,
+            } => {}
+        }
+    }
 }

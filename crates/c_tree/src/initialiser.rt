@@ -6,7 +6,6 @@ use qual_base::ids::TokenId;
 
 /// `init = assign | InitList`.
 #[cycle(tree)]
-#[derive(Drop)]
 pub enum Init {
     Value(Expr),
     InitList(InitList),
@@ -14,7 +13,6 @@ pub enum Init {
 
 /// `InitList = { [InitItem (, InitItem)* [,]] }`.
 #[cycle(tree)]
-#[derive(Drop)]
 pub struct InitList {
     pub open: TokenId,
     pub items: Vec<InitItem>,
@@ -24,7 +22,6 @@ pub struct InitList {
 
 /// `InitItem = [Desig+ =] init`: the `=` stands where there are designators.
 #[cycle(tree)]
-#[derive(Drop)]
 pub struct InitItem {
     pub desigs: Vec<Desig>,
     pub equal: Option<TokenId>,
@@ -35,7 +32,6 @@ pub struct InitItem {
 ///
 /// The steps of `__builtin_offsetof`, `. Name | [ expr ]`, have this type too, and are no nodes.
 #[cycle(tree)]
-#[derive(Drop)]
 pub enum Desig {
     Member {
         dot: TokenId,
@@ -46,4 +42,54 @@ pub enum Desig {
         index: Expr,
         close: TokenId,
     },
+}
+
+impl Drop for Init {
+    #[cycle(tree)]
+    fn drop(self) {
+        match self {
+            Init::Value(_part) => {}
+            Init::InitList(_part) => {}
+        }
+    }
+}
+
+impl Drop for InitList {
+    #[cycle(tree)]
+    fn drop(self) {
+        let InitList {
+            open: _open,
+            items: _items,
+            comma: _comma,
+            close: _close,
+        } = self;
+    }
+}
+
+impl Drop for InitItem {
+    #[cycle(tree)]
+    fn drop(self) {
+        let InitItem {
+            desigs: _desigs,
+            equal: _equal,
+            init: _init,
+        } = self;
+    }
+}
+
+impl Drop for Desig {
+    #[cycle(tree)]
+    fn drop(self) {
+        match self {
+            Desig::Member {
+                dot: _dot,
+                name: _name,
+            } => {}
+            Desig::Index {
+                open: _open,
+                index: _index,
+                close: _close,
+            } => {}
+        }
+    }
 }

@@ -9,14 +9,12 @@ use qual_base::ids::{NameId, TokenId};
 
 /// `Specs = spec+`, in the order of the words.
 #[cycle(tree)]
-#[derive(Drop)]
 pub struct Specs {
     pub words: Vec<SpecWord>,
 }
 
 /// `spec = storage | thread | inline | _Noreturn | qual | typeword | Struct | Enum | TypedefName | Attr`.
 #[cycle(tree)]
-#[derive(Drop)]
 pub enum SpecWord {
     /// `typedef`, `extern`, `static`, `auto` or `register`.
     Storage(Word),
@@ -41,7 +39,6 @@ pub struct TypedefName {
 
 /// `Struct = (struct | union) Attr* [Name] [{ member* }]`, with a name or a body (C99, 6.7.2.1).
 #[cycle(tree)]
-#[derive(Drop)]
 pub struct Struct {
     pub keyword: Word,
     pub attrs: Vec<Attr>,
@@ -51,7 +48,6 @@ pub struct Struct {
 
 /// `member = Member | Semi | Assert`.
 #[cycle(tree)]
-#[derive(Drop)]
 pub enum StructItem {
     Member(Member),
     Semi(Semi),
@@ -60,7 +56,6 @@ pub enum StructItem {
 
 /// `Member = ext* Specs [MemDeclr (, Attr* MemDeclr)*] ;`.
 #[cycle(tree)]
-#[derive(Drop)]
 pub struct Member {
     pub extensions: Vec<TokenId>,
     pub specs: Specs,
@@ -70,7 +65,6 @@ pub struct Member {
 
 /// `MemDeclr = declr [: cond] Attr* | : cond Attr*`: a member, or a bit-field without a name.
 #[cycle(tree)]
-#[derive(Drop)]
 pub enum MemDeclr {
     Named {
         declr: Declr,
@@ -85,7 +79,6 @@ pub enum MemDeclr {
 
 /// `Enum = enum Attr* [Name] [{ Enumerator (, Enumerator)* [,] }]`, with a name or a body (C99, 6.7.2.2).
 #[cycle(tree)]
-#[derive(Drop)]
 pub struct Enum {
     pub keyword: TokenId,
     pub attrs: Vec<Attr>,
@@ -95,9 +88,108 @@ pub struct Enum {
 
 /// `Enumerator = Name Attr* [= cond]`.
 #[cycle(tree)]
-#[derive(Drop)]
 pub struct Enumerator {
     pub name: Identifier,
     pub attrs: Vec<Attr>,
     pub value: Option<Marked<Expr>>,
+}
+
+impl Drop for Specs {
+    #[cycle(tree)]
+    fn drop(self) {
+        let Specs { words: _words } = self;
+    }
+}
+
+impl Drop for SpecWord {
+    #[cycle(tree)]
+    fn drop(self) {
+        match self {
+            SpecWord::Storage(_part) => {}
+            SpecWord::Thread { token: _token } => {}
+            SpecWord::Inline { token: _token } => {}
+            SpecWord::Noreturn { token: _token } => {}
+            SpecWord::Qual(_part) => {}
+            SpecWord::Type(_part) => {}
+            SpecWord::Struct(_part) => {}
+            SpecWord::Enum(_part) => {}
+            SpecWord::TypedefName(_part) => {}
+            SpecWord::Attr(_part) => {}
+        }
+    }
+}
+
+impl Drop for Struct {
+    #[cycle(tree)]
+    fn drop(self) {
+        let Struct {
+            keyword: _keyword,
+            attrs: _attrs,
+            tag: _tag,
+            body: _body,
+        } = self;
+    }
+}
+
+impl Drop for StructItem {
+    #[cycle(tree)]
+    fn drop(self) {
+        match self {
+            StructItem::Member(_part) => {}
+            StructItem::Semi(_part) => {}
+            StructItem::Assert(_part) => {}
+        }
+    }
+}
+
+impl Drop for Member {
+    #[cycle(tree)]
+    fn drop(self) {
+        let Member {
+            extensions: _extensions,
+            specs: _specs,
+            declrs: _declrs,
+            semi: _semi,
+        } = self;
+    }
+}
+
+impl Drop for MemDeclr {
+    #[cycle(tree)]
+    fn drop(self) {
+        match self {
+            MemDeclr::Named {
+                declr: _declr,
+                width: _width,
+                attrs: _attrs,
+            } => {}
+            MemDeclr::Unnamed {
+                width: _width,
+                attrs: _attrs,
+            } => {}
+        }
+    }
+}
+
+impl Drop for Enum {
+    #[cycle(tree)]
+    fn drop(self) {
+        let Enum {
+            keyword: _keyword,
+            attrs: _attrs,
+            tag: _tag,
+            body: _body,
+        } = self;
+    }
+}
+
+impl Drop for Enumerator {
+    #[cycle(tree)]
+    fn drop(self) {
+        let Enumerator {
+            name: _name,
+            attrs: _attrs,
+            value: _value,
+        } = self;
+    }
 }

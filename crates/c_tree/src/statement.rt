@@ -7,7 +7,6 @@ use qual_base::ids::TokenId;
 
 /// `Block = { (decl | stmt)* }`.
 #[cycle(tree)]
-#[derive(Drop)]
 pub struct Block {
     pub open: TokenId,
     pub items: Vec<BlockItem>,
@@ -16,7 +15,6 @@ pub struct Block {
 
 /// `decl | stmt`.
 #[cycle(tree)]
-#[derive(Drop)]
 pub enum BlockItem {
     Decl(Decl),
     Stmt(Stmt),
@@ -24,7 +22,6 @@ pub enum BlockItem {
 
 /// The nodes of `stmt`.
 #[cycle(tree)]
-#[derive(Drop)]
 pub enum Stmt {
     Block(Block),
     /// `ExprStmt = [expr] ;`.
@@ -136,11 +133,143 @@ pub enum Stmt {
 
 /// How a `for` begins: `Declaration | [expr] ;`.
 #[cycle(tree)]
-#[derive(Drop)]
 pub enum ForStart {
     Declaration(Declaration),
     Value {
         value: Option<Box<Expr>>,
         semi: TokenId,
     },
+}
+
+impl Drop for Block {
+    #[cycle(tree)]
+    fn drop(self) {
+        let Block {
+            open: _open,
+            items: _items,
+            close: _close,
+        } = self;
+    }
+}
+
+impl Drop for BlockItem {
+    #[cycle(tree)]
+    fn drop(self) {
+        match self {
+            BlockItem::Decl(_part) => {}
+            BlockItem::Stmt(_part) => {}
+        }
+    }
+}
+
+impl Drop for Stmt {
+    #[cycle(tree)]
+    fn drop(self) {
+        match self {
+            Stmt::Block(_part) => {}
+            Stmt::ExprStmt {
+                value: _value,
+                semi: _semi,
+            } => {}
+            Stmt::AttrStmt {
+                attrs: _attrs,
+                semi: _semi,
+            } => {}
+            Stmt::Label {
+                name: _name,
+                colon: _colon,
+                attrs: _attrs,
+                body: _body,
+            } => {}
+            Stmt::Case {
+                keyword: _keyword,
+                value: _value,
+                colon: _colon,
+                body: _body,
+            } => {}
+            Stmt::Default {
+                keyword: _keyword,
+                colon: _colon,
+                body: _body,
+            } => {}
+            Stmt::If {
+                keyword: _keyword,
+                open: _open,
+                condition: _condition,
+                close: _close,
+                body: _body,
+                otherwise: _otherwise,
+            } => {}
+            Stmt::Switch {
+                keyword: _keyword,
+                open: _open,
+                value: _value,
+                close: _close,
+                body: _body,
+            } => {}
+            Stmt::While {
+                keyword: _keyword,
+                open: _open,
+                condition: _condition,
+                close: _close,
+                body: _body,
+            } => {}
+            Stmt::Do {
+                keyword: _keyword,
+                body: _body,
+                while_keyword: _while_keyword,
+                open: _open,
+                condition: _condition,
+                close: _close,
+                semi: _semi,
+            } => {}
+            Stmt::For {
+                keyword: _keyword,
+                open: _open,
+                start: _start,
+                condition: _condition,
+                semi: _semi,
+                step: _step,
+                close: _close,
+                body: _body,
+            } => {}
+            Stmt::Goto {
+                keyword: _keyword,
+                label: _label,
+                semi: _semi,
+            } => {}
+            Stmt::Continue {
+                keyword: _keyword,
+                semi: _semi,
+            } => {}
+            Stmt::Break {
+                keyword: _keyword,
+                semi: _semi,
+            } => {}
+            Stmt::Return {
+                keyword: _keyword,
+                value: _value,
+                semi: _semi,
+            } => {}
+            Stmt::Asm {
+                keyword: _keyword,
+                words: _words,
+                group: _group,
+                semi: _semi,
+            } => {}
+        }
+    }
+}
+
+impl Drop for ForStart {
+    #[cycle(tree)]
+    fn drop(self) {
+        match self {
+            ForStart::Declaration(_part) => {}
+            ForStart::Value {
+                value: _value,
+                semi: _semi,
+            } => {}
+        }
+    }
 }
