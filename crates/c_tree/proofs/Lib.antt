@@ -2,4 +2,4 @@ pub mod EndLemmas
 mod HeightLemmas
 mod LastLemmas
 mod ListHeights
-mod ViewLemmas
+pub mod ViewLemmas

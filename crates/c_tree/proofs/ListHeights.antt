@@ -1,5 +1,5 @@
 -- The heights of lists of children: of each the greatest of those of its items.
-use Rattle.std.proofs.Common.{◌≡◌, ℕ, ◌+◌, max, List, [], ◌∷◌, map, refl, arith}
+use Rattle.std.proofs.Common.{◌≡◌, ℕ, ◌+◌, max, List, ◌∷◌, map, refl, arith}
 use Rattle.c_tree.specs.declared.parts.Listed.{Listed}
 use Rattle.c_tree.specs.declared.declaration.InitDeclr.{InitDeclr}
 use Rattle.c_tree.specs.declared.declaration.Item.{Item}

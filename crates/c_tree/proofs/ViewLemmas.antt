@@ -1,7 +1,7 @@
 -- The trees of nodes whose children are in a `Vec` or an `Option`, from the parts that a program has.
 --
 -- Lists first: what is held as a row has the tree of its list of values. Then a lemma a node.
-use Rattle.std.proofs.Common.{◌≡◌, ℕ, List, [], ◌∷◌, Option, None, Some, option_map, Vec, Box, Global, refl, sym, ◌∙◌, ap}
+use Rattle.std.proofs.Common.{◌≡◌, ℕ, Option, None, Some, option_map, Vec, Box, Global, refl, sym, ◌∙◌, ap}
 use mathlib.Core.Former.{Count}
 use Rattle.c_tree.specs.declared.parts.Attr.{Attr}
 use Rattle.c_tree.specs.declared.parts.ArrayWord.{ArrayWord}
@@ -12,7 +12,6 @@ use Rattle.c_tree.specs.declared.parts.Ellipsis.{Ellipsis}
 use Rattle.c_tree.specs.declared.parts.Marked.{Marked}
 use Rattle.c_tree.specs.declared.parts.Listed.{Listed}
 use Rattle.c_tree.specs.declared.parts.Braced.{Braced}
-use Rattle.c_tree.specs.declared.parts.BracedList.{BracedList}
 use Rattle.c_tree.specs.declared.declaration.Decl.TheBlock as rows
 use Rattle.c_tree.specs.declared.declaration.Decl.TheViews as views
 use Rattle.c_tree.specs.declared.declaration.Declaration as rust_declaration
@@ -38,9 +37,9 @@ use Rattle.c_tree.specs.declared.statement.BlockItem as rust_block_item
 use Rattle.c_tree.specs.declared.statement.ForStart as rust_for_start
 use Rattle.c_tree.specs.declared.statement.Stmt as rust_stmt
 use Rattle.c_tree.specs.Tree as tree
-use Rattle.c_tree.specs.View.{dots_of, expr_of, some_expr_of, exprs_of, spec_words_of, spec_word_of, some_body_of, struct_items_of, struct_item_of, mem_declrs_of, mem_declr_of, some_value_of, enum_type_of, some_enum_body_of, enumerators_of, declr_of, some_declr_of, some_size_of, array_size_of, params_of, init_of, init_list_of, init_items_of, desigs_of, desig_of, some_init_of, init_declrs_of, declaration_of, decl_of, block_items_of, block_item_of, stmt_of, some_else_of, for_start_of}
+use Rattle.c_tree.specs.View.{dots_of, expr_of, some_expr_of, exprs_of, spec_words_of, spec_word_of, some_body_of, struct_items_of, struct_item_of, mem_declrs_of, mem_declr_of, some_value_of, enum_type_of, some_enum_body_of, enumerators_of, declr_of, some_declr_of, some_size_of, params_of, init_of, init_list_of, init_items_of, desigs_of, desig_of, init_declrs_of, declaration_of, block_items_of, block_item_of, stmt_of, some_else_of, for_start_of}
 use Rattle.c_tree.specs.Unit.{spec_words_from, block_items_from}
-use Rattle.c_tree.specs.Lists.{exprs_from, some_expr_from, struct_items_from, some_body_from, mem_declrs_from, some_value_from, enumerators_from, some_enum_body_from, some_declr_from, some_size_from, params_from, desigs_from, init_items_from, some_init_from, init_declrs_from, some_else_from}
+use Rattle.c_tree.specs.Lists.{exprs_from, some_expr_from, struct_items_from, some_body_from, mem_declrs_from, some_value_from, enumerators_from, some_enum_body_from, some_declr_from, some_size_from, params_from, desigs_from, init_items_from, init_declrs_from, some_else_from}
 
 both : {A B C : Type 0} (f : A → B → C) {a a2 : A} {b b2 : B} → a ≡ a2 → b ≡ b2 → f a b ≡ f a2 b2
 both f h k = rw (h, k) refl

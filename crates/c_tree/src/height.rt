@@ -1,8 +1,8 @@
 //! Heights of trees: how many nodes are on the longest way down, at most 2^32 - 1.
 //!
-//! The height of a tree is that of its children above one another, and so a function a type of node and one a list of
-//! children follow one another down the tree. Each is linear in the nodes below it, and recursive as deep as the tree
-//! is high; a list of children is gone over by a loop.
+//! There is a function for each type of node and one for each list of children, and these call one another. Each takes
+//! time linear in the number of nodes below it. The recursion is as deep as the tree is high, and never as deep as a list
+//! is long.
 
 ghost use Rattle.std.specs.Prelude.{◌≡◌, ℕ, ◌+◌, max, map};
 ghost use Rattle.c_tree.specs.Capped.{capped};

@@ -1,5 +1,4 @@
-use Rattle.std.proofs.Common.{◌≡◌, ℕ, ◌+◌, min, ap, ◌∙◌}
-use Rattle.c_tree.specs.Capped.{capped}
+use Rattle.std.proofs.Common.{ℕ, ◌+◌, min, ap, ◌∙◌}
 use Rattle.c_tree.proofs.HeightLemmas.{capped_above}
 use Rattle.c_tree.proofs.height.above.Goals as goal
 

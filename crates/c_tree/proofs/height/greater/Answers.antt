@@ -1,5 +1,4 @@
-use Rattle.std.proofs.Common.{◌≡◌, ℕ, min, max, ap, ◌∙◌}
-use Rattle.c_tree.specs.Capped.{capped}
+use Rattle.std.proofs.Common.{ℕ, min, max, ap, ◌∙◌}
 use Rattle.c_tree.proofs.HeightLemmas.{capped_max}
 use Rattle.c_tree.proofs.height.greater.Goals as goal
 
