@@ -113,11 +113,17 @@ fn words_of(rt: &impl Abort, alloc: Global, source: &[u8]) -> Result<Vec<SpecWor
     Ok(words)
 }
 
+fn fault_text(alloc: Global, fault: SpecFault) -> Result<String, AllocError> {
+    match fault {
+        SpecFault::BadMix(token) => format!(in alloc; "bad at {}", token.number()),
+        SpecFault::Unfinished => format!(in alloc; "unfinished"),
+    }
+}
+
 fn shown(rt: &impl Abort, alloc: Global, source: &[u8]) -> Result<String, AllocError> {
     match read_specs(words_of(rt, alloc, source)?) {
         Ok(specs) => format!(in alloc; "mix of {}", specs.words.len()),
-        Err(SpecFault::BadMix(token)) => format!(in alloc; "bad at {}", token.number()),
-        Err(SpecFault::Unfinished) => format!(in alloc; "unfinished"),
+        Err(fault) => fault_text(alloc, fault),
     }
 }
 
