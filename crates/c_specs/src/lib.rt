@@ -6,3 +6,5 @@ pub mod laws;
 pub mod mix;
 pub mod reading;
 pub mod storage;
+#[cfg(test)]
+mod tests;

@@ -8,7 +8,7 @@ ghost use Rattle.c_specs.specs.Faults.{qual_token, word_token, IsFault};
 
 use crate::mix::Mix;
 use c_tree::parts::Qual;
-use c_tree::specifier::SpecWord;
+use c_tree::specifier::{SpecWord, Specs};
 use qual_base::ids::TokenId;
 
 /// Why words are no specifiers.
@@ -62,5 +62,19 @@ pub fn read(words: &[SpecWord]) -> Result<(), SpecFault>
         Ok(())
     } else {
         Err(SpecFault::Unfinished)
+    }
+}
+
+/// Specifiers of these words in their order, or why the words are none.
+///
+/// Linear in the words. Takes no memory.
+pub fn read_specs(words: Vec<SpecWord>) -> Result<Specs, SpecFault>
+    ensures whole { OnOk result (IsMix (spec_words_from words.items)) }
+    ensures kept { IfOk result (λ specs. specs.words.items ≡ words.items) }
+    ensures fault { IfErr result (λ fault. IsFault (spec_words_from words.items) fault) }
+{
+    match read(words.as_slice()) {
+        Ok(()) => Ok(Specs { words }),
+        Err(fault) => Err(fault),
     }
 }
