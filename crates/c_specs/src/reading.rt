@@ -47,7 +47,7 @@ fn word_token(word: &SpecWord) -> TokenId
 }
 
 /// Whether words are a mix, read one by one.
-pub fn read(words: &[SpecWord]) -> Result<(), SpecFault>
+fn read(words: &[SpecWord]) -> Result<(), SpecFault>
     ensures whole { OnOk result (IsMix (spec_words_from words.now)) }
     ensures fault { IfErr result (λ fault. IsFault (spec_words_from words.now) fault) }
 {
