@@ -2,6 +2,8 @@
 
 ghost use Rattle.std.specs.Prelude.{◌≡◌, ◌≤◌};
 ghost use Rattle.c_tree.specs.Levels.{binary_level, operator_level, right_level as right_level_of};
+ghost use Rattle.c_tree.specs.Height.{operator_height};
+ghost use Rattle.c_tree.specs.Capped.{capped};
 ghost use Rattle.c_ops.specs.Op.{operator_of};
 
 use c_lexer::kinds::Punct;
@@ -63,6 +65,22 @@ impl Op {
             Op::Comma | Op::Assign(_) => 1,
             Op::Cond { .. } => 2,
             Op::Binary(sign) => level_of_binary(*sign) + 3,
+        }
+    }
+
+    /// The height of its middle, 0 without one.
+    ///
+    /// Linear in the nodes of the middle.
+    pub(crate) fn height(&self) -> u32
+        ensures { result ≡ capped (operator_height (operator_of self.now)) }
+    {
+        match self {
+            Op::Cond {
+                middle: Some(middle),
+                ..
+            } => middle.height(),
+            Op::Cond { middle: None, .. } => 0,
+            Op::Binary(_) | Op::Assign(_) | Op::Comma => 0,
         }
     }
 }

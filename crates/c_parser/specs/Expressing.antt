@@ -11,7 +11,8 @@ use Rattle.c_tree.specs.declared.parts.Word.{Word}
 use Rattle.c_tree.specs.Tree.{Expr, cast, prefix, sizeof_value, sizeof_type, index, call, dot, arrow, post, name_use, number_use, char_use, text_use, paren, Operator, comma, assign, cond, binary, SomeExpr, no_expr, some_expr, Exprs, no_exprs, more_exprs, SpecWords, SomeDeclr}
 use Rattle.c_tree.specs.Height.{expr_height}
 use Rattle.c_tree.specs.Levels.{binary_level, is_assignment}
-use Rattle.c_ops.specs.Operations.{Operations, Entry, is_bad}
+use Rattle.c_ops.specs.Operations.{Operations, Entry}
+pub use Rattle.c_ops.specs.Lasts.{last_of, operator_before, has_bad_target}
 use Rattle.c_ops.specs.Trees.{the_tree}
 use Rattle.typedef_scope.specs.Scopes.{Scopes}
 use Rattle.c_parser.specs.declared.fault.Fault.TheVariants.{Unexpected, BadTarget, TooDeep}
@@ -126,19 +127,6 @@ texts_turn known (t ∷ ts) = if is_text t.kind then Some (ends (known ++ t.at �
 abbrev pub with_expr : Exprs → Expr → Exprs
 with_expr no_exprs e = more_exprs e no_exprs
 with_expr (more_exprs first es) e = more_exprs first (with_expr es e)
-
--- the last operand of a list, and the operator before it
-abbrev pub last_of : Expr → List Entry → Expr
-last_of e [] = e
-last_of e (x ∷ k) = last_of x.operand k
-
-abbrev pub operator_before : Option Operator → List Entry → Option Operator
-operator_before before [] = before
-operator_before before (x ∷ k) = operator_before (Some x.operator) k
-
--- an assignment behind a list has no unary form on its left
-abbrev pub has_bad_target : Operations → Operator → Bool
-has_bad_target list op = is_bad (operator_before None list.rest) (last_of list.first list.rest) op
 
 abbrev pub with_entry : Operations → Operator → ℕ → Expr → Operations
 with_entry list op token e = record { first = list.first; rest = list.rest ++ record { operator = op; token = token; operand = e } ∷ [] }

@@ -1,0 +1,33 @@
+-- What is answered of a list, and the steps to it.
+use Rattle.std.specs.Prelude.{◌≡◌, ℕ, ◌<◌, List, [], ◌∷◌, ◌++◌, Option, None, Some}
+use Rattle.c_tree.specs.View.{expr_of}
+use Rattle.c_tree.specs.Levels.{IsOperator, operator_level, right_level}
+use Rattle.c_tree.specs.declared.expression.Expr as rust_expr
+use Rattle.c_ops.specs.declared.building.OpsFault.{OpsFault}
+use Rattle.c_ops.specs.declared.building.OpsFault.TheVariants.{BadTarget, NoMemory}
+use Rattle.c_ops.specs.declared.waiting.Waiting.{Waiting}
+use Rattle.c_ops.specs.Op.{operator_of}
+use Rattle.c_ops.specs.Operations.{Operations, bad_target}
+use Rattle.c_ops.specs.Joining.{Left, Stack, bottom, above, Accepts}
+
+-- a left operand that waits
+abbrev pub left_of : Waiting → Left
+left_of w = record { tree = expr_of w.tree; operator = operator_of w.op; token = w.token }
+
+-- those that wait, the newest last
+abbrev pub stack_from : Stack → List Waiting → Stack
+stack_from s [] = s
+stack_from s (w ∷ ws) = stack_from (above s (left_of w)) ws
+
+abbrev pub stack_of : List Waiting → Stack
+stack_of ws = stack_from bottom ws
+
+-- the newest was taken, or its right operand goes on with an operator of the level
+abbrev pub IsTaken : ℕ → List Waiting → Option Waiting → List Waiting → Type 0
+IsTaken level before None after = (after ≡ before) × Accepts (stack_of before) level
+IsTaken level before (Some w) after = (before ≡ after ++ w ∷ []) × (level < right_level (operator_of w.op))
+
+-- the first assignment without a unary form on its left
+abbrev pub IsFaultOf : Operations → OpsFault → Type 0
+IsFaultOf list (BadTarget token) = bad_target list ≡ Some token
+IsFaultOf list NoMemory = Unit {0}

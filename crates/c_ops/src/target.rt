@@ -1,0 +1,45 @@
+//! Left sides of assignments.
+
+ghost use Rattle.std.specs.Prelude.{◌≡◌, nat_le};
+ghost use Rattle.c_tree.specs.View.{expr_of};
+ghost use Rattle.c_tree.specs.Levels.{expr_level};
+ghost use Rattle.c_ops.specs.Op.{operator_of};
+ghost use Rattle.c_ops.specs.Operations.{is_assign, is_untargeted};
+
+use crate::op::Op;
+use c_tree::expression::Expr;
+
+/// Whether an expression is a unary form (C99, 6.5.3): no operator between operands, and no cast.
+pub(crate) fn is_unary(e: &Expr) -> bool
+    ensures { result ≡ nat_le 14 (expr_level (expr_of e.now)) }
+{
+    match e {
+        Expr::Comma { .. } | Expr::Assign { .. } | Expr::Cond { .. } => false,
+        Expr::Or { .. } | Expr::And { .. } => false,
+        Expr::BitOr { .. } | Expr::BitXor { .. } | Expr::BitAnd { .. } => false,
+        Expr::Equal { .. } | Expr::NotEqual { .. } => false,
+        Expr::Less { .. } | Expr::Greater { .. } => false,
+        Expr::LessEqual { .. } | Expr::GreaterEqual { .. } => false,
+        Expr::ShiftLeft { .. } | Expr::ShiftRight { .. } => false,
+        Expr::Plus { .. } | Expr::Minus { .. } => false,
+        Expr::Times { .. } | Expr::Divide { .. } | Expr::Remainder { .. } => false,
+        Expr::Cast { .. } => false,
+        Expr::Prefix { .. } | Expr::Sizeof { .. } | Expr::SizeofType { .. } => true,
+        Expr::Ext { .. } | Expr::Index { .. } | Expr::Call { .. } => true,
+        Expr::Dot { .. } | Expr::Arrow { .. } | Expr::Post { .. } => true,
+        Expr::Compound { .. } | Expr::NameUse { .. } | Expr::NumberUse { .. } => true,
+        Expr::CharUse { .. } | Expr::TextUse { .. } | Expr::Paren { .. } => true,
+        Expr::StmtExpr { .. } | Expr::VaArg { .. } | Expr::VaStart { .. } => true,
+        Expr::VaCopy { .. } | Expr::Offset { .. } => true,
+    }
+}
+
+/// Whether an operator assigns to what is no unary form.
+pub(crate) fn is_untargeted(op: &Op, left: &Expr) -> bool
+    ensures { result ≡ is_untargeted (operator_of op.now) (expr_of left.now) }
+{
+    match op {
+        Op::Assign(_) => !is_unary(left),
+        Op::Binary(_) | Op::Comma | Op::Cond { .. } => false,
+    }
+}
