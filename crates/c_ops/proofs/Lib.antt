@@ -3,3 +3,6 @@ pub mod Settling
 pub mod Unique
 pub mod Targets
 pub mod Progress
+pub mod Lasts
+pub mod Heights
+pub mod Stacks

@@ -5,6 +5,7 @@ use Rattle.c_tree.specs.Tree.{Expr, operation, Operator, comma, assign, cond, bi
 use Rattle.c_tree.specs.Levels.{expr_level, operator_level, right_level}
 use Rattle.c_ops.specs.Operations.{Entry, Operations, appended, joined, in_order, is_untargeted, begins_side, is_bad, first_bad, bad_target}
 use Rattle.c_ops.specs.Joining.{Stack, bottom, above, finished, Settled, settle_of}
+use Rattle.c_ops.specs.Lasts.{last_of, operator_before}
 use Rattle.c_ops.proofs.Levels.{not_le, level_most, in_order-leaf}
 use Rattle.c_ops.proofs.Settling.{settle-kept, settle-joins, settle_keeps}
 
@@ -33,21 +34,12 @@ in_order-pushed s e op token operand h =
     ∙ sym (in_order-finished s e (x ∷ []))
     ∙ in_order-append (finished s e) [] (x ∷ [])
 
--- the last operator, or one before the list, and the last operand
-abbrev last_operator : Option Operator → List Entry → Option Operator
-last_operator before [] = before
-last_operator before (x ∷ k) = last_operator (Some x.operator) k
-
-abbrev last_operand : Expr → List Entry → Expr
-last_operand e [] = e
-last_operand e (x ∷ k) = last_operand x.operand k
-
 record Ends (before : Option Operator) (o : Operations) (op : Option Operator) (e : Expr) : Type 0 where
-  operator : last_operator before o.rest ≡ op
-  operand : last_operand o.first o.rest ≡ e
+  operator : operator_before before o.rest ≡ op
+  operand : last_of o.first o.rest ≡ e
 
 ends_tree : (e : Expr) (before : Option Operator) (op : Operator) (token : ℕ) (o : Operations) →
-    Ends before (in_order e (joined op token o)) (last_operator (Some op) o.rest) (last_operand o.first o.rest)
+    Ends before (in_order e (joined op token o)) (operator_before (Some op) o.rest) (last_of o.first o.rest)
 ends_tree (operation a op2 token2 b) before op token o =
     let here = ends_tree b (Some op2) op token o in
     let first = ends_tree a before op2 token2 (in_order b (joined op token o)) in
@@ -59,11 +51,7 @@ abbrev pub newest : Stack → Option Operator
 newest bottom = None
 newest (above s l) = Some l.operator
 
-abbrev newest_or : Option Operator → Stack → Option Operator
-newest_or before bottom = before
-newest_or before (above s l) = Some l.operator
-
-ends_behind : (s : Stack) (o : Operations) → Ends None (behind s o) (last_operator (newest s) o.rest) (last_operand o.first o.rest)
+ends_behind : (s : Stack) (o : Operations) → Ends None (behind s o) (operator_before (newest s) o.rest) (last_of o.first o.rest)
 ends_behind bottom o = record { operator = refl; operand = refl }
 ends_behind (above s l) o =
     let first = ends_behind s (in_order l.tree (joined l.operator l.token o)) in
@@ -75,14 +63,14 @@ or_else (Some n) other = Some n
 or_else None other = other
 
 first_bad-append : (k : List Entry) (before : Option Operator) (e : Expr) (x : Entry) →
-    first_bad before e (k ++ x ∷ []) ≡ or_else (first_bad before e k) (if is_bad (last_operator before k) (last_operand e k) x.operator then Some x.token else None)
+    first_bad before e (k ++ x ∷ []) ≡ or_else (first_bad before e k) (if is_bad (operator_before before k) (last_of e k) x.operator then Some x.token else None)
 first_bad-append [] before e x = refl
 first_bad-append (y ∷ k) before e x = by_test (is_bad before e y.operator) (first_bad-append k (Some y.operator) y.operand x)
   where
     by_test : (b : Bool) →
-        first_bad (Some y.operator) y.operand (k ++ x ∷ []) ≡ or_else (first_bad (Some y.operator) y.operand k) (if is_bad (last_operator (Some y.operator) k) (last_operand y.operand k) x.operator then Some x.token else None) →
+        first_bad (Some y.operator) y.operand (k ++ x ∷ []) ≡ or_else (first_bad (Some y.operator) y.operand k) (if is_bad (operator_before (Some y.operator) k) (last_of y.operand k) x.operator then Some x.token else None) →
         (if b then Some y.token else first_bad (Some y.operator) y.operand (k ++ x ∷ []))
-        ≡ or_else (if b then Some y.token else first_bad (Some y.operator) y.operand k) (if is_bad (last_operator (Some y.operator) k) (last_operand y.operand k) x.operator then Some x.token else None)
+        ≡ or_else (if b then Some y.token else first_bad (Some y.operator) y.operand k) (if is_bad (operator_before (Some y.operator) k) (last_of y.operand k) x.operator then Some x.token else None)
     by_test true rest = refl
     by_test false rest = rest
 
@@ -111,8 +99,8 @@ bad_target-pushed s e op token operand h =
     let o = in_order (finished s e) [] in
     let same : o ≡ behind s (record { first = e; rest = [] }) = in_order-finished s e [] ∙ ap (behind s) (in_order-leaf e [] h) in
     let ends = ends_behind s (record { first = e; rest = [] }) in
-    let op_is : last_operator None o.rest ≡ newest s = ap (λ (o : Operations). last_operator None o.rest) same ∙ ends.operator in
-    let e_is : last_operand o.first o.rest ≡ e = ap (λ (o : Operations). last_operand o.first o.rest) same ∙ ends.operand in
+    let op_is : operator_before None o.rest ≡ newest s = ap (λ (o : Operations). operator_before None o.rest) same ∙ ends.operator in
+    let e_is : last_of o.first o.rest ≡ e = ap (λ (o : Operations). last_of o.first o.rest) same ∙ ends.operand in
     first_bad-append o.rest None o.first (record { operator = op; token = token; operand = operand })
     ∙ rw (op_is, e_is) (ap (λ (b : Bool). or_else (bad_target o) (if b then Some token else None)) (by_operator op))
   where

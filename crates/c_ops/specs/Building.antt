@@ -1,14 +1,16 @@
 -- What is answered of a list, and the steps to it.
-use Rattle.std.specs.Prelude.{◌≡◌, ℕ, ◌<◌, List, [], ◌∷◌, ◌++◌, Option, None, Some}
+use Rattle.std.specs.Prelude.{◌≡◌, ℕ, ◌<◌, true, false, List, [], ◌∷◌, ◌++◌, Option, None, Some, Result, Ok, Err}
+use Rattle.c_tree.specs.Tree.{Expr}
 use Rattle.c_tree.specs.View.{expr_of}
-use Rattle.c_tree.specs.Levels.{IsOperator, operator_level, right_level}
+use Rattle.c_tree.specs.Levels.{operator_level, right_level}
 use Rattle.c_tree.specs.declared.expression.Expr as rust_expr
 use Rattle.c_ops.specs.declared.building.OpsFault.{OpsFault}
 use Rattle.c_ops.specs.declared.building.OpsFault.TheVariants.{BadTarget, NoMemory}
 use Rattle.c_ops.specs.declared.waiting.Waiting.{Waiting}
 use Rattle.c_ops.specs.Op.{operator_of}
-use Rattle.c_ops.specs.Operations.{Operations, bad_target}
-use Rattle.c_ops.specs.Joining.{Left, Stack, bottom, above, Accepts}
+use Rattle.c_ops.specs.Operations.{Entry, Operations, is_untargeted, bad_target}
+use Rattle.c_ops.specs.Joining.{Left, Stack, bottom, above, Accepts, settle_of}
+use Rattle.c_ops.specs.Trees.{waits_after}
 
 -- a left operand that waits
 abbrev pub left_of : Waiting → Left
@@ -31,3 +33,9 @@ IsTaken level before (Some w) after = (before ≡ after ++ w ∷ []) × (level <
 abbrev pub IsFaultOf : Operations → OpsFault → Type 0
 IsFaultOf list (BadTarget token) = bad_target list ≡ Some token
 IsFaultOf list NoMemory = Unit {0}
+
+-- an operator joins what it ends, and waits with that for its right operand
+abbrev pub IsStep : Stack → Expr → Entry → Result rust_expr.Expr OpsFault → Stack → Type 0
+IsStep s e x (Ok last) t = (expr_of last ≡ x.operand) × (t ≡ waits_after x (settle_of (operator_level x.operator) s e)) × (is_untargeted x.operator (settle_of (operator_level x.operator) s e).last ≡ false)
+IsStep s e x (Err (BadTarget token)) t = (token ≡ x.token) × (is_untargeted x.operator (settle_of (operator_level x.operator) s e).last ≡ true)
+IsStep s e x (Err NoMemory) t = Unit {0}

@@ -2,10 +2,13 @@
 
 ghost use Rattle.std.specs.Prelude.{◌≡◌, IfOk, IfErr, None};
 ghost use Rattle.c_tree.specs.View.{expr_of};
+ghost use Rattle.c_tree.specs.Levels.{IsOperator};
+ghost use Rattle.c_ops.specs.Op.{operator_of};
 ghost use Rattle.c_ops.specs.Operations.{bad_target};
+ghost use Rattle.c_ops.specs.Joining.{AreOperators};
 ghost use Rattle.c_ops.specs.Trees.{the_tree, IsTheTreeOf};
-ghost use Rattle.c_ops.specs.Rows.{operations_of};
-ghost use Rattle.c_ops.specs.Building.{IsFaultOf};
+ghost use Rattle.c_ops.specs.Rows.{entry_of, operations_of};
+ghost use Rattle.c_ops.specs.Building.{stack_of, IsStep, IsFaultOf};
 
 use crate::list::OpList;
 use crate::row::Row;
@@ -32,14 +35,16 @@ impl From<NoMemory> for OpsFault {
 }
 
 /// Reads an operator and the operand behind it: answers the operand, with what waits for it.
-fn step(
-    alloc: Global,
-    waiting: &mut Vec<Waiting>,
-    last: Expr,
-    next: Row,
-) -> Result<Expr, OpsFault> {
+fn step(alloc: Global, waiting: &mut Vec<Waiting>, last: Expr, next: Row) -> Result<Expr, OpsFault>
+    requires operators { AreOperators (stack_of waiting.old.items) }
+    requires operator { IsOperator (operator_of next.op) }
+    ensures { IsStep (stack_of waiting.old.items) (expr_of last) (entry_of next) result (stack_of waiting.new.items) }
+{
     let Row {
-        token, op, operand, ..
+        token,
+        op,
+        operand,
+        ..
     } = next;
     let tree = settle(alloc, waiting, last, op.level())?;
     if is_untargeted(&op, &tree) {

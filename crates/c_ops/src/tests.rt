@@ -1,4 +1,4 @@
-//! Worked lists with their trees, and that calls succeed where there is memory.
+//! Worked lists with their trees and least heights, and that calls succeed where there is memory.
 
 ghost use Rattle.std.specs.Prelude.{◌≡◌, ◌≤◌, IfSome};
 ghost use Rattle.c_tree.specs.Levels.{IsOperator, expr_level, is_assignment};
@@ -65,6 +65,10 @@ fn name_at(tokens: &Tokens, at: u32) -> Option<NameId> {
         TokenKind::Name(name) => Some(name),
         _ => None,
     }
+}
+
+fn is_end(tokens: &Tokens, at: u32) -> bool {
+    at >= tokens.len() || matches!(tokens.kind(TokenId::new(at)), TokenKind::End)
 }
 
 fn sign_at(tokens: &Tokens, at: u32) -> Option<Punct> {
@@ -154,7 +158,8 @@ fn conditional(rt: &impl Abort, alloc: Global, tokens: &Tokens, at: &mut u32) ->
     Op::Cond { middle, colon }
 }
 
-fn list_of(rt: &impl Abort, alloc: Global, tokens: &Tokens) -> OpList {
+/// A list of operands and operators, and the operator behind them where there is one.
+fn list_of(rt: &impl Abort, alloc: Global, tokens: &Tokens) -> (OpList, Option<Op>) {
     let mut at = 0;
     let mut list = OpList::new(alloc, operand(rt, alloc, tokens, &mut at));
     for _ in 0..100 {
@@ -163,10 +168,20 @@ fn list_of(rt: &impl Abort, alloc: Global, tokens: &Tokens) -> OpList {
         }
         let token = TokenId::new(at);
         let op = operator(rt, alloc, tokens, &mut at);
+        if is_end(tokens, at) {
+            return (list, Some(op));
+        }
         let operand = operand(rt, alloc, tokens, &mut at);
         assert!(rt; list.push(token, op, operand).is_ok());
     }
-    list
+    (list, None)
+}
+
+fn read(rt: &impl Abort, alloc: Global, source: &[u8]) -> (OpList, Option<Op>) {
+    assert!(rt; source.len() < 1000);
+    let words = QualWords::new(alloc);
+    let tokens = lex(alloc, UnitNo::new(1), source, &words).expect(rt, "tokens");
+    list_of(rt, alloc, &tokens)
 }
 
 fn sign_of(e: &Expr) -> &'static str {
@@ -291,10 +306,7 @@ fn show(e: &Expr, text: &mut String) -> Result<(), AllocError> {
 }
 
 fn answer(rt: &impl Abort, alloc: Global, source: &[u8]) -> Result<String, AllocError> {
-    assert!(rt; source.len() < 1000);
-    let words = QualWords::new(alloc);
-    let tokens = lex(alloc, UnitNo::new(1), source, &words).expect(rt, "tokens");
-    let list = list_of(rt, alloc, &tokens);
+    let (list, _) = read(rt, alloc, source);
     match build_ops(alloc, list) {
         Ok(tree) => {
             let mut text = String::new(alloc);
@@ -307,7 +319,7 @@ fn answer(rt: &impl Abort, alloc: Global, source: &[u8]) -> Result<String, Alloc
 }
 
 /// Sources with the trees worked out by hand from the precedence table, or with the first bad target's token.
-static TREES: [(&[u8], &str); 42] = [
+static TREES: [(&[u8], &str); 46] = [
     (b"a", "a"),
     (b"a , b , c", "((a,b),c)"),
     (b"a = b = c", "(a=(b=c))"),
@@ -323,12 +335,16 @@ static TREES: [(&[u8], &str); 42] = [
     (b"a || b || c", "((a||b)||c)"),
     (b"a || b && c", "(a||(b&&c))"),
     (b"a && b || c", "((a&&b)||c)"),
+    (b"a && b && c", "((a&&b)&&c)"),
     (b"a && b | c", "(a&&(b|c))"),
     (b"a | b && c", "((a|b)&&c)"),
+    (b"a | b | c", "((a|b)|c)"),
     (b"a | b ^ c", "(a|(b^c))"),
     (b"a ^ b | c", "((a^b)|c)"),
+    (b"a ^ b ^ c", "((a^b)^c)"),
     (b"a ^ b & c", "(a^(b&c))"),
     (b"a & b ^ c", "((a&b)^c)"),
+    (b"a & b & c", "((a&b)&c)"),
     (b"a & b == c", "(a&(b==c))"),
     (b"a != b & c", "((a!=b)&c)"),
     (b"a == b != c", "((a==b)!=c)"),
@@ -361,13 +377,48 @@ static TREES: [(&[u8], &str); 42] = [
     ),
 ];
 
-static BAD: [(&[u8], &str); 6] = [
+static BAD: [(&[u8], &str); 8] = [
     (b"a + 1 = 2", "bad 3"),
     (b"a + b = c", "bad 3"),
     (b"a ? b : c = d", "bad 5"),
     (b"() a = b", "bad 3"),
     (b"a = b + c = d = e", "bad 5"),
+    (b"a = b + c = d", "bad 5"),
+    (b"a + b = c + d = e", "bad 3"),
     (b"a , b * c += d", "bad 5"),
+];
+
+/// Lists that end with an operator, and the height of the tree if one node came behind it.
+static HEIGHTS: [(&[u8], u32); 15] = [
+    (b"a +", 2),
+    (b"a + b +", 3),
+    (b"a + b *", 3),
+    (b"a * b +", 3),
+    (b"a = b = c =", 4),
+    (b"a , b ,", 3),
+    (b"a = b ,", 3),
+    (b"a ? b : c ? :", 3),
+    (b"a + b * c == d ? e :", 5),
+    (b"* a +", 3),
+    (b"a ? b : * c ,", 4),
+    (b"a << b + c <", 4),
+    (b"a - b * c +", 4),
+    (b"a + b * c , d =", 4),
+    (b"a || b && c | d ^ e & f == g < h <<", 9),
+];
+
+/// Lists, and whether an assignment may come next.
+static TARGETS: [(&[u8], bool); 10] = [
+    (b"a", true),
+    (b"* a", true),
+    (b"() a", false),
+    (b"a + b", false),
+    (b"a ? b : c", false),
+    (b"a = b", true),
+    (b"a , b", true),
+    (b"a , * b", true),
+    (b"a = () b", false),
+    (b"a = b + c", false),
 ];
 
 #[test]
@@ -386,6 +437,21 @@ fn assignments_to_no_unary_form_are_refused(rt: HostRuntime) -> Result<(), Fail>
     for (source, expected) in &BAD {
         let text = answer(&rt, alloc, *source)?;
         assert_eq!(rt; text.as_str(), *expected);
+    }
+    Ok(())
+}
+
+#[test]
+fn heights_and_targets_are_known_before_the_tree(rt: HostRuntime) -> Result<(), Fail> {
+    let alloc = rt.alloc();
+    for (source, expected) in &HEIGHTS {
+        let (list, op) = read(&rt, alloc, *source);
+        let op = op.expect(&rt, "an operator");
+        assert_eq!(rt; list.least_height(&op), *expected);
+    }
+    for (source, expected) in &TARGETS {
+        let (list, _) = read(&rt, alloc, *source);
+        assert_eq!(rt; list.is_target(), *expected);
     }
     Ok(())
 }
