@@ -1,6 +1,6 @@
 -- What the rows of a list keep, and what is known of heights by it.
 use Rattle.std.proofs.Common.{◌≡◌, ℕ, ◌+◌, ◌<◌, ◌≤◌, max, List, [], ◌∷◌, ◌++◌, length, map, take, Option, None, Some, refl, sym, ◌∙◌, ap, subst, arith, inl, inr}
-use Rattle.std.specs.Prelude.{slice_get}
+use Rattle.std.specs.Prelude.{slice_get, Bool, true, false, if◌then◌else◌}
 use Rattle.std.proofs.lemmas.List.{take_all, take-append-le, map_push}
 use Rattle.c_tree.specs.Tree.{Expr, operation}
 use Rattle.c_tree.specs.View.{expr_of}
@@ -171,3 +171,9 @@ least_height_is rows op joined height whole j above_is whole_is token leaf one =
     ∙ ap (λ (s : Stack). capped (expr_height (finished s e))) (sym j.below)
     ∙ ap (λ (q : Settled). capped (expr_height (finished q.below (operation q.last op token leaf)))) (settled_at-all rows (operator_level op))
     ∙ ap (λ (f : Expr). capped (expr_height f)) (sym (the_tree-more list x))
+
+-- a list after a push, which may have been refused
+pub kept-after : (rows : Rows) (row : Row) (done : Bool) (items : List Row) → items ≡ (if done then rows.rest ++ row ∷ [] else rows.rest) → AreKept rows → AreKept (with_row rows row) →
+    AreKept (record { first = rows.first; rest = items })
+kept-after rows row true items is k more = let P : List Row → Type 0 = λ xs. AreKept (record { first = rows.first; rest = xs }) in subst P (sym is) more
+kept-after rows row false items is k more = let P : List Row → Type 0 = λ xs. AreKept (record { first = rows.first; rest = xs }) in subst P (sym is) k

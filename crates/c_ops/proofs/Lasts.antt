@@ -1,14 +1,19 @@
 -- Lists with one more operator, and their ends.
-use Rattle.std.proofs.Common.{◌≡◌, ℕ, ◌+◌, ◌-◌, ◌<◌, ◌≤◌, List, [], ◌∷◌, ◌++◌, length, map, take, Option, None, Some, refl, sym, ◌∙◌, ap, arith, inl, inr, zero, suc}
+use Rattle.std.proofs.Common.{◌≡◌, ℕ, ◌+◌, ◌-◌, ◌<◌, ◌≤◌, List, [], ◌∷◌, ◌++◌, length, map, take, Option, None, Some, refl, sym, ◌∙◌, ap, arith, inl, inr, zero, suc, Bor}
 use Rattle.std.specs.Prelude.{slice_get, ◌⊎◌}
 use Rattle.std.proofs.lemmas.List.{take_all, take_more, map_push, nil_from_length}
 use Rattle.std.proofs.lemmas.Option.{slice_get_within, slice_get_cases, get_or_from_slice_get}
+use Rattle.std.specs.Option.{option_copied}
 use Rattle.c_tree.specs.Tree.{Expr, Operator}
+use Rattle.c_tree.specs.View.{expr_of}
 use Rattle.c_tree.specs.Levels.{operator_level}
+use Rattle.c_ops.specs.declared.row.Row.{Row}
+use Rattle.c_ops.specs.Op.{operator_of}
 use Rattle.c_ops.specs.Operations.{Entry}
 use Rattle.c_ops.specs.Joining.{Stack, finished, settle_of}
 use Rattle.c_ops.specs.Trees.{waits_after, tree_from}
 use Rattle.c_ops.specs.Lasts.{last_of, operator_before}
+use Rattle.c_ops.specs.Rows.{entry_of}
 use Rattle.c_ops.specs.Waits.{waits_behind}
 
 pub last_of-push : (e : Expr) (k : List Entry) (x : Entry) → last_of e (k ++ x ∷ []) ≡ x.operand
@@ -52,3 +57,16 @@ module _ {A : Type 0} where
   pushed_cases [] y (suc n) x h = absurd cc
   pushed_cases (z ∷ xs) y zero x h = inl (h, omega arith)
   pushed_cases (z ∷ xs) y (suc n) x h = elim (pushed_cases xs y n x h) [ inl t ↦ inl (t.0, omega (arith, t.1)) | inr t ↦ inr (omega (arith, t.0), t.1) ]
+
+  -- what `last` answers
+  pub read_last : (xs slice : List A) (r : Option (Bor A)) (x : Bor A) → slice ≡ xs → option_copied r ≡ slice_get slice (length slice - 1) → r ≡ Some x → slice_get xs (length xs - 1) ≡ Some x.now
+  read_last xs slice r x same value is = sym (value ∙ ap (λ (ys : List A). slice_get ys (length ys - 1)) same) ∙ ap option_copied is
+
+pub last_entry : (rows : List Row) (row : Row) → slice_get rows (length rows - 1) ≡ Some row → map entry_of rows ≡ map entry_of (take (length rows - 1) rows) ++ entry_of row ∷ []
+last_entry rows row h = ap (map entry_of) (with_last rows row h) ∙ map_push entry_of (take (length rows - 1) rows) row
+
+pub last_operand : (first : Expr) (rows : List Row) (row : Row) → slice_get rows (length rows - 1) ≡ Some row → expr_of row.operand ≡ last_of first (map entry_of rows)
+last_operand first rows row h = sym (ap (last_of first) (last_entry rows row h) ∙ last_of-push first (map entry_of (take (length rows - 1) rows)) (entry_of row))
+
+pub last_operator : (before : Option Operator) (rows : List Row) (row : Row) → slice_get rows (length rows - 1) ≡ Some row → Some (operator_of row.op) ≡ operator_before before (map entry_of rows)
+last_operator before rows row h = sym (ap (operator_before before) (last_entry rows row h) ∙ operator_before-push before (map entry_of (take (length rows - 1) rows)) (entry_of row))

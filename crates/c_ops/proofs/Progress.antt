@@ -27,7 +27,7 @@ begins list h = record {
   clean = ap bad_target (in_order-leaf list.first [] h);
 }
 
-stack_operators : (s : Stack) → IsStack s → AreOperators s
+pub stack_operators : (s : Stack) → IsStack s → AreOperators s
 stack_operators bottom i = tt
 stack_operators (above s l) i = (stack_operators s i.0, i.2)
 

@@ -1,6 +1,6 @@
 -- What a list is read with, from left to right, and its tree.
 use Rattle.std.proofs.Common.{◌≡◌, ℕ, ◌-◌, ◌<◌, ◌≤◌, true, false, List, [], ◌∷◌, ◌++◌, length, map, take, Option, None, Some, refl, sym, ◌∙◌, ap, subst, arith}
-use Rattle.std.specs.Prelude.{slice_get}
+use Rattle.std.specs.Prelude.{slice_get, Result, Ok, Err}
 use Rattle.c_tree.specs.Tree.{Expr, operation}
 use Rattle.c_tree.specs.View.{expr_of}
 use Rattle.c_tree.specs.Levels.{IsOperator, operator_level, right_level}
@@ -11,7 +11,9 @@ use Rattle.c_ops.specs.Operations.{Entry, Operations, is_untargeted, bad_target}
 use Rattle.c_ops.specs.Joining.{Left, Stack, bottom, above, finished, Accepts, Settled, settle_of, AreOperators}
 use Rattle.c_ops.specs.Trees.{IsTheTreeOf, AreOperands, AllOperands, waits_after, tree_from, the_tree}
 use Rattle.c_ops.specs.Rows.{Rows, entry_of, operations_of}
-use Rattle.c_ops.specs.Building.{left_of, stack_from, stack_of}
+use Rattle.c_ops.specs.declared.building.OpsFault.{OpsFault}
+use Rattle.c_ops.specs.declared.building.OpsFault.TheVariants.{BadTarget, NoMemory}
+use Rattle.c_ops.specs.Building.{left_of, stack_from, stack_of, IsStep, IsFaultOf}
 use Rattle.c_ops.proofs.Settling.{settled, settle-kept, settle-joins, settle_keeps}
 use Rattle.c_ops.proofs.Lasts.{with_last, without_last}
 use Rattle.c_ops.proofs.Progress.{Progress, begins, goes_on, fails, ends, joined_all, stack_operators}
@@ -99,3 +101,8 @@ building_ends list s e f b is =
     let same : f ≡ finished s e = is ∙ joined_all s e in
     let P : Expr → Type 0 = λ g. IsTheTreeOf list g in
     record { targets = made.1; same = same ∙ b.tree; tree = subst P (sym same) made.0 }
+
+pub building_refuses : (list : Operations) (s : Stack) (e : Expr) (row : Row) (rows : List Row) (fault : OpsFault) (t : Stack) → IsBuilding list s e (row ∷ rows) →
+    IsStep s e (entry_of row) (Err fault) t → IsFaultOf list fault
+building_refuses list s e row rows (BadTarget token) t b h = building_fails list s e row rows b h.1 ∙ ap Some (sym h.0)
+building_refuses list s e row rows NoMemory t b h = tt

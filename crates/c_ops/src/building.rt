@@ -28,12 +28,6 @@ pub enum OpsFault {
     NoMemory,
 }
 
-impl From<NoMemory> for OpsFault {
-    fn from(_fault: NoMemory) -> OpsFault {
-        OpsFault::NoMemory
-    }
-}
-
 /// Reads an operator and the operand behind it: answers the operand, with what waits for it.
 fn step(alloc: Global, waiting: &mut Vec<Waiting>, last: Expr, next: Row) -> Result<Expr, OpsFault>
     requires operators { AreOperators (stack_of waiting.old.items) }
@@ -46,7 +40,9 @@ fn step(alloc: Global, waiting: &mut Vec<Waiting>, last: Expr, next: Row) -> Res
         operand,
         ..
     } = next;
-    let tree = settle(alloc, waiting, last, op.level())?;
+    let Ok(tree) = settle(alloc, waiting, last, op.level()) else {
+        return Err(OpsFault::NoMemory);
+    };
     if is_untargeted(&op, &tree) {
         return Err(OpsFault::BadTarget(token));
     }
@@ -71,5 +67,8 @@ pub fn build_ops(alloc: Global, flat: OpList) -> Result<Expr, OpsFault>
     while let Some(row) = rows.next() {
         last = step(alloc, &mut waiting, last, row)?;
     }
-    Ok(settle(alloc, &mut waiting, last, 0)?)
+    match settle(alloc, &mut waiting, last, 0) {
+        Ok(tree) => Ok(tree),
+        Err(NoMemory) => Err(OpsFault::NoMemory),
+    }
 }

@@ -32,10 +32,14 @@ pub struct OpList {
 }
 
 impl Model for OpList {
+    ghost use Rattle.std.specs.Coded.{codes};
+    ghost use Rattle.c_tree.specs.contracts.expression.Expr as e;
     ghost use Rattle.c_ops.specs.Rows.{Rows};
     ghost use Rattle.c_ops.specs.Waits.{AreKept};
 
     ghost Value = { Rows };
+
+    ghost coded = { Prim.hlevel (codes, e.the_row.coded) };
 
     ghost view = { λ a. record { first = a.first; rest = a.rows.items } };
 
@@ -76,10 +80,7 @@ impl OpList {
         ensures { result ≡ begins_side (operator_before None (operations_of self.now).rest) }
     {
         match self.rows.last() {
-            Some(row) => match &row.op {
-                Op::Comma | Op::Assign(_) => true,
-                Op::Binary(_) | Op::Cond { .. } => false,
-            },
+            Some(row) => row.op.begins_side(),
             None => true,
         }
     }
@@ -130,12 +131,12 @@ impl OpList {
         Joined { height, below }
     }
 
-    /// The height of the tree where an expression of a height ends what waits behind the first so many rows.
-    fn whole(&self, count: usize, height: u32) -> u32
+    /// The height of the tree where a last expression of a height ends what waits behind the first so many rows.
+    fn whole(&self, count: usize, last: u32) -> u32
         requires { count ≤ length self.now.rest }
-        ensures { (e : _) → height ≡ capped (expr_height e) → result ≡ capped (expr_height (finished (waits_at (expr_of self.now.first) self.now.rest count) e)) }
+        ensures { (e : _) → last ≡ capped (expr_height e) → result ≡ capped (expr_height (finished (waits_at (expr_of self.now.first) self.now.rest count) e)) }
     {
-        let mut height = height;
+        let mut height = last;
         let mut below = count;
         while let Some(row) = self.newest(below) {
             height = above_both(row.height, height);

@@ -1,10 +1,11 @@
 //! Operators with what stands between them and their right operands.
 
-ghost use Rattle.std.specs.Prelude.{◌≡◌, ◌≤◌};
+ghost use Rattle.std.specs.Prelude.{◌≡◌, ◌≤◌, Some};
 ghost use Rattle.c_tree.specs.Levels.{binary_level, operator_level, right_level as right_level_of};
 ghost use Rattle.c_tree.specs.Height.{operator_height};
 ghost use Rattle.c_tree.specs.Capped.{capped};
 ghost use Rattle.c_ops.specs.Op.{operator_of};
+ghost use Rattle.c_ops.specs.Operations.{begins_side};
 
 use c_lexer::kinds::Punct;
 use c_tree::expression::Expr;
@@ -65,6 +66,16 @@ impl Op {
             Op::Comma | Op::Assign(_) => 1,
             Op::Cond { .. } => 2,
             Op::Binary(sign) => level_of_binary(*sign) + 3,
+        }
+    }
+
+    /// Whether the operand behind it begins a left side of an assignment.
+    pub(crate) fn begins_side(&self) -> bool
+        ensures { result ≡ begins_side (Some (operator_of self.now)) }
+    {
+        match self {
+            Op::Comma | Op::Assign(_) => true,
+            Op::Cond { .. } | Op::Binary(_) => false,
         }
     }
 
