@@ -1,5 +1,5 @@
 -- What the rows of a list keep, and what is known of heights by it.
-use Rattle.std.proofs.Common.{◌≡◌, ℕ, ◌+◌, ◌<◌, ◌≤◌, max, List, [], ◌∷◌, ◌++◌, length, map, take, Option, None, Some, refl, sym, ◌∙◌, ap, subst, arith, inl, inr}
+use Rattle.std.proofs.Common.{◌≡◌, ℕ, ◌+◌, ◌<◌, ◌≤◌, max, List, [], ◌∷◌, ◌++◌, length, map, take, Some, refl, sym, ◌∙◌, ap, subst, arith, inl, inr}
 use Rattle.std.specs.Prelude.{slice_get, Bool, true, false, if◌then◌else◌}
 use Rattle.std.proofs.lemmas.List.{take_all, take-append-le, map_push}
 use Rattle.c_tree.specs.Tree.{Expr, operation}
@@ -7,17 +7,16 @@ use Rattle.c_tree.specs.View.{expr_of}
 use Rattle.c_tree.specs.Levels.{operator_level, right_level}
 use Rattle.c_tree.specs.Height.{expr_height, operator_height}
 use Rattle.c_tree.specs.Capped.{capped}
-use Rattle.c_tree.specs.declared.expression.Expr as rust_expr
 use Rattle.c_ops.specs.declared.row.Row.{Row}
 use Rattle.c_ops.specs.declared.row.Joined.{Joined}
 use Rattle.c_ops.specs.Op.{operator_of}
 use Rattle.c_ops.specs.Operations.{Entry, Operations, appended}
 use Rattle.c_ops.specs.Joining.{Left, Stack, bottom, above, finished, Accepts, Settled, settle_of}
-use Rattle.c_ops.specs.Trees.{IsOperand, AllOperands, AreOperands, waits_after, tree_from, the_tree}
+use Rattle.c_ops.specs.Trees.{IsOperand, AllOperands, waits_after, the_tree}
 use Rattle.c_ops.specs.Lasts.{last_of}
 use Rattle.c_ops.specs.Rows.{Rows, entry_of, operations_of}
 use Rattle.c_ops.specs.Waits.{waits_behind, waits_at, settled_at, IsKept, AreKept, IsNewest, IsJoined, IsLeastHeight}
-use Rattle.c_ops.proofs.Settling.{settled, settle-kept, settle-joins}
+use Rattle.c_ops.proofs.Settling.{settle-kept, settle-joins}
 use Rattle.c_ops.proofs.Lasts.{last_of-push, waits_behind-push, tree_from-ends, take_with, pushed_cases}
 
 abbrev waits_of : Rows → ℕ → Stack

@@ -1,20 +1,20 @@
 -- What a list is read with, from left to right, and its tree.
-use Rattle.std.proofs.Common.{◌≡◌, ℕ, ◌-◌, ◌<◌, ◌≤◌, true, false, List, [], ◌∷◌, ◌++◌, length, map, take, Option, None, Some, refl, sym, ◌∙◌, ap, subst, arith}
-use Rattle.std.specs.Prelude.{slice_get, Result, Ok, Err}
+use Rattle.std.proofs.Common.{◌≡◌, ℕ, ◌-◌, ◌<◌, ◌≤◌, true, false, List, [], ◌∷◌, ◌++◌, length, map, take, None, Some, refl, sym, ◌∙◌, ap, subst}
+use Rattle.std.specs.Prelude.{slice_get, Err}
 use Rattle.c_tree.specs.Tree.{Expr, operation}
 use Rattle.c_tree.specs.View.{expr_of}
 use Rattle.c_tree.specs.Levels.{IsOperator, operator_level, right_level}
 use Rattle.c_ops.specs.declared.row.Row.{Row}
 use Rattle.c_ops.specs.declared.waiting.Waiting.{Waiting}
 use Rattle.c_ops.specs.Op.{operator_of}
-use Rattle.c_ops.specs.Operations.{Entry, Operations, is_untargeted, bad_target}
-use Rattle.c_ops.specs.Joining.{Left, Stack, bottom, above, finished, Accepts, Settled, settle_of, AreOperators}
+use Rattle.c_ops.specs.Operations.{Operations, is_untargeted, bad_target}
+use Rattle.c_ops.specs.Joining.{Stack, bottom, above, finished, Accepts, settle_of, AreOperators}
 use Rattle.c_ops.specs.Trees.{IsTheTreeOf, AreOperands, AllOperands, waits_after, tree_from, the_tree}
 use Rattle.c_ops.specs.Rows.{Rows, entry_of, operations_of}
 use Rattle.c_ops.specs.declared.building.OpsFault.{OpsFault}
 use Rattle.c_ops.specs.declared.building.OpsFault.TheVariants.{BadTarget, NoMemory}
 use Rattle.c_ops.specs.Building.{left_of, stack_from, stack_of, IsStep, IsFaultOf}
-use Rattle.c_ops.proofs.Settling.{settled, settle-kept, settle-joins, settle_keeps}
+use Rattle.c_ops.proofs.Settling.{settled, settle-kept, settle-joins}
 use Rattle.c_ops.proofs.Lasts.{with_last, without_last}
 use Rattle.c_ops.proofs.Progress.{Progress, begins, goes_on, fails, ends, joined_all, stack_operators}
 

@@ -9,7 +9,7 @@ use Rattle.c_ops.specs.declared.row.Joined.{Joined}
 use Rattle.c_ops.specs.declared.row.Row.{Row}
 use Rattle.c_ops.specs.Op.{operator_of}
 use Rattle.c_ops.specs.Operations.{Entry, Operations, appended}
-use Rattle.c_ops.specs.Joining.{Left, Stack, bottom, above, Settled, settle_of, Accepts}
+use Rattle.c_ops.specs.Joining.{Stack, bottom, above, Settled, settle_of, Accepts}
 use Rattle.c_ops.specs.Trees.{AreOperands, waits_after, the_tree}
 use Rattle.c_ops.specs.Lasts.{last_of}
 use Rattle.c_ops.specs.Rows.{Rows, entry_of, operations_of}

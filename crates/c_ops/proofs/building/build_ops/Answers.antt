@@ -1,4 +1,4 @@
-use Rattle.std.proofs.Common.{List, ◌∷◌, [], subst, sym, ◌∙◌, ap}
+use Rattle.std.proofs.Common.{List, subst, sym, ◌∙◌, ap}
 use Rattle.std.specs.Vec.Iter.{into_iter_items}
 use Rattle.std.proofs.lemmas.List.{nil_from_length}
 use Rattle.std.proofs.lemmas.Result.{err_from_is_err_and}
@@ -36,7 +36,7 @@ returns-in-Ok-clause-tree c =
     let P : List Row → Type 0 = λ rows. IsBuilding (operations_of c.args.flat) (stack_of c.loop-row.waiting.items) (expr_of c.loop-row.last) rows in
     let none = nil_from_length (into_iter_items c.loop-row.rows) (sym c.loop-row.rows.rest.ok.0 ∙ c.in_default.ensures.cases.0) in
     let built =
-      building_ends (operations_of c.args.flat) (stack_of c.loop-row.waiting.items) (expr_of c.loop-row.last) (expr_of c.in-Ok.tree) (subst P none c.loop-row.invariant)
-      (ap (λ (r : Settled). r.last) c.in-Ok.ensures)
+    building_ends (operations_of c.args.flat) (stack_of c.loop-row.waiting.items) (expr_of c.loop-row.last) (expr_of c.in-Ok.tree) (subst P none c.loop-row.invariant)
+    (ap (λ (r : Settled). r.last) c.in-Ok.ensures)
     in
     (built.targets, built.same, built.tree)
