@@ -305,6 +305,14 @@ fn show(e: &Expr, text: &mut String) -> Result<(), AllocError> {
     }
 }
 
+fn fault_text(alloc: Global, fault: OpsFault) -> Result<String, AllocError> {
+    match fault {
+        OpsFault::BadTarget(token) => format!(in alloc; "bad {}", token.number()),
+        OpsFault::NoMemory => format!(in alloc; "no memory"),
+    }
+}
+
+/// The tree of a list as a text, or why there is none.
 fn answer(rt: &impl Abort, alloc: Global, source: &[u8]) -> Result<String, AllocError> {
     let (list, _) = read(rt, alloc, source);
     match build_ops(alloc, list) {
@@ -313,8 +321,7 @@ fn answer(rt: &impl Abort, alloc: Global, source: &[u8]) -> Result<String, Alloc
             show(&tree, &mut text)?;
             Ok(text)
         }
-        Err(OpsFault::BadTarget(token)) => format!(in alloc; "bad {}", token.number()),
-        Err(OpsFault::NoMemory) => format!(in alloc; "no memory"),
+        Err(fault) => fault_text(alloc, fault),
     }
 }
 
