@@ -19,6 +19,10 @@ one_more [] = refl
 one_more (Opened ∷ entries) = omega arith
 one_more (Declared name kind before ∷ entries) = omega arith
 
+-- an opened scope lies inside another
+pub opened_inside : (entries : List Entry) → 2 ≤ length (scopes_of (reverse (entries ++ Opened ∷ [])))
+opened_inside entries = rw (reverse_push entries Opened) (let m = one_more (reverse entries) in omega arith)
+
 -- there are no more scopes than entries
 pub few : (entries : List Entry) → length (leave_scope (scopes_of entries)) ≤ length entries
 few [] = omega arith

@@ -1,6 +1,6 @@
 //! The scopes that are open, and the names that they declare.
 
-ghost use Rattle.std.specs.Prelude.{◌≡◌, ◌≢◌, ℕ, ◌≤◌, ◌↔◌, Err, None, Some, IsTrue, true, false, length, IfOk, IfErr, OnOk, OnErr, [], ◌<◌};
+ghost use Rattle.std.specs.Prelude.{◌≡◌, ◌≢◌, ℕ, ◌≤◌, ◌↔◌, Err, None, Some, IsTrue, true, false, length, IfOk, IfErr, OnOk, OnErr, [], ◌<◌, is_some};
 ghost use Rattle.typedef_scope.specs.Scopes.{is_same, file_scope, enter_scope, leave_scope, innermost, declare_name, with_name, kind_in, kind_of};
 ghost use Rattle.typedef_scope.specs.declared.kind.ScopeFault.TheVariants.{Redeclared};
 
@@ -61,6 +61,7 @@ impl Scopes {
     /// Opens a scope inside the innermost. For want of memory the scopes stay as they were. Constant time but for growth.
     pub fn enter(&mut self) -> Result<(), NoMemory>
         ensures entered { OnOk result (self.new ≡ enter_scope self.old) }
+        ensures inner { OnOk result (2 ≤ length self.new) }
         ensures err { OnErr result (self.new ≡ self.old) }
     {
         match self.entries.push(Entry::Opened) {
@@ -153,6 +154,17 @@ impl Scopes {
                 Ok(()) => Ok(()),
                 Err(NoMemory) => Err(ScopeFault::NoMemory),
             },
+        }
+    }
+
+    /// Whether the innermost scope may declare a name with a kind: it does not give the name another. Takes no memory,
+    /// and constant time.
+    pub fn may_declare(&self, name: NameId, kind: Kind) -> bool
+        ensures { result ≡ is_some (declare_name self.now name kind) }
+    {
+        match self.kind_here(name) {
+            Some(known) => known.is_same(kind),
+            None => true,
         }
     }
 
