@@ -1,5 +1,5 @@
 -- What it means that a reader closes no scope which it did not open, and that declarations close none.
-use Rattle.std.proofs.Common.{◌≡◌, ℕ, suc, ◌≤◌, Bool, true, false, if◌then◌else◌, List, [], ◌∷◌, length, Option, Some, None, Ok, arith}
+use Rattle.std.proofs.Common.{ℕ, suc, ◌≤◌, Bool, true, false, if◌then◌else◌, List, [], ◌∷◌, length, Option, Some, None, arith}
 use Rattle.c_tree.specs.declared.lexeme.Lexeme.{Lexeme}
 use Rattle.c_tree.specs.Tree.{SomeDeclr, no_declr, some_declr}
 use Rattle.typedef_scope.specs.declared.kind.Kind.{Kind}
@@ -8,17 +8,14 @@ use Rattle.c_parser.specs.Scoping.{declare_some}
 use Rattle.c_parser.specs.Reading.{Read}
 use Rattle.c_parser.specs.Specifying.{declared}
 use Rattle.c_parser.specs.Declaring.{present, declared_some}
+use Rattle.c_parser.specs.ReaderLaws.{ClosesNone}
 use Rattle.c_parser.proofs.Holding.{Holds, holds_ok, holds_err}
-
--- as many scopes are open behind what is read as before it, at least
-abbrev pub Deep : {A : Type 0} → (Scopes → List Lexeme → Read (A × Scopes)) → Type 0
-Deep {A} read = (s : Scopes) (ts : List Lexeme) (x : (A × Scopes) × List Lexeme) → read s ts ≡ Ok x → length s ≤ length x.0.1
 
 -- behind what is read so many scopes are open at least
 abbrev pub HasOpen : {A : Type 0} → ℕ → (A × Scopes) × List Lexeme → Type 0
 HasOpen n x = n ≤ length x.0.1
 
-pub deep_has_open : {A : Type 0} (n : ℕ) (read : Scopes → List Lexeme → Read (A × Scopes)) → Deep read → (s : Scopes) (ts : List Lexeme) → n ≤ length s → Holds (HasOpen n) (read s ts)
+pub deep_has_open : {A : Type 0} (n : ℕ) (read : Scopes → List Lexeme → Read (A × Scopes)) → ClosesNone read → (s : Scopes) (ts : List Lexeme) → n ≤ length s → Holds (HasOpen n) (read s ts)
 deep_has_open n read deep s ts many x e = let more : length s ≤ length x.0.1 = deep s ts x e in omega (arith, many, more)
 
 pub leave_has_open : (n : ℕ) (s : Scopes) → suc n ≤ length s → n ≤ length (leave_scope s)

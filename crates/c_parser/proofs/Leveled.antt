@@ -15,6 +15,7 @@ use Rattle.c_parser.specs.Eating.{token_at, is_open_paren, is_close_paren, is_cl
 use Rattle.c_parser.specs.Specifying.{begins_specs, name_at}
 use Rattle.c_parser.specs.Expressing.{Reach, whole, castable, unary, Between, assign_between, binary_between, between, Opening, prefix_opening, sizeof_opening, name_opening, number_opening, char_opening, text_opening, paren_opening, no_opening, opening_of, Closing, index_closing, call_closing, dot_closing, arrow_closing, post_closing, no_closing, closing_of, texts_turn, args_with, postfix_by, postfix_turn, postfixed, paren_expr_with, sizeof_type_with, sizeof_value_with, sizeof_with, unary_by, unary_with, cast_with}
 use Rattle.c_parser.specs.Knot.{expr_at, type_name_at}
+use Rattle.c_parser.specs.ReaderLaws.{OperandsAreTight}
 use Rattle.c_parser.proofs.Holding.{Holds, TurnHolds, holds_ok, holds_err, holds_behind, holds_by, turn_lowered, holds_run}
 use Rattle.c_parser.proofs.ExprSoundTokens.{IsBetween, between_is}
 
@@ -100,3 +101,11 @@ unary_level n = unary_with_level n (expr_at n) (type_name_at n)
 
 pub cast_level : (n : ℕ) (s : Scopes) (ts : List Lexeme) (x : (Expr × Scopes) × List Lexeme) → cast_with n (expr_at n) (type_name_at n) s ts ≡ Ok x → 13 ≤ expr_level x.0.0
 cast_level n = cast_with_level n (expr_at n) (type_name_at n)
+
+pub operands_are_tight : OperandsAreTight
+operands_are_tight = record {
+  casts = cast_level;
+  unaries = unary_level;
+  binaries = binary_is;
+  assigns = assign_is;
+}
