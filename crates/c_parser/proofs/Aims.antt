@@ -1,10 +1,8 @@
 -- What is to be shown of each reader, and what of the readers inside it may be taken for that.
-use Rattle.std.proofs.Common.{◌≡◌, ℕ, ◌≤◌, ◌<◌, Bool, true, false, List, [], ◌∷◌, length, Option, Some, None, Ok}
-use Rattle.std.specs.Prelude.{◌+◌, max, not, ◌&&◌, ◌||◌, is_some, if◌then◌else◌}
-use Rattle.c_lexer.specs.declared.kinds.TokenKind.{TokenKind}
-use Rattle.c_lexer.specs.declared.kinds.Punct.{Punct}
+use Rattle.std.proofs.Common.{◌≡◌, ℕ, ◌≤◌, Bool, true, false, List, [], ◌∷◌, length, Option, Some, Ok}
+use Rattle.std.specs.Prelude.{◌+◌, max, not, ◌&&◌, is_some}
 use Rattle.c_tree.specs.declared.lexeme.Lexeme.{Lexeme}
-use Rattle.c_tree.specs.Tree.{Expr, SpecWords, no_words, more_words, Declr, SomeDeclr, no_declr, some_declr}
+use Rattle.c_tree.specs.Tree.{Expr, SpecWords, no_words, SomeDeclr, no_declr, some_declr}
 use Rattle.c_tree.specs.Text.{expr_text, spec_words_text, some_declr_text}
 use Rattle.c_tree.specs.Height.{expr_height, specs_height, some_declr_height}
 use Rattle.c_tree.specs.Levels.{expr_level}
@@ -15,10 +13,10 @@ use Rattle.typedef_scope.specs.declared.kind.Kind.{Kind}
 use Rattle.typedef_scope.specs.Scopes.{Scopes, declare_name}
 use Rattle.c_parser.specs.Scoping.{behind, expr_scopes, spec_words_scopes, some_declr_scopes, some_shows_no_type, some_declared_name}
 use Rattle.c_parser.specs.Reading.{Read, Shrinks, IsTail}
-use Rattle.c_parser.specs.Eating.{begins, is_open_paren, is_open_bracket, is_open_brace, is_star, is_comma}
+use Rattle.c_parser.specs.Eating.{is_open_paren, is_open_bracket, is_open_brace, is_star}
 use Rattle.c_parser.specs.Specifying.{Role, declaring, naming, begins_specs, kind_start, typed_start, is_start, spelled_name}
 use Rattle.c_parser.specs.Declaring.{Mode, with_name, without_name, either_way, may_declare}
-use Rattle.c_parser.specs.Expressing.{Reach, whole, assigned, conditional, castable, unary, Between, comma_between, assign_between, question_between, binary_between, nothing_between, between, Closing, no_closing, closing_of, is_text}
+use Rattle.c_parser.specs.Expressing.{Reach, whole, assigned, conditional, castable, unary, Between, comma_between, nothing_between, between, Closing, no_closing, closing_of, is_text}
 
 -- a reader leaves no more tokens than it was given
 abbrev pub Falls : {A : Type 0} → (List Lexeme → Read A) → Type 0

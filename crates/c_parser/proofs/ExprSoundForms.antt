@@ -2,7 +2,6 @@
 use Rattle.std.proofs.Common.{◌≡◌, ◌≢◌, ℕ, suc, ◌≤◌, ◌<◌, Bool, true, false, if◌then◌else◌, List, [], ◌∷◌, ◌++◌, length, Some, None, Ok, refl, sym, ◌∙◌, ap, subst, arith}
 use Rattle.std.specs.Prelude.{nat_le, ◌&&◌, not}
 use Rattle.c_lexer.specs.declared.kinds.TokenKind.TheVariants as kinds
-use Rattle.c_lexer.specs.declared.kinds.Punct.{Punct}
 use Rattle.c_lexer.specs.declared.kinds.Punct.TheVariants as puncts
 use Rattle.c_tree.specs.declared.lexeme.Lexeme.{Lexeme}
 use Rattle.c_tree.specs.declared.parts.Word.{Word}
@@ -13,7 +12,7 @@ use Rattle.c_tree.specs.Levels.{expr_level}
 use Rattle.c_tree.specs.WellFormed.{IsExpr, IsSomeExpr, AreArguments, is_sizeof}
 use Rattle.typedef_scope.specs.Scopes.{Scopes}
 use Rattle.c_parser.specs.declared.fault.Fault.TheVariants.{Unexpected}
-use Rattle.c_parser.specs.Scoping.{behind, expr_scopes, exprs_scopes, some_expr_scopes, where_true, names_type}
+use Rattle.c_parser.specs.Scoping.{expr_scopes, exprs_scopes, some_expr_scopes, where_true, names_type}
 use Rattle.c_parser.specs.Reading.{Read, run, ends, refuses, ◌>>=◌, IsNumbered, IsTail}
 use Rattle.c_parser.specs.Eating.{token_at, after, begins, is_open_paren, is_close_paren, is_close_bracket, is_colon, is_comma}
 use Rattle.c_parser.specs.Specifying.{begins_specs, name_at}

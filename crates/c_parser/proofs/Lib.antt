@@ -36,3 +36,10 @@ pub mod SpecsCompleteEnums
 pub mod SpecsComplete
 pub mod KnottingSteps
 pub mod KnotShrinks
+pub mod Holding
+pub mod Deepening
+pub mod DeepeningExprs
+pub mod DeepeningSpecs
+pub mod DeepeningDeclrs
+pub mod DeepeningKnot
+pub mod Leveled

@@ -10,17 +10,16 @@ use Rattle.c_tree.specs.declared.parts.PointerWord.{PointerWord}
 use Rattle.c_tree.specs.declared.parts.PointerWord.TheVariants as pointer_words
 use Rattle.c_tree.specs.declared.parts.ArrayWord.{ArrayWord}
 use Rattle.c_tree.specs.declared.parts.ArrayWord.TheVariants as array_words
-use Rattle.c_tree.specs.Tree.{Expr, SpecWords, no_words, more_words, qualifier, Declr, pointer, declr_name, declr_paren, array, params, abs_pointer, abs_paren, abs_array, abs_params, SomeDeclr, no_declr, some_declr, SomeSize, no_size, some_size, size_value, size_star, Params, no_params, more_params, no_init, InitDeclrs, no_init_declrs, more_init_declrs, Declaration, declaration, decl_declaration, Dots}
+use Rattle.c_tree.specs.Tree.{Expr, SpecWords, no_words, more_words, qualifier, Declr, pointer, declr_name, declr_paren, array, params, abs_pointer, abs_paren, abs_array, abs_params, SomeDeclr, no_declr, some_declr, SomeSize, no_size, some_size, size_value, size_star, Params, no_params, more_params, Dots}
 use Rattle.c_tree.specs.Height.{some_declr_height}
-use Rattle.c_tree.specs.Unit.{Item, decl_item, semi_item}
 use Rattle.c_tree.specs.WellFormed.{is_named}
 use Rattle.typedef_scope.specs.declared.kind.Kind.{Kind}
 use Rattle.typedef_scope.specs.declared.kind.Kind.TheVariants.{Value}
-use Rattle.typedef_scope.specs.Scopes.{Scopes, declare_name, enter_scope, leave_scope, file_scope}
+use Rattle.typedef_scope.specs.Scopes.{Scopes, declare_name, enter_scope, leave_scope}
 use Rattle.c_parser.specs.declared.fault.Fault.TheVariants.{Unexpected, Redeclared}
-use Rattle.c_parser.specs.Scoping.{declared_kind, declare_some, some_declared_name}
-use Rattle.c_parser.specs.Reading.{Read, Turn, run, op_turn, lowered, ends, refuses, ◌>>=◌}
-use Rattle.c_parser.specs.Eating.{token_at, after, begins, is_open_paren, is_close_paren, is_open_bracket, is_close_bracket, is_comma, is_dots, is_end, is_semicolon, is_star}
+use Rattle.c_parser.specs.Scoping.{declare_some, some_declared_name}
+use Rattle.c_parser.specs.Reading.{Read, Turn, run, lowered, ends, refuses, ◌>>=◌}
+use Rattle.c_parser.specs.Eating.{token_at, begins, is_open_paren, is_close_paren, is_open_bracket, is_close_bracket, is_comma, is_dots, is_star}
 use Rattle.c_parser.specs.Specifying.{Start, word_start, element_start, index_start, start_at, begins_specs, spelled_name}
 
 -- which declarators may stand: those with a name, those without, or, in a parameter, both

@@ -1,5 +1,5 @@
 -- Readers of declarations and of the items of a unit (C99, 6.7 and 6.9), over readers of specifiers and declarators.
-use Rattle.std.specs.Prelude.{Bool, List, [], ◌∷◌, ◌++◌, Option, None, Some, if◌then◌else◌}
+use Rattle.std.specs.Prelude.{List, [], ◌∷◌, ◌++◌, Option, None, Some, if◌then◌else◌}
 use Rattle.c_tree.specs.declared.lexeme.Lexeme.{Lexeme}
 use Rattle.c_tree.specs.Tree.{SpecWords, no_words, Declr, SomeDeclr, some_declr, no_init, InitDeclrs, no_init_declrs, more_init_declrs, Declaration, declaration, decl_declaration}
 use Rattle.c_tree.specs.Unit.{Item, decl_item, semi_item}

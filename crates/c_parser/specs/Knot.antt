@@ -2,7 +2,7 @@
 --
 -- A reader of n reads trees that are lower than n: each part inside is read with less, and so is the nothing that may stand
 -- behind the star of a declarator.
-use Rattle.std.specs.Prelude.{ℕ, zero, suc, nat_le, Bool, true, false, List, [], ◌∷◌, Option, None, Some, Ok, if◌then◌else◌}
+use Rattle.std.specs.Prelude.{ℕ, zero, suc, nat_le, List, [], ◌∷◌, Option, None, if◌then◌else◌}
 use Rattle.c_tree.specs.declared.lexeme.Lexeme.{Lexeme}
 use Rattle.c_tree.specs.Tree.{Expr, SpecWords, no_words, Declr, SomeDeclr}
 use Rattle.c_tree.specs.Unit.{Item, unit_height}

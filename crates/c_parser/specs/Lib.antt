@@ -12,3 +12,4 @@ pub mod Laws
 pub mod UnitLaws
 pub mod Gives
 pub mod Kinds
+pub mod ReaderLaws

@@ -1,6 +1,7 @@
 //! Laws of the readers of token lists: of units, and of the smallest ones.
 
 ghost use Rattle.c_parser.specs.UnitLaws.{UnitIsWellFormed, WellFormedIsRead, OneUnitAtMost};
+ghost use Rattle.c_parser.specs.ReaderLaws.{ScopesAreKept, OperandsAreTight};
 ghost use Rattle.c_parser.specs.Laws.{TokenIsTaken, TokenIsFound, TokenIsLocal, NameIsTaken, NameIsFound, TagIsTaken, QualsAreLocal};
 
 use c_ops::laws::{no_tree_of_a_bad_target, the_tree_of_a_list};
@@ -39,6 +40,17 @@ pub fn tag_is_taken()
 /// How far qualifiers go, and which they are, rests on the tokens up to the first that is none.
 pub fn quals_are_local()
     ensures { QualsAreLocal }
+{}
+
+/// No reader closes a scope that it did not open.
+pub fn scopes_are_kept()
+    ensures { ScopesAreKept }
+{}
+
+/// What is read as an operand can be one of any operator, and what is read as a unary form can be assigned to; the signs
+/// between operands are operators of the table.
+pub fn operands_are_tight()
+    ensures { OperandsAreTight }
 {}
 
 /// What the reader of units answers is a well-formed unit with these tokens.
