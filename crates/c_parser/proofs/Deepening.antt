@@ -1,4 +1,4 @@
--- What it means that a reader closes no scope which it did not open, and that declarations close none.
+-- What it means that a reader leaves no fewer scopes open than it is given, and that declarations leave no fewer.
 use Rattle.std.proofs.Common.{ℕ, suc, ◌≤◌, Bool, true, false, if◌then◌else◌, List, [], ◌∷◌, length, Option, Some, None, arith}
 use Rattle.c_tree.specs.declared.lexeme.Lexeme.{Lexeme}
 use Rattle.c_tree.specs.Tree.{SomeDeclr, no_declr, some_declr}
@@ -8,14 +8,14 @@ use Rattle.c_parser.specs.Scoping.{declare_some}
 use Rattle.c_parser.specs.Reading.{Read}
 use Rattle.c_parser.specs.Specifying.{declared}
 use Rattle.c_parser.specs.Declaring.{present, declared_some}
-use Rattle.c_parser.specs.ReaderLaws.{ClosesNone}
+use Rattle.c_parser.specs.ReaderLaws.{LeavesNoFewer}
 use Rattle.c_parser.proofs.Holding.{Holds, holds_ok, holds_err}
 
 -- behind what is read so many scopes are open at least
 abbrev pub HasOpen : {A : Type 0} → ℕ → (A × Scopes) × List Lexeme → Type 0
 HasOpen n x = n ≤ length x.0.1
 
-pub deep_has_open : {A : Type 0} (n : ℕ) (read : Scopes → List Lexeme → Read (A × Scopes)) → ClosesNone read → (s : Scopes) (ts : List Lexeme) → n ≤ length s → Holds (HasOpen n) (read s ts)
+pub deep_has_open : {A : Type 0} (n : ℕ) (read : Scopes → List Lexeme → Read (A × Scopes)) → LeavesNoFewer read → (s : Scopes) (ts : List Lexeme) → n ≤ length s → Holds (HasOpen n) (read s ts)
 deep_has_open n read deep s ts many x e = let more : length s ≤ length x.0.1 = deep s ts x e in omega (arith, many, more)
 
 pub leave_has_open : (n : ℕ) (s : Scopes) → suc n ≤ length s → n ≤ length (leave_scope s)

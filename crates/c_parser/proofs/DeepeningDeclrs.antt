@@ -1,4 +1,4 @@
--- The readers of declarators and parameters close no scope that was open.
+-- The readers of declarators and parameters leave no fewer scopes open than they are given.
 use Rattle.std.proofs.Common.{ℕ, suc, nat_le, ◌≤◌, List, [], ◌∷◌, length, Option, Some, None, arith}
 use Rattle.std.specs.Prelude.{◌&&◌}
 use Rattle.c_tree.specs.declared.lexeme.Lexeme.{Lexeme}
@@ -14,12 +14,12 @@ use Rattle.c_parser.specs.Eating.{begins, is_open_paren, is_close_paren, is_open
 use Rattle.c_parser.specs.Specifying.{spelled_name}
 use Rattle.c_parser.specs.Declaring.{Mode, either_way, takes_name, takes_nothing, may_declare, spec_words_of_quals, with_param, some_name_token, ParamState, size_with, array_with, param_with, next_param_with, param_turn_by, param_turn, params_with, prototype_with, suffix_by, suffix_turn, declr_name_by, paren_with, opens_params, core_with, needed, direct_with, pointer_with, declr_with}
 use Rattle.c_parser.proofs.Holding.{Holds, TurnHolds, holds_ok, holds_err, holds_bind, holds_behind, holds_by, turn_by, turn_lowered, holds_run}
-use Rattle.c_parser.specs.ReaderLaws.{ClosesNone}
+use Rattle.c_parser.specs.ReaderLaws.{LeavesNoFewer}
 use Rattle.c_parser.proofs.Deepening.{HasOpen, deep_has_open, leave_has_open, declare_some_open, declared_some_has_open, present_has_open}
 
 module _ (room : ℕ) (assign : Scopes → List Lexeme → Read (Expr × Scopes)) (specs_from : SpecWords → Scopes → List Lexeme → Read (SpecWords × Scopes))
     (declr : Mode → Option Kind → Scopes → List Lexeme → Read (SomeDeclr × Scopes))
-    (deep_assign : ClosesNone assign) (deep_specs : (words : SpecWords) → ClosesNone (specs_from words)) (deep_declr : (mode : Mode) (wanted : Option Kind) → ClosesNone (declr mode wanted)) where
+    (deep_assign : LeavesNoFewer assign) (deep_specs : (words : SpecWords) → LeavesNoFewer (specs_from words)) (deep_declr : (mode : Mode) (wanted : Option Kind) → LeavesNoFewer (declr mode wanted)) where
   module _ (n : ℕ) where
     assign_open : (s : Scopes) (ts : List Lexeme) → n ≤ length s → Holds (HasOpen n) (assign s ts)
     assign_open = deep_has_open n assign deep_assign
@@ -132,8 +132,8 @@ module _ (room : ℕ) (assign : Scopes → List Lexeme → Read (Expr × Scopes)
     declr_open mode wanted s [] many = direct_open mode wanted s [] many
     declr_open mode wanted s (t ∷ ts) many = holds_by (HasOpen n) (is_star t.kind) (pointer_open mode wanted t.at s ts many) (direct_open mode wanted s (t ∷ ts) many)
 
-  pub params_deep : ClosesNone (params_with room assign specs_from declr)
+  pub params_deep : LeavesNoFewer (params_with room assign specs_from declr)
   params_deep s ts = params_open (length s) s ts (omega arith)
 
-  pub declr_deep : (mode : Mode) (wanted : Option Kind) → ClosesNone (declr_with room assign specs_from declr mode wanted)
+  pub declr_deep : (mode : Mode) (wanted : Option Kind) → LeavesNoFewer (declr_with room assign specs_from declr mode wanted)
   declr_deep mode wanted s ts = declr_open (length s) mode wanted s ts (omega arith)

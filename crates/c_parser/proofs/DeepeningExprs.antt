@@ -1,4 +1,4 @@
--- The readers of expressions close no scope that was open.
+-- The readers of expressions leave no fewer scopes open than they are given.
 use Rattle.std.proofs.Common.{ℕ, suc, ◌≤◌, List, [], ◌∷◌, length, arith}
 use Rattle.std.specs.Prelude.{nat_le, ◌&&◌}
 use Rattle.c_tree.specs.declared.lexeme.Lexeme.{Lexeme}
@@ -14,11 +14,11 @@ use Rattle.c_parser.specs.Eating.{after, begins, is_open_paren, is_close_paren, 
 use Rattle.c_parser.specs.Specifying.{begins_specs}
 use Rattle.c_parser.specs.Expressing.{Reach, whole, assigned, conditional, castable, unary, Between, comma_between, assign_between, question_between, binary_between, nothing_between, between, takes_comma, takes_assign, Opening, prefix_opening, sizeof_opening, name_opening, number_opening, char_opening, text_opening, paren_opening, no_opening, opening_of, Closing, index_closing, call_closing, dot_closing, arrow_closing, post_closing, no_closing, closing_of, has_bad_target, arg_turn, args_with, postfix_by, postfix_turn, postfixed, paren_expr_with, sizeof_type_with, sizeof_value_with, sizeof_with, unary_by, unary_with, cast_with, operand_with, middle_with, question_with, operation_by, operation_turn, operations_with, with_room, tree_with, expr_with}
 use Rattle.c_parser.proofs.Holding.{Holds, TurnHolds, holds_ok, holds_err, holds_bind, holds_behind, holds_by, turn_by, turn_lowered, turn_behind, holds_run}
-use Rattle.c_parser.specs.ReaderLaws.{ClosesNone}
+use Rattle.c_parser.specs.ReaderLaws.{LeavesNoFewer}
 use Rattle.c_parser.proofs.Deepening.{HasOpen, deep_has_open}
 
 module _ (room : ℕ) (expr : Reach → Scopes → List Lexeme → Read (Expr × Scopes)) (type_name : Scopes → List Lexeme → Read ((SpecWords × SomeDeclr) × Scopes))
-    (deep_expr : (reach : Reach) → ClosesNone (expr reach)) (deep_type : ClosesNone type_name) where
+    (deep_expr : (reach : Reach) → LeavesNoFewer (expr reach)) (deep_type : LeavesNoFewer type_name) where
   module _ (n : ℕ) where
     inner_open : (reach : Reach) (s : Scopes) (ts : List Lexeme) → n ≤ length s → Holds (HasOpen n) (expr reach s ts)
     inner_open reach = deep_has_open n (expr reach) (deep_expr reach)
@@ -151,5 +151,5 @@ module _ (room : ℕ) (expr : Reach → Scopes → List Lexeme → Read (Expr ×
     expr_open assigned = tree_open assigned
     expr_open conditional = tree_open conditional
 
-  pub expr_deep : (reach : Reach) → ClosesNone (expr_with room expr type_name reach)
+  pub expr_deep : (reach : Reach) → LeavesNoFewer (expr_with room expr type_name reach)
   expr_deep reach s ts = expr_open (length s) reach s ts (omega arith)

@@ -1,4 +1,4 @@
--- The readers of all nonterminals close no scope that was open.
+-- The readers of all nonterminals leave no fewer scopes open than they are given.
 use Rattle.std.proofs.Common.{ℕ, zero, suc, List, length, Option, None}
 use Rattle.c_tree.specs.declared.lexeme.Lexeme.{Lexeme}
 use Rattle.c_tree.specs.Tree.{SpecWords, no_words, SomeDeclr}
@@ -10,18 +10,18 @@ use Rattle.c_parser.specs.Declaring.{Mode, with_name, without_name, params_with}
 use Rattle.c_parser.specs.Expressing.{Reach, conditional, assigned}
 use Rattle.c_parser.specs.Knot.{expr_at, type_name_at, specs_at, declr_at, type_name_with, named_declr}
 use Rattle.c_parser.proofs.Holding.{holds_ok, holds_bind}
-use Rattle.c_parser.specs.ReaderLaws.{ClosesNone, ScopesAreKept}
+use Rattle.c_parser.specs.ReaderLaws.{LeavesNoFewer, NoFewerScopes}
 use Rattle.c_parser.proofs.Deepening.{HasOpen, deep_has_open, present_has_open}
 use Rattle.c_parser.proofs.DeepeningExprs.{expr_deep}
 use Rattle.c_parser.proofs.DeepeningSpecs.{specs_deep}
 use Rattle.c_parser.proofs.DeepeningDeclrs.{params_deep, declr_deep}
 
-module _ (declr : Mode → Option Kind → Scopes → List Lexeme → Read (SomeDeclr × Scopes)) (deep_declr : (mode : Mode) (wanted : Option Kind) → ClosesNone (declr mode wanted)) where
-  named_deep : ClosesNone (named_declr declr)
+module _ (declr : Mode → Option Kind → Scopes → List Lexeme → Read (SomeDeclr × Scopes)) (deep_declr : (mode : Mode) (wanted : Option Kind) → LeavesNoFewer (declr mode wanted)) where
+  named_deep : LeavesNoFewer (named_declr declr)
   named_deep s ts = holds_bind (HasOpen (length s)) (HasOpen (length s)) (deep_declr with_name None s ts) (λ d more. present_has_open (length s) d.0 d.1 more)
 
-  type_name_deep : (specs : Role → SpecWords → Scopes → List Lexeme → Read (SpecWords × Scopes)) → ((role : Role) (words : SpecWords) → ClosesNone (specs role words)) →
-      ClosesNone (type_name_with specs declr)
+  type_name_deep : (specs : Role → SpecWords → Scopes → List Lexeme → Read (SpecWords × Scopes)) → ((role : Role) (words : SpecWords) → LeavesNoFewer (specs role words)) →
+      LeavesNoFewer (type_name_with specs declr)
   type_name_deep specs deep_specs s ts =
       holds_bind (HasOpen (length s)) (HasOpen (length s)) (deep_specs naming no_words s ts) (λ w more.
       holds_bind (HasOpen (length s)) (HasOpen (length s)) (deep_has_open (length s) (declr without_name None) (deep_declr without_name None) w.0.1 w.1 more)
@@ -29,10 +29,10 @@ module _ (declr : Mode → Option Kind → Scopes → List Lexeme → Read (Some
 
 -- What the readers of one number do; those of the next are over them.
 record AllDeep (n : ℕ) : Type 0 where
-  pub exprs : (reach : Reach) → ClosesNone (expr_at n reach)
-  pub types : ClosesNone (type_name_at n)
-  pub words : (role : Role) (words : SpecWords) → ClosesNone (specs_at n role words)
-  pub declrs : (mode : Mode) (wanted : Option Kind) → ClosesNone (declr_at n mode wanted)
+  pub exprs : (reach : Reach) → LeavesNoFewer (expr_at n reach)
+  pub types : LeavesNoFewer (type_name_at n)
+  pub words : (role : Role) (words : SpecWords) → LeavesNoFewer (specs_at n role words)
+  pub declrs : (mode : Mode) (wanted : Option Kind) → LeavesNoFewer (declr_at n mode wanted)
 
 all_deep : (n : ℕ) → AllDeep n
 all_deep zero = record {
@@ -52,23 +52,23 @@ all_deep (suc n) = step (all_deep n)
       declrs = declr_deep n (expr_at n assigned) (specs_at n declaring) (declr_at n) (inner.exprs assigned) (inner.words declaring) inner.declrs;
     }
 
-pub expr_at_deep : (n : ℕ) (reach : Reach) → ClosesNone (expr_at n reach)
+pub expr_at_deep : (n : ℕ) (reach : Reach) → LeavesNoFewer (expr_at n reach)
 expr_at_deep n = (all_deep n).exprs
 
-pub type_name_at_deep : (n : ℕ) → ClosesNone (type_name_at n)
+pub type_name_at_deep : (n : ℕ) → LeavesNoFewer (type_name_at n)
 type_name_at_deep n = (all_deep n).types
 
-pub specs_at_deep : (n : ℕ) (role : Role) (words : SpecWords) → ClosesNone (specs_at n role words)
+pub specs_at_deep : (n : ℕ) (role : Role) (words : SpecWords) → LeavesNoFewer (specs_at n role words)
 specs_at_deep n = (all_deep n).words
 
-pub declr_at_deep : (n : ℕ) (mode : Mode) (wanted : Option Kind) → ClosesNone (declr_at n mode wanted)
+pub declr_at_deep : (n : ℕ) (mode : Mode) (wanted : Option Kind) → LeavesNoFewer (declr_at n mode wanted)
 declr_at_deep n = (all_deep n).declrs
 
-pub params_at_deep : (n : ℕ) → ClosesNone (params_with n (expr_at n assigned) (specs_at n declaring) (declr_at n))
+pub params_at_deep : (n : ℕ) → LeavesNoFewer (params_with n (expr_at n assigned) (specs_at n declaring) (declr_at n))
 params_at_deep n = params_deep n (expr_at n assigned) (specs_at n declaring) (declr_at n) (expr_at_deep n assigned) (specs_at_deep n declaring) (declr_at_deep n)
 
-pub scopes_are_kept : ScopesAreKept
-scopes_are_kept = record {
+pub no_fewer_scopes : NoFewerScopes
+no_fewer_scopes = record {
   exprs = expr_at_deep;
   types = type_name_at_deep;
   words = specs_at_deep;

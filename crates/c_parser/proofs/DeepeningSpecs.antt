@@ -1,4 +1,4 @@
--- The readers of specifiers close no scope that was open.
+-- The readers of specifiers leave no fewer scopes open than they are given.
 use Rattle.std.proofs.Common.{ℕ, ◌≤◌, Bool, List, [], ◌∷◌, length, Option, Some, None, arith}
 use Rattle.c_lexer.specs.declared.kinds.TokenKind.{TokenKind}
 use Rattle.c_tree.specs.declared.lexeme.Lexeme.{Lexeme}
@@ -12,7 +12,7 @@ use Rattle.c_parser.specs.Reading.{Read}
 use Rattle.c_parser.specs.Eating.{after, begins, is_comma, is_colon, is_semicolon, is_close_brace, is_open_brace, is_equal}
 use Rattle.c_parser.specs.Specifying.{Role, declaring, Start, storage_start, thread_start, inline_start, noreturn_start, word_start, element_start, index_start, basic_start, struct_start, enum_start, name_start, no_start, start_at, is_start, is_typed, may_stand, class_of_start, with_enumerator, name_at, without_body, declared, EnumState, value_with, named_with, mem_declr_with, mem_declr_turn, mem_declrs_with, member_with, struct_item_with, struct_item_turn, body_with, struct_with, enumerator_with, next_enumerator_with, enumerator_turn_by, enumerator_turn, enum_body_with, enum_with, word_by, word_with, word_turn_by, word_turn, whole, specs_from}
 use Rattle.c_parser.proofs.Holding.{Holds, TurnHolds, holds_ok, holds_err, holds_bind, holds_behind, holds_by, turn_by, turn_behind, holds_run}
-use Rattle.c_parser.specs.ReaderLaws.{ClosesNone}
+use Rattle.c_parser.specs.ReaderLaws.{LeavesNoFewer}
 use Rattle.c_parser.proofs.Deepening.{HasOpen, deep_has_open, declare_name_open, declared_has_open}
 
 without_body_open : {A : Type 0} (n : ℕ) (tag : Option Identifier) (a : A × Scopes) (ts : List Lexeme) → n ≤ length a.1 → Holds (HasOpen n) (without_body tag a ts)
@@ -20,7 +20,7 @@ without_body_open n None a ts many = holds_err (HasOpen n) _
 without_body_open n (Some tag) a ts many = holds_ok (HasOpen n) a ts many
 
 module _ (cond : Scopes → List Lexeme → Read (Expr × Scopes)) (specs : Role → Scopes → List Lexeme → Read (SpecWords × Scopes))
-    (declr : Scopes → List Lexeme → Read (Declr × Scopes)) (deep_cond : ClosesNone cond) (deep_specs : (role : Role) → ClosesNone (specs role)) (deep_declr : ClosesNone declr) where
+    (declr : Scopes → List Lexeme → Read (Declr × Scopes)) (deep_cond : LeavesNoFewer cond) (deep_specs : (role : Role) → LeavesNoFewer (specs role)) (deep_declr : LeavesNoFewer declr) where
   module _ (n : ℕ) where
     cond_open : (s : Scopes) (ts : List Lexeme) → n ≤ length s → Holds (HasOpen n) (cond s ts)
     cond_open = deep_has_open n cond deep_cond
@@ -161,5 +161,5 @@ module _ (cond : Scopes → List Lexeme → Read (Expr × Scopes)) (specs : Role
     specs_open role words s ts many =
         holds_bind (HasOpen n) (HasOpen n) (holds_run (HasOpen n) (word_turn cond specs declr role) (word_turn_open role) (words, s) ts many) (λ all more. whole_open all.0 all.1 more)
 
-  pub specs_deep : (role : Role) (words : SpecWords) → ClosesNone (specs_from cond specs declr role words)
+  pub specs_deep : (role : Role) (words : SpecWords) → LeavesNoFewer (specs_from cond specs declr role words)
   specs_deep role words s ts = specs_open (length s) role words s ts (omega arith)

@@ -14,16 +14,16 @@ use Rattle.c_parser.specs.Expressing.{Reach, assigned, assign_between, binary_be
 use Rattle.c_parser.specs.Knot.{expr_at, type_name_at, specs_at, declr_at}
 
 -- as many scopes are open behind what is read as before it, at least
-abbrev pub ClosesNone : {A : Type 0} → (Scopes → List Lexeme → Read (A × Scopes)) → Type 0
-ClosesNone {A} read = (s : Scopes) (ts : List Lexeme) (x : (A × Scopes) × List Lexeme) → read s ts ≡ Ok x → length s ≤ length x.0.1
+abbrev pub LeavesNoFewer : {A : Type 0} → (Scopes → List Lexeme → Read (A × Scopes)) → Type 0
+LeavesNoFewer {A} read = (s : Scopes) (ts : List Lexeme) (x : (A × Scopes) × List Lexeme) → read s ts ≡ Ok x → length s ≤ length x.0.1
 
--- no reader closes a scope that it did not open, so that the scope of parameters is there to be closed behind them
-pub record ScopesAreKept : Type 0 where
-  pub exprs : (n : ℕ) (reach : Reach) → ClosesNone (expr_at n reach)
-  pub types : (n : ℕ) → ClosesNone (type_name_at n)
-  pub words : (n : ℕ) (role : Role) (words : SpecWords) → ClosesNone (specs_at n role words)
-  pub declrs : (n : ℕ) (mode : Mode) (wanted : Option Kind) → ClosesNone (declr_at n mode wanted)
-  pub params : (n : ℕ) → ClosesNone (params_with n (expr_at n assigned) (specs_at n declaring) (declr_at n))
+-- no reader leaves fewer scopes open than it was given, so that one is there to be closed behind parameters
+pub record NoFewerScopes : Type 0 where
+  pub exprs : (n : ℕ) (reach : Reach) → LeavesNoFewer (expr_at n reach)
+  pub types : (n : ℕ) → LeavesNoFewer (type_name_at n)
+  pub words : (n : ℕ) (role : Role) (words : SpecWords) → LeavesNoFewer (specs_at n role words)
+  pub declrs : (n : ℕ) (mode : Mode) (wanted : Option Kind) → LeavesNoFewer (declr_at n mode wanted)
+  pub params : (n : ℕ) → LeavesNoFewer (params_with n (expr_at n assigned) (specs_at n declaring) (declr_at n))
 
 -- What is read as an operand can be one of any operator, and what is read as a unary form can be assigned to; the signs
 -- that stand between operands are operators of the table.

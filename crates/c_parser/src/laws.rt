@@ -1,7 +1,7 @@
 //! Laws of the readers of token lists: of units, and of the smallest ones.
 
 ghost use Rattle.c_parser.specs.UnitLaws.{UnitIsWellFormed, WellFormedIsRead, OneUnitAtMost};
-ghost use Rattle.c_parser.specs.ReaderLaws.{ScopesAreKept, OperandsAreTight};
+ghost use Rattle.c_parser.specs.ReaderLaws.{NoFewerScopes, OperandsAreTight};
 ghost use Rattle.c_parser.specs.Laws.{TokenIsTaken, TokenIsFound, TokenIsLocal, NameIsTaken, NameIsFound, TagIsTaken, QualsAreLocal};
 
 use c_ops::laws::{no_tree_of_a_bad_target, the_tree_of_a_list};
@@ -42,9 +42,9 @@ pub fn quals_are_local()
     ensures { QualsAreLocal }
 {}
 
-/// No reader closes a scope that it did not open.
-pub fn scopes_are_kept()
-    ensures { ScopesAreKept }
+/// Behind what is read no fewer scopes are open than before it.
+pub fn no_fewer_scopes()
+    ensures { NoFewerScopes }
 {}
 
 /// What is read as an operand can be one of any operator, and what is read as a unary form can be assigned to; the signs
