@@ -1,0 +1,6 @@
+//! Nodes of trees, made of boxed parts into a box.
+#![tactic(auto)]
+
+pub mod expressions;
+#[cfg(test)]
+mod tests;
