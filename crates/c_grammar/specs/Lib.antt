@@ -1,0 +1,17 @@
+pub mod Scoping
+pub mod Units
+pub mod Reading
+pub mod Eating
+pub mod Specifying
+pub mod Declaring
+pub mod Expressing
+pub mod Items
+pub mod Knot
+pub mod Local
+pub mod Laws
+pub mod UnitLaws
+pub mod Gives
+pub mod Kinds
+pub mod Inside
+pub mod ReaderLaws
+pub mod LoopLaws

@@ -1,0 +1,20 @@
+-- Laws of the reader of units: what it answers is well formed, what is well formed it answers, and no tokens are those of two
+-- well-formed units.
+use Rattle.std.specs.Prelude.{◌≡◌, List, Ok}
+use Rattle.c_tree.specs.declared.lexeme.Lexeme.{Lexeme}
+use Rattle.c_tree.specs.Unit.{Item}
+use Rattle.c_grammar.specs.Units.{IsWellFormed}
+use Rattle.c_grammar.specs.Reading.{IsNumbered}
+use Rattle.c_grammar.specs.Knot.{unit_at}
+
+-- the items that are read of numbered tokens are a well-formed unit of these
+abbrev pub UnitIsWellFormed : Type 0
+UnitIsWellFormed = (all : List Lexeme) → IsNumbered all → (items : List Item) (k : List Lexeme) → unit_at all ≡ Ok (items, k) → IsWellFormed all items
+
+-- of the tokens of a well-formed unit its items are read
+abbrev pub WellFormedIsRead : Type 0
+WellFormedIsRead = (all : List Lexeme) → IsNumbered all → (items : List Item) → IsWellFormed all items → (k : List Lexeme) × (unit_at all ≡ Ok (items, k))
+
+-- numbered tokens are those of one well-formed unit at most
+abbrev pub OneUnitAtMost : Type 0
+OneUnitAtMost = (all : List Lexeme) → IsNumbered all → (items others : List Item) → IsWellFormed all items → IsWellFormed all others → items ≡ others
