@@ -1,0 +1,6 @@
+//! The reader of expressions, over readers of the expressions and types inside (C99, 6.5).
+#![tactic(auto)]
+
+pub mod operations;
+mod postfix;
+mod unary;
