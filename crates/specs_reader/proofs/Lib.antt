@@ -1,0 +1,5 @@
+pub mod Failing
+pub mod Mixing
+pub mod Pushing
+pub mod Starting
+pub mod Wording
