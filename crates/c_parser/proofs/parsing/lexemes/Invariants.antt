@@ -1,0 +1,6 @@
+use Rattle.std.proofs.Common.{◌≡◌, take}
+use Rattle.c_parser.specs.Parsing.{numbered}
+use Rattle.c_parser.proofs.parsing.lexemes.Given as goal
+
+abbrev pub invariant-loop-number : goal.invariant-loop-number
+invariant-loop-number l = l.all.items ≡ numbered 0 (take l.number l.tokens.tokens)

@@ -1,0 +1,12 @@
+//! The parser of C: the one well-formed unit that tokens have (C99, 6.9).
+#![tactic(auto)]
+
+mod items;
+mod knot;
+pub mod parsing;
+#[cfg(test)]
+mod shown;
+#[cfg(test)]
+mod sources;
+#[cfg(test)]
+mod tests;
