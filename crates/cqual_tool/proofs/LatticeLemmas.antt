@@ -3,7 +3,7 @@ use Rattle.std.proofs.Common.{◌≡◌, ℕ, zero, suc, ◌<◌, List, [], ◌�
 use Rattle.std.specs.Option.{option_map}
 use Rattle.std.proofs.lemmas.Option.{slice_get-map, slice_get_within}
 use Rattle.lattice_core.specs.Order.{Order}
-use Rattle.lattice_core.specs.View.{LatticeView}
+use Rattle.lattice_core.specs.View.{LatticeView, orders_of}
 use Rattle.flow_graph.specs.declared.constraint.Constraint.{Constraint}
 use Rattle.flow_graph.specs.declared.constraint.Link.{Link}
 use Rattle.flow_graph.specs.declared.constraint.Link.TheVariants.{Bound}
@@ -13,7 +13,7 @@ use Rattle.lattice_solver.specs.Solution.{Solution, Exceeds}
 use Rattle.cqual_tool.specs.Texts.{Scene}
 use Rattle.cqual_tool.specs.declared.texts.Scene.{Scene as Lent}
 use Rattle.cqual_tool.specs.Scenes.{HasLink, HasElem, IsOverBound, IsSolution, AreSolutions, AreKept, IsNoBound}
-use Rattle.cqual_tool.specs.Reports.{orders_of, IsOver}
+use Rattle.cqual_tool.specs.Reports.{IsOver}
 
 -- an item with a number below the length
 pub record There (A : Type 0) (xs : List A) (n : ℕ) : Type 0 where

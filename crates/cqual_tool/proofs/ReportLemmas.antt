@@ -11,7 +11,8 @@ use Rattle.lattice_solver.specs.Solution.{Solution, reached_at, IsKept}
 use Rattle.cqual_tool.specs.Texts.{Scene, line, value_line, error_line, subs_text, steps_text}
 use Rattle.cqual_tool.specs.Scenes.{IsOverBound, IsLineIn}
 use Rattle.cqual_tool.specs.FlatPaths.{takes, IsFlatPath}
-use Rattle.cqual_tool.specs.Reports.{orders_of, IsBottom, AtBottom, Above, Lines, IsError, IsOver, Errors, IsAcceptedReport, IsRejectedReport}
+use Rattle.cqual_tool.specs.Reports.{IsBottom, AtBottom, Above, Lines, IsError, IsOver, Errors, IsAcceptedReport, IsRejectedReport}
+use Rattle.lattice_core.specs.View.{orders_of}
 use Rattle.cqual_tool.proofs.FlatHolds.{flat_holds, last_taken}
 
 some_is : {A : Type 0} {x y : A} → Some x ≡ Some y → x ≡ y

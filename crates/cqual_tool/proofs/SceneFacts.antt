@@ -1,6 +1,5 @@
 -- What a source gives the scene of its report.
-use Rattle.std.proofs.Common.{◌≡◌, ℕ, zero, suc, ◌+◌, ◌*◌, ◌<◌, ◌⊎◌, inl, inr, List, [], ◌∷◌, ◌++◌, length, Some, None, slice_get, refl, sym, ◌∙◌, ap, subst, arith, length-append}
-use Rattle.std.proofs.Common.{true, false, MatchOption}
+use Rattle.std.proofs.Common.{◌≡◌, ℕ, zero, suc, ◌+◌, ◌*◌, ◌<◌, ◌⊎◌, inl, inr, List, [], ◌∷◌, ◌++◌, length, Some, None, slice_get, refl, sym, ◌∙◌, ap, subst, arith, length-append, true, false, MatchOption}
 use Rattle.std.specs.declared.option.Option.{Option}
 use Rattle.std.specs.Option.{is_some}
 use Rattle.std.proofs.lemmas.Bool.{cases_order}
@@ -8,7 +7,7 @@ use Rattle.lattice_core.specs.View.{LatticeView}
 use Rattle.flow_graph.specs.declared.constraint.Link.{Link}
 use Rattle.flow_graph.specs.declared.constraint.Link.TheVariants.{Le, Const, Bound, Enter, Leave}
 use Rattle.flow_graph.specs.System.{System}
-use Rattle.flow_laws.specs.Least.{NamesElementsIn}
+use Rattle.flow_graph.specs.Unfolding.{NamesElementsIn}
 use Rattle.lattice_solver.specs.Solution.{Solution, IsKept}
 use Rattle.c_lexer.specs.Reading.{Meanings}
 use Rattle.c_lexer.specs.Tokens.{IsSpelled}

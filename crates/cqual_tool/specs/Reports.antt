@@ -12,10 +12,6 @@ use Rattle.cqual_tool.specs.declared.status.Status.{Status}
 use Rattle.cqual_tool.specs.declared.status.Status.TheVariants.{Accepted, Rejected}
 use Rattle.cqual_tool.specs.Texts.{Scene, line, value_line, error_line, subs_text, steps_text}
 
--- the orders of the lattices of a file
-abbrev pub orders_of : List LatticeView → List Order
-orders_of lattices = map (λ (lattice : LatticeView). lattice.order) lattices
-
 -- an element at or below each
 abbrev pub IsBottom : Order → ℕ → Type 0
 IsBottom order bottom = (bottom < size order) × ((a : ℕ) → a < size order → leq order bottom a ≡ true)
@@ -43,11 +39,6 @@ pub record IsAcceptedReport (scene : Scene) (sys : System) (text : List ℕ) : T
   pub lines : List ℕ
   pub listed : Lines scene sys (2 * length scene.objects) lines
   pub spelled : text ≡ line (codes "accepted") ++ lines
-
--- no two sub-paths have the same first and last variables
-abbrev pub AreApart : System → List (List PathStep) → Type 0
-AreApart sys subs = (i j : ℕ) (one other : List PathStep) → slice_get subs i ≡ Some one → slice_get subs j ≡ Some other →
-    span_of sys (Some one) ≡ span_of sys (Some other) → i ≡ j
 
 -- The error of a bound: a path proof that holds, from a constant to the bound, under a line with both elements.
 pub record IsError (scene : Scene) (sys : System) (number : ℕ) (text : List ℕ) : Type 0 where

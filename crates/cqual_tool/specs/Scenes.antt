@@ -6,13 +6,12 @@ use Rattle.flow_graph.specs.Paths.{Lead}
 use Rattle.flow_graph.specs.declared.constraint.Link.{Link}
 use Rattle.flow_graph.specs.declared.constraint.Link.TheVariants.{Le, Const, Bound, Enter, Leave}
 use Rattle.lattice_core.specs.Order.{Order, leq}
-use Rattle.lattice_core.specs.View.{LatticeView}
-use Rattle.flow_laws.specs.Least.{NamesElementsIn}
+use Rattle.lattice_core.specs.View.{LatticeView, IsElement, orders_of}
+use Rattle.flow_graph.specs.Unfolding.{NamesElementsIn}
 use Rattle.lattice_solver.specs.Solution.{Solution, HasElement, IsSolved, IsKept}
-use Rattle.second_form.specs.Facts.{IsElement}
 use Rattle.cqual_tool.specs.declared.texts.Scene.{Scene as Lent}
 use Rattle.cqual_tool.specs.Texts.{Scene, start_of}
-use Rattle.cqual_tool.specs.Reports.{orders_of, IsLine}
+use Rattle.cqual_tool.specs.Reports.{IsLine}
 
 abbrev pub scene_of : Lent → Scene
 scene_of lent = record { file = lent.file.now; lexed = lent.tokens.now; lattices = lent.lattices.now; objects = lent.objects.now }

@@ -1,14 +1,14 @@
 //! The two reports of a program.
 
 ghost use Rattle.std.specs.Prelude.{◌≡◌, ◌<◌, ◌++◌, ◌*◌, ◌≤◌, ◌^◌, ℕ, List, IfOk, OnOk, MatchOption, length, slice_get, Some, All};
-ghost use Rattle.lattice_core.specs.View.{LatticeView};
+ghost use Rattle.lattice_core.specs.View.{LatticeView, orders_of};
 ghost use Rattle.flow_graph.specs.declared.constraint.Link.TheVariants.{Bound};
 ghost use Rattle.flow_graph.specs.System.{IsWellOwned};
 ghost use Rattle.flow_laws.specs.Flat.{IsFlat};
 ghost use Rattle.lattice_solver.specs.Solution.{IsKept};
 ghost use Rattle.cqual_tool.specs.Texts.{steps_text};
 ghost use Rattle.cqual_tool.specs.Scenes.{scene_of, HasVar, IsShown, IsLineIn, AreSolutions, IsSolution, AreKept, HasObjects, IsOverIn, IsNoBound};
-ghost use Rattle.cqual_tool.specs.Reports.{orders_of, IsOver, VarLines, Lines, IsError, IsErrorOf, Errors, IsAcceptedReport, IsRejectedReport};
+ghost use Rattle.cqual_tool.specs.Reports.{IsOver, VarLines, Lines, IsError, IsErrorOf, Errors, IsAcceptedReport, IsRejectedReport};
 ghost use Rattle.cqual_tool.specs.FlatPaths.{takes};
 
 use crate::places::put;

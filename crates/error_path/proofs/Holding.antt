@@ -16,9 +16,9 @@ use Rattle.flow_graph.specs.declared.place.Path.TheVariants.{Main, Sub as SubOf}
 use Rattle.flow_graph.specs.System.{System, owner_of, Stands, IsWellOwned}
 use Rattle.flow_graph.specs.PathRules.{begins, ends, is_bound, rule_at}
 use Rattle.flow_graph.specs.PathProofs.{first_failing, first_fault, main_fault, subs_fault, place, look, edge_at, first_of, last_of, of_step, through, span_of, home_of, owner_at, start_of, fault_or, or_else, end_fault, ends_in_bound, no_order}
-use Rattle.lattice_solver.specs.declared.phases.Phase.{Phase}
-use Rattle.lattice_solver.specs.declared.phases.Phase.TheVariants.{First, Second}
-use Rattle.error_path.specs.Parts.{settled, Part, Flow, Empty, Full, Inside, Done, More, IsSub, AreSubs, None as NoSubs, Next, Onward, Ends, Along, Back, Into, IsPath}
+use Rattle.flow_graph.specs.declared.phase.Phase.{Phase}
+use Rattle.flow_graph.specs.declared.phase.Phase.TheVariants.{First, Second}
+use Rattle.flow_graph.specs.Parts.{settled, Part, Flow, Empty, Full, Inside, Done, More, IsSub, AreSubs, None as NoSubs, Next, Onward, Ends, Along, Back, Into, IsPath}
 use Rattle.error_path.specs.Shown.{HaveNoLines}
 use Rattle.error_path.proofs.Passing.{edge, start_passes}
 use Rattle.error_path.proofs.Walking.{seen, inside_passes, follows_none, follows_const, call_const, quiet_and, onward_passes, Settles}

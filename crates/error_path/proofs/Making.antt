@@ -8,14 +8,13 @@ use Rattle.flow_graph.specs.declared.proof.PathStep.{PathStep}
 use Rattle.flow_graph.specs.declared.proof.PathStep.TheVariants.{Sub}
 use Rattle.flow_graph.specs.declared.place.Seen.TheVariants.{Through}
 use Rattle.flow_graph.specs.System.{System}
-use Rattle.flow_graph.specs.PathProofs.{look, span_of}
-use Rattle.lattice_solver.specs.declared.phases.Phase.{Phase}
+use Rattle.flow_graph.specs.PathProofs.{look, span_of, AreApart}
+use Rattle.flow_graph.specs.declared.phase.Phase.{Phase}
 use Rattle.match_summary.specs.declared.reason.Summary.{Summary}
 use Rattle.match_summary.specs.Summary.{HasPair}
 use Rattle.error_path.specs.declared.steps.Pair.{Pair}
-use Rattle.error_path.specs.Parts.{Part, Flow, Empty, Full, IsSub, None as NoSubs, Next, Onward, Ends, Along, Back, Into}
+use Rattle.flow_graph.specs.Parts.{Part, Flow, Empty, Full, IsSub, None as NoSubs, Next, Onward, Ends, Along, Back, Into}
 use Rattle.error_path.specs.Made.{AllJoined, AreMade}
-use Rattle.error_path.specs.Shown.{AreApart}
 use Rattle.error_path.proofs.Holding.{sub_span}
 
 -- an item of a list with one more, by its place

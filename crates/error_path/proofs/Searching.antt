@@ -15,15 +15,15 @@ use Rattle.flow_graph.specs.System.{System, owner_of, AllBelow, IsInLattice, Sta
 use Rattle.flow_graph.specs.Paths.{Matches, stay, longer, Returning, Calling, Lead, start, flows, returns, grouped, anew, calls, calls_on, flows_on, grouped_on}
 use Rattle.match_summary.specs.declared.reason.Summary.{Summary}
 use Rattle.match_summary.specs.Summary.{Leads, IsInnerEnd, Summarises}
-use Rattle.lattice_solver.specs.declared.phases.Phase.{Phase}
-use Rattle.lattice_solver.specs.declared.phases.Phase.TheVariants.{First, Second}
+use Rattle.flow_graph.specs.declared.phase.Phase.{Phase}
+use Rattle.flow_graph.specs.declared.phase.Phase.TheVariants.{First, Second}
 use Rattle.lattice_solver.specs.PhaseSets.{PhaseSets}
 use Rattle.lattice_solver.specs.Phases.{set_of, HasIn, size_of}
 use Rattle.error_path.specs.declared.search.Cause.{Cause}
 use Rattle.error_path.specs.declared.search.Cause.TheVariants.{Start, Step, Group}
 use Rattle.error_path.specs.declared.search.Reached.{Reached}
 use Rattle.error_path.specs.declared.search.Search.{Search}
-use Rattle.error_path.specs.Parts.{settled}
+use Rattle.flow_graph.specs.Parts.{settled}
 use Rattle.error_path.specs.Reaching.{Earlier, LeadsBy, ComesBy, AreSound, IsMarked, IsListed, IsGood, Grows, IsFollowed, IsVisited, AreStarted, StandsAt}
 use Rattle.error_path.proofs.Making.{push_cases, more_get, push_last}
 

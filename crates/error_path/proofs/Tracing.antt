@@ -14,12 +14,12 @@ use Rattle.flow_graph.specs.declared.proof.PathStep.TheVariants.{Take, Sub}
 use Rattle.flow_graph.specs.System.{System, owner_of, Stands}
 use Rattle.match_summary.specs.declared.reason.Summary.{Summary}
 use Rattle.match_summary.specs.Summary.{Leads}
-use Rattle.lattice_solver.specs.declared.phases.Phase.{Phase}
-use Rattle.lattice_solver.specs.declared.phases.Phase.TheVariants.{First, Second}
+use Rattle.flow_graph.specs.declared.phase.Phase.{Phase}
+use Rattle.flow_graph.specs.declared.phase.Phase.TheVariants.{First, Second}
 use Rattle.error_path.specs.declared.search.Cause.{Cause}
 use Rattle.error_path.specs.declared.search.Reached.{Reached}
 use Rattle.error_path.specs.declared.steps.Pair.{Pair}
-use Rattle.error_path.specs.Parts.{settled, Flow, Empty, Full, Onward, Along, Back, Into, IsPath}
+use Rattle.flow_graph.specs.Parts.{settled, Flow, Empty, Full, Onward, Along, Back, Into, IsPath}
 use Rattle.error_path.specs.Made.{group_steps, IsInner}
 use Rattle.error_path.specs.Reaching.{LeadsBy, ByFlow, ByLeave, ByEnter, LeadsAround, ComesBy}
 use Rattle.error_path.specs.Shown.{IsJoinedBy}

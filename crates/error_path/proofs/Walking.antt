@@ -17,9 +17,9 @@ use Rattle.flow_graph.specs.declared.place.Path.TheVariants.{Main, Sub as SubOf}
 use Rattle.flow_graph.specs.System.{System, owner_of, Has, Stands, IsWellOwned}
 use Rattle.flow_graph.specs.PathRules.{rule_at, is_main, begins_group, is_unmatched_enter, is_sub, agree, leaves, lacks, site_entered}
 use Rattle.flow_graph.specs.PathProofs.{first_failing, place, look, edge_or, first_of, second_of, fault_or, in_call_at, is_nobodys}
-use Rattle.lattice_solver.specs.declared.phases.Phase.{Phase}
-use Rattle.lattice_solver.specs.declared.phases.Phase.TheVariants.{First, Second}
-use Rattle.error_path.specs.Parts.{settled, Part, Flow, Empty, Full, Inside, Done, More, Onward, Ends, Along, Back, Into}
+use Rattle.flow_graph.specs.declared.phase.Phase.{Phase}
+use Rattle.flow_graph.specs.declared.phase.Phase.TheVariants.{First, Second}
+use Rattle.flow_graph.specs.Parts.{settled, Part, Flow, Empty, Full, Inside, Done, More, Onward, Ends, Along, Back, Into}
 use Rattle.error_path.proofs.Passing.{and_false, edge, Follows, placed, flow_passes, group_passes, sub_passes, left_passes, closed_passes, back_passes, into_passes, bound_passes}
 
 -- what the step of a standing constraint names

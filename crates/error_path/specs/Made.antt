@@ -14,7 +14,7 @@ use Rattle.match_summary.specs.Places.{place_in}
 use Rattle.error_path.specs.declared.steps.Pair.{Pair}
 use Rattle.error_path.specs.declared.sub_paths.Draft.{Draft}
 use Rattle.error_path.specs.declared.sub_paths.SubPaths.{SubPaths}
-use Rattle.error_path.specs.Parts.{Part, AreSubs}
+use Rattle.flow_graph.specs.Parts.{Part, AreSubs}
 
 -- Steps that are written from their end to their beginning have more steps in front.
 abbrev pub Fronts : List PathStep → List PathStep → List PathStep → Type 0

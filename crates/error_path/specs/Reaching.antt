@@ -4,14 +4,14 @@ use Rattle.flow_graph.specs.declared.constraint.Link.TheVariants.{Le, Const, Ent
 use Rattle.flow_graph.specs.System.{System, owner_of, Stands, AllBelow}
 use Rattle.match_summary.specs.declared.reason.Summary.{Summary}
 use Rattle.match_summary.specs.Summary.{Leads}
-use Rattle.lattice_solver.specs.declared.phases.Phase.{Phase}
-use Rattle.lattice_solver.specs.declared.phases.Phase.TheVariants.{First, Second}
+use Rattle.flow_graph.specs.declared.phase.Phase.{Phase}
+use Rattle.flow_graph.specs.declared.phase.Phase.TheVariants.{First, Second}
 use Rattle.lattice_solver.specs.Phases.{HasIn, room_of, size_of}
 use Rattle.error_path.specs.declared.search.Cause.{Cause}
 use Rattle.error_path.specs.declared.search.Cause.TheVariants.{Start, Step, Group}
 use Rattle.error_path.specs.declared.search.Reached.{Reached}
 use Rattle.error_path.specs.declared.search.Search.{Search}
-use Rattle.error_path.specs.Parts.{settled}
+use Rattle.flow_graph.specs.Parts.{settled}
 
 -- a constraint leads from a variable in a phase to a variable in a phase
 pub data LeadsBy (sys : System) (lattice : ℕ) : ℕ → Phase → ℕ → Phase → ℕ → Type 0 where

@@ -9,7 +9,7 @@ use Rattle.flow_graph.specs.declared.place.Seen.TheVariants.{Through}
 use Rattle.flow_graph.specs.System.{System, Stands}
 use Rattle.flow_graph.specs.PathProofs.{first_of, last_of, line_of, look, span_of, steps_of}
 use Rattle.lattice_solver.specs.Solution.{Solution, Exceeds}
-use Rattle.error_path.specs.Parts.{AreSubs, IsPath}
+use Rattle.flow_graph.specs.Parts.{AreSubs, IsPath}
 
 -- the last step takes the bound
 abbrev pub EndsWith : ℕ → PathProof → Type 0
@@ -23,11 +23,6 @@ pub record BeginsOver (sys : System) (solution : Solution) (order : Order) (boun
   pub var : ℕ
   pub constant : Stands sys solution.lattice number (Const solution.lattice element var)
   pub first : first_of proof.main.items ≡ Some (Take number 0)
-
--- no two of these sub-paths have the same first and last variables
-abbrev pub AreApart : System → List (List PathStep) → Type 0
-AreApart sys subs = (n m : ℕ) (one other : List PathStep) → slice_get subs n ≡ Some one → slice_get subs m ≡ Some other →
-    span_of sys (Some one) ≡ span_of sys (Some other) → n ≡ m
 
 -- the lines of these steps are 0
 abbrev pub HaveNoLines : List PathStep → Type 0

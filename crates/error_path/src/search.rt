@@ -4,16 +4,17 @@ ghost use Rattle.std.specs.Prelude.{◌≡◌, ◌≢◌, ℕ, ◌<◌, ◌↔�
 ghost use Rattle.flow_graph.specs.declared.constraint.Link.TheVariants.{Le, Const, Enter, Leave};
 ghost use Rattle.flow_graph.specs.System.{System, AllBelow, Stands, owner_of};
 ghost use Rattle.flow_graph.specs.Paths.{Lead};
-ghost use Rattle.lattice_solver.specs.declared.phases.Phase.TheVariants.{First, Second};
+ghost use Rattle.flow_graph.specs.declared.phase.Phase.TheVariants.{First, Second};
 ghost use Rattle.lattice_solver.specs.Phases.{size_of};
 ghost use Rattle.match_summary.specs.declared.reason.Summary.{Summary};
 ghost use Rattle.match_summary.specs.Summary.{Leads, Summarises};
-ghost use Rattle.error_path.specs.Parts.{settled};
+ghost use Rattle.flow_graph.specs.Parts.{settled};
 ghost use Rattle.error_path.specs.Reaching.{AreStarted, ComesBy, Grows, IsClosed, IsFollowed, IsGood, IsMarked, IsReachedAt, StandsAt};
 
 use flow_graph::constraint::Link;
 use flow_graph::graph::FlowGraph;
-use lattice_solver::phases::{Phase, Phases};
+use flow_graph::phase::Phase;
+use lattice_solver::phases::Phases;
 use match_summary::summary::Summaries;
 use qual_base::faults::NoMemory;
 use qual_base::ids::{EdgeId, Elem, LatticeNo, Numbered, SiteId, VarId};

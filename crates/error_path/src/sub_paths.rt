@@ -8,7 +8,7 @@ ghost use Rattle.flow_graph.specs.System.{System, Stands};
 ghost use Rattle.flow_graph.specs.PathProofs.{look};
 ghost use Rattle.match_summary.specs.declared.reason.Summary.{Summary};
 ghost use Rattle.match_summary.specs.Summary.{AreOfOne, HasPair, Leads, Summarises};
-ghost use Rattle.error_path.specs.Parts.{IsSub};
+ghost use Rattle.flow_graph.specs.Parts.{IsSub};
 ghost use Rattle.error_path.specs.Made.{number_in, place_of, subs_in, Adds, AllJoined, Extends, IsMade};
 
 use crate::steps::{Pair, inner_ends, push_group, push_take};

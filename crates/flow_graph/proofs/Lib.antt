@@ -2,3 +2,4 @@ mod Highest
 mod Bounds
 mod Keeping
 mod Owners
+mod Checks

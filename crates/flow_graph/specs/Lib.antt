@@ -5,3 +5,7 @@ pub mod Unfolding
 pub mod Paths
 pub mod PathRules
 pub mod PathProofs
+pub mod Parts
+pub mod Conditions
+pub mod Rows
+pub mod Index

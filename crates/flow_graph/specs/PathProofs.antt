@@ -59,6 +59,11 @@ abbrev pub span_of : System → Option (List PathStep) → Seen
 span_of sys (Some steps) = through (of_step sys (first_of steps) begins) (of_step sys (last_of steps) ends)
 span_of sys None = NoSub
 
+-- no two of these sub-paths have the same first and last variables
+abbrev pub AreApart : System → List (List PathStep) → Type 0
+AreApart sys subs = (n m : ℕ) (one other : List PathStep) → slice_get subs n ≡ Some one → slice_get subs m ≡ Some other →
+    span_of sys (Some one) ≡ span_of sys (Some other) → n ≡ m
+
 -- what a step names, where these sub-paths are the earlier ones: they count from 1
 abbrev pub look : System → List (List PathStep) → PathStep → Seen
 look sys earlier (Take edge line) = edge_or (slice_get sys.constraints edge)

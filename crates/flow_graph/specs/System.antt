@@ -26,6 +26,16 @@ IsInLattice lattice (Bound v named e) mask = named ≡ lattice
 IsInLattice lattice (Enter s u v) mask = bit_at mask lattice ≡ 1
 IsInLattice lattice (Leave s u v) mask = bit_at mask lattice ≡ 1
 
+-- what a link is not
+abbrev pub IsNoEnter : Link → Type 0
+IsNoEnter link = (s u v : ℕ) → link ≡ Enter s u v → ⊥
+
+abbrev pub IsNoLeave : Link → Type 0
+IsNoLeave link = (s u v : ℕ) → link ≡ Leave s u v → ⊥
+
+abbrev pub IsNoBound : Link → ℕ → Type 0
+IsNoBound link lattice = (v e : ℕ) → link ≡ Bound v lattice e → ⊥
+
 -- constraint number n is this link, in some lattices
 pub record Has (sys : System) (n : ℕ) (link : Link) : Type 0 where
   pub constraint : Constraint
@@ -51,6 +61,13 @@ pub record IsWellOwned (sys : System) : Type 0 where
   pub le : (n u v f g : ℕ) → Has sys n (Le u v) → owner_of sys u ≡ Function f → owner_of sys v ≡ Function g → f ≡ g
   pub enter : (n s u v : ℕ) → Has sys n (Enter s u v) → Calls sys s (owner_of sys u) (owner_of sys v)
   pub leave : (n s u v : ℕ) → Has sys n (Leave s u v) → Calls sys s (owner_of sys v) (owner_of sys u)
+
+-- the most constraints that a system may have, and the most variables
+abbrev pub most_constraints : ℕ
+most_constraints = 67108864
+
+abbrev pub most_variables : ℕ
+most_variables = 16777216
 
 -- One more than the highest variable number of a link.
 abbrev pub vars_of_link : Link → ℕ

@@ -71,6 +71,11 @@ pub record Printed (sys : System) (lattice : ℕ) (order : Order) (v r : ℕ) : 
   pub can : CanStay sys lattice order v r
   pub least : (q : ℕ) → CanStay sys lattice order v q → leq order r q ≡ true
 
+-- each constant and bound of the lattice names an element
+pub record NamesElementsIn (sys : System) (lattice : ℕ) (order : Order) : Type 0 where
+  pub const : (n e v : ℕ) → Stands sys lattice n (Const lattice e v) → e < size order
+  pub bound : (n v b : ℕ) → Stands sys lattice n (Bound v lattice b) → b < size order
+
 -- each constant and bound names a lattice of the list and an element of it
 pub record NamesElements (sys : System) (orders : List Order) : Type 0 where
   pub const : (n lattice e v : ℕ) → Has sys n (Const lattice e v) → (order : Order) × (slice_get orders lattice ≡ Some order) × (e < size order)

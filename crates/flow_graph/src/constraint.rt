@@ -1,8 +1,10 @@
 //! What a constraint graph is made of.
 
-ghost use Rattle.std.specs.Prelude.{◌≡◌, ◌<◌, ◌↔◌, IsTrue};
+ghost use Rattle.std.specs.Prelude.{◌≡◌, ◌<◌, ◌↔◌, IsTrue, MatchOption};
 ghost use Rattle.std.specs.Int.{bit_at};
-ghost use Rattle.flow_graph.specs.System.{IsInLattice};
+ghost use Rattle.flow_graph.specs.declared.constraint.Link.TheVariants.{Bound, Enter, Leave};
+ghost use Rattle.flow_graph.specs.System.{IsInLattice, IsNoBound, IsNoEnter, IsNoLeave};
+ghost use Rattle.flow_graph.specs.PathRules.{link_begins, link_ends};
 
 use qual_base::ids::{Elem, FuncId, LatticeNo, SiteId, TokenId, UnitNo, VarId};
 use qual_base::places::{Owner, Span};
@@ -30,7 +32,80 @@ pub struct Constraint {
     pub span: Span,
 }
 
+/// An `Enter` or a `Leave`: its site, and the variables that it leads from and to.
+#[derive(Clone, Copy, PartialEq, Eq, Debug)]
+pub struct Crossing {
+    pub site: SiteId,
+    pub from: VarId,
+    pub to: VarId,
+}
+
+/// A bound: its variable and its element.
+#[derive(Clone, Copy, PartialEq, Eq, Debug)]
+pub struct Limit {
+    pub at: VarId,
+    pub elem: Elem,
+}
+
+impl Link {
+    /// The variable where the link begins; a constant begins nowhere.
+    pub fn begin(self) -> Option<VarId>
+        ensures { result ≡ link_begins self }
+    {
+        match self {
+            Link::Le(from, _) => Some(from),
+            Link::Const(_, _, _) => None,
+            Link::Bound(at, _, _) => Some(at),
+            Link::Enter(_, from, _) => Some(from),
+            Link::Leave(_, from, _) => Some(from),
+        }
+    }
+
+    /// The variable where the link ends; a bound ends at its variable.
+    pub fn end(self) -> VarId
+        ensures { result ≡ link_ends self }
+    {
+        match self {
+            Link::Le(_, to) => to,
+            Link::Const(_, _, at) => at,
+            Link::Bound(at, _, _) => at,
+            Link::Enter(_, _, to) => to,
+            Link::Leave(_, _, to) => to,
+        }
+    }
+
+    /// The call that the link is.
+    pub fn as_enter(self) -> Option<Crossing>
+        ensures { MatchOption result (IsNoEnter self) (λ call. self ≡ Enter call.site call.from call.to) }
+    {
+        match self {
+            Link::Enter(site, from, to) => Some(Crossing { site, from, to }),
+            _ => None,
+        }
+    }
+
+    /// The return that the link is.
+    pub fn as_leave(self) -> Option<Crossing>
+        ensures { MatchOption result (IsNoLeave self) (λ back. self ≡ Leave back.site back.from back.to) }
+    {
+        match self {
+            Link::Leave(site, from, to) => Some(Crossing { site, from, to }),
+            _ => None,
+        }
+    }
+}
+
 impl Constraint {
+    /// The bound that the constraint is in a lattice.
+    pub fn bound_in(&self, lattice: LatticeNo) -> Option<Limit>
+        ensures { MatchOption result (IsNoBound self.now.link lattice) (λ limit. self.now.link ≡ Bound limit.at lattice limit.elem) }
+    {
+        match self.link {
+            Link::Bound(at, named, elem) if named == lattice => Some(Limit { at, elem }),
+            _ => None,
+        }
+    }
+
     /// Whether the constraint is in a lattice.
     pub fn is_in(&self, lattice: LatticeNo) -> bool
         requires { lattice < 16 }

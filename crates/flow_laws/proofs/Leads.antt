@@ -7,7 +7,8 @@ use Rattle.flow_graph.specs.declared.constraint.Link.TheVariants.{Const, Bound}
 use Rattle.flow_graph.specs.System.{System, Stands}
 use Rattle.flow_graph.specs.CallStrings.{IsCopy}
 use Rattle.flow_graph.specs.Paths.{Returning, start, flows, returns, grouped, anew, Calling, calls, calls_on, flows_on, grouped_on, Lead}
-use Rattle.flow_laws.specs.Least.{IsLeastOver, NamesElementsIn}
+use Rattle.flow_laws.specs.Least.{IsLeastOver}
+use Rattle.flow_graph.specs.Unfolding.{NamesElementsIn}
 use Rattle.flow_laws.specs.Laws.{SolutionStands, SafeKeepsBounds, NamesInEach, JoinsAreSolution}
 use Rattle.flow_laws.proofs.Links.{has_of}
 use Rattle.flow_laws.proofs.Join.{least_over}

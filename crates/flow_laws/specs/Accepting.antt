@@ -3,9 +3,9 @@ use Rattle.std.specs.Prelude.{◌≡◌, ℕ, Bool, true, false, List, ◌↔◌
 use Rattle.lattice_core.specs.Order.{Order, leq, IsOrder, IsLattice}
 use Rattle.flow_graph.specs.declared.constraint.Link.TheVariants.{Bound}
 use Rattle.flow_graph.specs.System.{System, Stands, IsWellOwned}
-use Rattle.flow_graph.specs.Unfolding.{Assignment, Meets, IsAccepted, IsAcceptedIn, IsExceeded, Printed}
+use Rattle.flow_graph.specs.Unfolding.{Assignment, Meets, IsAccepted, IsAcceptedIn, IsExceeded, Printed, NamesElementsIn}
 use Rattle.flow_graph.specs.Paths.{Lead}
-use Rattle.flow_laws.specs.Least.{NamesElementsIn, IsSolution, KeepsBounds}
+use Rattle.flow_laws.specs.Least.{IsSolution, KeepsBounds}
 use Rattle.flow_laws.specs.Sets.{Reaches, IsLeastInCopies}
 use Rattle.flow_laws.specs.Rejected.{HasExceeded, InEach}
 

@@ -3,9 +3,9 @@ use Rattle.std.specs.Prelude.{◌≡◌, ℕ, ◌+◌, ◌<◌, Bool, true, List
 use Rattle.std.specs.Int.{bit_at}
 use Rattle.lattice_core.specs.Order.{Order, size, leq, IsLattice, IsJoinOf}
 use Rattle.flow_graph.specs.System.{System, AllBelow}
-use Rattle.flow_graph.specs.Unfolding.{Assignment, Meets, NamesElements}
+use Rattle.flow_graph.specs.Unfolding.{Assignment, Meets, NamesElements, NamesElementsIn}
 use Rattle.flow_graph.specs.Paths.{Lead}
-use Rattle.flow_laws.specs.Least.{IsLeastOver, NamesElementsIn, IsSafe, element_of, IsSolution, KeepsBounds}
+use Rattle.flow_laws.specs.Least.{IsLeastOver, IsSafe, element_of, IsSolution, KeepsBounds}
 
 -- An assignment that meets the unfolding at a depth meets it at the depth below.
 abbrev pub LowerIsMet : Type 0

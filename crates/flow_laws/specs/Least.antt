@@ -1,7 +1,7 @@
 -- Least elements above sets, and what leads to the bounds of a system.
 use Rattle.std.specs.Prelude.{◌≡◌, ℕ, ◌<◌, true, List, slice_get, unwrap_or}
 use Rattle.lattice_core.specs.Order.{Order, size, leq}
-use Rattle.flow_graph.specs.declared.constraint.Link.TheVariants.{Const, Bound}
+use Rattle.flow_graph.specs.declared.constraint.Link.TheVariants.{Bound}
 use Rattle.flow_graph.specs.System.{System, Stands}
 use Rattle.flow_graph.specs.Paths.{Lead}
 
@@ -10,11 +10,6 @@ pub record IsLeastOver (order : Order) (In : ℕ → Type 0) (r : ℕ) : Type 0 
   pub element : r < size order
   pub upper : (e : ℕ) → In e → leq order e r ≡ true
   pub least : (d : ℕ) → d < size order → ((e : ℕ) → In e → leq order e d ≡ true) → leq order r d ≡ true
-
--- each constant and bound of the lattice names an element
-pub record NamesElementsIn (sys : System) (lattice : ℕ) (order : Order) : Type 0 where
-  pub const : (n e v : ℕ) → Stands sys lattice n (Const lattice e v) → e < size order
-  pub bound : (n v b : ℕ) → Stands sys lattice n (Bound v lattice b) → b < size order
 
 -- no constant leads to a bound that is not at or above it
 abbrev pub IsSafe : System → ℕ → Order → Type 0

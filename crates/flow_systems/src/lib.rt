@@ -9,7 +9,6 @@
 mod building;
 #[cfg(test)]
 mod case;
-pub mod conditions;
 #[cfg(test)]
 mod drawn_five;
 #[cfg(test)]

@@ -2,14 +2,13 @@
 
 ghost use Rattle.std.specs.Prelude.{◌≡◌, ◌<◌, length};
 ghost use Rattle.flow_graph.specs.System.{IsWellOwned};
-ghost use Rattle.flow_graph.specs.Unfolding.{IsExceeded};
-ghost use Rattle.flow_laws.specs.Least.{NamesElementsIn};
+ghost use Rattle.flow_graph.specs.Unfolding.{IsExceeded, NamesElementsIn};
 ghost use Rattle.match_summary.specs.Summary.{Summarises};
 ghost use Rattle.lattice_solver.specs.Solution.{IsSolved};
 
 use crate::building::{graph_of, lattice_of};
 use crate::case::Case;
-use crate::conditions::{is_well_owned, names_elements};
+use flow_graph::conditions::{is_well_owned, names_elements};
 use crate::{drawn_five, drawn_four, drawn_three, drawn_two, worked};
 use error_path::showing::show;
 use flow_graph::graph::FlowGraph;

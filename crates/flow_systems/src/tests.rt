@@ -2,13 +2,13 @@
 
 ghost use Rattle.std.specs.Prelude.{◌≡◌};
 ghost use Rattle.flow_graph.specs.System.{IsWellOwned};
-ghost use Rattle.flow_laws.specs.Least.{NamesElementsIn};
+ghost use Rattle.flow_graph.specs.Unfolding.{NamesElementsIn};
 ghost use Rattle.match_summary.specs.Summary.{Summarises};
 ghost use Rattle.lattice_solver.specs.Solution.{IsSolved};
 
 use crate::building::{graph_of, lattice_of};
 use crate::case::Case;
-use crate::conditions::{is_well_owned, names_elements};
+use flow_graph::conditions::{is_well_owned, names_elements};
 use crate::{drawn_five, drawn_four, drawn_three, drawn_two, worked};
 use flow_graph::graph::FlowGraph;
 use flow_unfolding::unfolding::is_met;

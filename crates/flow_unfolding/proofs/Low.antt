@@ -12,8 +12,7 @@ use Rattle.flow_graph.specs.declared.constraint.Link.TheVariants.{Le, Const, Bou
 use Rattle.flow_graph.specs.System.{System, IsInLattice, Stands, owner_of}
 use Rattle.flow_graph.specs.CallStrings.{either}
 use Rattle.flow_graph.specs.PathRules.{link_ends}
-use Rattle.flow_graph.specs.Unfolding.{Assignment, at, seen_from, Rises, Meets}
-use Rattle.flow_laws.specs.Least.{NamesElementsIn}
+use Rattle.flow_graph.specs.Unfolding.{Assignment, at, seen_from, Rises, Meets, NamesElementsIn}
 use Rattle.flow_unfolding.specs.Copies.{stands, behind}
 use Rattle.flow_unfolding.specs.Assigned.{is_same, changed, Raises}
 use Rattle.flow_unfolding.specs.Meeting.{begin_element, end_sites, is_below, AreElements, HasBoundIn, IsLow, IsOver, IsUnmet, NamesNone, NamesUpTo, is_inside}

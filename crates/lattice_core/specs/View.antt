@@ -1,5 +1,5 @@
 -- What callers see of a lattice: its entries, and the order on their numbers.
-use Rattle.std.specs.Prelude.{List}
+use Rattle.std.specs.Prelude.{◌≡◌, ◌<◌, ℕ, List, length, map, slice_get, Some}
 use Rattle.lattice_core.specs.Order.{Order}
 use Rattle.lattice_core.specs.declared.Entry.{Entry}
 
@@ -7,3 +7,13 @@ use Rattle.lattice_core.specs.declared.Entry.{Entry}
 pub record LatticeView : Type 0 where
   pub entries : List Entry
   pub order : Order
+
+-- the orders of several lattices
+abbrev pub orders_of : List LatticeView → List Order
+orders_of lattices = map (λ (lattice : LatticeView). lattice.order) lattices
+
+-- an element of a lattice
+pub record IsElement (lattices : List LatticeView) (lattice elem : ℕ) : Type 0 where
+  pub view : LatticeView
+  pub there : slice_get lattices lattice ≡ Some view
+  pub within : elem < length view.entries

@@ -7,8 +7,8 @@ use Rattle.flow_graph.specs.declared.constraint.Constraint.{Constraint}
 use Rattle.flow_graph.specs.System.{System, Stands}
 use Rattle.flow_graph.specs.Paths.{flows, flows_on, calls, calls_on}
 use Rattle.match_summary.specs.declared.reason.Summary.{Summary}
-use Rattle.lattice_solver.specs.declared.phases.Phase.{Phase}
-use Rattle.lattice_solver.specs.declared.phases.Phase.TheVariants.{First, Second}
+use Rattle.flow_graph.specs.declared.phase.Phase.{Phase}
+use Rattle.flow_graph.specs.declared.phase.Phase.TheVariants.{First, Second}
 use Rattle.lattice_solver.specs.PhaseSets.{PhaseSets}
 use Rattle.lattice_solver.specs.Phases.{LeadsIn}
 use Rattle.lattice_solver.specs.Stable.{AgreesWith, IncludesCalled, IsPassed}

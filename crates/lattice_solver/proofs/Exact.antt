@@ -4,8 +4,8 @@ use Rattle.flow_graph.specs.System.{System}
 use Rattle.flow_graph.specs.Paths.{Returning, Calling, start, flows, returns, grouped, anew, calls, calls_on, flows_on, grouped_on}
 use Rattle.match_summary.specs.declared.reason.Summary.{Summary}
 use Rattle.match_summary.specs.Summary.{Summarises}
-use Rattle.lattice_solver.specs.declared.phases.Phase.{Phase}
-use Rattle.lattice_solver.specs.declared.phases.Phase.TheVariants.{First, Second}
+use Rattle.flow_graph.specs.declared.phase.Phase.{Phase}
+use Rattle.flow_graph.specs.declared.phase.Phase.TheVariants.{First, Second}
 use Rattle.lattice_solver.specs.PhaseSets.{PhaseSets}
 use Rattle.lattice_solver.specs.Phases.{HasIn, LeadsIn}
 use Rattle.lattice_solver.specs.Stable.{AgreesWith, StartsAnew}

@@ -7,15 +7,15 @@ use Rattle.lattice_core.specs.Order.{Order, leq, IsLattice, IsJoinOf}
 use Rattle.flow_graph.specs.declared.constraint.Constraint.{Constraint}
 use Rattle.flow_graph.specs.declared.constraint.Link.TheVariants.{Bound, Enter}
 use Rattle.flow_graph.specs.System.{System, Stands, IsWellOwned}
-use Rattle.flow_graph.specs.Unfolding.{Assignment, IsExceeded, Printed}
+use Rattle.flow_graph.specs.Unfolding.{Assignment, IsExceeded, Printed, NamesElementsIn}
 use Rattle.flow_graph.specs.Paths.{Lead, Match, Returning}
 use Rattle.flow_laws.specs.Accepting.{CopiesStand, ExceededIsOver, KeptIsAccepted, OverIsExceeded, SolutionIsPrinted}
 use Rattle.flow_laws.specs.PathLaws.{ReachedIsTested}
 use Rattle.flow_laws.specs.Sets.{IsLeastInCopies}
 use Rattle.flow_laws.specs.Laws.{SolutionStands}
-use Rattle.flow_laws.specs.Least.{NamesElementsIn, IsSolution, KeepsBounds}
+use Rattle.flow_laws.specs.Least.{IsSolution, KeepsBounds}
 use Rattle.lattice_solver.specs.Solution.{Solution, reached_at, HasElement, IsSolved, IsKept, IsNoBound, AllUnder, IsOver}
-use Rattle.lattice_solver.specs.declared.phases.Phase.TheVariants.{First}
+use Rattle.flow_graph.specs.declared.phase.Phase.TheVariants.{First}
 use Rattle.lattice_solver.specs.Phases.{set_of}
 use Rattle.match_summary.specs.Summary.{HasPair}
 use Rattle.lattice_solver.proofs.Leading.{union_leads}

@@ -6,8 +6,8 @@ use Rattle.flow_graph.specs.System.{System, owner_of, Stands}
 use Rattle.flow_graph.specs.Paths.{Matches, stay, longer, Part, flow, group, grouped, grouped_on}
 use Rattle.match_summary.specs.declared.reason.Summary.{Summary}
 use Rattle.match_summary.specs.Summary.{Leads, AreOfOne, IsInnerEnd, Summarises}
-use Rattle.lattice_solver.specs.declared.phases.Phase.{Phase}
-use Rattle.lattice_solver.specs.declared.phases.Phase.TheVariants.{First, Second}
+use Rattle.flow_graph.specs.declared.phase.Phase.{Phase}
+use Rattle.flow_graph.specs.declared.phase.Phase.TheVariants.{First, Second}
 use Rattle.lattice_solver.specs.Phases.{LeadsIn}
 
 -- a matched path begins and ends in its function

@@ -5,8 +5,8 @@ use Rattle.flow_graph.specs.declared.constraint.Link.TheVariants.{Le, Const, Ent
 use Rattle.flow_graph.specs.System.{System, owner_of, Stands}
 use Rattle.match_summary.specs.declared.reason.Summary.{Summary}
 use Rattle.match_summary.specs.Summary.{Leads, AreOfOne}
-use Rattle.lattice_solver.specs.declared.phases.Phase.{Phase}
-use Rattle.lattice_solver.specs.declared.phases.Phase.TheVariants.{First, Second}
+use Rattle.flow_graph.specs.declared.phase.Phase.{Phase}
+use Rattle.flow_graph.specs.declared.phase.Phase.TheVariants.{First, Second}
 use Rattle.lattice_solver.specs.PhaseSets.{PhaseSets}
 use Rattle.lattice_solver.specs.Phases.{HasIn, Includes}
 

@@ -6,17 +6,11 @@ ghost use Rattle.lattice_solver.specs.Sets.{room};
 ghost use Rattle.lattice_solver.specs.Phases.{AllLeadIn, HasIn, Includes, LeadsIn, Moves, set_of, size_of};
 ghost use Rattle.flow_graph.specs.System.{System};
 
+use flow_graph::phase::Phase;
 use qual_base::faults::NoMemory;
 use qual_base::ids::{Numbered, VarId};
 use std::alloc::Global;
 use std::marker::Model;
-
-/// The first phase of a path is without an open call, the second has one.
-#[derive(Clone, Copy, PartialEq, Eq, Debug)]
-pub enum Phase {
-    First,
-    Second,
-}
 
 /// For each phase and each variable, a set of elements as 64 bits.
 #[derive(Drop)]

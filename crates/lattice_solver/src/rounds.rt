@@ -6,14 +6,15 @@ ghost use Rattle.qual_base.specs.declared.places.Owner.TheVariants.{Nobody};
 ghost use Rattle.flow_graph.specs.declared.constraint.Link.TheVariants.{Enter, Leave};
 ghost use Rattle.flow_graph.specs.System.{System, AllBelow, Stands, owner_of};
 ghost use Rattle.match_summary.specs.Summary.{AreOfOne, Leads, Summarises};
-ghost use Rattle.lattice_solver.specs.declared.phases.Phase.{Phase};
-ghost use Rattle.lattice_solver.specs.declared.phases.Phase.TheVariants.{First, Second};
+ghost use Rattle.flow_graph.specs.declared.phase.Phase.{Phase};
+ghost use Rattle.flow_graph.specs.declared.phase.Phase.TheVariants.{First, Second};
 ghost use Rattle.lattice_solver.specs.Phases.{AllLeadIn, HasIn, LeadsIn, Moves, size_of};
 ghost use Rattle.lattice_solver.specs.Stable.{AgreesWith, IncludesBoth, IncludesCalled, IsPassed, StartsAnew};
 
-use crate::phases::{Phase, Phases};
+use crate::phases::Phases;
 use flow_graph::constraint::Link;
 use flow_graph::graph::FlowGraph;
+use flow_graph::phase::Phase;
 use match_summary::inside::joins;
 use match_summary::summary::Summaries;
 use qual_base::ids::{EdgeId, Elem, LatticeNo, Numbered, SiteId, VarId};

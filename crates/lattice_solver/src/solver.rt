@@ -5,19 +5,19 @@ ghost use Rattle.std.specs.Int.{bit_at};
 ghost use Rattle.lattice_core.specs.Order.{size, IsJoinOf, IsLattice};
 ghost use Rattle.flow_graph.specs.declared.constraint.Link.TheVariants.{Bound};
 ghost use Rattle.flow_graph.specs.System.{IsWellOwned};
-ghost use Rattle.flow_graph.specs.Unfolding.{IsExceeded};
+ghost use Rattle.flow_graph.specs.Unfolding.{IsExceeded, NamesElementsIn};
 ghost use Rattle.flow_graph.specs.Paths.{Lead};
 ghost use Rattle.flow_laws.specs.Accepting.{CopiesStand, ExceededIsOver, KeptIsAccepted, OverIsExceeded, SolutionIsPrinted};
 ghost use Rattle.flow_laws.specs.Laws.{SolutionStands};
-ghost use Rattle.flow_laws.specs.Least.{NamesElementsIn};
 ghost use Rattle.flow_laws.specs.PathLaws.{ReachedIsTested};
 ghost use Rattle.match_summary.specs.Summary.{Summarises};
 ghost use Rattle.lattice_solver.specs.Solution.{AllUnder, Exceeds, Fits, HasElement, IsKept, IsNoBound, IsOver, IsSolved, reached_at};
 
-use crate::phases::{Phase, Phases};
+use crate::phases::Phases;
 use crate::rounds::saturate;
 use flow_graph::constraint::{Constraint, Link};
 use flow_graph::graph::FlowGraph;
+use flow_graph::phase::Phase;
 use flow_laws::accepting::{
     copies_stand, exceeded_is_over, kept_is_accepted, over_is_exceeded, solution_is_printed,
 };

@@ -47,9 +47,10 @@ StandsOnce rows = (n m : ℕ) (u v : ℕ) (p q : Reason) → slice_get rows n �
 abbrev pub IsInnerEnd : System → ℕ → ℕ → Type 0
 IsInnerEnd sys lattice a = (n s u : ℕ) × Stands sys lattice n (Enter s u a)
 
--- The summaries of a system in a lattice: the pairs are joined by matched paths, all that such a path joins to the inner
--- end of an Enter are there, each once, and each reason rests on pairs that stand earlier.
+-- The summaries of a system in a lattice: the pairs are joined by matched paths and begin at inner ends of Enters, all that
+-- such a path joins to such an end are there, each once, and each reason rests on pairs that stand earlier.
 pub record Summarises (sys : System) (lattice : ℕ) (rows : List Summary) : Type 0 where
+  pub begins : (u v : ℕ) → HasPair rows u v → IsInnerEnd sys lattice u
   pub sound : (u v : ℕ) → HasPair rows u v → Match sys lattice u v
   pub whole : (u v : ℕ) → IsInnerEnd sys lattice u → Match sys lattice u v → HasPair rows u v
   pub grounded : IsGrounded sys lattice rows

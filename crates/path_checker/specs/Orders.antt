@@ -1,11 +1,8 @@
 -- The orders of the lattices of a file.
-use Rattle.std.specs.Prelude.{◌≡◌, ℕ, List, Some, map, unwrap_or, slice_get}
+use Rattle.std.specs.Prelude.{◌≡◌, ℕ, List, Some, unwrap_or, slice_get}
 use Rattle.lattice_core.specs.Order.{Order, IsOrder}
-use Rattle.lattice_core.specs.View.{LatticeView}
+use Rattle.lattice_core.specs.View.{LatticeView, orders_of}
 use Rattle.flow_graph.specs.PathProofs.{no_order}
-
-abbrev pub orders_of : List LatticeView → List Order
-orders_of lattices = map (λ (lattice : LatticeView). lattice.order) lattices
 
 -- the order of a lattice by its number, in which nothing is at or below anything where there is no such lattice
 abbrev pub order_at : List LatticeView → ℕ → Order

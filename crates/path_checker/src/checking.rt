@@ -7,7 +7,8 @@ ghost use Rattle.flow_graph.specs.Unfolding.{NamesElements, IsAccepted};
 ghost use Rattle.flow_graph.specs.PathRules.{begins, ends, is_kept, rule_at};
 ghost use Rattle.flow_graph.specs.PathProofs.{edge_or, edge_at, look, line_of, first_of, last_of, of_step, through, ends_with_nobody, stays_in_call, first_failing, home_of, subs_fault, start_of, end_fault, main_fault, steps_of, fault_of, Holds};
 ghost use Rattle.flow_laws.specs.Holding.{steps_in_proof, IsUnmetWithin};
-ghost use Rattle.path_checker.specs.Orders.{orders_of, order_at, AreOrders};
+ghost use Rattle.path_checker.specs.Orders.{order_at, AreOrders};
+ghost use Rattle.lattice_core.specs.View.{orders_of};
 ghost use Rattle.path_checker.specs.Start.{start_fault};
 
 use crate::rules::{

@@ -12,13 +12,13 @@ use Rattle.lattice_core.specs.declared.Sign.{Sign}
 use Rattle.lattice_core.specs.declared.Sign.TheVariants.{Pos, Neg, Eq}
 use Rattle.lattice_core.specs.declared.Entry.{Entry}
 use Rattle.lattice_core.specs.Order.{Order, size}
-use Rattle.lattice_core.specs.View.{LatticeView}
+use Rattle.lattice_core.specs.View.{LatticeView, IsElement}
 use Rattle.flow_graph.specs.declared.constraint.Link.{Link}
 use Rattle.flow_graph.specs.declared.constraint.Link.TheVariants.{Le, Const, Bound, Enter, Leave}
 use Rattle.flow_graph.specs.declared.constraint.Constraint.{Constraint}
 use Rattle.flow_graph.specs.System.{System, Has, Stands, IsWellOwned}
 use Rattle.flow_laws.specs.Flat.{IsFlat}
-use Rattle.flow_laws.specs.Least.{NamesElementsIn}
+use Rattle.flow_graph.specs.Unfolding.{NamesElementsIn}
 use Rattle.c_lexer.specs.declared.token.Token.{Token}
 use Rattle.c_lexer.specs.declared.kinds.TokenKind.{TokenKind}
 use Rattle.c_lexer.specs.declared.kinds.TokenKind.TheVariants.{End, Punct}
@@ -28,7 +28,7 @@ use Rattle.c_lexer.specs.Reading.{Meanings}
 use Rattle.c_lexer.proofs.ReachLemmas.{reaches-kept}
 use Rattle.second_form.specs.Source.{AssignView, ItemView, Object, Function, Scope, no_names, kind_at, Is, IsObject, AreAssigns, IsItem, AreItems, IsSource, name_number, declared_with, end_of}
 use Rattle.second_form.specs.Constraints.{reference_of, contents_of, span_from, in_lattice, by_sign, same_level, MarkView, of_entry, of_mark, mark_of, mark_at, marks_from, marks_of, of_marks, writers_from, write_bounds, of_assign, of_item, objects_with, constraints_of, system_of, object_tokens, entry_at, entry_in}
-use Rattle.second_form.specs.Facts.{IsElement, IsNamed, AreNamed, AreObjects}
+use Rattle.second_form.specs.Facts.{IsNamed, AreNamed, AreObjects}
 use Rattle.second_form.specs.Adding.{IsNumbered, IsNumberedItem, AreNumbered}
 use Rattle.second_form.proofs.ReadingLemmas.{present, item_end}
 

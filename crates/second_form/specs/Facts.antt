@@ -17,12 +17,6 @@ pub record IsMarkedBy (lattices : List LatticeView) (lexed : Lexed) : Type 0 whe
   pub spelled : IsSpelled words lexed
   pub keywords : NamesKeywords words lexed
 
--- an element of a lattice
-pub record IsElement (lattices : List LatticeView) (lattice elem : ℕ) : Type 0 where
-  pub view : LatticeView
-  pub there : slice_get lattices lattice ≡ Some view
-  pub within : elem < length view.entries
-
 -- a link names elements of the lattices and variables of so many objects, and no call site
 abbrev pub IsNamed : List LatticeView → ℕ → Link → Type 0
 IsNamed lattices objects (Le u v) = (u < 2 * objects) × (v < 2 * objects)

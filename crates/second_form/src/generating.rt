@@ -7,7 +7,7 @@ ghost use Rattle.lattice_core.specs.View.{LatticeView};
 ghost use Rattle.flow_graph.specs.declared.constraint.Link.TheVariants.{Le, Const, Bound};
 ghost use Rattle.flow_graph.specs.System.{IsWithin, IsWellOwned};
 ghost use Rattle.flow_laws.specs.Flat.{IsFlat};
-ghost use Rattle.flow_laws.specs.Least.{NamesElementsIn};
+ghost use Rattle.flow_graph.specs.Unfolding.{NamesElementsIn};
 ghost use Rattle.c_lexer.specs.Tokens.{IsSpelled};
 ghost use Rattle.second_form.specs.Source.{IsSource};
 ghost use Rattle.second_form.specs.View.{assign_of, item_of, items_of};

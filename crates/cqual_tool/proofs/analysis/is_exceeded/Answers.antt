@@ -1,7 +1,6 @@
 use Rattle.std.proofs.Common.{◌≡◌, ℕ, slice_get, sym, ◌∙◌, ap, subst, arith}
 use Rattle.std.proofs.lemmas.Option.{slice_get_within}
-use Rattle.flow_graph.specs.Unfolding.{IsExceeded}
-use Rattle.flow_laws.specs.Least.{NamesElementsIn}
+use Rattle.flow_graph.specs.Unfolding.{IsExceeded, NamesElementsIn}
 use Rattle.cqual_tool.proofs.LatticeLemmas.{order_there}
 use Rattle.cqual_tool.proofs.SceneFacts.{kept_next, none_kept, found_over}
 use Rattle.cqual_tool.proofs.analysis.is_exceeded.Goals as goal

@@ -1,6 +1,5 @@
 use Rattle.std.proofs.Common.{◌≡◌, ℕ, [], true, false, arith, refl, sym, subst, append-nil}
-use Rattle.flow_graph.specs.Unfolding.{IsExceeded}
-use Rattle.flow_laws.specs.Least.{NamesElementsIn}
+use Rattle.flow_graph.specs.Unfolding.{IsExceeded, NamesElementsIn}
 use Rattle.lattice_solver.specs.Solution.{Exceeds}
 use Rattle.cqual_tool.specs.Scenes.{scene_of}
 use Rattle.cqual_tool.specs.Reports.{NotExceeded, Exceeded}

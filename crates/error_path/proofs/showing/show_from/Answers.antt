@@ -4,12 +4,11 @@ use Rattle.flow_graph.specs.declared.constraint.Link.TheVariants.{Bound}
 use Rattle.flow_graph.specs.declared.proof.PathStep.{PathStep}
 use Rattle.flow_graph.specs.declared.proof.PathStep.TheVariants.{Take}
 use Rattle.flow_graph.specs.System.{Stands}
-use Rattle.flow_graph.specs.PathProofs.{steps_of}
+use Rattle.flow_graph.specs.PathProofs.{steps_of, AreApart}
 use Rattle.error_path.specs.declared.search.Reached.{Reached}
-use Rattle.error_path.specs.Parts.{AreSubs, IsPath, Ends, Onward}
+use Rattle.flow_graph.specs.Parts.{AreSubs, IsPath, Ends, Onward}
 use Rattle.error_path.specs.Made.{place_of, subs_in}
 use Rattle.error_path.specs.Reaching.{AreSound}
-use Rattle.error_path.specs.Shown.{AreApart}
 use Rattle.error_path.proofs.Making.{made_apart}
 use Rattle.error_path.proofs.Tracing.{some_given}
 use Rattle.error_path.proofs.showing.show_from.Goals as goal

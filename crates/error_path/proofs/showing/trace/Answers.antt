@@ -1,7 +1,7 @@
 use Rattle.std.proofs.Common.{◌≡◌, ℕ, reverse, get_or, sym, ◌∙◌, subst}
 use Rattle.std.proofs.lemmas.Option.{slice_get-get_or, slice_get_within}
 use Rattle.error_path.specs.declared.search.Reached.{Reached}
-use Rattle.error_path.specs.Parts.{IsPath, Onward}
+use Rattle.flow_graph.specs.Parts.{IsPath, Onward}
 use Rattle.error_path.specs.Made.{subs_in}
 use Rattle.error_path.specs.Reaching.{ComesBy}
 use Rattle.error_path.proofs.Tracing.{match_none, match_some, some_given, some_reached}

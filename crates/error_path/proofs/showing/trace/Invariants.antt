@@ -1,6 +1,6 @@
 use Rattle.std.proofs.Common.{◌≡◌, ℕ, ◌<◌, length, reverse, slice_get, Some}
 use Rattle.error_path.specs.declared.search.Reached.{Reached}
-use Rattle.error_path.specs.Parts.{Onward}
+use Rattle.flow_graph.specs.Parts.{Onward}
 use Rattle.error_path.specs.Made.{subs_in, IsMade}
 use Rattle.error_path.proofs.showing.trace.Given as goal
 

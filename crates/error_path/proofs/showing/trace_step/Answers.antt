@@ -2,7 +2,7 @@ use Rattle.std.proofs.Common.{List, reverse, sym, subst}
 use Rattle.flow_graph.specs.declared.proof.PathStep.{PathStep}
 use Rattle.error_path.specs.declared.search.Cause.{Cause}
 use Rattle.error_path.specs.declared.search.Cause.TheVariants.{Step, Group}
-use Rattle.error_path.specs.Parts.{Onward}
+use Rattle.flow_graph.specs.Parts.{Onward}
 use Rattle.error_path.specs.Made.{subs_in}
 use Rattle.error_path.proofs.Making.{onward_grown}
 use Rattle.error_path.proofs.Tracing.{around_joined, around_leads, comes_as, traced_group, traced_step}

@@ -2,7 +2,7 @@ use Rattle.std.proofs.Common.{◌≡◌, sym, subst}
 use Rattle.std.specs.Int.{bit_at}
 use Rattle.std.proofs.lemmas.Bool.{OnFalse_at, OnFalse_from}
 use Rattle.std.proofs.lemmas.Nat.Bits.{bit_at-pow_same}
-use Rattle.lattice_solver.specs.declared.phases.Phase.TheVariants.{First}
+use Rattle.flow_graph.specs.declared.phase.Phase.TheVariants.{First}
 use Rattle.lattice_solver.specs.Phases.{HasIn, LeadsIn}
 use Rattle.lattice_solver.proofs.Bits.{only_in}
 use Rattle.lattice_solver.proofs.Carried.{raised_leads, raised_has}

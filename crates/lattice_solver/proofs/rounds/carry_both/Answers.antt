@@ -1,4 +1,4 @@
-use Rattle.lattice_solver.specs.declared.phases.Phase.TheVariants.{First, Second}
+use Rattle.flow_graph.specs.declared.phase.Phase.TheVariants.{First, Second}
 use Rattle.lattice_solver.proofs.rounds.carry_both.Goals as goal
 
 pub returns-clause-sound : goal.returns-clause-sound

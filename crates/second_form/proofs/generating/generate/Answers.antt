@@ -1,9 +1,8 @@
-use Rattle.std.proofs.Common.{sym, subst}
+use Rattle.std.proofs.Common.{sym, subst, ◌≡◌, ℕ, length, slice_get, Some}
 use Rattle.std.proofs.lemmas.Result.{IfOk-weaker}
 use Rattle.flow_graph.specs.System.{System, IsWellOwned}
 use Rattle.flow_laws.specs.Flat.{IsFlat}
-use Rattle.flow_laws.specs.Least.{NamesElementsIn}
-use Rattle.std.proofs.Common.{◌≡◌, ℕ, length, slice_get, Some}
+use Rattle.flow_graph.specs.Unfolding.{NamesElementsIn}
 use Rattle.lattice_core.specs.View.{LatticeView}
 use Rattle.second_form.specs.View.{items_of}
 use Rattle.second_form.specs.Constraints.{object_tokens}

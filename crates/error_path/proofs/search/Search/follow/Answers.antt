@@ -3,10 +3,10 @@ use Rattle.std.proofs.lemmas.Result.{on_ok_weaker}
 use Rattle.flow_graph.specs.declared.constraint.Link.{Link}
 use Rattle.flow_graph.specs.declared.constraint.Link.TheVariants.{Le, Enter, Leave}
 use Rattle.flow_graph.specs.System.{Stands, owner_of, vars_of_link}
-use Rattle.lattice_solver.specs.declared.phases.Phase.{Phase}
-use Rattle.lattice_solver.specs.declared.phases.Phase.TheVariants.{First}
+use Rattle.flow_graph.specs.declared.phase.Phase.{Phase}
+use Rattle.flow_graph.specs.declared.phase.Phase.TheVariants.{First}
 use Rattle.lattice_solver.specs.Phases.{size_of}
-use Rattle.error_path.specs.Parts.{settled}
+use Rattle.flow_graph.specs.Parts.{settled}
 use Rattle.error_path.specs.Reaching.{LeadsBy, ByFlow, ByLeave, ByEnter}
 use Rattle.error_path.proofs.Searching.{below_on, stands_on, comes_step, enter_followed, low_of, same_number, stands_in}
 use Rattle.error_path.proofs.search.Search.follow.Goals as goal

@@ -2,7 +2,7 @@ use Rattle.std.proofs.Common.{ℕ, ◌<◌}
 use Rattle.flow_graph.specs.declared.constraint.Link.TheVariants.{Leave}
 use Rattle.flow_graph.specs.System.{Stands, owner_of}
 use Rattle.match_summary.specs.Summary.{Leads}
-use Rattle.error_path.specs.Parts.{settled}
+use Rattle.flow_graph.specs.Parts.{settled}
 use Rattle.error_path.specs.Reaching.{Grows, IsGood, IsMarked}
 use Rattle.error_path.proofs.search.Search.follow_groups.Given as goal
 

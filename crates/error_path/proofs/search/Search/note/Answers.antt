@@ -1,6 +1,6 @@
 use Rattle.std.proofs.Common.{◌≡◌, ℕ, ◌+◌, List, [], ◌∷◌, length, sym, ◌∙◌, ap, subst, arith}
 use Rattle.std.proofs.lemmas.List.{length-append}
-use Rattle.lattice_solver.specs.declared.phases.Phase.{Phase}
+use Rattle.flow_graph.specs.declared.phase.Phase.{Phase}
 use Rattle.lattice_solver.specs.PhaseSets.{PhaseSets}
 use Rattle.lattice_solver.specs.Phases.{HasIn}
 use Rattle.flow_graph.specs.System.{AllBelow}

@@ -2,8 +2,8 @@ use Rattle.std.proofs.Common.{ℕ, ◌<◌, List}
 use Rattle.flow_graph.specs.declared.constraint.Link.TheVariants.{Const}
 use Rattle.flow_graph.specs.System.{Stands, owner_of}
 use Rattle.match_summary.specs.declared.reason.Summary.{Summary}
-use Rattle.lattice_solver.specs.declared.phases.Phase.TheVariants.{First}
-use Rattle.error_path.specs.Parts.{settled}
+use Rattle.flow_graph.specs.declared.phase.Phase.TheVariants.{First}
+use Rattle.flow_graph.specs.Parts.{settled}
 use Rattle.error_path.specs.Reaching.{Grows, IsGood, IsMarked}
 use Rattle.error_path.proofs.search.Search.start.Given as goal
 

@@ -7,7 +7,7 @@ use Rattle.flow_graph.specs.declared.place.Seen.TheVariants.{Through}
 use Rattle.flow_graph.specs.System.{Stands}
 use Rattle.flow_graph.specs.PathProofs.{look}
 use Rattle.match_summary.specs.Summary.{HasPair}
-use Rattle.error_path.specs.Parts.{Empty, Full}
+use Rattle.flow_graph.specs.Parts.{Empty, Full}
 use Rattle.error_path.specs.Made.{group_steps, place_of, subs_in, AllJoined}
 use Rattle.error_path.proofs.Making.{number_place, joined_push}
 use Rattle.error_path.proofs.Resting.{has_of}

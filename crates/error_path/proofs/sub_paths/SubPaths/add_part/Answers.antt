@@ -2,7 +2,7 @@ use Rattle.std.proofs.Common.{[], ◌∷◌}
 use Rattle.flow_graph.specs.declared.proof.PathStep.TheVariants.{Take}
 use Rattle.match_summary.specs.declared.reason.Reason.{Reason}
 use Rattle.match_summary.specs.declared.reason.Reason.TheVariants.{Last, Group}
-use Rattle.error_path.specs.Parts.{Flow}
+use Rattle.flow_graph.specs.Parts.{Flow}
 use Rattle.error_path.proofs.Resting.{rests_by, within_of}
 use Rattle.error_path.proofs.sub_paths.SubPaths.add_part.Goals as goal
 

@@ -3,7 +3,7 @@ use Rattle.std.specs.List.{Contains}
 use Rattle.std.proofs.lemmas.Bool.{eqb-true, eqb-false}
 use Rattle.flow_graph.specs.declared.proof.PathStep.{PathStep}
 use Rattle.error_path.specs.declared.steps.Pair.{Pair}
-use Rattle.error_path.specs.Parts.{Part, Inside, Done, More}
+use Rattle.flow_graph.specs.Parts.{Part, Inside, Done, More}
 use Rattle.error_path.specs.Made.{subs_in}
 use Rattle.error_path.proofs.Resting.{leads_owner}
 use Rattle.error_path.proofs.sub_paths.SubPaths.follow.Goals as goal

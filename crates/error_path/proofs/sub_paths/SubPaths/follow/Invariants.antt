@@ -2,7 +2,7 @@ use Rattle.std.proofs.Common.{◌≡◌, ℕ, [], reverse}
 use Rattle.qual_base.specs.declared.places.Owner.TheVariants.{Function}
 use Rattle.flow_graph.specs.System.{owner_of}
 use Rattle.match_summary.specs.Summary.{HasPair}
-use Rattle.error_path.specs.Parts.{Inside}
+use Rattle.flow_graph.specs.Parts.{Inside}
 use Rattle.error_path.specs.Made.{subs_in, AllJoined}
 use Rattle.error_path.proofs.sub_paths.SubPaths.follow.Given as goal
 

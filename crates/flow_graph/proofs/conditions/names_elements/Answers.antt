@@ -1,7 +1,7 @@
 use Rattle.std.proofs.Common.{◌≡◌, ℕ, false, true, refl, subst, arith, below_more}
-use Rattle.flow_systems.specs.Conditions.{IsNamedAt}
-use Rattle.flow_systems.proofs.Checks.{all_named, each_named}
-use Rattle.flow_systems.proofs.conditions.names_elements.Goals as goal
+use Rattle.flow_graph.specs.Conditions.{IsNamedAt}
+use Rattle.flow_graph.proofs.Checks.{all_named, each_named}
+use Rattle.flow_graph.proofs.conditions.names_elements.Goals as goal
 
 pub returns-then-not-is_named_at : goal.returns-then-not-is_named_at
 returns-then-not-is_named_at c = (

@@ -1,14 +1,14 @@
-//! What a system must meet before a solver may name its exceeded bounds, checked.
+//! What a system must meet before its exceeded bounds may be named, tested.
 
 ghost use Rattle.std.specs.Prelude.{◌≡◌, ◌<◌, ℕ, ◌↔◌, IsTrue, length};
 ghost use Rattle.lattice_core.specs.Order.{size};
 ghost use Rattle.qual_base.specs.declared.places.Owner.TheVariants.{Function};
 ghost use Rattle.flow_graph.specs.System.{Calls, IsWellOwned, IsWithin};
-ghost use Rattle.flow_laws.specs.Least.{NamesElementsIn};
-ghost use Rattle.flow_systems.specs.Conditions.{IsInOrder, IsNamedAt, IsOwned, IsOwnedAt};
+ghost use Rattle.flow_graph.specs.Unfolding.{NamesElementsIn};
+ghost use Rattle.flow_graph.specs.Conditions.{IsInOrder, IsNamedAt, IsOwned, IsOwnedAt};
 
-use flow_graph::constraint::Link;
-use flow_graph::graph::FlowGraph;
+use crate::constraint::Link;
+use crate::graph::FlowGraph;
 use lattice_core::Lattice;
 use qual_base::ids::{EdgeId, Elem, LatticeNo, Numbered, SiteId};
 use qual_base::places::Owner;

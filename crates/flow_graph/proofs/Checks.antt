@@ -4,8 +4,8 @@ use Rattle.std.proofs.lemmas.Option.{slice_get_within}
 use Rattle.lattice_core.specs.Order.{Order}
 use Rattle.flow_graph.specs.System.{System, IsWellOwned}
 use Rattle.flow_graph.specs.declared.constraint.Link.TheVariants.{Le, Const, Bound, Enter, Leave}
-use Rattle.flow_laws.specs.Least.{NamesElementsIn}
-use Rattle.flow_systems.specs.Conditions.{IsOwnedAt, IsNamedAt}
+use Rattle.flow_graph.specs.Unfolding.{NamesElementsIn}
+use Rattle.flow_graph.specs.Conditions.{IsOwnedAt, IsNamedAt}
 
 pub all_owned : (sys : System) → ((n : ℕ) → n < length sys.constraints → IsOwnedAt sys n) → IsWellOwned sys
 all_owned sys all = record {

@@ -1,7 +1,7 @@
 use Rattle.std.proofs.Common.{◌≡◌, ℕ, false, true, refl, subst, arith, below_more}
-use Rattle.flow_systems.specs.Conditions.{IsOwnedAt}
-use Rattle.flow_systems.proofs.Checks.{all_owned, each_owned}
-use Rattle.flow_systems.proofs.conditions.is_well_owned.Goals as goal
+use Rattle.flow_graph.specs.Conditions.{IsOwnedAt}
+use Rattle.flow_graph.proofs.Checks.{all_owned, each_owned}
+use Rattle.flow_graph.proofs.conditions.is_well_owned.Goals as goal
 
 pub returns-then-not-is_owned_at : goal.returns-then-not-is_owned_at
 returns-then-not-is_owned_at c = (λ (no : false ≡ true). absurd cc, λ owned. c.if-not-is_owned_at.ensures.1 (each_owned c.args.graph.now owned c.new.result))

