@@ -11,3 +11,4 @@ pub mod FeedLemmas
 pub mod ReachLemmas
 pub mod UniqueLemmas
 pub mod OnceLemmas
+pub mod PlaceLemmas

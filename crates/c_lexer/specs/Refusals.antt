@@ -5,17 +5,17 @@ use Rattle.c_lexer.specs.declared.lex.LexFault.TheVariants.{BadByte, Unended, Un
 use Rattle.c_lexer.specs.declared.token.Token.{Token}
 use Rattle.c_lexer.specs.declared.places.Mark.{Mark}
 use Rattle.c_lexer.specs.Tokens.{Lexed}
-use Rattle.c_lexer.specs.Places.{IsSpot}
+use Rattle.c_lexer.specs.Places.{spot_at}
 use Rattle.c_lexer.specs.Reading.{Meanings, Front, Reaches, IsStuck, IsUnknown, opens}
 
 -- gaps and tokens in turn lead to the place of the fault, which the spot names; want of memory may come anywhere
 abbrev pub IsRefusal : ℕ → Meanings → List ℕ → LexFault → Type 0
 IsRefusal unit words bytes (BadByte spot) =
-    (front : Front) × Reaches unit words bytes front × IsStuck bytes front × (opens (drop front.at bytes) ≡ false) × IsSpot unit bytes front.marks front.at spot
+    (front : Front) × Reaches unit words bytes front × IsStuck bytes front × (opens (drop front.at bytes) ≡ false) × (spot ≡ spot_at unit bytes front.marks front.at)
 IsRefusal unit words bytes (Unended spot) =
-    (front : Front) × Reaches unit words bytes front × IsStuck bytes front × (opens (drop front.at bytes) ≡ true) × IsSpot unit bytes front.marks front.at spot
+    (front : Front) × Reaches unit words bytes front × IsStuck bytes front × (opens (drop front.at bytes) ≡ true) × (spot ≡ spot_at unit bytes front.marks front.at)
 IsRefusal unit words bytes (UnknownQualifier spot) =
-    (front : Front) × Reaches unit words bytes front × IsUnknown unit words bytes front × IsSpot unit bytes front.marks front.at spot
+    (front : Front) × Reaches unit words bytes front × IsUnknown unit words bytes front × (spot ≡ spot_at unit bytes front.marks front.at)
 IsRefusal unit words bytes NoMemory = Unit {0}
 
 -- tokens and marks are answered as these, unless memory is wanting

@@ -1,13 +1,15 @@
 -- The tokens of a unit, as clauses see them, and what is answered of each.
-use Rattle.std.specs.Prelude.{◌≡◌, ℕ, ◌<◌, ◌≤◌, ◌^◌, List, length, Option, Some, None, codes, slice_get}
+use Rattle.std.specs.Prelude.{◌≡◌, ℕ, ◌<◌, ◌≤◌, ◌^◌, List, length, map, Option, Some, None, codes, slice_get, slice_range, unwrap_or}
 use Rattle.std.specs.List.Sorted.{IsNonDecreasingBy}
-use Rattle.qual_base.specs.Words.{meaning_of}
+use Rattle.qual_base.specs.Words.{meaning_of, MeansTheSame}
+use Rattle.qual_base.specs.declared.places.Spot.{Spot}
 use Rattle.c_lexer.specs.declared.kinds.TokenKind.{TokenKind}
 use Rattle.c_lexer.specs.declared.kinds.TokenKind.TheVariants.{Keyword as IsKeyword, Qual}
 use Rattle.c_lexer.specs.declared.kinds.Keyword.{Keyword}
 use Rattle.c_lexer.specs.declared.kinds.Keyword.TheVariants.{Const, Volatile, Restrict}
 use Rattle.c_lexer.specs.declared.token.Token.{Token}
 use Rattle.c_lexer.specs.declared.places.Mark.{Mark}
+use Rattle.c_lexer.specs.Places.{spot_at}
 use Rattle.c_lexer.specs.Reading.{Meanings, Spells}
 
 -- A unit with its tokens and linemarkers, and what `const`, `volatile` and `restrict` mean in the lattices.
@@ -42,6 +44,28 @@ pub record NamesKeywords (words : Meanings) (lexed : Lexed) : Type 0 where
 -- the bytes of the unit spell its tokens and linemarkers, with some list of different names
 abbrev pub IsSpelled : Meanings → Lexed → Type 0
 IsSpelled words lexed = (names : List (List ℕ)) × Spells lexed.unit words lexed.bytes lexed.tokens names lexed.marks
+
+-- The bytes spell the tokens, where the `$` words and the three keywords mean what these words say.
+pub record IsMarkedBy (meanings : Meanings) (lexed : Lexed) : Type 0 where
+  pub words : Meanings
+  pub mean : MeansTheSame words meanings
+  pub spelled : IsSpelled words lexed
+  pub keywords : NamesKeywords words lexed
+
+-- where a token begins and ends; 0 where there is no such token
+abbrev pub start_of : List Token → ℕ → ℕ
+start_of tokens n = unwrap_or (slice_get (map (λ (token : Token). token.start) tokens) n) 0
+
+abbrev pub end_of : List Token → ℕ → ℕ
+end_of tokens n = unwrap_or (slice_get (map (λ (token : Token). token.end) tokens) n) 0
+
+-- the bytes that spell a token
+abbrev pub text_of : Lexed → ℕ → List ℕ
+text_of lexed n = slice_range lexed.bytes (start_of lexed.tokens n) (end_of lexed.tokens n)
+
+-- how a report names the place of a token
+abbrev pub token_spot : Lexed → ℕ → Spot
+token_spot lexed n = spot_at lexed.unit lexed.bytes lexed.marks (start_of lexed.tokens n)
 
 -- each token stands within the bytes, which are few enough to number, and the lines of the marks come in order
 pub record IsSound (bytes : List ℕ) (tokens : List Token) (marks : List Mark) : Type 0 where

@@ -9,7 +9,7 @@ ghost use Rattle.c_lexer.specs.Names.{name_number, with_name};
 ghost use Rattle.c_lexer.specs.Reading.{begin, is_index, IsKind, names_behind, MarksBehind, Skips, Takes, IsStep, HasNoKind, Reaches, StopsAt, StopsBehind, IsCounted, opens};
 ghost use Rattle.qual_base.specs.Words.{meaning_of};
 ghost use Rattle.std.specs.List.Sorted.{IsNonDecreasingBy};
-ghost use Rattle.c_lexer.specs.Places.{IsSpot};
+ghost use Rattle.c_lexer.specs.Places.{spot_at};
 
 use crate::gaps::{Gap, gap_in_front, is_fresh_behind};
 use crate::kinds::{TokenKind, Word};
@@ -196,7 +196,7 @@ impl Front {
         requires inside { self.now.at ≤ length text.now.1 }
         requires small { length text.now.1 < 2 ^ 32 - 1 }
         requires rising { IsNonDecreasingBy (λ m. m.from) self.now.marks }
-        ensures { IsSpot text.now.0 text.now.1 self.now.marks self.now.at result }
+        ensures { result ≡ spot_at text.now.0 text.now.1 self.now.marks self.now.at }
     {
         text.spot_of(&self.marks, self.at as u32)
     }

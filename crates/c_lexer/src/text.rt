@@ -3,7 +3,7 @@
 ghost use Rattle.std.specs.Prelude.{ℕ, List, ◌≡◌, ◌==◌, ◌<◌, ◌≤◌, ◌^◌, ◌-◌, length, take, count_by, IfOk};
 ghost use Rattle.std.specs.List.Sorted.{IsNonDecreasingBy};
 ghost use Rattle.memchr.specs.Find.{is_byte, places};
-ghost use Rattle.c_lexer.specs.Places.{Governs, IsLineOf, IsSpot};
+ghost use Rattle.c_lexer.specs.Places.{Governs, IsLineOf, IsSpot, spot_at};
 
 use crate::places::Mark;
 use memchr::memchr_iter;
@@ -110,7 +110,8 @@ impl Text {
     pub(crate) fn spot_of(&self, marks: &[Mark], at: u32) -> Spot
         requires inside { at ≤ length self.now.1 }
         requires rising { IsNonDecreasingBy (λ m. m.from) marks.now }
-        ensures { IsSpot self.now.0 self.now.1 marks.now at result }
+        ensures spot { result ≡ spot_at self.now.0 self.now.1 marks.now at }
+        ensures names { IsSpot self.now.0 self.now.1 marks.now at result }
     {
         let mark = mark_at(marks, at);
         let feeds = self.feeds_before(at) - self.feeds_before(mark.from);

@@ -2,7 +2,7 @@
 
 ghost use Rattle.std.specs.Prelude.{ℕ, ◌≡◌, ◌+◌, ◌-◌, ◌<◌, ◌≤◌, ◌^◌, length, Some, option_map, slice_get, slice_range, IfSome, IfOk, IfErr};
 ghost use Rattle.c_lexer.specs.Places.{IsSpot};
-ghost use Rattle.c_lexer.specs.Tokens.{Lexed, IsSound, keyword_meaning, mark_of_kind};
+ghost use Rattle.c_lexer.specs.Tokens.{Lexed, IsSound, keyword_meaning, mark_of_kind, start_of, token_spot};
 
 use crate::kinds::{Keyword, TokenKind};
 use crate::places::Mark;
@@ -128,7 +128,8 @@ impl Tokens {
     /// How a report names the place of a token, in time logarithmic in the numbers of lines and linemarkers.
     pub fn place_of(&self, at: TokenId) -> Spot
         requires { at < length self.now.tokens }
-        ensures { IfSome (slice_get self.now.tokens at) (λ token. IsSpot self.now.unit self.now.bytes self.now.marks token.start result) }
+        ensures spot { result ≡ token_spot self.now at }
+        ensures names { IsSpot self.now.unit self.now.bytes self.now.marks (start_of self.now.tokens at) result }
     {
         let start = self.start(at);
         self.text.spot_of(&self.marks, start)

@@ -1,14 +1,17 @@
--- The spot of a place, and the places of tokens.
-use Rattle.std.proofs.Common.{◌≡◌, ◌≢◌, ℕ, zero, suc, ◌+◌, ◌-◌, ◌<◌, ◌≤◌, inl, inr, Bool, true, false, not, List, [], ◌∷◌, length, take, get_or, reverse, Some, slice_get, if◌then◌else◌, refl, sym, ◌∙◌, ap, subst, arith}
-use Rattle.std.specs.Prelude.{nat_eq, nat_le, slice_range}
+-- The spot of a place, and those of tokens.
+use Rattle.std.proofs.Common.{◌≡◌, ◌≢◌, ℕ, zero, suc, ◌+◌, ◌-◌, ◌<◌, ◌≤◌, inl, inr, Bool, true, false, not, List, [], ◌∷◌, length, take, get_or, reverse, Some, unwrap_or, slice_get, if◌then◌else◌, refl, sym, ◌∙◌, ap, subst, arith}
+use Rattle.std.specs.Prelude.{nat_eq, nat_le}
+use Rattle.std.specs.Option.{option_map}
+use Rattle.std.proofs.lemmas.Option.{slice_get-map}
 use Rattle.std.proofs.lemmas.List.{length-reverse, get_or-reverse, length-take-le, get_or-take}
 use Rattle.std.proofs.lemmas.List.Sums.{prefix_len_is}
 use Rattle.std.proofs.lemmas.Bool.{le-leb, lt-leb, eq-eqb, ne_eqb}
 use Rattle.qual_base.specs.declared.places.Spot.{Spot}
 use Rattle.c_lexer.specs.declared.places.Mark.{Mark}
-use Rattle.c_lexer.specs.Places.{no_mark, Governs, IsLineOf, IsSpot}
+use Rattle.c_lexer.specs.declared.token.Token.{Token}
+use Rattle.c_lexer.specs.Places.{no_mark, governing, before_in_line, line_by, spot_at, Governs, IsLineOf, IsSpot}
+use Rattle.c_lexer.specs.Tokens.{Lexed, start_of, token_spot}
 use Rattle.c_lexer.specs.Places.Governs.{none, last}
-use Rattle.cqual_tool.specs.Texts.{governing, before_in_line, line_by, spot_by, file_text, at_text, spot_text}
 
 -- ---- the linemarker that governs a place
 
@@ -73,16 +76,40 @@ module _ (bytes : List ℕ) (at from : ℕ) (inside : at ≤ length bytes) (line
       let count : length (reverse (take at bytes)) ≡ at = length-reverse (take at bytes) ∙ front_length in
       prefix_len_is (λ b. not (nat_eq b 10)) (reverse (take at bytes)) (at - from) 0 (omega (arith, count)) passes (λ h. stops (omega (arith, h, count)))
 
--- The text of a spot of a place is that of the place.
-pub placed : (file bytes : List ℕ) (unit : ℕ) (marks : List Mark) (at : ℕ) (spot : Spot) → at ≤ length bytes → IsSpot unit bytes marks at spot →
-    spot_text file bytes spot ≡ spot_text file bytes (spot_by bytes (governing no_mark marks at) at)
-placed file bytes unit marks at spot inside is =
+abbrev spot_with : ℕ → ℕ → ℕ → ℕ → ℕ → Spot
+spot_with unit from to line column = record { unit = unit; name_from = from; name_to = to; line = line; column = column }
+
+spot_by_fields : (s : Spot) (u f t l c : ℕ) → s.unit ≡ u → s.name_from ≡ f → s.name_to ≡ t → s.line ≡ l → s.column ≡ c → s ≡ spot_with u f t l c
+spot_by_fields s u f t l c a b d e g =
+    ap (λ x. spot_with x s.name_from s.name_to s.line s.column) a ∙ ap (λ x. spot_with u x s.name_to s.line s.column) b ∙ ap (λ x. spot_with u f x s.line s.column) d
+    ∙ ap (λ x. spot_with u f t x s.column) e ∙ ap (λ x. spot_with u f t l x) g
+
+-- A spot that names a place is the spot of the place.
+pub spot_is : (unit : ℕ) (bytes : List ℕ) (marks : List Mark) (at : ℕ) (spot : Spot) → at ≤ length bytes → IsSpot unit bytes marks at spot → spot ≡ spot_at unit bytes marks at
+spot_is unit bytes marks at spot inside is =
     let same = governed marks at is.mark is.governs in
     let from : spot.name_from ≡ (governing no_mark marks at).name_from = is.name_from ∙ ap (λ (m : Mark). m.name_from) same in
     let to : spot.name_to ≡ (governing no_mark marks at).name_to = is.name_to ∙ ap (λ (m : Mark). m.name_to) same in
     let line : spot.line ≡ line_by bytes (governing no_mark marks at) at = is.line ∙ ap (λ (m : Mark). line_by bytes m at) same in
     let column : spot.column ≡ before_in_line bytes at + 1 = is.column ∙ ap (λ n. n + 1) (sym (column_is bytes at is.line_from inside is.line_of)) in
-    ap (λ f. at_text (if nat_eq f spot.name_to then file else slice_range bytes f spot.name_to) spot.line spot.column) from
-    ∙ ap (λ t. at_text (if nat_eq (governing no_mark marks at).name_from t then file else slice_range bytes (governing no_mark marks at).name_from t) spot.line spot.column) to
-    ∙ ap (λ l. at_text (file_text file bytes (spot_by bytes (governing no_mark marks at) at)) l spot.column) line
-    ∙ ap (λ c. at_text (file_text file bytes (spot_by bytes (governing no_mark marks at) at)) (line_by bytes (governing no_mark marks at) at) c) column
+    spot_by_fields spot _ _ _ _ _ is.unit_is from to line column
+
+-- ---- where tokens begin
+
+pub start_is : (tokens : List Token) (n start : ℕ) → option_map (λ (token : Token). token.start) (slice_get tokens n) ≡ Some start → start_of tokens n ≡ start
+start_is tokens n start is = ap (λ o. unwrap_or o 0) (slice_get-map (λ (token : Token). token.start) tokens n ∙ is)
+
+-- the spot of where a token begins is the token's
+module _ (lexed : Lexed) (unit : ℕ) (bytes : List ℕ) (marks : List Mark) (unit_is : unit ≡ lexed.unit) (bytes_are : bytes ≡ lexed.bytes) (marks_are : marks ≡ lexed.marks)
+    (n start : ℕ) (spot : Spot) (begins : option_map (λ (token : Token). token.start) (slice_get lexed.tokens n) ≡ Some start) where
+  pub spot_of_start : spot ≡ spot_at unit bytes marks start → spot ≡ token_spot lexed n
+  spot_of_start is = is ∙ ap (λ u. spot_at u bytes marks start) unit_is ∙ ap (λ b. spot_at lexed.unit b marks start) bytes_are ∙ ap (λ m. spot_at lexed.unit lexed.bytes m start) marks_are
+      ∙ ap (spot_at lexed.unit lexed.bytes lexed.marks) (sym (start_is lexed.tokens n start begins))
+
+  pub names_start : IsSpot unit bytes marks start spot → IsSpot lexed.unit lexed.bytes lexed.marks (start_of lexed.tokens n) spot
+  names_start is =
+      let Unit : ℕ → Type 0 = λ u. IsSpot u bytes marks start spot in
+      let Bytes : List ℕ → Type 0 = λ b. IsSpot lexed.unit b marks start spot in
+      let Marks : List Mark → Type 0 = λ m. IsSpot lexed.unit lexed.bytes m start spot in
+      let At : ℕ → Type 0 = λ at. IsSpot lexed.unit lexed.bytes lexed.marks at spot in
+      subst At (sym (start_is lexed.tokens n start begins)) (subst Marks marks_are (subst Bytes bytes_are (subst Unit unit_is is)))
