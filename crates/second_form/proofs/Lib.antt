@@ -2,3 +2,4 @@ pub mod ScopeLemmas
 pub mod ReadingLemmas
 pub mod Growing
 pub mod SystemFacts
+mod Halves

@@ -17,7 +17,6 @@ use Rattle.flow_graph.specs.declared.constraint.Link.{Link}
 use Rattle.flow_graph.specs.declared.constraint.Link.TheVariants.{Le, Const, Bound, Enter, Leave}
 use Rattle.flow_graph.specs.declared.constraint.Constraint.{Constraint}
 use Rattle.flow_graph.specs.System.{System, Has, Stands, IsWellOwned}
-use Rattle.flow_laws.specs.Flat.{IsFlat}
 use Rattle.flow_graph.specs.Unfolding.{NamesElementsIn}
 use Rattle.c_lexer.specs.declared.token.Token.{Token}
 use Rattle.c_lexer.specs.declared.kinds.TokenKind.{TokenKind}
@@ -28,7 +27,8 @@ use Rattle.c_lexer.specs.Reading.{Meanings}
 use Rattle.c_lexer.proofs.ReachLemmas.{reaches-kept}
 use Rattle.second_form.specs.Source.{AssignView, ItemView, Object, Function, Scope, no_names, kind_at, Is, IsObject, AreAssigns, IsItem, AreItems, IsSource, name_number, declared_with, end_of}
 use Rattle.second_form.specs.Constraints.{reference_of, contents_of, span_from, in_lattice, by_sign, same_level, MarkView, of_entry, of_mark, mark_of, mark_at, marks_from, marks_of, of_marks, writers_from, write_bounds, of_assign, of_item, objects_with, constraints_of, system_of, object_tokens, entry_at, entry_in}
-use Rattle.second_form.specs.Facts.{IsNamed, AreNamed, AreObjects}
+use Rattle.second_form.specs.Facts.{IsNamed, AreNamed, HasPosition, AreObjects}
+use Rattle.second_form.specs.Positions.{position_with, positions_of}
 use Rattle.second_form.specs.Adding.{IsNumbered, IsNumberedItem, AreNumbered}
 use Rattle.second_form.proofs.ReadingLemmas.{present, item_end}
 
@@ -125,11 +125,26 @@ tokens_there ts scope n (Object first name ∷ items) h zero token e =
 tokens_there ts scope n (Object first name ∷ items) h (suc k) token e = tokens_there ts (declared_with ts scope (Object first name)) (end_of (Object first name)) items h.1 k token e
 tokens_there ts scope n (Function name assigns ∷ items) h k token e = tokens_there ts (declared_with ts scope (Function name assigns)) (end_of (Function name assigns)) items h.1 k token e
 
--- The objects of such a source are tokens of it.
+-- objects at tokens have their variables there
+position_there : (lexed : Lexed) (tokens : List ℕ) → ((k token : ℕ) → slice_get tokens k ≡ Some token → token < length lexed.tokens) → (var : ℕ) → var < 2 * length tokens →
+    HasPosition lexed (positions_of tokens) var
+position_there lexed [] inside var below = absurd (omega (arith, below))
+position_there lexed (t ∷ ts) inside zero below = record { position = position_with t false; there = refl; unit = refl; inside = inside 0 t refl }
+position_there lexed (t ∷ ts) inside (suc zero) below = record { position = position_with t true; there = refl; unit = refl; inside = inside 0 t refl }
+position_there lexed (t ∷ ts) inside (suc (suc var)) below =
+    let rest = position_there lexed ts (λ k token is. inside (suc k) token is) var (omega (arith, below)) in
+    record { position = rest.position; there = rest.there; unit = rest.unit; inside = rest.inside }
+
+positions_counted : (tokens : List ℕ) → length (positions_of tokens) ≡ 2 * length tokens
+positions_counted [] = refl
+positions_counted (t ∷ ts) = let rest = positions_counted ts in omega (arith, rest)
+
+-- The variables of the objects of such a source stand at tokens of it.
 pub are_objects : (words : Meanings) (lexed : Lexed) (items : List ItemView) → IsSpelled words lexed → length lexed.bytes ≤ 16777216 → IsSource lexed.tokens items →
     AreObjects lexed (object_tokens items)
 are_objects words lexed items spelled small is = record {
-  inside = tokens_there lexed.tokens no_names 0 items is;
+  each = position_there lexed (object_tokens items) (tokens_there lexed.tokens no_names 0 items is);
+  count = positions_counted (object_tokens items);
   few = few_objects words lexed items spelled small is;
 }
 
@@ -161,7 +176,7 @@ signed P Eq lattice elem var span const bound = (const, (bound, tt))
 module _ (lattices : List LatticeView) (lexed : Lexed) (objects : ℕ) where
   -- a constraint with a link that is named, whose span begins at a token
   abbrev Plain : Constraint → Type 0
-  Plain c = IsNamed lattices objects c.link × (c.span.from < length lexed.tokens)
+  Plain c = IsNamed lattices objects c.link × ((c.span.unit ≡ 1) × (c.span.from < length lexed.tokens))
 
   abbrev Inside : MarkView → Type 0
   Inside mark = mark.token < length lexed.tokens
@@ -170,7 +185,7 @@ module _ (lattices : List LatticeView) (lexed : Lexed) (objects : ℕ) where
   entry_plain entry level var mark is below inside = by_test (same_level entry.level level)
     where
       by_test : (b : Bool) → Each Plain (if b then by_sign entry.sign mark.lattice mark.elem var (span_from mark.token mark.token) else [])
-      by_test true = signed Plain entry.sign mark.lattice mark.elem var (span_from mark.token mark.token) ((is, below), inside) ((is, below), inside)
+      by_test true = signed Plain entry.sign mark.lattice mark.elem var (span_from mark.token mark.token) ((is, below), (refl, inside)) ((is, below), (refl, inside))
       by_test false = tt
 
   mark_plain : (level : Level) (var : ℕ) (mark : MarkView) → var < 2 * objects → Inside mark → Each Plain (of_mark lattices level var mark)
@@ -209,7 +224,7 @@ module _ (lattices : List LatticeView) (lexed : Lexed) (objects : ℕ) where
       by_test false rest = rest
 
   bounds_plain : (var : ℕ) (span : Span) (n : ℕ) (rest : List LatticeView) → ((i : ℕ) (view : LatticeView) → slice_get rest i ≡ Some view → slice_get lattices (n + i) ≡ Some view)
-      → var < 2 * objects → span.from < length lexed.tokens → Each Plain (write_bounds n rest var span)
+      → var < 2 * objects → (span.unit ≡ 1) × (span.from < length lexed.tokens) → Each Plain (write_bounds n rest var span)
   bounds_plain var span n [] h below inside = tt
   bounds_plain var span n (view ∷ views) h below inside =
       let there : slice_get lattices n ≡ Some view = (let P : ℕ → Type 0 = λ m. slice_get lattices m ≡ Some view in let e : n + 0 ≡ n = omega arith in subst P e (h zero view refl)) in
@@ -229,9 +244,9 @@ module _ (lattices : List LatticeView) (lexed : Lexed) (objects : ℕ) where
       let target = h.0.target in
       let inside : assign.target < length lexed.tokens = omega (arith, last, target) in
       let span = span_from assign.target assign.value in
-      let written = bounds_plain (reference_of assign.into) span 0 lattices (λ i view e. let P : ℕ → Type 0 = λ m. slice_get lattices m ≡ Some view in let z : i ≡ 0 + i = omega arith in subst P z e) (omega (arith, into, few)) inside in
+      let written = bounds_plain (reference_of assign.into) span 0 lattices (λ i view e. let P : ℕ → Type 0 = λ m. slice_get lattices m ≡ Some view in let z : i ≡ 0 + i = omega arith in subst P z e) (omega (arith, into, few)) (refl, inside) in
       each_append Plain (of_assign lattices assign) (flat_map (of_assign lattices) more)
-      (each_append Plain (write_bounds 0 lattices (reference_of assign.into) span) _ written (((omega (arith, from, few), omega (arith, into, few)), inside), tt))
+      (each_append Plain (write_bounds 0 lattices (reference_of assign.into) span) _ written (((omega (arith, from, few), omega (arith, into, few)), (refl, inside)), tt))
       (assigns_plain scope (n + 4) more h.1 few)
 
   item_plain : (scope : Scope) (n : ℕ) (item : ItemView) (items : List ItemView) → IsItem lexed.tokens scope n item → length scope.objects + length (object_tokens (item ∷ items)) ≤ objects →
@@ -268,16 +283,12 @@ module _ (lattices : List LatticeView) (lexed : Lexed) (items : List ItemView) (
   link_named : (n : ℕ) (link : Link) → Has (system_of lattices lexed items) n link → IsNamed lattices (length (object_tokens items)) link
   link_named n link has = subst (IsNamed lattices (length (object_tokens items))) has.link_is (named.links n has.constraint has.there)
 
-  -- No constraint of a source enters or leaves a call.
-  pub flat : IsFlat (system_of lattices lexed items)
-  flat = record { enter = λ n s u v has. link_named n (Enter s u v) has; leave = λ n s u v has. link_named n (Leave s u v) has }
-
   -- Nothing of a source belongs to a function, so its system is well owned.
   pub owned : IsWellOwned (system_of lattices lexed items)
   owned = record {
     le = λ n u v f g has one other. absurd cc;
-    enter = λ n s u v has. absurd (flat.enter n s u v has);
-    leave = λ n s u v has. absurd (flat.leave n s u v has);
+    enter = λ n s u v has. absurd (link_named n (Enter s u v) has);
+    leave = λ n s u v has. absurd (link_named n (Leave s u v) has);
   }
 
   element_of : (lattice elem : ℕ) (view : LatticeView) → slice_get lattices lattice ≡ Some view → size view.order ≡ length view.entries → IsElement lattices lattice elem → elem < size view.order

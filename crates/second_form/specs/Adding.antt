@@ -7,7 +7,7 @@ use Rattle.lattice_core.specs.declared.Entry.{Entry}
 use Rattle.lattice_core.specs.View.{LatticeView}
 use Rattle.flow_graph.specs.declared.constraint.Link.TheVariants.{Bound}
 use Rattle.flow_graph.specs.declared.constraint.Constraint.{Constraint}
-use Rattle.flow_graph.specs.System.{System}
+use Rattle.flow_graph.specs.System.{System, most_constraints}
 use Rattle.c_lexer.specs.Tokens.{Lexed}
 use Rattle.second_form.specs.Source.{AssignView, ItemView, Object, Function, kind_at}
 use Rattle.second_form.specs.Constraints.{objects_with, of_mark, mark_at, in_lattice, writers_from}
@@ -33,7 +33,7 @@ pub record Adds (old new : System) (more : List Constraint) : Type 0 where
 
 -- with so many constraints more the graph would be past its limit
 abbrev pub OverLimit : System → ℕ → Type 0
-OverLimit old more = 67108864 < length old.constraints + more
+OverLimit old more = most_constraints < length old.constraints + more
 
 -- what a token gives at a variable of a level
 abbrev pub of_token : List LatticeView → Lexed → Level → ℕ → ℕ → List Constraint

@@ -4,3 +4,4 @@ pub mod Constraints
 pub mod Facts
 pub mod Adding
 pub mod Reading
+pub mod Positions

@@ -5,14 +5,14 @@ ghost use Rattle.std.specs.List.{flat_map};
 ghost use Rattle.lattice_core.specs.Order.{size};
 ghost use Rattle.lattice_core.specs.View.{LatticeView};
 ghost use Rattle.flow_graph.specs.declared.constraint.Link.TheVariants.{Le, Const, Bound};
-ghost use Rattle.flow_graph.specs.System.{IsWithin, IsWellOwned};
-ghost use Rattle.flow_laws.specs.Flat.{IsFlat};
+ghost use Rattle.flow_graph.specs.System.{IsWithin, IsWellOwned, most_constraints};
 ghost use Rattle.flow_graph.specs.Unfolding.{NamesElementsIn};
-ghost use Rattle.c_lexer.specs.Tokens.{IsSpelled};
+ghost use Rattle.lattice_core.specs.Names.{words_of};
+ghost use Rattle.c_lexer.specs.Tokens.{IsMarkedBy, IsSpelled};
 ghost use Rattle.second_form.specs.Source.{IsSource};
 ghost use Rattle.second_form.specs.View.{assign_of, item_of, items_of};
 ghost use Rattle.second_form.specs.Constraints.{reference_of, contents_of, span_from, in_lattice, in_all, by_sign, of_entry, of_mark, of_marks, marks_of, write_bounds, of_assign, of_item, objects_with, system_of};
-ghost use Rattle.second_form.specs.Facts.{IsMarkedBy, AreNamed, AreObjects};
+ghost use Rattle.second_form.specs.Facts.{AreNamed, AreObjects};
 ghost use Rattle.second_form.specs.Adding.{IsNumbered, IsNumberedItem, AreNumbered, Adds, OverLimit, of_token, of_writer, of_writers};
 
 use crate::source_form::{Assign, Item, ObjectNo};
@@ -393,7 +393,7 @@ fn constraints(
 ) -> Result<FlowGraph, GraphFault>
     requires { AreNumbered (length tokens.now.tokens) 0 (items_of items.now) }
     ensures graph { IfOk result (λ graph. graph ≡ system_of lattices.now tokens.now (items_of items.now)) }
-    ensures too_many { IsErrOf result GraphFault.TooMany → 67108864 < length (system_of lattices.now tokens.now (items_of items.now)).constraints }
+    ensures too_many { IsErrOf result GraphFault.TooMany → most_constraints < length (system_of lattices.now tokens.now (items_of items.now)).constraints }
 {
     let mut graph = FlowGraph::new(alloc);
     let mut objects = 0;
@@ -424,11 +424,10 @@ pub fn generate(
     items: &[Item],
 ) -> Result<FlowGraph, GraphFault>
     requires source { IsSource tokens.now.tokens (items_of items.now) }
-    requires marked { IsMarkedBy lattices.now tokens.now }
+    requires marked { IsMarkedBy (words_of lattices.now) tokens.now }
     requires small { length tokens.now.bytes ≤ 2 ^ 24 }
     ensures graph { IfOk result (λ graph. graph ≡ system_of lattices.now tokens.now (items_of items.now)) }
-    ensures too_many { IsErrOf result GraphFault.TooMany → 67108864 < length (system_of lattices.now tokens.now (items_of items.now)).constraints }
-    ensures flat { IfOk result (λ graph. IsFlat graph) }
+    ensures too_many { IsErrOf result GraphFault.TooMany → most_constraints < length (system_of lattices.now tokens.now (items_of items.now)).constraints }
     ensures owned { IfOk result (λ graph. IsWellOwned graph) }
     ensures named { IfOk result (λ graph. AreNamed lattices.now tokens.now (length (Rattle.second_form.specs.Constraints.object_tokens (items_of items.now))) graph) }
     ensures elements { IfOk result (λ graph. (lattice : ℕ) (view : LatticeView) → slice_get lattices.now lattice ≡ Some view → NamesElementsIn graph lattice view.order) }

@@ -5,6 +5,7 @@
 
 pub mod generating;
 pub mod laws;
+pub mod positions;
 pub mod reading;
 mod scope;
 pub mod source_form;

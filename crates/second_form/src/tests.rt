@@ -1,7 +1,8 @@
 //! What no clause says: that calls succeed where there is memory, and items and constraints worked out by hand.
 
 ghost use Rattle.std.specs.Prelude.{◌≡◌, ◌<◌, ◌≤◌, ◌^◌, length, IfOk};
-ghost use Rattle.second_form.specs.Facts.{IsMarkedBy};
+ghost use Rattle.lattice_core.specs.Names.{words_of};
+ghost use Rattle.c_lexer.specs.Tokens.{IsMarkedBy};
 ghost use Rattle.second_form.specs.Source.{IsSource};
 ghost use Rattle.second_form.specs.View.{items_of};
 
@@ -96,7 +97,7 @@ fn lattices(alloc: Global, texts: [&str; 2]) -> Result<Lattices, Fail> {
 /// The tokens of a source of unit 1.
 fn lexed(alloc: Global, lattices: &Lattices, source: &[u8]) -> Result<Tokens, LexFault>
     requires { length source.now < 1000 }
-    ensures marked { IfOk result (λ tokens. IsMarkedBy lattices.now tokens) }
+    ensures marked { IfOk result (λ tokens. IsMarkedBy (words_of lattices.now) tokens) }
     ensures bytes { IfOk result (λ tokens. tokens.bytes ≡ source.now) }
 {
     let Ok(words) = lattices.words(alloc) else {
@@ -262,7 +263,7 @@ fn objects(
     items: &[Item],
 ) -> Result<Vec<TokenId>, AllocError>
     requires source { IsSource tokens.now.tokens (items_of items.now) }
-    requires marked { IsMarkedBy known.now tokens.now }
+    requires marked { IsMarkedBy (words_of known.now) tokens.now }
     requires small { length tokens.now.bytes ≤ 2 ^ 24 }
 {
     let _ = known;

@@ -1,20 +1,16 @@
 use Rattle.std.proofs.Common.{sym, subst, ◌≡◌, ℕ, length, slice_get, Some}
 use Rattle.std.proofs.lemmas.Result.{IfOk-weaker}
 use Rattle.flow_graph.specs.System.{System, IsWellOwned}
-use Rattle.flow_laws.specs.Flat.{IsFlat}
 use Rattle.flow_graph.specs.Unfolding.{NamesElementsIn}
 use Rattle.lattice_core.specs.View.{LatticeView}
 use Rattle.second_form.specs.View.{items_of}
 use Rattle.second_form.specs.Constraints.{object_tokens}
 use Rattle.second_form.specs.Facts.{AreNamed}
-use Rattle.second_form.proofs.SystemFacts.{numbered, flat, owned, named, elements}
+use Rattle.second_form.proofs.SystemFacts.{numbered, owned, named, elements}
 use Rattle.second_form.proofs.generating.generate.Goals as goal
 
 pub constraints-requires : goal.constraints-requires
 constraints-requires c = numbered c.requires.marked.words c.args.tokens.now (items_of c.args.items.now) c.requires.marked.spelled c.requires.small c.requires.source
-
-pub returns-clause-flat : goal.returns-clause-flat
-returns-clause-flat c = IfOk-weaker c.constraints.result _ _ (λ graph is. let P : System → Type 0 = λ sys. IsFlat sys in subst P (sym is) (flat c.args.lattices.now c.args.tokens.now (items_of c.args.items.now) c.requires.source)) c.constraints.ensures.graph
 
 pub returns-clause-owned : goal.returns-clause-owned
 returns-clause-owned c = IfOk-weaker c.constraints.result _ _ (λ graph is. let P : System → Type 0 = λ sys. IsWellOwned sys in subst P (sym is) (owned c.args.lattices.now c.args.tokens.now (items_of c.args.items.now) c.requires.source)) c.constraints.ensures.graph
