@@ -9,11 +9,12 @@ use Rattle.flow_graph.specs.declared.constraint.Link.{Link}
 use Rattle.flow_graph.specs.declared.constraint.Link.TheVariants.{Bound}
 use Rattle.flow_graph.specs.System.{System, Stands}
 use Rattle.flow_graph.specs.Unfolding.{IsAccepted, IsAcceptedIn, IsExceeded}
-use Rattle.lattice_solver.specs.Solution.{Solution, Exceeds}
+use Rattle.lattice_solver.specs.Solution.{IsKept}
 use Rattle.cqual_tool.specs.Texts.{Scene}
+use Rattle.cqual_tool.specs.declared.solving.Solved.{Solved}
 use Rattle.cqual_tool.specs.declared.texts.Scene.{Scene as Lent}
-use Rattle.cqual_tool.specs.Scenes.{HasLink, HasElem, IsOverBound, IsSolution, AreSolutions, AreKept, IsNoBound}
-use Rattle.cqual_tool.specs.Reports.{IsOver}
+use Rattle.cqual_tool.specs.Scenes.{HasLink, HasElem, AreSolutions, AreKept, IsNoBound}
+use Rattle.cqual_tool.specs.Reports.{IsOver, IsAtOnce}
 
 -- an item with a number below the length
 pub record There (A : Type 0) (xs : List A) (n : ℕ) : Type 0 where
@@ -43,15 +44,27 @@ view_of (x ∷ xs) zero order is = record { view = x; there = refl; order_is = s
 view_of (x ∷ xs) (suc n) order is = let rest = view_of xs n order is in record { view = rest.view; there = rest.there; order_is = rest.order_is }
 
 -- a program that keeps the bounds of each lattice is accepted
-pub accepted_all : (sys : System) (lattices : List LatticeView) (solutions : List Solution) → AreSolutions sys lattices solutions → AreKept sys lattices solutions → IsAccepted sys (orders_of lattices)
+pub accepted_all : (sys : System) (lattices : List LatticeView) (solutions : List Solved) → AreSolutions sys lattices solutions → AreKept sys lattices solutions → IsAccepted sys (orders_of lattices)
 accepted_all sys lattices solutions are kept n order is =
     let v = view_of lattices n order is in
     let within = slice_get_within lattices n v.view v.there in
     let count = are.count in
     let s = item_at solutions n (omega (arith, within, count)) in
-    let own : IsAcceptedIn sys s.item.lattice v.view.order = (kept n v.view s.item v.there s.there).accepted in
+    let own : IsAcceptedIn sys s.item.solver.lattice v.view.order = (kept n v.view s.item v.there s.there).accepted in
     let At : ℕ → Type 0 = λ l. IsAcceptedIn sys l v.view.order in
     subst (IsAcceptedIn sys n) v.order_is (subst At (are.each n s.item s.there).lattice_is own)
+
+-- and one assignment serves all copies of all variables at once
+pub at_once_all : (sys : System) (lattices : List LatticeView) (solutions : List Solved) → AreSolutions sys lattices solutions → AreKept sys lattices solutions →
+    (lattice : ℕ) (order : Order) → slice_get (orders_of lattices) lattice ≡ Some order → IsAtOnce sys lattice order
+at_once_all sys lattices solutions are kept n order is =
+    let v = view_of lattices n order is in
+    let within = slice_get_within lattices n v.view v.there in
+    let count = are.count in
+    let s = item_at solutions n (omega (arith, within, count)) in
+    let own : IsAtOnce sys s.item.solver.lattice v.view.order = (let once = (kept n v.view s.item v.there s.there).at_once in record { copies = once.copies; meets = once.meets; below = once.below }) in
+    let At : ℕ → Type 0 = λ l. IsAtOnce sys l v.view.order in
+    subst (IsAtOnce sys n) v.order_is (subst At (are.each n s.item s.there).lattice_is own)
 
 some_constraint : {x y : Constraint} → Some x ≡ Some y → x ≡ y
 some_constraint e = cc
@@ -87,8 +100,3 @@ pub bound_lattice : (lent : Lent) (link : Link) (v lattice limit : ℕ) → HasL
 bound_lattice lent link v lattice limit has is =
     let element = bound_elem lent link v lattice limit has is in slice_get_within lent.lattices.now lattice element.view element.there
 
--- what exceeds a bound by the solution of its lattice leads to it and is over it
-pub over_bound : (sys : System) (solution : Solution) (lattice : ℕ) (order : Order) (n elem : ℕ) → IsSolution sys lattice solution → Exceeds sys solution order n elem → IsOverBound sys lattice order n elem
-over_bound sys solution lattice order n elem own is =
-    let At : ℕ → Type 0 = λ l. Stands sys l n (Bound is.var l is.limit) in
-    record { var = is.var; limit = is.limit; stands = subst At own.lattice_is is.bound; leads = (own.reached is.var elem).0 is.reached; over = is.over }

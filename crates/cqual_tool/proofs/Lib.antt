@@ -1,16 +1,8 @@
 mod Pieces
 mod Appended
-mod PlaceLemmas
 mod TokenLemmas
 mod VarLemmas
 mod LatticeLemmas
 mod SceneFacts
-mod FlatHolds
-mod FlatWithin
 mod ReportLemmas
-mod Unreached
-mod Searching
-mod Reaching
-mod Tracing
-mod FlatGraphs
 mod Outcomes

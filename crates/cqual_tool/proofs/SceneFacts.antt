@@ -8,42 +8,26 @@ use Rattle.flow_graph.specs.declared.constraint.Link.{Link}
 use Rattle.flow_graph.specs.declared.constraint.Link.TheVariants.{Le, Const, Bound, Enter, Leave}
 use Rattle.flow_graph.specs.System.{System}
 use Rattle.flow_graph.specs.Unfolding.{NamesElementsIn}
-use Rattle.lattice_solver.specs.Solution.{Solution, IsKept}
+use Rattle.lattice_solver.specs.Solution.{IsKept}
 use Rattle.c_lexer.specs.Reading.{Meanings}
 use Rattle.c_lexer.specs.Tokens.{IsSpelled}
 use Rattle.second_form.specs.Facts.{IsNamed, AreNamed, AreObjects}
+use Rattle.cqual_tool.specs.declared.solving.Solved.{Solved}
 use Rattle.cqual_tool.specs.declared.texts.Scene.{Scene as Lent}
 use Rattle.cqual_tool.specs.Scenes.{HasLink, HasObjects, IsShown, IsSolution}
-use Rattle.cqual_tool.proofs.LatticeLemmas.{item_at}
 use Rattle.cqual_tool.proofs.TokenLemmas.{starts_within}
 
--- a number is twice another, or one more
-record Halved (var : ℕ) : Type 0 where
-  object : ℕ
-  which : (var ≡ 2 * object) ⊎ (var ≡ 2 * object + 1)
-
-halved : (var : ℕ) → Halved var
-halved zero = record { object = 0; which = inl refl }
-halved (suc n) =
-    let below = halved n in
-    elim below.which [
-      | inl is ↦ record { object = below.object; which = inr (omega (arith, is)) }
-      | inr is ↦ record { object = suc below.object; which = inl (omega (arith, is)) }
-    ]
-
-module _ (lent : Lent) (words : Meanings) (spelled : IsSpelled words lent.tokens.now) where
+module _ (lent : Lent) (words : Meanings) (spelled : IsSpelled words lent.tokens.now) (unit : lent.tokens.now.unit ≡ 1) where
   -- The objects of a source give two variables each.
   pub has_objects : AreObjects lent.tokens.now lent.objects.now → HasObjects lent
   has_objects objects var within =
-      let half = halved var in
-      let below : half.object < length lent.objects.now = elim half.which [ inl is ↦ omega (arith, is, within) | inr is ↦ omega (arith, is, within) ] in
-      let at = item_at lent.objects.now half.object below in
+      let at = objects.each var within in
       record {
-        object = half.object;
-        token = at.item;
+        below = within;
+        position = at.position;
         there = at.there;
-        has = record { inside = objects.inside half.object at.item at.there; begins = starts_within words lent.tokens.now spelled at.item };
-        which = half.which;
+        unit = at.unit ∙ sym unit;
+        has = record { inside = at.inside; begins = starts_within words lent.tokens.now spelled at.position.token };
       }
 
   link_shown : HasObjects lent → (link : Link) → IsNamed lent.lattices.now (length lent.objects.now) link → HasLink lent link
@@ -58,60 +42,63 @@ module _ (lent : Lent) (words : Meanings) (spelled : IsSpelled words lent.tokens
       ((lattice : ℕ) (view : LatticeView) → slice_get lent.lattices.now lattice ≡ Some view → NamesElementsIn sys lattice view.order) → IsShown lent sys
   shown sys has named elements = record {
     links = λ n c there. link_shown has c.link (named.links n c there);
-    spans = λ n c there. record { inside = named.spans n c there; begins = starts_within words lent.tokens.now spelled c.span.from };
+    spans = λ n c there. record {
+      unit = (named.spans n c there).0 ∙ sym unit;
+      has = record { inside = (named.spans n c there).1; begins = starts_within words lent.tokens.now spelled c.span.from };
+    };
     elements = elements;
   }
 
 -- ---- a solution for each lattice, one after the other
 
-solution_is : {x y : Solution} → Some x ≡ Some y → x ≡ y
+solution_is : {x y : Solved} → Some x ≡ Some y → x ≡ y
 solution_is e = cc
 
-before_or_at : (xs : List Solution) (x : Solution) (n : ℕ) (y : Solution) → slice_get (xs ++ x ∷ []) n ≡ Some y → (slice_get xs n ≡ Some y) ⊎ ((n ≡ length xs) × (x ≡ y))
+before_or_at : (xs : List Solved) (x : Solved) (n : ℕ) (y : Solved) → slice_get (xs ++ x ∷ []) n ≡ Some y → (slice_get xs n ≡ Some y) ⊎ ((n ≡ length xs) × (x ≡ y))
 before_or_at [] x zero y is = inr (refl, solution_is is)
 before_or_at [] x (suc n) y is = absurd cc
 before_or_at (z ∷ xs) x zero y is = inl is
 before_or_at (z ∷ xs) x (suc n) y is = elim (before_or_at xs x n y is) [ inl before ↦ inl before | inr last ↦ inr (ap suc last.0, last.1) ]
 
 -- the first so many lattices have their solutions
-pub record AreFirst (sys : System) (count : ℕ) (solutions : List Solution) : Type 0 where
+pub record AreFirst (sys : System) (count : ℕ) (solutions : List Solved) : Type 0 where
   pub count_is : length solutions ≡ count
-  pub each : (n : ℕ) (solution : Solution) → slice_get solutions n ≡ Some solution → IsSolution sys n solution
+  pub each : (n : ℕ) (solution : Solved) → slice_get solutions n ≡ Some solution → IsSolution sys n solution
 
 pub none_first : (sys : System) → AreFirst sys 0 []
 none_first sys = record { count_is = refl; each = λ n solution is. absurd cc }
 
-pub next_first : (sys : System) (count : ℕ) (old new : List Solution) (x : Solution) → new ≡ old ++ x ∷ [] → IsSolution sys count x → AreFirst sys count old → AreFirst sys (count + 1) new
+pub next_first : (sys : System) (count : ℕ) (old new : List Solved) (x : Solved) → new ≡ old ++ x ∷ [] → IsSolution sys count x → AreFirst sys count old → AreFirst sys (count + 1) new
 next_first sys count old new x more own first = record {
   count_is = (let l = length-append old (x ∷ []) in let m : length new ≡ length (old ++ x ∷ []) = ap length more in let c = first.count_is in omega arith);
   each = λ n solution is.
-      let there : slice_get (old ++ x ∷ []) n ≡ Some solution = sym (ap (λ (xs : List Solution). slice_get xs n) more) ∙ is in
+      let there : slice_get (old ++ x ∷ []) n ≡ Some solution = sym (ap (λ (xs : List Solved). slice_get xs n) more) ∙ is in
       elim (before_or_at old x n solution there) [
         | inl before ↦ first.each n solution before
         | inr last ↦
             let At : ℕ → Type 0 = λ k. IsSolution sys k x in
-            let Of : Solution → Type 0 = λ s. IsSolution sys n s in
+            let Of : Solved → Type 0 = λ s. IsSolution sys n s in
             subst Of last.1 (subst At (sym (last.0 ∙ first.count_is)) own)
       ];
 }
 
 -- the first so many lattices keep their bounds
-abbrev pub KeptBelow : System → List LatticeView → List Solution → ℕ → Type 0
-KeptBelow sys lattices solutions count = (n : ℕ) (view : LatticeView) (solution : Solution) → n < count → slice_get lattices n ≡ Some view → slice_get solutions n ≡ Some solution → IsKept sys solution view.order
+abbrev pub KeptBelow : System → List LatticeView → List Solved → ℕ → Type 0
+KeptBelow sys lattices solutions count = (n : ℕ) (view : LatticeView) (solution : Solved) → n < count → slice_get lattices n ≡ Some view → slice_get solutions n ≡ Some solution → IsKept sys solution.solver view.order
 
 view_is : {x y : LatticeView} → Some x ≡ Some y → x ≡ y
 view_is e = cc
 
-pub kept_next : (sys : System) (lattices : List LatticeView) (solutions : List Solution) (count : ℕ) (view : LatticeView) (solution : Solution) → slice_get lattices count ≡ Some view →
-    slice_get solutions count ≡ Some solution → IsKept sys solution view.order → KeptBelow sys lattices solutions count → KeptBelow sys lattices solutions (count + 1)
+pub kept_next : (sys : System) (lattices : List LatticeView) (solutions : List Solved) (count : ℕ) (view : LatticeView) (solution : Solved) → slice_get lattices count ≡ Some view →
+    slice_get solutions count ≡ Some solution → IsKept sys solution.solver view.order → KeptBelow sys lattices solutions count → KeptBelow sys lattices solutions (count + 1)
 kept_next sys lattices solutions count view solution there found own below n v s within v_there s_there = by_order (cases_order n count)
   where
-    by_order : (n ≡ count) ⊎ ((n < count) ⊎ (count < n)) → IsKept sys s v.order
+    by_order : (n ≡ count) ⊎ ((n < count) ⊎ (count < n)) → IsKept sys s.solver v.order
     by_order (inl same) =
         let v_is : view ≡ v = view_is (sym there ∙ ap (slice_get lattices) (sym same) ∙ v_there) in
         let s_is : solution ≡ s = solution_is (sym found ∙ ap (slice_get solutions) (sym same) ∙ s_there) in
-        let By : LatticeView → Type 0 = λ w. IsKept sys s w.order in
-        let Of : Solution → Type 0 = λ x. IsKept sys x view.order in
+        let By : LatticeView → Type 0 = λ w. IsKept sys s.solver w.order in
+        let Of : Solved → Type 0 = λ x. IsKept sys x.solver view.order in
         subst By v_is (subst Of s_is own)
     by_order (inr (inl before)) = below n v s before v_there s_there
     by_order (inr (inr past)) = absurd (omega (arith, past, within))

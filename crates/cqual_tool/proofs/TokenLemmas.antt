@@ -1,18 +1,17 @@
 -- The places and the texts of tokens.
-use Rattle.std.proofs.Common.{◌≡◌, ℕ, zero, suc, ◌<◌, ◌≤◌, ◌⊎◌, inl, inr, List, [], ◌∷◌, ◌++◌, length, Some, None, IfSome, unwrap_or, slice_get, refl, sym, ◌∙◌, ap, subst, arith}
+use Rattle.std.proofs.Common.{◌≡◌, ℕ, zero, suc, ◌<◌, ◌≤◌, ◌⊎◌, inl, inr, Bool, if◌then◌else◌, List, [], ◌∷◌, ◌++◌, length, Some, None, IfSome, unwrap_or, slice_get, refl, sym, ◌∙◌, ap, subst, arith}
 use Rattle.std.specs.Prelude.{slice_range}
 use Rattle.std.specs.declared.option.Option.{Option}
 use Rattle.std.specs.Option.{option_map}
-use Rattle.std.proofs.lemmas.Option.{slice_get-map, slice_get-get_or}
-use Rattle.qual_base.specs.declared.places.Spot.{Spot}
+use Rattle.std.proofs.lemmas.Bool.{eq-eqb}
+use Rattle.std.proofs.lemmas.Option.{slice_get-map}
 use Rattle.c_lexer.specs.declared.token.Token.{Token}
-use Rattle.c_lexer.specs.declared.kinds.TokenKind.TheVariants.{End}
-use Rattle.c_lexer.specs.Places.{IsSpot}
 use Rattle.c_lexer.specs.Reading.{Meanings, Front, Reaches}
 use Rattle.c_lexer.specs.Reading.Reaches.{begins, skips, takes}
-use Rattle.c_lexer.specs.Tokens.{Lexed, IsSpelled}
-use Rattle.cqual_tool.specs.Texts.{start_of, end_of, text_of, spot_at, spot_text}
-use Rattle.cqual_tool.proofs.PlaceLemmas.{placed}
+use Rattle.c_lexer.specs.Tokens.{Lexed, IsSpelled, start_of, end_of, text_of}
+use Rattle.cqual_tool.specs.declared.texts.Scene.{Scene as Lent}
+use Rattle.cqual_tool.specs.Scenes.{scene_of}
+use Rattle.cqual_tool.specs.Texts.{UnitText, unit_in}
 
 token_is : {x y : Token} → Some x ≡ Some y → x ≡ y
 token_is e = cc
@@ -64,19 +63,11 @@ starts_within words lexed spelled n = by_token (slice_get lexed.tokens n) refl
         let some : start_of lexed.tokens n ≡ t.start = start_at lexed.tokens n (Some t) is in
         omega (arith, some, spelled_within words lexed spelled n t is)
 
--- The text of a token's spot is that of the place where it begins.
-pub placed_at : (file : List ℕ) (lexed : Lexed) (n : ℕ) (spot : Spot) → n < length lexed.tokens → start_of lexed.tokens n ≤ length lexed.bytes →
-    IfSome (slice_get lexed.tokens n) (λ token. IsSpot lexed.unit lexed.bytes lexed.marks token.start spot) →
-    spot_text file lexed.bytes spot ≡ spot_text file lexed.bytes (spot_at lexed (start_of lexed.tokens n))
-placed_at file lexed n spot inside begin is = by_token (slice_get lexed.tokens n) refl is
-  where
-    by_token : (o : Option Token) → slice_get lexed.tokens n ≡ o → IfSome o (λ token. IsSpot lexed.unit lexed.bytes lexed.marks token.start spot) →
-        spot_text file lexed.bytes spot ≡ spot_text file lexed.bytes (spot_at lexed (start_of lexed.tokens n))
-    by_token None none spot_is = let some = slice_get-get_or lexed.tokens n (record { kind = End; start = 0; end = 0 }) inside in absurd cc
-    by_token (Some t) some spot_is =
-        let start : start_of lexed.tokens n ≡ t.start = start_at lexed.tokens n (Some t) some in
-        let Spot_at : ℕ → Type 0 = λ k. IsSpot lexed.unit lexed.bytes lexed.marks k spot in
-        placed file lexed.bytes lexed.unit lexed.marks (start_of lexed.tokens n) spot begin (subst Spot_at (sym start) spot_is)
+-- The source is the unit with its number.
+pub own_unit : (lent : Lent) → unit_in (scene_of lent).units lent.tokens.now.unit ≡ Some (record { file = lent.file.now; lexed = lent.tokens.now })
+own_unit lent =
+    let unit : UnitText = record { file = lent.file.now; lexed = lent.tokens.now } in
+    ap (λ (same : Bool). if same then Some unit else None) (eq-eqb lent.tokens.now.unit lent.tokens.now.unit refl)
 
 -- The bytes of a token are its text.
 pub text_is : (lexed : Lexed) (n : ℕ) (bytes : List ℕ) → option_map (λ (token : Token). slice_range lexed.bytes token.start token.end) (slice_get lexed.tokens n) ≡ Some bytes →

@@ -3,7 +3,6 @@ pub mod Sending
 pub mod Texts
 pub mod Scenes
 pub mod Faults
-pub mod FlatPaths
+pub mod Programs
 pub mod Reports
 pub mod Outcome
-pub mod Search

@@ -8,29 +8,25 @@ use Rattle.lattice_file.specs.declared.reading.LatticeFileFault.{LatticeFileFaul
 use Rattle.lattice_file.specs.declared.reading.LatticeFileFault.TheVariants.{NoMemory as OutOfMemory}
 use Rattle.qual_base.specs.Words.{MeansTheSame}
 use Rattle.c_lexer.specs.Reading.{Meanings}
-use Rattle.c_lexer.specs.Tokens.{Lexed}
+use Rattle.c_lexer.specs.Tokens.{Lexed, IsMarkedBy}
 use Rattle.c_lexer.specs.Refusals.{IsRefusal}
 use Rattle.c_lexer.specs.declared.lex.LexFault.{LexFault}
 use Rattle.c_lexer.specs.declared.lex.LexFault.TheVariants.{NoMemory as NoRoom}
-use Rattle.second_form.specs.Source.{ItemView, IsSource}
-use Rattle.second_form.specs.Constraints.{system_of, object_tokens}
-use Rattle.second_form.specs.Facts.{IsMarkedBy}
+use Rattle.flow_graph.specs.System.{most_constraints, most_variables}
 use Rattle.cqual_tool.specs.declared.status.Status.{Status}
 use Rattle.cqual_tool.specs.declared.status.Status.TheVariants.{Accepted, Rejected, NotYet, Malformed, BadWords, ReadFault, WriteFault, NoMemory}
 use Rattle.cqual_tool.specs.Words.{FileNames, meaning_of}
-use Rattle.cqual_tool.specs.Texts.{Scene, usage_line, not_yet_line, malformed_line}
+use Rattle.cqual_tool.specs.Texts.{usage_line, not_yet_line, malformed_line}
 use Rattle.cqual_tool.specs.Faults.{lattice_line, lex_line}
+use Rattle.cqual_tool.specs.Programs.{Program, IsProgram}
 use Rattle.cqual_tool.specs.Reports.{IsJudged}
 
--- the most bytes that a lattice file and a source may have, and the most constraints of a program
+-- the most bytes that a lattice file and a source may have
 abbrev pub lattice_limit : ℕ
 lattice_limit = 1048576
 
 abbrev pub source_limit : ℕ
 source_limit = 16777216
-
-abbrev pub constraint_limit : ℕ
-constraint_limit = 67108864
 
 -- the bytes are within the limit and read as these lattices
 pub record LatticesRead (bytes : List ℕ) (lattices : List LatticeView) : Type 0 where
@@ -48,7 +44,7 @@ pub record SourceLexes (lattices : List LatticeView) (bytes : List ℕ) (lexed :
   pub within : length bytes ≤ source_limit
   pub unit : lexed.unit ≡ 1
   pub bytes_are : lexed.bytes ≡ bytes
-  pub marks : IsMarkedBy lattices lexed
+  pub marks : IsMarkedBy (words_of lattices) lexed
 
 -- the bytes are within the limit, and stop to spell tokens at the place of this fault
 pub record SourceFails (lattices : List LatticeView) (bytes : List ℕ) (fault : LexFault) : Type 0 where
@@ -58,20 +54,18 @@ pub record SourceFails (lattices : List LatticeView) (bytes : List ℕ) (fault :
   pub refused : IsRefusal 1 words bytes fault
   pub reason : fault ≢ NoRoom
 
--- what the texts name of a source
-abbrev pub scene_in : List ℕ → List LatticeView → Lexed → List ItemView → Scene
-scene_in file lattices lexed items = record { file = file; lexed = lexed; lattices = lattices; objects = object_tokens items }
-
--- The status and the whole text for lattices and a source that were read.
-pub data OfProgram (file : List ℕ) (lattices : List LatticeView) (lexed : Lexed) (items : List ItemView) : Status → List ℕ → Type 0 where
-  PastLimit : constraint_limit < length (system_of lattices lexed items).constraints → OfProgram file lattices lexed items Malformed (malformed_line file (codes "G1"))
-  Judged : (status : Status) (text : List ℕ) → length (system_of lattices lexed items).constraints ≤ constraint_limit →
-      IsJudged (scene_in file lattices lexed items) (system_of lattices lexed items) status text → OfProgram file lattices lexed items status text
+-- The status and the whole text for a program: first its variables are counted, then its constraints.
+pub data OfProgram (file : List ℕ) (program : Program) : Status → List ℕ → Type 0 where
+  ManyVariables : most_variables < length program.scene.positions → OfProgram file program Malformed (malformed_line file (codes "Q1"))
+  ManyConstraints : length program.scene.positions ≤ most_variables → most_constraints < length program.system.constraints →
+      OfProgram file program Malformed (malformed_line file (codes "G1"))
+  Judged : (status : Status) (text : List ℕ) → length program.scene.positions ≤ most_variables → length program.system.constraints ≤ most_constraints →
+      IsJudged program.scene program.system status text → OfProgram file program status text
 
 -- The status and the whole text for lattices that were read and the tokens of a source.
 pub data OfTokens (file : List ℕ) (lattices : List LatticeView) (lexed : Lexed) : Status → List ℕ → Type 0 where
-  SourceNotYet : ((items : List ItemView) → IsSource lexed.tokens items → ⊥) → OfTokens file lattices lexed NotYet (not_yet_line file)
-  SourceRead : (items : List ItemView) (status : Status) (text : List ℕ) → IsSource lexed.tokens items → OfProgram file lattices lexed items status text →
+  SourceNotYet : ((program : Program) → IsProgram file lattices lexed program → ⊥) → OfTokens file lattices lexed NotYet (not_yet_line file)
+  SourceRead : (program : Program) (status : Status) (text : List ℕ) → IsProgram file lattices lexed program → OfProgram file program status text →
       OfTokens file lattices lexed status text
 
 -- The status and the whole text for lattices that were read and the bytes of a source.

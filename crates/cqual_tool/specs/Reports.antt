@@ -1,16 +1,16 @@
 -- The two reports of a program.
-use Rattle.std.specs.Prelude.{◌≡◌, ℕ, ◌+◌, ◌*◌, ◌<◌, true, List, [], ◌++◌, length, map, slice_get, Some, None, codes}
+use Rattle.std.specs.Prelude.{◌≡◌, ℕ, ◌+◌, ◌<◌, true, List, [], ◌∷◌, ◌++◌, length, slice_get, Some, None, codes}
 use Rattle.lattice_core.specs.Order.{Order, size, leq}
-use Rattle.lattice_core.specs.View.{LatticeView}
+use Rattle.lattice_core.specs.View.{orders_of}
 use Rattle.flow_graph.specs.declared.constraint.Link.TheVariants.{Const, Bound}
 use Rattle.flow_graph.specs.declared.proof.PathStep.{PathStep}
 use Rattle.flow_graph.specs.declared.proof.PathStep.TheVariants.{Take}
 use Rattle.flow_graph.specs.System.{System, Stands}
-use Rattle.flow_graph.specs.Unfolding.{IsAccepted, IsExceeded, Printed}
-use Rattle.flow_graph.specs.PathProofs.{first_fault, first_of, last_of, span_of}
+use Rattle.flow_graph.specs.Unfolding.{Assignment, IsAccepted, IsExceeded, Meets, Printed}
+use Rattle.flow_graph.specs.PathProofs.{AreApart, first_fault, first_of, last_of}
 use Rattle.cqual_tool.specs.declared.status.Status.{Status}
 use Rattle.cqual_tool.specs.declared.status.Status.TheVariants.{Accepted, Rejected}
-use Rattle.cqual_tool.specs.Texts.{Scene, line, value_line, error_line, subs_text, steps_text}
+use Rattle.cqual_tool.specs.Texts.{Scene, line, value_line, error_line, proof_text}
 
 -- an element at or below each
 abbrev pub IsBottom : Order → ℕ → Type 0
@@ -27,17 +27,26 @@ pub data VarLines (scene : Scene) (sys : System) (var : ℕ) : ℕ → List ℕ 
   NextLattice : (lattice : ℕ) (order : Order) (text line : List ℕ) → slice_get (orders_of scene.lattices) lattice ≡ Some order →
       VarLines scene sys var lattice text → IsLine scene sys lattice order var line → VarLines scene sys var (lattice + 1) (text ++ line)
 
--- the lines of the variables below a number, in order
-pub data Lines (scene : Scene) (sys : System) : ℕ → List ℕ → Type 0 where
-  NoVar : Lines scene sys 0 []
-  NextVar : (var : ℕ) (text lines : List ℕ) → Lines scene sys var text → VarLines scene sys var (length scene.lattices) lines → Lines scene sys (var + 1) (text ++ lines)
+-- the lines of variables, in order
+pub data Lines (scene : Scene) (sys : System) : List ℕ → List ℕ → Type 0 where
+  NoVar : Lines scene sys [] []
+  NextVar : (vars : List ℕ) (var : ℕ) (text lines : List ℕ) → Lines scene sys vars text → VarLines scene sys var (length scene.lattices) lines →
+      Lines scene sys (vars ++ var ∷ []) (text ++ lines)
+
+-- In each lattice one assignment meets the unfolding at every depth, and on all copies of all variables at once it is at or
+-- below the printed elements.
+pub record IsAtOnce (sys : System) (lattice : ℕ) (order : Order) : Type 0 where
+  pub copies : Assignment
+  pub meets : (depth : ℕ) → Meets sys lattice order depth copies
+  pub below : (v : ℕ) (sites : List ℕ) (r : ℕ) → Printed sys lattice order v r → leq order (copies v sites) r ≡ true
 
 -- The accepted report: the program has an assignment at every call depth in every lattice, and each variable its least
--- elements.
+-- elements, which are those of all copies of all variables at once.
 pub record IsAcceptedReport (scene : Scene) (sys : System) (text : List ℕ) : Type 0 where
   pub accepted : IsAccepted sys (orders_of scene.lattices)
+  pub at_once : (lattice : ℕ) (order : Order) → slice_get (orders_of scene.lattices) lattice ≡ Some order → IsAtOnce sys lattice order
   pub lines : List ℕ
-  pub listed : Lines scene sys (2 * length scene.objects) lines
+  pub listed : Lines scene sys scene.listed lines
   pub spelled : text ≡ line (codes "accepted") ++ lines
 
 -- The error of a bound: a path proof that holds, from a constant to the bound, under a line with both elements.
@@ -59,7 +68,7 @@ pub record IsError (scene : Scene) (sys : System) (number : ℕ) (text : List �
   pub limit : ℕ
   pub at : ℕ
   pub bound : Stands sys lattice number (Bound at lattice limit)
-  pub spelled : text ≡ error_line scene lattice elem limit bound.constraint.span.from ++ subs_text scene sys 1 subs ++ line (codes "path") ++ steps_text scene sys main
+  pub spelled : text ≡ error_line scene lattice elem limit bound.constraint.span ++ proof_text scene sys subs main
 
 -- a constraint is an exceeded bound of some lattice
 pub record IsOver (scene : Scene) (sys : System) (number : ℕ) : Type 0 where

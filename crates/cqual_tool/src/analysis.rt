@@ -4,63 +4,41 @@ ghost use Rattle.std.specs.Prelude.{◌≡◌, ◌≤◌, ◌<◌, ◌*◌, ◌^
 ghost use Rattle.std.specs.Bool.{OnTrue, OnFalse};
 ghost use Rattle.flow_graph.specs.System.{IsWellOwned};
 ghost use Rattle.flow_graph.specs.Unfolding.{IsExceeded};
-ghost use Rattle.flow_laws.specs.Flat.{IsFlat};
 ghost use Rattle.lattice_solver.specs.Solution.{IsKept};
 ghost use Rattle.second_form.specs.Source.{IsSource};
 ghost use Rattle.second_form.specs.View.{items_of};
-ghost use Rattle.cqual_tool.specs.Scenes.{scene_of, IsShown, IsSolution, AreSolutions, AreKept, HasObjects};
+ghost use Rattle.cqual_tool.specs.Programs.{program_of};
+ghost use Rattle.cqual_tool.specs.Scenes.{scene_of, IsShown, AreSolutions, AreKept, HasObjects};
 ghost use Rattle.cqual_tool.specs.Reports.{IsJudged, IsOver};
 ghost use Rattle.cqual_tool.specs.Outcome.{OfProgram, SourceLexes};
 
 use crate::answer::{Answer, malformed};
-use crate::reports::{accepted, rejected, solver_of};
+use crate::reports::{accepted, rejected};
+use crate::solving::{Solved, solve_all, solved_of};
 use crate::status::Status;
 use crate::texts::Scene;
 use c_lexer::tokens::Tokens;
 use flow_graph::graph::{FlowGraph, GraphFault};
 use lattice_core::Lattices;
-use lattice_solver::solver::Solver;
-use match_summary::rounds::summarise;
 use qual_base::faults::NoMemory;
 use qual_base::ids::LatticeNo;
 use second_form::generating::{generate, object_tokens};
 use second_form::source_form::Item;
 use std::alloc::Global;
 
-/// The solution of a lattice.
-fn solve(alloc: Global, graph: &FlowGraph, lattice: LatticeNo) -> Result<Solver, NoMemory>
-    requires { lattice < 16 }
-    ensures { IfOk result (IsSolution graph.now lattice) }
-{
-    let summaries = summarise(alloc, graph, lattice)?;
-    let mut solver = Solver::new(alloc, graph, &summaries, lattice)?;
-    solver.run(graph, &summaries);
-    Ok(solver)
-}
-
-/// The solution of each lattice, in order.
-fn solve_all(alloc: Global, graph: &FlowGraph, lattices: &Lattices) -> Result<Vec<Solver>, NoMemory>
-    ensures { IfOk result (λ solvers. AreSolutions graph.now lattices.now solvers.items) }
-{
-    let mut solvers = Vec::new(alloc);
-    for n in 0..lattices.len() {
-        solvers.push(solve(alloc, graph, LatticeNo::new(n))?)?;
-    }
-    Ok(solvers)
-}
-
 /// Whether a bound of some lattice is exceeded. Linear in the constraints and the lattices.
-fn is_exceeded(scene: &Scene<'_>, graph: &FlowGraph, solvers: &[Solver]) -> bool
+fn is_exceeded(scene: &Scene<'_>, graph: &FlowGraph, solutions: &[Solved]) -> bool
     requires shown { IsShown scene.now graph.now }
     requires owned { IsWellOwned graph.now }
-    requires solutions { AreSolutions graph.now scene.now.lattices.now solvers.now }
+    requires solutions { AreSolutions graph.now scene.now.lattices.now solutions.now }
     ensures over { OnTrue result ((n : ℕ) × IsOver (scene_of scene.now) graph.now n) }
-    ensures kept { OnFalse result (AreKept graph.now scene.now.lattices.now solvers.now) }
+    ensures kept { OnFalse result (AreKept graph.now scene.now.lattices.now solutions.now) }
 {
     for n in 0..scene.lattices.len() {
         let number = LatticeNo::new(n);
-        let solver = solver_of(solvers, number);
-        if solver
+        let solved = solved_of(solutions, number);
+        if solved
+            .solver
             .first_exceeded(graph, scene.lattices.get(number))
             .is_some()
         {
@@ -75,19 +53,18 @@ fn judge(alloc: Global, scene: &Scene<'_>, graph: &FlowGraph) -> Result<Answer, 
     requires few { 2 * length scene.now.objects.now ≤ 2 ^ 24 }
     requires objects { HasObjects scene.now }
     requires shown { IsShown scene.now graph.now }
-    requires flat { IsFlat graph.now }
     requires owned { IsWellOwned graph.now }
     ensures { IfOk result (λ answer. IsJudged (scene_of scene.now) graph.now answer.status answer.text.items) }
 {
-    let solvers = solve_all(alloc, graph, scene.lattices)?;
-    if is_exceeded(scene, graph, &solvers) {
-        let text = rejected(alloc, scene, graph, &solvers)?;
+    let solutions = solve_all(alloc, graph, scene.lattices)?;
+    if is_exceeded(scene, graph, &solutions) {
+        let text = rejected(alloc, scene, graph, &solutions)?;
         return Ok(Answer {
             status: Status::Rejected,
             text,
         });
     }
-    let text = accepted(alloc, scene, graph, &solvers)?;
+    let text = accepted(alloc, scene, graph, &solutions)?;
     Ok(Answer {
         status: Status::Accepted,
         text,
@@ -104,15 +81,15 @@ pub fn analyse(
 ) -> Result<Answer, NoMemory>
     requires source { IsSource tokens.now.tokens (items_of items.now) }
     requires lexes { (bytes : _) × SourceLexes lattices.now bytes tokens.now }
-    ensures { IfOk result (λ answer. OfProgram file.now lattices.now tokens.now (items_of items.now) answer.status answer.text.items) }
+    ensures { IfOk result (λ answer. OfProgram file.now (program_of file.now lattices.now tokens.now (items_of items.now)) answer.status answer.text.items) }
 {
+    let objects = object_tokens(alloc, tokens, items)?;
     let graph = match generate(alloc, lattices, tokens, items) {
         Ok(graph) => graph,
         Err(GraphFault::TooMany) => return Ok(malformed(alloc, file, b"G1")?),
         Err(GraphFault::NoMemory) => return Err(NoMemory),
     };
     graph.law();
-    let objects = object_tokens(alloc, tokens, items)?;
     let scene = Scene {
         file,
         tokens,

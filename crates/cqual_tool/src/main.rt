@@ -4,12 +4,13 @@
 mod analysis;
 mod answer;
 mod faults;
+mod paths;
 mod places;
 mod reading;
 mod reports;
 mod running;
-mod search;
 mod sending;
+mod solving;
 mod status;
 #[cfg(test)]
 mod tests;

@@ -1,33 +1,26 @@
 //! The two reports of a program.
 
-ghost use Rattle.std.specs.Prelude.{◌≡◌, ◌<◌, ◌++◌, ◌*◌, ◌≤◌, ◌^◌, ℕ, List, IfOk, OnOk, MatchOption, length, slice_get, Some, All};
+ghost use Rattle.std.specs.Prelude.{◌≡◌, ◌<◌, ◌++◌, ◌*◌, ◌≤◌, ◌^◌, ℕ, List, IfOk, OnOk, MatchOption, length, slice_get, Some};
 ghost use Rattle.lattice_core.specs.View.{LatticeView, orders_of};
 ghost use Rattle.flow_graph.specs.declared.constraint.Link.TheVariants.{Bound};
 ghost use Rattle.flow_graph.specs.System.{IsWellOwned};
-ghost use Rattle.flow_laws.specs.Flat.{IsFlat};
 ghost use Rattle.lattice_solver.specs.Solution.{IsKept};
-ghost use Rattle.cqual_tool.specs.Texts.{steps_text};
-ghost use Rattle.cqual_tool.specs.Scenes.{scene_of, HasVar, IsShown, IsLineIn, AreSolutions, IsSolution, AreKept, HasObjects, IsOverIn, IsNoBound};
+ghost use Rattle.cqual_tool.specs.Scenes.{scene_of, HasVar, IsShown, IsLineIn, AreSolutions, AreKept, HasObjects, IsOverIn, IsNoBound, BeginsWith};
 ghost use Rattle.cqual_tool.specs.Reports.{IsOver, VarLines, Lines, IsError, IsErrorOf, Errors, IsAcceptedReport, IsRejectedReport};
-ghost use Rattle.cqual_tool.specs.FlatPaths.{takes};
 
+use crate::paths::put_proof;
 use crate::places::put;
-use crate::search::shortest;
-use crate::texts::{Scene, put_error, put_step, put_value};
+use crate::solving::{Solved, solved_of};
+use crate::texts::{Scene, put_error, put_value};
+use error_path::showing::show;
 use flow_graph::constraint::{Constraint, Link};
 use flow_graph::graph::FlowGraph;
+use flow_graph::proof::PathStep;
 use flow_laws::laws::exceeded_is_refuted;
 use lattice_solver::solver::Solver;
+use qual_base::faults::NoMemory;
 use qual_base::ids::{EdgeId, Elem, LatticeNo, Numbered, VarId};
 use std::alloc::{AllocError, Global};
-
-/// The solver of a lattice.
-pub fn solver_of(solvers: &[Solver], lattice: LatticeNo) -> &Solver
-    requires { lattice < length solvers.now }
-    ensures { slice_get solvers.now lattice ≡ Some result.now }
-{
-    &solvers[usize::from(lattice.number())]
-}
 
 /// The line of a variable in a lattice, unless its least element is the bottom.
 fn put_line(
@@ -58,17 +51,18 @@ fn put_var_lines(
     out: &mut Vec<u8>,
     scene: &Scene<'_>,
     graph: &FlowGraph,
-    solvers: &[Solver],
+    solutions: &[Solved],
     var: VarId,
 ) -> Result<(), AllocError>
     requires var { HasVar scene.now var }
-    requires solutions { AreSolutions graph.now scene.now.lattices.now solvers.now }
-    requires kept { AreKept graph.now scene.now.lattices.now solvers.now }
+    requires solutions { AreSolutions graph.now scene.now.lattices.now solutions.now }
+    requires kept { AreKept graph.now scene.now.lattices.now solutions.now }
     ensures { OnOk result ((lines : List ℕ) × (out.new.items ≡ out.old.items ++ lines) × VarLines (scene_of scene.now) graph.now var (length scene.now.lattices.now) lines) }
 {
     for n in 0..scene.lattices.len() {
         let number = LatticeNo::new(n);
-        put_line(out, scene, graph, solver_of(solvers, number), number, var)?;
+        let solved = solved_of(solutions, number);
+        put_line(out, scene, graph, &solved.solver, number, var)?;
     }
     Ok(())
 }
@@ -78,16 +72,16 @@ fn put_lines(
     out: &mut Vec<u8>,
     scene: &Scene<'_>,
     graph: &FlowGraph,
-    solvers: &[Solver],
+    solutions: &[Solved],
 ) -> Result<(), AllocError>
     requires few { 2 * length scene.now.objects.now ≤ 2 ^ 24 }
     requires objects { HasObjects scene.now }
-    requires solutions { AreSolutions graph.now scene.now.lattices.now solvers.now }
-    requires kept { AreKept graph.now scene.now.lattices.now solvers.now }
-    ensures { OnOk result ((lines : List ℕ) × (out.new.items ≡ out.old.items ++ lines) × Lines (scene_of scene.now) graph.now (2 * length scene.now.objects.now) lines) }
+    requires solutions { AreSolutions graph.now scene.now.lattices.now solutions.now }
+    requires kept { AreKept graph.now scene.now.lattices.now solutions.now }
+    ensures { OnOk result ((lines : List ℕ) × (out.new.items ≡ out.old.items ++ lines) × Lines (scene_of scene.now) graph.now (scene_of scene.now).listed lines) }
 {
     for n in 0..2 * scene.objects.len() as u32 {
-        put_var_lines(out, scene, graph, solvers, VarId::new(n))?;
+        put_var_lines(out, scene, graph, solutions, VarId::new(n))?;
     }
     Ok(())
 }
@@ -97,36 +91,18 @@ pub fn accepted(
     alloc: Global,
     scene: &Scene<'_>,
     graph: &FlowGraph,
-    solvers: &[Solver],
+    solutions: &[Solved],
 ) -> Result<Vec<u8>, AllocError>
     requires few { 2 * length scene.now.objects.now ≤ 2 ^ 24 }
     requires objects { HasObjects scene.now }
-    requires solutions { AreSolutions graph.now scene.now.lattices.now solvers.now }
-    requires kept { AreKept graph.now scene.now.lattices.now solvers.now }
+    requires solutions { AreSolutions graph.now scene.now.lattices.now solutions.now }
+    requires kept { AreKept graph.now scene.now.lattices.now solutions.now }
     ensures { IfOk result (λ text. IsAcceptedReport (scene_of scene.now) graph.now text.items) }
 {
     let mut text = Vec::new(alloc);
     put(&mut text, b"accepted\n")?;
-    put_lines(&mut text, scene, graph, solvers)?;
+    put_lines(&mut text, scene, graph, solutions)?;
     Ok(text)
-}
-
-/// The lines of a path's steps.
-fn put_path(
-    out: &mut Vec<u8>,
-    scene: &Scene<'_>,
-    graph: &FlowGraph,
-    path: &[EdgeId],
-) -> Result<(), AllocError>
-    requires shown { IsShown scene.now graph.now }
-    requires within { All (λ n. n < length graph.now.constraints) path.now }
-    ensures { OnOk result (out.new.items ≡ out.old.items ++ steps_text (scene_of scene.now) graph.now (takes path.now)) }
-{
-    for edge in path {
-        let constraint = graph.constraint(*edge);
-        put_step(out, scene, *edge, &constraint)?;
-    }
-    Ok(())
 }
 
 /// The lattice of a constraint that is a bound.
@@ -139,39 +115,65 @@ fn lattice_of(constraint: &Constraint) -> Option<LatticeNo>
     }
 }
 
-/// The element of a bound.
-fn bound_of(constraint: &Constraint) -> Elem
+/// The lattice and the element of a bound.
+#[derive(Clone, Copy)]
+struct Limit {
+    lattice: LatticeNo,
+    elem: Elem,
+}
+
+/// The lattice and the element of a constraint that is a bound.
+fn limit_of(constraint: &Constraint) -> Limit
     requires { (v : ℕ) × (lattice : ℕ) × (limit : ℕ) × (constraint.now.link ≡ Bound v lattice limit) }
-    ensures { (v : ℕ) × (lattice : ℕ) × (constraint.now.link ≡ Bound v lattice result) }
+    ensures { (v : ℕ) × (constraint.now.link ≡ Bound v result.lattice result.elem) }
 {
     match constraint.link {
-        Link::Bound(_, _, elem) => elem,
+        Link::Bound(_, lattice, elem) => Limit { lattice, elem },
         _ => unreachable!(),
     }
 }
 
-/// The error of a bound that an element exceeds: a line with both, and a shortest path from a constant of the element.
+/// The element of the constant that a path begins with.
+fn start_of(graph: &FlowGraph, main: &[PathStep]) -> Elem
+    requires { (lattice : ℕ) × (elem : ℕ) × BeginsWith graph.now lattice elem main.now }
+    ensures { (lattice elem : ℕ) → BeginsWith graph.now lattice elem main.now → result ≡ elem }
+{
+    match main.first() {
+        Some(PathStep::Take { edge, .. }) => match graph.constraint(*edge).link {
+            Link::Const(_, elem, _) => elem,
+            _ => unreachable!(),
+        },
+        _ => unreachable!(),
+    }
+}
+
+/// The error of an exceeded bound: a line with an element that exceeds it, and a path from a constant of the element.
 fn put_exceeded(
     alloc: Global,
     out: &mut Vec<u8>,
     scene: &Scene<'_>,
     graph: &FlowGraph,
-    lattice: LatticeNo,
-    elem: Elem,
+    solved: &Solved,
     bound: EdgeId,
-) -> Result<(), AllocError>
-    requires flat { IsFlat graph.now }
+) -> Result<(), NoMemory>
     requires shown { IsShown scene.now graph.now }
-    requires over { IsOverIn scene.now.lattices.now graph.now lattice bound elem }
-    requires few { lattice < 16 }
+    requires exceeds { IsOverIn scene.now.lattices.now graph.now solved.now bound }
     ensures { OnOk result ((error : List ℕ) × (out.new.items ≡ out.old.items ++ error) × IsError (scene_of scene.now) graph.now bound error) }
 {
-    let path = shortest(alloc, graph, lattice, elem, bound)?;
+    let proof = show(
+        alloc,
+        graph,
+        &solved.summaries,
+        &solved.solver,
+        scene.lattices,
+        bound,
+    )?;
     let constraint = graph.constraint(bound);
-    let limit = bound_of(&constraint);
-    put_error(out, scene, lattice, elem, limit, constraint.span.from)?;
-    put(out, b"path\n")?;
-    put_path(out, scene, graph, &path)
+    let elem = start_of(graph, &proof.main);
+    let limit = limit_of(&constraint);
+    put_error(out, scene, limit.lattice, elem, limit.elem, &constraint.span)?;
+    put_proof(out, scene, graph, &proof)?;
+    Ok(())
 }
 
 /// The error of a constraint, if it is an exceeded bound.
@@ -180,24 +182,22 @@ fn put_error_of(
     out: &mut Vec<u8>,
     scene: &Scene<'_>,
     graph: &FlowGraph,
-    solvers: &[Solver],
+    solutions: &[Solved],
     number: EdgeId,
-) -> Result<(), AllocError>
-    requires flat { IsFlat graph.now }
+) -> Result<(), NoMemory>
     requires shown { IsShown scene.now graph.now }
     requires owned { IsWellOwned graph.now }
-    requires solutions { AreSolutions graph.now scene.now.lattices.now solvers.now }
+    requires solutions { AreSolutions graph.now scene.now.lattices.now solutions.now }
     requires number { number < length graph.now.constraints }
     ensures { OnOk result ((error : List ℕ) × (out.new.items ≡ out.old.items ++ error) × IsErrorOf (scene_of scene.now) graph.now number error) }
 {
     let Some(lattice) = lattice_of(&graph.constraint(number)) else {
         return Ok(());
     };
-    let solver = solver_of(solvers, lattice);
+    let solved = solved_of(solutions, lattice);
     let named = scene.lattices.get(lattice);
-    named.law();
-    match solver.exceeded(graph, named, number) {
-        Some(elem) => put_exceeded(alloc, out, scene, graph, lattice, elem, number),
+    match solved.solver.exceeded(graph, named, number) {
+        Some(_) => put_exceeded(alloc, out, scene, graph, solved, number),
         None => Ok(()),
     }
 }
@@ -208,16 +208,15 @@ fn put_errors(
     out: &mut Vec<u8>,
     scene: &Scene<'_>,
     graph: &FlowGraph,
-    solvers: &[Solver],
-) -> Result<(), AllocError>
-    requires flat { IsFlat graph.now }
+    solutions: &[Solved],
+) -> Result<(), NoMemory>
     requires shown { IsShown scene.now graph.now }
     requires owned { IsWellOwned graph.now }
-    requires solutions { AreSolutions graph.now scene.now.lattices.now solvers.now }
+    requires solutions { AreSolutions graph.now scene.now.lattices.now solutions.now }
     ensures { OnOk result ((errors : List ℕ) × (out.new.items ≡ out.old.items ++ errors) × Errors (scene_of scene.now) graph.now (length graph.now.constraints) errors) }
 {
     for n in 0..graph.len() {
-        put_error_of(alloc, out, scene, graph, solvers, EdgeId::new(n))?;
+        put_error_of(alloc, out, scene, graph, solutions, EdgeId::new(n))?;
     }
     Ok(())
 }
@@ -227,18 +226,17 @@ pub fn rejected(
     alloc: Global,
     scene: &Scene<'_>,
     graph: &FlowGraph,
-    solvers: &[Solver],
-) -> Result<Vec<u8>, AllocError>
-    requires flat { IsFlat graph.now }
+    solutions: &[Solved],
+) -> Result<Vec<u8>, NoMemory>
     requires shown { IsShown scene.now graph.now }
     requires owned { IsWellOwned graph.now }
-    requires solutions { AreSolutions graph.now scene.now.lattices.now solvers.now }
+    requires solutions { AreSolutions graph.now scene.now.lattices.now solutions.now }
     requires exceeded { (n : ℕ) × IsOver (scene_of scene.now) graph.now n }
     ensures { IfOk result (λ text. IsRejectedReport (scene_of scene.now) graph.now text.items) }
 {
     exceeded_is_refuted();
     let mut text = Vec::new(alloc);
     put(&mut text, b"rejected\n")?;
-    put_errors(alloc, &mut text, scene, graph, solvers)?;
+    put_errors(alloc, &mut text, scene, graph, solutions)?;
     Ok(text)
 }

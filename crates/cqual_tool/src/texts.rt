@@ -1,15 +1,18 @@
 //! The lines of the reports.
 
-ghost use Rattle.std.specs.Prelude.{◌≡◌, ◌++◌, ◌*◌, ◌+◌, ◌⊎◌, ℕ, OnOk, Some, codes};
+ghost use Rattle.std.specs.Prelude.{◌≡◌, ◌++◌, OnOk, Some, codes};
 ghost use Rattle.std.specs.Fmt.{decimal};
-ghost use Rattle.cqual_tool.specs.Texts.{place_text, name_text, var_text, elem_text, link_text, constraint_text, value_line, error_line};
-ghost use Rattle.cqual_tool.specs.Scenes.{scene_of, HasVar, HasElem, HasLink, HasToken};
+ghost use Rattle.cqual_tool.specs.Texts.{place_text, name_text, step_mark, marks_text, var_text, elem_text, link_text, constraint_text, value_line, error_line};
+ghost use Rattle.cqual_tool.specs.Scenes.{scene_of, HasVar, HasElem, HasLink, HasSpan, HasToken};
 
 use crate::places::{put, put_decimal, put_spot};
 use c_lexer::tokens::Tokens;
 use flow_graph::constraint::{Constraint, Link};
 use lattice_core::Lattices;
 use qual_base::ids::{EdgeId, Elem, LatticeNo, Numbered, TokenId, VarId};
+use qual_base::places::Span;
+use qual_types::position::Step;
+use second_form::positions::position_of;
 use std::alloc::AllocError;
 
 /// What the lines name: the source's file name and tokens, the lattices, and the token of each object's name.
@@ -24,7 +27,7 @@ pub struct Scene<'a> {
 /// FILE:LINE:COLUMN of a token.
 fn put_place(out: &mut Vec<u8>, scene: &Scene<'_>, token: TokenId) -> Result<(), AllocError>
     requires { HasToken scene.now token }
-    ensures { OnOk result (out.new.items ≡ out.old.items ++ place_text (scene_of scene.now) token) }
+    ensures { OnOk result (out.new.items ≡ out.old.items ++ place_text (scene_of scene.now) scene.now.tokens.now.unit token) }
 {
     let spot = scene.tokens.place_of(token);
     put_spot(out, scene.file, scene.tokens.unit_bytes(), &spot)
@@ -33,24 +36,46 @@ fn put_place(out: &mut Vec<u8>, scene: &Scene<'_>, token: TokenId) -> Result<(),
 /// NAME@FILE:LINE:COLUMN of a token.
 fn put_name(out: &mut Vec<u8>, scene: &Scene<'_>, token: TokenId) -> Result<(), AllocError>
     requires { HasToken scene.now token }
-    ensures { OnOk result (out.new.items ≡ out.old.items ++ name_text (scene_of scene.now) token) }
+    ensures { OnOk result (out.new.items ≡ out.old.items ++ name_text (scene_of scene.now) scene.now.tokens.now.unit token) }
 {
     put(out, scene.tokens.bytes(token))?;
     put(out, b"@")?;
     put_place(out, scene, token)
 }
 
-/// A variable: the name of its object, with `.in` behind where it stands for what the object holds.
+/// A step to a variable inside a type.
+fn put_step_mark(out: &mut Vec<u8>, step: Step) -> Result<(), AllocError>
+    ensures { OnOk result (out.new.items ≡ out.old.items ++ step_mark step) }
+{
+    match step {
+        Step::Inside => put(out, b".in"),
+        Step::Param(number) => {
+            put(out, b".")?;
+            put_decimal(out, u64::from(number) + 1)
+        }
+        Step::Result => put(out, b".res"),
+        Step::Ellipsis => put(out, b".etc"),
+    }
+}
+
+/// The steps to a variable inside a type.
+fn put_marks(out: &mut Vec<u8>, path: &[Step]) -> Result<(), AllocError>
+    ensures { OnOk result (out.new.items ≡ out.old.items ++ marks_text path.now) }
+{
+    for step in path {
+        put_step_mark(out, *step)?;
+    }
+    Ok(())
+}
+
+/// A variable: the name where it stands, and the steps to it.
 fn put_var(out: &mut Vec<u8>, scene: &Scene<'_>, var: VarId) -> Result<(), AllocError>
     requires { HasVar scene.now var }
     ensures { OnOk result (out.new.items ≡ out.old.items ++ var_text (scene_of scene.now) var) }
 {
-    let number = var.number();
-    put_name(out, scene, scene.objects[(number / 2) as usize])?;
-    if number % 2 == 0 {
-        return Ok(());
-    }
-    put(out, b".in")
+    let position = position_of(*out.allocator(), scene.objects, var)?;
+    put_name(out, scene, position.token)?;
+    put_marks(out, &position.path)
 }
 
 /// The name of an element of a lattice.
@@ -144,7 +169,7 @@ fn put_number(
     token: TokenId,
 ) -> Result<(), AllocError>
     requires { HasToken scene.now token }
-    ensures { OnOk result (out.new.items ≡ out.old.items ++ (codes "  " ++ decimal number ++ codes " " ++ place_text (scene_of scene.now) token ++ codes " ")) }
+    ensures { OnOk result (out.new.items ≡ out.old.items ++ (codes "  " ++ decimal number ++ codes " " ++ place_text (scene_of scene.now) scene.now.tokens.now.unit token ++ codes " ")) }
 {
     put(out, b"  ")?;
     put_decimal(out, u64::from(number.number()))?;
@@ -153,14 +178,14 @@ fn put_number(
     put(out, b" ")
 }
 
-/// The line of a step that is a constraint.
-pub fn put_step(
+/// The line of a constraint.
+pub fn put_constraint(
     out: &mut Vec<u8>,
     scene: &Scene<'_>,
     number: EdgeId,
     constraint: &Constraint,
 ) -> Result<(), AllocError>
-    requires token { HasToken scene.now constraint.now.span.from }
+    requires span { HasSpan scene.now constraint.now.span }
     requires link { HasLink scene.now constraint.now.link }
     ensures { OnOk result (out.new.items ≡ out.old.items ++ constraint_text (scene_of scene.now) number (Some constraint.now)) }
 {
@@ -194,18 +219,18 @@ pub fn put_error(
     lattice: LatticeNo,
     elem: Elem,
     bound: Elem,
-    token: TokenId,
+    span: &Span,
 ) -> Result<(), AllocError>
     requires elem { HasElem scene.now lattice elem }
     requires bound { HasElem scene.now lattice bound }
-    requires token { HasToken scene.now token }
-    ensures { OnOk result (out.new.items ≡ out.old.items ++ error_line (scene_of scene.now) lattice elem bound token) }
+    requires span { HasSpan scene.now span.now }
+    ensures { OnOk result (out.new.items ≡ out.old.items ++ error_line (scene_of scene.now) lattice elem bound span.now) }
 {
     put(out, b"error ")?;
     put_elem(out, scene, lattice, elem)?;
     put(out, b" exceeds ")?;
     put_elem(out, scene, lattice, bound)?;
     put(out, b" at ")?;
-    put_place(out, scene, token)?;
+    put_place(out, scene, span.from)?;
     put(out, b"\n")
 }

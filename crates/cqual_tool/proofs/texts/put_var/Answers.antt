@@ -1,27 +1,23 @@
-use Rattle.std.proofs.Common.{◌≡◌, ◌+◌, ◌*◌, ◌/◌, ◌%◌, ◌++◌, codes, sym, ap, ◌∙◌}
-use Rattle.cqual_tool.specs.Texts.{name_text}
+use Rattle.std.proofs.Common.{◌++◌, sym, ap, ◌∙◌}
+use Rattle.qual_types.specs.Positions.{view_of}
+use Rattle.cqual_tool.specs.Texts.{name_text, marks_text}
 use Rattle.cqual_tool.specs.Scenes.{scene_of}
 use Rattle.cqual_tool.proofs.Appended.{on_ok, more_behind}
-use Rattle.cqual_tool.proofs.VarLemmas.{reference_text, contents_text, half, even, odd, read_at}
+use Rattle.cqual_tool.proofs.VarLemmas.{token_found, text_found}
 use Rattle.cqual_tool.proofs.texts.put_var.Goals as goal
+
+pub position_of-requires : goal.position_of-requires
+position_of-requires c = c.requires.below
+
+pub put_name-requires : goal.put_name-requires
+put_name-requires c = token_found c.args.scene.now c.args.var c.requires (view_of c.in_ok-position.position) c.in_ok-position.ensures
 
 pub returns : goal.returns
 returns c =
     let scene = c.args.scene.now in
-    let number : c.number-number.result ≡ c.args.var = c.number-number.ensures in
-    let at : c.number-number.result / 2 ≡ c.requires.object = ap (λ n. n / 2) number ∙ half c.args.var c.requires.object c.requires.which in
-    let name : c.put_name.new.out.items ≡ c.args.out.now.items ++ name_text (scene_of scene) c.requires.token =
-    c.in_ok-put_name.ensures ∙ ap (λ t. c.args.out.now.items ++ name_text (scene_of scene) t) (read_at scene.objects.now (c.number-number.result / 2) c.requires.object c.requires.token _ at c.requires.there) in
-    let which : c.args.var ≡ 2 * c.requires.object + 1 = odd c.args.var c.requires.object c.requires.which (λ even_is. c.if-number-eq0.false (ap (λ n. n % 2) number ∙ even_is)) in
-    on_ok c.put.result c.put.ensures (λ put.
-    more_behind c.args.out.now.items c.put_name.new.out.items c.put.new.out.items (name_text (scene_of scene) c.requires.token) (codes ".in") name put
-    ∙ ap (λ t. c.args.out.now.items ++ t) (sym (contents_text (scene_of scene) c.requires.object c.requires.token c.args.var c.requires.there which)))
-
-pub returns-then-number-eq0 : goal.returns-then-number-eq0
-returns-then-number-eq0 c =
-    let scene = c.args.scene.now in
-    let number : c.number-number.result ≡ c.args.var = c.number-number.ensures in
-    let at : c.number-number.result / 2 ≡ c.requires.object = ap (λ n. n / 2) number ∙ half c.args.var c.requires.object c.requires.which in
-    let which : c.args.var ≡ 2 * c.requires.object = even c.args.var c.requires.object c.requires.which (ap (λ n. n % 2) (sym number) ∙ c.if-number-eq0.true) in
-    c.in_ok-put_name.ensures ∙ ap (λ t. c.args.out.now.items ++ name_text (scene_of scene) t) (read_at scene.objects.now (c.number-number.result / 2) c.requires.object c.requires.token _ at c.requires.there)
-    ∙ ap (λ t. c.args.out.now.items ++ t) (sym (reference_text (scene_of scene) c.requires.object c.requires.token c.args.var c.requires.there which))
+    let position = view_of c.in_ok-position.position in
+    let name = name_text (scene_of scene) scene.tokens.now.unit position.token in
+    on_ok c.put_marks.result c.put_marks.ensures (λ put.
+    more_behind c.args.out.now.items c.put_name.new.out.items c.put_marks.new.out.items name (marks_text position.path) c.in_ok-put_name.ensures
+    (put ∙ ap (λ path. c.put_name.new.out.items ++ marks_text path) c.deref.ensures.value)
+    ∙ ap (λ t. c.args.out.now.items ++ t) (sym (text_found scene c.args.var c.requires position c.in_ok-position.ensures)))
