@@ -3,3 +3,5 @@ mod Bounds
 mod Keeping
 mod Owners
 mod Checks
+mod Sorting
+mod Listing

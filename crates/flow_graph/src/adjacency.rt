@@ -5,7 +5,7 @@ ghost use Rattle.flow_graph.specs.Index.{IsIndexOf};
 ghost use Rattle.flow_graph.specs.Rows.{row_in};
 
 use crate::graph::FlowGraph;
-use crate::rows::Rows;
+use crate::rows::{Key, Rows};
 use qual_base::faults::NoMemory;
 use qual_base::ids::{EdgeId, Numbered, SiteId, VarId};
 use std::alloc::Global;
@@ -28,13 +28,15 @@ impl Model for Adjacency {
 }
 
 impl Adjacency {
-    /// Goes over the constraints a bounded number of times: linear in the constraints, the variables and the sites.
+    /// Counting sorts, stable and linear in the constraints, the variables and the sites. Memory: at most 12 bytes a
+    /// constraint, 8 a variable and 4 a site, and while one list is made 4 more a variable or a site.
     pub fn build(alloc: Global, graph: &FlowGraph) -> Result<Adjacency, NoMemory>
         ensures { IfOk result (IsIndexOf graph.now) }
     {
-        let _alloc = alloc;
-        let _len = graph.len();
-        Err(NoMemory)
+        let out = Rows::by_key(alloc, graph, Key::Begin)?;
+        let into = Rows::by_key(alloc, graph, Key::LeadsTo)?;
+        let of_site = Rows::by_key(alloc, graph, Key::AtSite)?;
+        Ok(Adjacency { out, into, of_site })
     }
 
     /// The constraints that begin at a variable, ascending; a bound begins at its variable, a constant nowhere. Constant time.

@@ -1,9 +1,15 @@
 //! What no clause says: that calls succeed where there is memory, and worked values.
 
+ghost use Rattle.std.specs.Prelude.{◌≡◌, length};
+ghost use Rattle.flow_graph.specs.System.{IsWithin};
+
+use crate::adjacency::Adjacency;
 use crate::constraint::{Constraint, Link, Site};
 use crate::graph::FlowGraph;
-use qual_base::ids::{FuncId, LatticeNo, Numbered, SiteId, TokenId, UnitNo, VarId};
+use qual_base::ids::{EdgeId, Elem, FuncId, LatticeNo, Numbered, SiteId, TokenId, UnitNo, VarId};
 use qual_base::places::{Owner, Span};
+use std::alloc::Global;
+use std::process::Abort;
 use std::test::Fail;
 
 /// A site of function 3 in function 4.
@@ -70,5 +76,73 @@ fn sites_and_constraints_are_those_added(rt: HostRuntime) -> Result<(), Fail> {
             is_in
         );
     }
+    Ok(())
+}
+
+/// Adds a constraint of the first lattice.
+fn put(graph: &mut FlowGraph, link: Link) -> Result<(), Fail>
+    requires { IsWithin (length graph.old.sites) link }
+    ensures { graph.new.sites ≡ graph.old.sites }
+{
+    graph.add(Constraint {
+        link,
+        lattices: 1,
+        span: Span {
+            unit: UnitNo::new(1),
+            from: TokenId::new(0),
+            to: TokenId::new(0),
+        },
+    })?;
+    Ok(())
+}
+
+/// Links of each kind at variables 1, 3 and 4, with two sites.
+fn of_each_kind(rt: &impl Abort, alloc: Global) -> Result<FlowGraph, Fail> {
+    let mut graph = FlowGraph::new(alloc);
+    graph.add_site(site())?;
+    graph.add_site(site())?;
+    assert!(rt; graph.sites() == 2);
+    let (one, three, four) = (VarId::new(1), VarId::new(3), VarId::new(4));
+    put(&mut graph, Link::Le(one, three))?;
+    put(
+        &mut graph,
+        Link::Const(LatticeNo::new(0), Elem::new(1), one),
+    )?;
+    put(&mut graph, Link::Enter(SiteId::new(0), three, four))?;
+    put(&mut graph, Link::Leave(SiteId::new(0), four, one))?;
+    put(
+        &mut graph,
+        Link::Bound(three, LatticeNo::new(0), Elem::new(2)),
+    )?;
+    put(&mut graph, Link::Enter(SiteId::new(1), one, four))?;
+    put(&mut graph, Link::Le(three, three))?;
+    Ok(graph)
+}
+
+/// Whether a list is these constraints.
+fn are(list: &[EdgeId], numbers: &[u32]) -> bool {
+    list.len() == numbers.len() && list.iter().zip(numbers).all(|(at, n)| at.number() == *n)
+}
+
+#[test]
+fn each_constraint_is_listed_where_it_begins_leads_and_calls(rt: HostRuntime) -> Result<(), Fail> {
+    let graph = of_each_kind(&rt, rt.alloc())?;
+    let built = Adjacency::build(rt.alloc(), &graph)?;
+    let index = &built;
+    let rows: [(u32, &[u32], &[u32]); 6] = [
+        (0, &[], &[]),
+        (1, &[0, 5], &[1, 3]),
+        (2, &[], &[]),
+        (3, &[2, 4, 6], &[0, 6]),
+        (4, &[3], &[2, 5]),
+        (4_000_000_000, &[], &[]),
+    ];
+    for (v, out, into) in rows {
+        assert!(rt; are(index.out(VarId::new(v)), out), "from variable {v}");
+        assert!(rt; are(index.into(VarId::new(v)), into), "to variable {v}");
+    }
+    assert!(rt; are(index.of_site(SiteId::new(0)), &[2, 3]));
+    assert!(rt; are(index.of_site(SiteId::new(1)), &[5]));
+    assert!(rt; are(index.of_site(SiteId::new(2)), &[]));
     Ok(())
 }
