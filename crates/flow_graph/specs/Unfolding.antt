@@ -4,6 +4,7 @@ use Rattle.qual_base.specs.declared.places.Owner.{Owner}
 use Rattle.qual_base.specs.declared.places.Owner.TheVariants.{Nobody, Function}
 use Rattle.lattice_core.specs.Order.{Order, size, leq}
 use Rattle.flow_graph.specs.declared.constraint.Link.TheVariants.{Le, Const, Bound, Enter, Leave}
+use Rattle.flow_graph.specs.declared.constraint.Site.{Site}
 use Rattle.flow_graph.specs.System.{System, owner_of, Has, Stands}
 use Rattle.flow_graph.specs.CallStrings.{IsCopy, either}
 
@@ -30,10 +31,10 @@ pub record Rises (sys : System) (lattice : ℕ) (order : Order) (depth : ℕ) (m
       leq order (at sys map u sites) (at sys map v sites) ≡ true
   pub const : (n e v : ℕ) (sites : List ℕ) → Stands sys lattice n (Const lattice e v) → IsCopy sys depth (owner_of sys v) sites →
       leq order e (at sys map v sites) ≡ true
-  pub enter : (n s u v : ℕ) (sites : List ℕ) → Stands sys lattice n (Enter s u v) → IsCopy sys depth (owner_of sys u) sites → length (s ∷ sites) ≤ depth →
-      leq order (at sys map u sites) (at sys map v (s ∷ sites)) ≡ true
-  pub leave : (n s u v : ℕ) (sites : List ℕ) → Stands sys lattice n (Leave s u v) → IsCopy sys depth (owner_of sys v) sites → length (s ∷ sites) ≤ depth →
-      leq order (at sys map u (s ∷ sites)) (at sys map v sites) ≡ true
+  pub enter : (n s u v : ℕ) (site : Site) (sites : List ℕ) → Stands sys lattice n (Enter s u v) → slice_get sys.sites s ≡ Some site →
+      IsCopy sys depth site.owner sites → length (s ∷ sites) ≤ depth → leq order (at sys map u sites) (at sys map v (s ∷ sites)) ≡ true
+  pub leave : (n s u v : ℕ) (site : Site) (sites : List ℕ) → Stands sys lattice n (Leave s u v) → slice_get sys.sites s ≡ Some site →
+      IsCopy sys depth site.owner sites → length (s ∷ sites) ≤ depth → leq order (at sys map u (s ∷ sites)) (at sys map v sites) ≡ true
 
 -- it is at or below a bound in each copy
 abbrev pub Keeps : System → ℕ → Order → ℕ → Assignment → ℕ → Type 0

@@ -6,14 +6,13 @@ use Rattle.flow_graph.specs.Unfolding.{Assignment, at, seen_from, Rises, Meets, 
 use Rattle.flow_graph.specs.Paths.{start, Lead}
 use Rattle.flow_laws.specs.Least.{IsLeastOver, IsSolution, KeepsBounds}
 use Rattle.flow_laws.specs.Sets.{Reaches, IsLeastInCopies}
-use Rattle.flow_laws.specs.Accepting.{CopiesStand, AllAtOnce, KeptIsAccepted, SolutionIsPrinted, ExceededIsOver, OverIsExceeded, RejectedHasABound}
+use Rattle.flow_laws.specs.Accepting.{CopiesStand, KeptIsAccepted, SolutionIsPrinted, ExceededIsOver, OverIsExceeded}
 use Rattle.flow_laws.proofs.Links.{one_bound}
 use Rattle.flow_laws.proofs.Search.{search_below}
 use Rattle.flow_laws.proofs.Join.{least_over}
 use Rattle.flow_laws.proofs.Leads.{root, lead_element}
 use Rattle.flow_laws.proofs.Force.{leads_force, paths_refute}
 use Rattle.flow_laws.proofs.Reaching.{leads, anywhere, at_home, from_home, entered, flowed, left}
-use Rattle.flow_laws.proofs.Rejected.{accepted_or_exceeded, has_refutes}
 
 pub copies_stand : CopiesStand
 copies_stand sys lattice order reached lat names is =
@@ -33,22 +32,18 @@ module _ (sys : System) (lattice : ℕ) (order : Order) (solution : ℕ → ℕ)
     elements = λ v sites. (in_copies v sites).element;
     le = λ n u v sites st copy. raised u v _ _ (λ e r. at_home sys lattice e v sites (flowed sys lattice owned e n u v sites st (from_home sys lattice e u sites r)));
     const = λ n e v sites st copy. (in_copies v _).upper e (anywhere sys lattice e v (seen_from (owner_of sys v) sites) (start v n st));
-    enter = λ n s u v sites st copy fits. raised u v _ _ (λ e r. at_home sys lattice e v (s ∷ sites) (entered sys lattice owned e s n u v sites st (from_home sys lattice e u sites r)));
-    leave = λ n s u v sites st copy fits. raised u v _ _ (λ e r. at_home sys lattice e v sites (left sys lattice owned e s n u v sites st (from_home sys lattice e u (s ∷ sites) r)));
+    enter = λ n s u v site sites st there copy fits. raised u v _ _ (λ e r. at_home sys lattice e v (s ∷ sites) (entered sys lattice owned e s n u v sites st (from_home sys lattice e u sites r)));
+    leave = λ n s u v site sites st there copy fits. raised u v _ _ (λ e r. at_home sys lattice e v sites (left sys lattice owned e s n u v sites st (from_home sys lattice e u (s ∷ sites) r)));
   }
 
-  below_solution : (v : ℕ) (sites : List ℕ) → leq order (copies v sites) (solution v) ≡ true
+  pub below_solution : (v : ℕ) (sites : List ℕ) → leq order (copies v sites) (solution v) ≡ true
   below_solution v sites = (in_copies v sites).least (solution v) (least v).element (λ e r. (least v).upper e (leads sys lattice e v sites r))
 
-  met : IsOrder order → KeepsBounds sys lattice order solution → (depth : ℕ) → Meets sys lattice order depth copies
+  pub met : IsOrder order → KeepsBounds sys lattice order solution → (depth : ℕ) → Meets sys lattice order depth copies
   met ordered keeps depth = record {
     rises = rising depth;
     bound = λ n b v sites st copy. ordered.through (at sys copies v sites) (solution v) b (below_solution v (seen_from (owner_of sys v) sites)) (keeps n v b st);
   }
-
-pub all_at_once : AllAtOnce
-all_at_once sys lattice order solution copies owned ordered least in_copies keeps =
-    (met sys lattice order solution copies owned least in_copies ordered keeps, below_solution sys lattice order solution copies owned least in_copies)
 
 pub kept_is_accepted : KeptIsAccepted
 kept_is_accepted sys lattice order solution copies owned ordered least in_copies keeps depth = (copies, met sys lattice order solution copies owned least in_copies ordered keeps depth)
@@ -116,16 +111,3 @@ over_is_exceeded sys lattice order solution comes owned ordered least is n v b s
         cc;
   }
 ]
-
-pub rejected_has_a_bound : RejectedHasABound
-rejected_has_a_bound sys orders solutions copies comes owned ordered least in_copies is = (
-  λ rejected. elim (accepted_or_exceeded sys orders solutions
-      (λ lattice order there keeps.
-      kept_is_accepted sys lattice order (solutions lattice) (copies lattice) owned (ordered lattice order there) (least lattice order there) (in_copies lattice order there) keeps)
-      (λ lattice order there n v b st over.
-      over_is_exceeded sys lattice order (solutions lattice) (comes lattice) owned (ordered lattice order there) (least lattice order there) (is lattice order there) n v b st over)) [
-        | inl accepted ↦ absurd (rejected accepted)
-        | inr has ↦ has
-      ],
-  λ has accepted. has_refutes sys orders has accepted,
-)

@@ -13,6 +13,19 @@ use Rattle.flow_laws.proofs.Leads.{root}
 use Rattle.flow_laws.proofs.Owners.{seen_is, seen_twice, seen_within, copy_on, flow_to, flow_from, start_owner, end_owner, entering, leaving, same_function, same_outer}
 
 module _ (sys : System) (lattice : ℕ) (order : Order) (owned : IsWellOwned sys) (ordered : IsOrder order) where
+  -- a call leads on from each copy of the variable outside, and a return leads back into each
+  enters : (depth : ℕ) (map : Assignment) (n s u v : ℕ) (sites : List ℕ) → Rises sys lattice order depth map → Stands sys lattice n (Enter s u v) → IsCopy sys depth (owner_of sys u) sites →
+      length (s ∷ sites) ≤ depth → leq order (at sys map u sites) (at sys map v (s ∷ sites)) ≡ true
+  enters depth map n s u v sites rises st copy fits =
+      let call = entering sys lattice owned n s u v st in
+      rises.enter n s u v call.it sites st call.there (subst (λ o. IsCopy sys depth o sites) call.outer_is copy) fits
+
+  leaves : (depth : ℕ) (map : Assignment) (n s u v : ℕ) (sites : List ℕ) → Rises sys lattice order depth map → Stands sys lattice n (Leave s u v) → IsCopy sys depth (owner_of sys v) sites →
+      length (s ∷ sites) ≤ depth → leq order (at sys map u (s ∷ sites)) (at sys map v sites) ≡ true
+  leaves depth map n s u v sites rises st copy fits =
+      let call = leaving sys lattice owned n s u v st in
+      rises.leave n s u v call.it sites st call.there (subst (λ o. IsCopy sys depth o sites) call.outer_is copy) fits
+
   -- what a path inside a function raises in each copy, at each depth that leaves room for its groups
   abbrev Raises : ℕ → ℕ → ℕ → Type 0
   Raises u v room = (depth : ℕ) (map : Assignment) (sites : List ℕ) → Rises sys lattice order depth map → IsCopy sys depth (owner_of sys u) sites → length sites + room ≤ depth →
@@ -25,8 +38,8 @@ module _ (sys : System) (lattice : ℕ) (order : Order) (owned : IsWellOwned sys
       let home : IsCopy sys depth (owner_of sys v) sites = subst (λ o. IsCopy sys depth o sites) (same_outer sys lattice owned n m s u a b v st st2) copy in
       let to_end : leq order (at sys map u sites) (at sys map b (s ∷ sites)) ≡ true =
       ordered.through (at sys map u sites) (at sys map a (s ∷ sites)) (at sys map b (s ∷ sites))
-      (rises.enter n s u a sites st copy (omega arith)) (inside depth map (s ∷ sites) rises deeper (omega arith)) in
-      ordered.through (at sys map u sites) (at sys map b (s ∷ sites)) (at sys map v sites) to_end (rises.leave m s b v sites st2 home (omega arith))
+      (enters depth map n s u a sites rises st copy (omega arith)) (inside depth map (s ∷ sites) rises deeper (omega arith)) in
+      ordered.through (at sys map u sites) (at sys map b (s ∷ sites)) (at sys map v sites) to_end (leaves depth map m s b v sites rises st2 home (omega arith))
 
   mutual
     raises : (f u v : ℕ) (p : Matches sys lattice f u v) → Raises u v (depth_inside sys lattice f u v p)
@@ -70,7 +83,7 @@ module _ (sys : System) (lattice : ℕ) (order : Order) (owned : IsWellOwned sys
     forces e v (returns u _ s n p st) depth map sites rises copy fits =
         let deeper = copy_on sys depth (owner_of sys v) (owner_of sys u) s sites copy (leaving sys lattice owned n s u v st) (omega arith) in
         ordered.through e (at sys map u (s ∷ sites)) (at sys map v sites)
-        (forces e u p depth map (s ∷ sites) rises deeper (omega arith)) (rises.leave n s u v sites st copy (omega arith))
+        (forces e u p depth map (s ∷ sites) rises deeper (omega arith)) (leaves depth map n s u v sites rises st copy (omega arith))
     forces e v (grouped u a b _ s g n m p st q st2) depth map sites rises copy fits =
         let home : IsCopy sys depth (owner_of sys u) sites = subst (λ o. IsCopy sys depth o sites) (sym (same_outer sys lattice owned n m s u a b v st st2)) copy in
         ordered.through e (at sys map u sites) (at sys map v sites) (forces e u p depth map sites rises home (omega arith))
@@ -88,7 +101,7 @@ module _ (sys : System) (lattice : ℕ) (order : Order) (owned : IsWellOwned sys
       λ depth fits. (
         copy_on sys depth (owner_of sys u) (owner_of sys v) s [] (root sys depth (owner_of sys u)) (entering sys lattice owned n s u v st) (omega arith),
         λ map rises. ordered.through e (at sys map u []) (at sys map v (s ∷ [])) (forces e u p depth map [] rises (root sys depth (owner_of sys u)) (omega arith))
-            (rises.enter n s u v [] st (root sys depth (owner_of sys u)) (omega arith)),
+            (enters depth map n s u v [] rises st (root sys depth (owner_of sys u)) (omega arith)),
       ),
     )
     forces_one e v (calls_on u _ s n c st) =
@@ -100,7 +113,7 @@ module _ (sys : System) (lattice : ℕ) (order : Order) (owned : IsWellOwned sys
           λ depth fits.
               let one = before.3 depth (omega arith) in (
                 copy_on sys depth (owner_of sys u) (owner_of sys v) s sites one.0 (entering sys lattice owned n s u v st) (omega (arith, before.2)),
-                λ map rises. ordered.through e (at sys map u sites) (at sys map v (s ∷ sites)) (one.1 map rises) (rises.enter n s u v sites st one.0 (omega (arith, before.2))),
+                λ map rises. ordered.through e (at sys map u sites) (at sys map v (s ∷ sites)) (one.1 map rises) (enters depth map n s u v sites rises st one.0 (omega (arith, before.2))),
               ),
         )
     forces_one e v (flows_on u _ n c st) =

@@ -3,7 +3,6 @@ pub mod Search
 pub mod Join
 pub mod Links
 pub mod Leads
-pub mod NoCalls
 pub mod Owners
 pub mod Depths
 pub mod Force
@@ -16,4 +15,5 @@ pub mod Steps
 pub mod Runs
 pub mod MainPath
 pub mod Testing
+pub mod Deciding
 pub mod Inside

@@ -16,8 +16,8 @@ lower_is_met sys lattice depth order map meets = record {
     elements = meets.rises.elements;
     le = λ n u v sites s copy. meets.rises.le n u v sites s (copy_is_deeper sys depth (either (owner_of sys u) (owner_of sys v)) sites copy);
     const = λ n e v sites s copy. meets.rises.const n e v sites s (copy_is_deeper sys depth (owner_of sys v) sites copy);
-    enter = λ n s u v sites st copy fits. meets.rises.enter n s u v sites st (copy_is_deeper sys depth (owner_of sys u) sites copy) (omega arith);
-    leave = λ n s u v sites st copy fits. meets.rises.leave n s u v sites st (copy_is_deeper sys depth (owner_of sys v) sites copy) (omega arith);
+    enter = λ n s u v site sites st there copy fits. meets.rises.enter n s u v site sites st there (copy_is_deeper sys depth site.owner sites copy) (omega arith);
+    leave = λ n s u v site sites st there copy fits. meets.rises.leave n s u v site sites st there (copy_is_deeper sys depth site.owner sites copy) (omega arith);
   };
   bound = λ n e v sites s copy. meets.bound n e v sites s (copy_is_deeper sys depth (owner_of sys v) sites copy);
 }

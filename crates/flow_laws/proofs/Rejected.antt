@@ -9,11 +9,10 @@ use Rattle.flow_graph.specs.declared.constraint.Constraint.{Constraint}
 use Rattle.flow_graph.specs.System.{System, Stands}
 use Rattle.flow_graph.specs.Unfolding.{IsAccepted, IsAcceptedIn, IsExceeded}
 use Rattle.flow_laws.specs.Least.{KeepsBounds}
-use Rattle.flow_laws.specs.Rejected.{HasExceeded, InEach, FlatRejectedHasABound}
+use Rattle.flow_laws.specs.Rejected.{HasExceeded, InEach}
 use Rattle.flow_laws.proofs.Links.{link_at, bound_var, bound_elem, bound_lattice}
 use Rattle.flow_laws.proofs.Search.{search_below}
 use Rattle.flow_laws.proofs.Force.{exceeded_is_refuted}
-use Rattle.flow_laws.proofs.NoCalls.{flat_is_accepted, flat_over_is_exceeded}
 
 module _ (sys : System) (lattice : ℕ) (order : Order) (solution : ℕ → ℕ) where
   abbrev KeepsAt : ℕ → Type 0
@@ -53,9 +52,8 @@ module _ (sys : System) (lattice : ℕ) (order : Order) (solution : ℕ → ℕ)
     | inr found ↦ inr found
   ]
 
-module _ (sys : System) (orders : List Order) (solutions : ℕ → ℕ → ℕ)
-    (accepts : InEach orders (λ lattice order. KeepsBounds sys lattice order (solutions lattice) → IsAcceptedIn sys lattice order))
-    (exceeds : InEach orders (λ lattice order. (n v b : ℕ) → Stands sys lattice n (Bound v lattice b) → leq order (solutions lattice v) b ≡ false → IsExceeded sys lattice order n)) where
+module _ (sys : System) (orders : List Order)
+    (tells : InEach orders (λ lattice order. IsAcceptedIn sys lattice order ⊎ ((n : ℕ) × IsExceeded sys lattice order n))) where
   abbrev AcceptedAt : ℕ → Type 0
   AcceptedAt lattice = (order : Order) → slice_get orders lattice ≡ Some order → IsAcceptedIn sys lattice order
 
@@ -67,9 +65,9 @@ module _ (sys : System) (orders : List Order) (solutions : ℕ → ℕ → ℕ)
     where
       by_order : (o : Option Order) → slice_get orders lattice ≡ o → AcceptedAt lattice ⊎ HasExceeded sys orders
       by_order None is = inl (λ order there. let wrong : None ≡ Some order = sym is ∙ there in absurd cc)
-      by_order (Some order) is = elim (keeps_or_over sys lattice order (solutions lattice)) [
-        | inl keeps ↦ inl (λ other there. subst (IsAcceptedIn sys lattice) (order_is (sym is ∙ there)) (accepts lattice order is keeps))
-        | inr over ↦ inr (record { lattice = lattice; order = order; there = is; number = over.0; exceeded = exceeds lattice order is over.0 over.1.0 over.1.1 over.1.2 over.1.3 })
+      by_order (Some order) is = elim (tells lattice order is) [
+        | inl accepted ↦ inl (λ other there. subst (IsAcceptedIn sys lattice) (order_is (sym is ∙ there)) accepted)
+        | inr over ↦ inr (record { lattice = lattice; order = order; there = is; number = over.0; exceeded = over.1 })
       ]
 
   pub accepted_or_exceeded : IsAccepted sys orders ⊎ HasExceeded sys orders
@@ -80,14 +78,3 @@ module _ (sys : System) (orders : List Order) (solutions : ℕ → ℕ → ℕ)
 
 pub has_refutes : (sys : System) (orders : List Order) → HasExceeded sys orders → IsAccepted sys orders → ⊥
 has_refutes sys orders has accepted = exceeded_is_refuted sys has.lattice has.order has.number has.exceeded (accepted has.lattice has.order has.there)
-
-pub flat_rejected_has_a_bound : FlatRejectedHasABound
-flat_rejected_has_a_bound sys orders solutions flat ordered least = (
-  λ rejected. elim (accepted_or_exceeded sys orders solutions
-      (λ lattice order there keeps. flat_is_accepted sys lattice order (solutions lattice) flat (least lattice order there) keeps)
-      (λ lattice order there n v b st over. flat_over_is_exceeded sys lattice order flat (ordered lattice order there) n v b (solutions lattice v) st (least lattice order there v) over)) [
-        | inl accepted ↦ absurd (rejected accepted)
-        | inr has ↦ has
-      ],
-  λ has accepted. has_refutes sys orders has accepted,
-)

@@ -3,25 +3,16 @@ use Rattle.std.specs.Prelude.{◌≡◌, ℕ, Bool, true, false, List, ◌↔◌
 use Rattle.lattice_core.specs.Order.{Order, leq, IsOrder, IsLattice}
 use Rattle.flow_graph.specs.declared.constraint.Link.TheVariants.{Bound}
 use Rattle.flow_graph.specs.System.{System, Stands, IsWellOwned}
-use Rattle.flow_graph.specs.Unfolding.{Assignment, Meets, IsAccepted, IsAcceptedIn, IsExceeded, Printed, NamesElementsIn}
+use Rattle.flow_graph.specs.Unfolding.{Assignment, IsAcceptedIn, IsExceeded, Printed, NamesElementsIn}
 use Rattle.flow_graph.specs.Paths.{Lead}
 use Rattle.flow_laws.specs.Least.{IsSolution, KeepsBounds}
 use Rattle.flow_laws.specs.Sets.{Reaches, IsLeastInCopies}
-use Rattle.flow_laws.specs.Rejected.{HasExceeded, InEach}
 
 -- In a lattice, where a test says what reaches which copies, each copy has a least element above that.
 abbrev pub CopiesStand : Type 0
 CopiesStand = (sys : System) (lattice : ℕ) (order : Order) (reached : ℕ → ℕ → List ℕ → Bool) → IsLattice order → NamesElementsIn sys lattice order →
     ((e v : ℕ) (sites : List ℕ) → (reached e v sites ≡ true) ↔ Reaches sys lattice e v sites) →
     (copies : Assignment) × IsLeastInCopies sys lattice order copies
-
--- Where the solution keeps the bounds, the least elements of the copies meet the unfolding at each depth, and are at or
--- below the solution in every copy of every variable.
-abbrev pub AllAtOnce : Type 0
-AllAtOnce = (sys : System) (lattice : ℕ) (order : Order) (solution : ℕ → ℕ) (copies : Assignment) → IsWellOwned sys → IsOrder order →
-    IsSolution sys lattice order solution →
-    IsLeastInCopies sys lattice order copies → KeepsBounds sys lattice order solution →
-    ((depth : ℕ) → Meets sys lattice order depth copies) × ((v : ℕ) (sites : List ℕ) → leq order (copies v sites) (solution v) ≡ true)
 
 -- A system whose solution keeps the bounds is accepted.
 abbrev pub KeptIsAccepted : Type 0
@@ -49,12 +40,3 @@ OverIsExceeded = (sys : System) (lattice : ℕ) (order : Order) (solution : ℕ 
     ((e v : ℕ) → (comes e v ≡ true) ↔ Lead sys lattice e v) → (n v b : ℕ) → Stands sys lattice n (Bound v lattice b) →
     leq order (solution v) b ≡ false →
     IsExceeded sys lattice order n
-
--- A system is rejected exactly where some bound is exceeded.
-abbrev pub RejectedHasABound : Type 0
-RejectedHasABound = (sys : System) (orders : List Order) (solutions : ℕ → ℕ → ℕ) (copies : ℕ → Assignment) (comes : ℕ → ℕ → ℕ → Bool) →
-    IsWellOwned sys →
-    InEach orders (λ lattice order. IsOrder order) → InEach orders (λ lattice order. IsSolution sys lattice order (solutions lattice)) →
-    InEach orders (λ lattice order. IsLeastInCopies sys lattice order (copies lattice)) →
-    InEach orders (λ lattice order. (e v : ℕ) → (comes lattice e v ≡ true) ↔ Lead sys lattice e v) →
-    (IsAccepted sys orders → ⊥) ↔ HasExceeded sys orders

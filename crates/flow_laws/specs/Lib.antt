@@ -1,9 +1,9 @@
 pub mod Laws
 pub mod Least
-pub mod Flat
 pub mod Refuting
 pub mod Rejected
 pub mod Sets
 pub mod Accepting
+pub mod Deciding
 pub mod Holding
 pub mod PathLaws

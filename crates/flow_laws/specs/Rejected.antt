@@ -1,10 +1,8 @@
 -- What it means that a program is not accepted.
-use Rattle.std.specs.Prelude.{◌≡◌, ℕ, List, slice_get, Some, ◌↔◌}
-use Rattle.lattice_core.specs.Order.{Order, IsOrder}
+use Rattle.std.specs.Prelude.{◌≡◌, ℕ, List, slice_get, Some}
+use Rattle.lattice_core.specs.Order.{Order}
 use Rattle.flow_graph.specs.System.{System}
-use Rattle.flow_graph.specs.Unfolding.{IsAccepted, IsExceeded}
-use Rattle.flow_laws.specs.Least.{IsSolution}
-use Rattle.flow_laws.specs.Flat.{IsFlat}
+use Rattle.flow_graph.specs.Unfolding.{IsExceeded}
 
 -- a bound that is exceeded in some lattice of the list
 pub record HasExceeded (sys : System) (orders : List Order) : Type 0 where
@@ -17,8 +15,3 @@ pub record HasExceeded (sys : System) (orders : List Order) : Type 0 where
 -- what is said of each lattice of the list
 abbrev pub InEach : List Order → (ℕ → Order → Type 0) → Type 0
 InEach orders P = (lattice : ℕ) (order : Order) → slice_get orders lattice ≡ Some order → P lattice order
-
--- A system without calls is rejected exactly where some bound is exceeded.
-abbrev pub FlatRejectedHasABound : Type 0
-FlatRejectedHasABound = (sys : System) (orders : List Order) (solutions : ℕ → ℕ → ℕ) → IsFlat sys → InEach orders (λ lattice order. IsOrder order) →
-    InEach orders (λ lattice order. IsSolution sys lattice order (solutions lattice)) → (IsAccepted sys orders → ⊥) ↔ HasExceeded sys orders

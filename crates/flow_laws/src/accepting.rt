@@ -1,15 +1,11 @@
 //! When a well owned system is accepted, what is printed of it, and which of its bounds are exceeded.
 
-ghost use Rattle.flow_laws.specs.Accepting.{CopiesStand, AllAtOnce, KeptIsAccepted, SolutionIsPrinted, ExceededIsOver, OverIsExceeded, RejectedHasABound};
+ghost use Rattle.flow_laws.specs.Accepting.{CopiesStand, KeptIsAccepted, SolutionIsPrinted, ExceededIsOver, OverIsExceeded};
+ghost use Rattle.flow_laws.specs.Deciding.{TestsDecide};
 
 /// Where it can be tested what reaches a copy, a least element above that stands.
 pub fn copies_stand()
     ensures { CopiesStand }
-{}
-
-/// The least elements of the copies meet the unfolding, all at or below the solution.
-pub fn all_at_once()
-    ensures { AllAtOnce }
 {}
 
 /// A system whose solution keeps the bounds is accepted.
@@ -32,7 +28,8 @@ pub fn over_is_exceeded()
     ensures { OverIsExceeded }
 {}
 
-/// A system is rejected exactly where some bound is exceeded.
-pub fn rejected_has_a_bound()
-    ensures { RejectedHasABound }
+/// Where it can be tested what leads where, a system is rejected exactly where some bound is exceeded, and is solved where
+/// none is.
+pub fn tests_decide()
+    ensures { TestsDecide }
 {}

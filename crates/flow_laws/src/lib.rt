@@ -2,7 +2,6 @@
 #![tactic(auto)]
 
 pub mod accepting;
-pub mod flat;
 pub mod holding;
 pub mod laws;
 pub mod paths;

@@ -6,10 +6,10 @@ use Rattle.std.proofs.lemmas.Option.{slice_get_within}
 use Rattle.qual_base.specs.declared.places.Owner.{Owner}
 use Rattle.qual_base.specs.declared.places.Owner.TheVariants.{Nobody, Function}
 use Rattle.flow_graph.specs.declared.constraint.Site.{Site}
-use Rattle.flow_graph.specs.System.{System, Calls, owner_of}
+use Rattle.flow_graph.specs.System.{System, Calls}
 use Rattle.flow_graph.specs.CallStrings.{IsCallString, IsCopy}
 use Rattle.flow_unfolding.specs.Strings.{AreBelow}
-use Rattle.flow_unfolding.specs.Copies.{has_target, owner_at, calls, outer_of, is_call_string, is_copy, is_entered}
+use Rattle.flow_unfolding.specs.Copies.{has_target, owner_at, calls, outer_of, is_call_string, is_copy, is_outer_copy, is_entered}
 
 calls_at : (sys : System) (s : ℕ) (owner : Owner) (o : Option Site) → slice_get sys.sites s ≡ o → has_target o owner ≡ true → Calls sys s (owner_at o) owner
 calls_at sys s owner None e h = absurd cc
@@ -71,14 +71,25 @@ pub root_copy : (sys : System) (depth : ℕ) (owner : Owner) → IsCopy sys dept
 root_copy sys depth Nobody = refl
 root_copy sys depth (Function f) = (tt, omega arith)
 
-pub entered_is : (sys : System) (depth s u t : ℕ) (w : List ℕ) → is_entered sys depth s u (t ∷ w) ≡ true →
-    (t ≡ s) × IsCopy sys depth (owner_of sys u) w × (length (t ∷ w) ≤ depth)
-entered_is sys depth s u t w h =
-    let parts = and_parts (nat_eq t s) (nat_le (length (t ∷ w)) depth && is_copy sys depth (owner_of sys u) w) h in
-    let rest = and_parts (nat_le (length (t ∷ w)) depth) (is_copy sys depth (owner_of sys u) w) parts.1 in
-    (eqb-true t s parts.0, copy_is sys depth (owner_of sys u) w rest.1, leb-true (length (t ∷ w)) depth rest.0)
+-- a site that is there, a copy of whose owner this is
+abbrev pub HasOuterCopy : System → ℕ → Option Site → List ℕ → Type 0
+HasOuterCopy sys depth o w = (site : Site) × (o ≡ Some site) × IsCopy sys depth site.owner w
 
-pub entered_test : (sys : System) (depth s u : ℕ) (w : List ℕ) → IsCopy sys depth (owner_of sys u) w → length (s ∷ w) ≤ depth → is_entered sys depth s u (s ∷ w) ≡ true
-entered_test sys depth s u w copy short =
-    and_from (nat_eq s s) (nat_le (length (s ∷ w)) depth && is_copy sys depth (owner_of sys u) w) (eq-eqb s s refl)
-    (and_from (nat_le (length (s ∷ w)) depth) (is_copy sys depth (owner_of sys u) w) (le-leb (length (s ∷ w)) depth short) (copy_test sys depth (owner_of sys u) w copy))
+outer_copy_is : (sys : System) (depth : ℕ) (o : Option Site) (w : List ℕ) → is_outer_copy sys depth o w ≡ true → HasOuterCopy sys depth o w
+outer_copy_is sys depth None w h = absurd cc
+outer_copy_is sys depth (Some site) w h = (site, refl, copy_is sys depth site.owner w h)
+
+pub entered_is : (sys : System) (depth s t : ℕ) (w : List ℕ) → is_entered sys depth s (t ∷ w) ≡ true →
+    (t ≡ s) × HasOuterCopy sys depth (slice_get sys.sites s) w × (length (t ∷ w) ≤ depth)
+entered_is sys depth s t w h =
+    let outer = is_outer_copy sys depth (slice_get sys.sites s) w in
+    let parts = and_parts (nat_eq t s) (nat_le (length (t ∷ w)) depth && outer) h in
+    let rest = and_parts (nat_le (length (t ∷ w)) depth) outer parts.1 in
+    (eqb-true t s parts.0, outer_copy_is sys depth (slice_get sys.sites s) w rest.1, leb-true (length (t ∷ w)) depth rest.0)
+
+pub entered_test : (sys : System) (depth s : ℕ) (site : Site) (w : List ℕ) → slice_get sys.sites s ≡ Some site → IsCopy sys depth site.owner w → length (s ∷ w) ≤ depth →
+    is_entered sys depth s (s ∷ w) ≡ true
+entered_test sys depth s site w there copy short =
+    let outer = is_outer_copy sys depth (slice_get sys.sites s) w in
+    let outer_is : outer ≡ true = rw there (copy_test sys depth site.owner w copy) in
+    and_from (nat_eq s s) (nat_le (length (s ∷ w)) depth && outer) (eq-eqb s s refl) (and_from (nat_le (length (s ∷ w)) depth) outer (le-leb (length (s ∷ w)) depth short) outer_is)

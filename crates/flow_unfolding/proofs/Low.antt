@@ -44,16 +44,16 @@ module _ (sys : System) (lattice : ℕ) (order : Order) (depth : ℕ) where
   begins_below map other ordered low rises n (Bound v l e) w st is = low v (seen_from (owner_of sys v) w)
   begins_below map other ordered low rises n (Enter s u v) [] st is = absurd cc
   begins_below map other ordered low rises n (Enter s u v) (t ∷ w) st is =
-      let parts = entered_is sys depth s u t w is in
+      let parts = entered_is sys depth s t w is in
       let Fits : ℕ → Type 0 = λ k. leq order (at sys other u w) (at sys other v (k ∷ w)) ≡ true in
       ordered.through (at sys map u w) (at sys other u w) (at sys other v (t ∷ w)) (low u (seen_from (owner_of sys u) w))
-      (subst Fits (sym parts.0) (rises.enter n s u v w st parts.1 (omega (arith, parts.2))))
+      (subst Fits (sym parts.0) (rises.enter n s u v parts.1.0 w st parts.1.1 parts.1.2 (omega (arith, parts.2))))
   begins_below map other ordered low rises n (Leave s u v) [] st is = absurd cc
   begins_below map other ordered low rises n (Leave s u v) (t ∷ w) st is =
-      let parts = entered_is sys depth s v t w is in
+      let parts = entered_is sys depth s t w is in
       let Fits : ℕ → Type 0 = λ k. leq order (at sys other u (k ∷ w)) (at sys other v w) ≡ true in
       ordered.through (at sys map u (t ∷ w)) (at sys other u (t ∷ w)) (at sys other v w) (low u (seen_from (owner_of sys u) (t ∷ w)))
-      (subst Fits (sym parts.0) (rises.leave n s u v w st parts.1 (omega (arith, parts.2))))
+      (subst Fits (sym parts.0) (rises.leave n s u v parts.1.0 w st parts.1.1 parts.1.2 (omega (arith, parts.2))))
 
   -- a link begins at an element
   pub begins_inside : (map : Assignment) → NamesElementsIn sys lattice order → AreElements order map → (n : ℕ) (link : Link) (w : List ℕ) → Stands sys lattice n link →

@@ -4,7 +4,7 @@ use Rattle.std.proofs.lemmas.Option.{slice_get_within, slice_get_read}
 use Rattle.lattice_core.specs.Order.{Order, leq}
 use Rattle.flow_graph.specs.declared.constraint.Link.{Link}
 use Rattle.flow_graph.specs.declared.constraint.Link.TheVariants.{Le, Const, Enter, Leave}
-use Rattle.flow_graph.specs.System.{System, IsInLattice, Stands, AllWithin, owner_of}
+use Rattle.flow_graph.specs.System.{System, IsInLattice, Stands, owner_of}
 use Rattle.flow_graph.specs.CallStrings.{either}
 use Rattle.flow_graph.specs.PathRules.{link_ends}
 use Rattle.flow_graph.specs.Unfolding.{Assignment, at, Rises, Meets}
@@ -28,14 +28,8 @@ module _ (sys : System) (lattice : ℕ) (order : Order) (depth : ℕ) (map : Ass
       leq order (begin_element sys map k w) (at sys map (link_ends k) (end_sites k w)) ≡ true in
       subst Fits st.link_is (agrees n (slice_get_within sys.constraints n st.constraint st.there) found.0 w found.1 found.2 st.constraint st.there) st.carried is
 
-  site_below : AllWithin sys → (n s u v : ℕ) → Stands sys lattice n (Enter s u v) → s < length sys.sites
-  site_below within n s u v st = (within n (Enter s u v) (record { constraint = st.constraint; there = st.there; link_is = st.link_is })).0
-
-  site_below-leave : AllWithin sys → (n s u v : ℕ) → Stands sys lattice n (Leave s u v) → s < length sys.sites
-  site_below-leave within n s u v st = (within n (Leave s u v) (record { constraint = st.constraint; there = st.there; link_is = st.link_is })).0
-
-  pub all_rise : AllWithin sys → AreElements order map → AgreesBelow sys lattice order depth map strings (length sys.constraints) → Rises sys lattice order depth map
-  all_rise within elements agrees = record {
+  pub all_rise : AreElements order map → AgreesBelow sys lattice order depth map strings (length sys.constraints) → Rises sys lattice order depth map
+  all_rise elements agrees = record {
     elements = elements;
     le = λ n u v w st copy.
         let low = copy_below sys depth (either (owner_of sys u) (owner_of sys v)) w copy in
@@ -43,12 +37,12 @@ module _ (sys : System) (lattice : ℕ) (order : Order) (depth : ℕ) (map : Ass
     const = λ n e v w st copy.
         let low = copy_below sys depth (owner_of sys v) w copy in
         agreed agrees n (Const lattice e v) w st low.0 low.1 (copy_test sys depth (owner_of sys v) w copy);
-    enter = λ n s u v w st copy fits.
-        let low = copy_below sys depth (owner_of sys u) w copy in
-        agreed agrees n (Enter s u v) (s ∷ w) st (site_below within n s u v st, low.0) fits (entered_test sys depth s u w copy fits);
-    leave = λ n s u v w st copy fits.
-        let low = copy_below sys depth (owner_of sys v) w copy in
-        agreed agrees n (Leave s u v) (s ∷ w) st (site_below-leave within n s u v st, low.0) fits (entered_test sys depth s v w copy fits);
+    enter = λ n s u v site w st there copy fits.
+        let low = copy_below sys depth site.owner w copy in
+        agreed agrees n (Enter s u v) (s ∷ w) st (slice_get_within sys.sites s site there, low.0) fits (entered_test sys depth s site w there copy fits);
+    leave = λ n s u v site w st there copy fits.
+        let low = copy_below sys depth site.owner w copy in
+        agreed agrees n (Leave s u v) (s ∷ w) st (slice_get_within sys.sites s site there, low.0) fits (entered_test sys depth s site w there copy fits);
   }
 
   -- one that also keeps each bound in each copy meets the unfolding

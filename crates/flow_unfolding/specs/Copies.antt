@@ -45,14 +45,19 @@ abbrev pub ends_in : List ℕ → ℕ → Bool
 ends_in [] site = false
 ends_in (s ∷ w) site = nat_eq s site
 
--- a call of the site leads into the copy, from a copy of the owner of a variable
-abbrev pub is_entered : System → ℕ → ℕ → ℕ → List ℕ → Bool
-is_entered sys depth site outer w = ends_in w site && (nat_le (length w) depth && is_copy sys depth (owner_of sys outer) (behind w))
+-- a site is there, and this is a copy of its owner
+abbrev pub is_outer_copy : System → ℕ → Option Site → List ℕ → Bool
+is_outer_copy sys depth None w = false
+is_outer_copy sys depth (Some site) w = is_copy sys depth site.owner w
+
+-- a call of the site leads into the copy, from a copy of the site's owner
+abbrev pub is_entered : System → ℕ → ℕ → List ℕ → Bool
+is_entered sys depth site w = ends_in w site && (nat_le (length w) depth && is_outer_copy sys depth (slice_get sys.sites site) (behind w))
 
 -- the link stands in the copy with these sites, an Enter or a Leave in the copy that it enters or leaves
 abbrev pub stands : System → ℕ → Link → List ℕ → Bool
 stands sys depth (Le u v) w = is_copy sys depth (either (owner_of sys u) (owner_of sys v)) w
 stands sys depth (Const l e v) w = is_copy sys depth (owner_of sys v) w
 stands sys depth (Bound v l e) w = is_copy sys depth (owner_of sys v) w
-stands sys depth (Enter s u v) w = is_entered sys depth s u w
-stands sys depth (Leave s u v) w = is_entered sys depth s v w
+stands sys depth (Enter s u v) w = is_entered sys depth s w
+stands sys depth (Leave s u v) w = is_entered sys depth s w

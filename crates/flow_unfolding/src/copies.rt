@@ -1,13 +1,13 @@
 //! Which copies of a variable or of a constraint there are.
 
-ghost use Rattle.std.specs.Prelude.{◌≡◌};
+ghost use Rattle.std.specs.Prelude.{◌≡◌, slice_get};
 ghost use Rattle.flow_unfolding.specs.Copies;
 ghost use Rattle.flow_graph.specs.CallStrings;
 ghost use Rattle.flow_graph.specs.Unfolding;
 
 use flow_graph::constraint::Link;
 use flow_graph::graph::FlowGraph;
-use qual_base::ids::{FuncId, Numbered, SiteId, VarId};
+use qual_base::ids::{FuncId, Numbered, SiteId};
 use qual_base::places::Owner;
 
 /// Whether an owner is a function.
@@ -106,13 +106,22 @@ pub fn seen_from(owner: Owner, sites: &[SiteId]) -> &[SiteId]
     }
 }
 
-/// Whether a call of a site leads into a copy, from a copy of the owner of a variable.
-fn is_entered(graph: &FlowGraph, depth: u32, site: SiteId, outer: VarId, sites: &[SiteId]) -> bool
-    ensures { result ≡ Copies.is_entered graph.now depth site outer sites.now }
+/// Whether a site is there, and a list of sites is a copy of its owner.
+fn is_outer_copy(graph: &FlowGraph, depth: u32, site: SiteId, sites: &[SiteId]) -> bool
+    ensures { result ≡ Copies.is_outer_copy graph.now depth (slice_get graph.now.sites site) sites.now }
+{
+    if site.number() >= graph.sites() {
+        return false;
+    }
+    is_copy(graph, depth, graph.site(site).owner, sites)
+}
+
+/// Whether a call of a site leads into a copy, from a copy of the site's owner.
+fn is_entered(graph: &FlowGraph, depth: u32, site: SiteId, sites: &[SiteId]) -> bool
+    ensures { result ≡ Copies.is_entered graph.now depth site sites.now }
 {
     ends_in(sites, site)
-        && (sites.len() <= depth as usize
-            && is_copy(graph, depth, graph.owner(outer), behind(sites)))
+        && (sites.len() <= depth as usize && is_outer_copy(graph, depth, site, behind(sites)))
 }
 
 /// Whether a link stands in the copy with these sites. An `Enter` and a `Leave` stand in the copies that they enter and
@@ -131,7 +140,7 @@ pub fn stands(graph: &FlowGraph, depth: u32, link: Link, sites: &[SiteId]) -> bo
         }
         Link::Const(_, _, at) => is_copy(graph, depth, graph.owner(at), sites),
         Link::Bound(at, _, _) => is_copy(graph, depth, graph.owner(at), sites),
-        Link::Enter(site, outer, _) => is_entered(graph, depth, site, outer, sites),
-        Link::Leave(site, _, outer) => is_entered(graph, depth, site, outer, sites),
+        Link::Enter(site, _, _) => is_entered(graph, depth, site, sites),
+        Link::Leave(site, _, _) => is_entered(graph, depth, site, sites),
     }
 }

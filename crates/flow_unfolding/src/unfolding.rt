@@ -3,7 +3,6 @@
 ghost use Rattle.std.specs.Prelude.{◌≡◌, ℕ, ◌<◌, length, IfOk, OnOk, MatchBool, List, nat_lt};
 ghost use Rattle.std.specs.Bool.{OnFalse};
 ghost use Rattle.lattice_core.specs.Order.{size, IsLattice};
-ghost use Rattle.flow_graph.specs.PathRules;
 ghost use Rattle.flow_graph.specs.Unfolding;
 ghost use Rattle.flow_graph.specs.Unfolding.{Assignment, Meets, Rises, NamesElementsIn};
 ghost use Rattle.flow_unfolding.specs.Assigned.{map_of};
@@ -26,19 +25,6 @@ fn element_at(map: &Assigned, graph: &FlowGraph, var: VarId, sites: &[SiteId]) -
     ensures { result ≡ Unfolding.at graph.now (map_of map.now) var sites.now }
 {
     map.get(var, seen_from(graph.owner(var), sites))
-}
-
-/// The variable where a link ends.
-fn end_of(link: Link) -> VarId
-    ensures { result ≡ PathRules.link_ends link }
-{
-    match link {
-        Link::Le(_, to) => to,
-        Link::Const(_, _, to) => to,
-        Link::Bound(at, _, _) => at,
-        Link::Enter(_, _, to) => to,
-        Link::Leave(_, _, to) => to,
-    }
 }
 
 /// The copy from which the end of a link is met.
@@ -95,7 +81,7 @@ fn step(
         return Ok(false);
     }
     let elem = begin_element(map, graph, constraint.link, sites);
-    let end = end_of(constraint.link);
+    let end = constraint.link.end();
     let copy = seen_from(graph.owner(end), end_sites(constraint.link, sites));
     map.raise(alloc, lattice, end, copy, elem)
 }
@@ -192,8 +178,6 @@ fn raise_all(
     ensures low { OnOk result (IsLow graph.now lattice_no lattice.now.order depth (map_of map.new)) }
     ensures rises { OnOk result (Rises graph.now lattice_no lattice.now.order depth (map_of map.new)) }
 {
-    // its clause says that the sites of all links are there
-    let _count = graph.len();
     for _ in 0..u64::MAX {
         let grew = turn(alloc, graph, lattice_no, lattice, depth, strings, map)?;
         if !grew {

@@ -12,5 +12,5 @@ returns-then-not-grew-clause-rises c =
     AgreesBelow c.args.graph.now c.args.lattice_no c.args.lattice.now.order c.args.depth (map_of k) c.args.strings.now (length c.args.graph.now.constraints) in
     let same : c.turn.new.map ≡ c.loop.map = OnFalse_at c.if-not-grew.true c.in_ok-grew.ensures.same in
     let agrees : Agrees c.loop.map = OnFalse_at c.if-not-grew.true c.in_ok-grew.ensures.agrees in
-    all_rise c.args.graph.now c.args.lattice_no c.args.lattice.now.order c.args.depth (map_of c.turn.new.map) c.args.strings.now c.requires.all c.len-count.ensures.within
+    all_rise c.args.graph.now c.args.lattice_no c.args.lattice.now.order c.args.depth (map_of c.turn.new.map) c.args.strings.now c.requires.all
     c.in_ok-grew.ensures.low.elements (subst Agrees (sym same) agrees)

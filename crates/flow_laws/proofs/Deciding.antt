@@ -1,0 +1,69 @@
+-- What tests of paths decide.
+use Rattle.std.proofs.Common.{◌≡◌, ℕ, Bool, true, false, List, refl, subst, ◌⊎◌, inl, inr}
+use Rattle.lattice_core.specs.Order.{Order, leq, IsLattice}
+use Rattle.flow_graph.specs.declared.constraint.Link.TheVariants.{Bound}
+use Rattle.flow_graph.specs.System.{System, Stands, IsWellOwned}
+use Rattle.flow_graph.specs.Unfolding.{Assignment, IsAcceptedIn, IsExceeded, Printed, NamesElements, NamesElementsIn}
+use Rattle.flow_graph.specs.Paths.{Lead}
+use Rattle.flow_laws.specs.Least.{IsLeastOver, IsSolution, KeepsBounds}
+use Rattle.flow_laws.specs.Sets.{Reaches, IsLeastInCopies}
+use Rattle.flow_laws.specs.Rejected.{InEach}
+use Rattle.flow_laws.specs.Deciding.{PathTests, AreExact, ExceedsNone, IsSolved, TestsDecide}
+use Rattle.flow_laws.proofs.Leads.{solution_stands, names_in_each}
+use Rattle.flow_laws.proofs.Testing.{reached_is_tested}
+use Rattle.flow_laws.proofs.Accept.{copies_stand, met, below_solution, kept_is_accepted, solution_is_printed, over_is_exceeded}
+use Rattle.flow_laws.proofs.Rejected.{keeps_or_over, accepted_or_exceeded, has_refutes}
+
+module _ (sys : System) (lattice : ℕ) (order : Order) (tests : PathTests) (owned : IsWellOwned sys) (lat : IsLattice order) (names : NamesElementsIn sys lattice order)
+    (exact : AreExact sys lattice tests) where
+  solution : (solution : ℕ → ℕ) × IsSolution sys lattice order solution
+  solution = solution_stands sys lattice order tests.leads lat names exact.leads
+
+  copies : (copies : Assignment) × IsLeastInCopies sys lattice order copies
+  copies = let reached = reached_is_tested sys lattice tests.returned tests.matched exact.returned exact.matched in copies_stand sys lattice order reached.0 lat names reached.1
+
+  exceeds : (n v b : ℕ) → Stands sys lattice n (Bound v lattice b) → leq order (solution.0 v) b ≡ false → IsExceeded sys lattice order n
+  exceeds n v b st over = over_is_exceeded sys lattice order solution.0 tests.leads owned lat.ordered solution.1 exact.leads n v b st over
+
+  keeps : ExceedsNone sys lattice order → KeepsBounds sys lattice order solution.0
+  keeps none n v b st = by_test (leq order (solution.0 v) b) refl
+    where
+      by_test : (t : Bool) → leq order (solution.0 v) b ≡ t → leq order (solution.0 v) b ≡ true
+      by_test true is = is
+      by_test false is = absurd (none n (exceeds n v b st is))
+
+  tells : IsAcceptedIn sys lattice order ⊎ ((n : ℕ) × IsExceeded sys lattice order n)
+  tells = elim (keeps_or_over sys lattice order solution.0) [
+    | inl keeps ↦ inl (kept_is_accepted sys lattice order solution.0 copies.0 owned lat.ordered solution.1 copies.1 keeps)
+    | inr over ↦ inr (over.0, exceeds over.0 over.1.0 over.1.1 over.1.2 over.1.3)
+  ]
+
+  -- a variable has one least element
+  one_least : (v r : ℕ) → IsLeastOver order (λ e. Lead sys lattice e v) r → solution.0 v ≡ r
+  one_least v r least = lat.ordered.apart (solution.0 v) r ((solution.1 v).least r least.element least.upper) (least.least (solution.0 v) (solution.1 v).element (solution.1 v).upper)
+
+  solved : ExceedsNone sys lattice order → IsSolved sys lattice order
+  solved none =
+      let printed = solution_is_printed sys lattice order solution.0 copies.0 owned lat.ordered solution.1 copies.1 (keeps none) in
+      record {
+        map = copies.0;
+        meets = met sys lattice order solution.0 copies.0 owned solution.1 copies.1 lat.ordered (keeps none);
+        below = λ v r sites is. lat.ordered.through (copies.0 v sites) (solution.0 v) r (below_solution sys lattice order solution.0 copies.0 owned solution.1 copies.1 v sites) ((printed v).least r is.can);
+        least = λ v. (solution.0 v, solution.1 v);
+        printed = λ v r least. subst (Printed sys lattice order v) (one_least v r least) (printed v);
+      }
+
+pub tests_decide : TestsDecide
+tests_decide sys orders tests owned lattices names exact =
+    let named : InEach orders (NamesElementsIn sys) = λ lattice order there. names_in_each sys orders lattice order names there in (
+      (
+        λ rejected. elim (accepted_or_exceeded sys orders
+            (λ lattice order there. tells sys lattice order (tests lattice) owned (lattices lattice order there) (named lattice order there) (exact lattice order there))) [
+              | inl accepted ↦ absurd (rejected accepted)
+              | inr has ↦ has
+            ],
+        λ has accepted. has_refutes sys orders has accepted,
+      ),
+      λ lattice order there none.
+          solved sys lattice order (tests lattice) owned (lattices lattice order there) (named lattice order there) (exact lattice order there) none,
+    )
