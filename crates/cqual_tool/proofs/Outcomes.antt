@@ -6,8 +6,6 @@ use Rattle.std.specs.declared.vec.Vec.{Vec}
 use Rattle.std.specs.Io.KnownBytes.{Appends}
 use Rattle.qual_base.specs.Outside.{content_of, Records}
 use Rattle.lattice_core.specs.View.{LatticeView}
-use Rattle.c_lexer.specs.Tokens.{Lexed}
-use Rattle.second_form.specs.Source.{ItemView}
 use Rattle.cqual_tool.specs.declared.status.Status.{Status}
 use Rattle.cqual_tool.specs.declared.status.Status.TheVariants.{Malformed, BadWords, WriteFault}
 use Rattle.cqual_tool.specs.Words.{FileNames, meaning_of}
@@ -21,7 +19,8 @@ use Rattle.lattice_file.specs.Faults.{Reads, IsFileFault}
 use Rattle.lattice_file.specs.declared.reading.LatticeFileFault.{LatticeFileFault}
 use Rattle.lattice_file.specs.declared.reading.LatticeFileFault.TheVariants.{NoMemory as OutOfMemory}
 use Rattle.cqual_tool.specs.Faults.{lattice_line}
-use Rattle.cqual_tool.specs.Outcome.{OfProgram, PastLimit, Judged, WithoutMeaning, IsDecided, LatticesRead, LatticesFail, OfFiles, LatticeTooLarge, LatticeRefused, Outcome, WithMeaning, IsAnswer, RecordsAll, lattice_limit}
+use Rattle.cqual_tool.specs.Programs.{Program}
+use Rattle.cqual_tool.specs.Outcome.{OfProgram, ManyVariables, ManyConstraints, Judged, WithoutMeaning, IsDecided, LatticesRead, LatticesFail, OfFiles, LatticeTooLarge, LatticeRefused, Outcome, WithMeaning, IsAnswer, RecordsAll, lattice_limit}
 
 -- an outcome at equal statuses and texts
 pub at_equal : (Is : Status → List ℕ → Type 0) (one other : Status) (text same : List ℕ) → one ≡ other → text ≡ same → Is other same → Is one text
@@ -58,10 +57,11 @@ pub none_found : (size : ℕ) (content : List ℕ) (limit : ℕ) (found : Option
 none_found size content limit found is none = let Found : Option (Vec ℕ Global) → Type 0 = λ o. MatchOption o (limit < size) (λ bytes. bytes.items ≡ content) in subst Found none is
 
 -- what is judged is decided
-pub decided_program : (file : List ℕ) (lattices : List LatticeView) (lexed : Lexed) (items : List ItemView) (status : Status) (text : List ℕ) → OfProgram file lattices lexed items status text → IsDecided status
-decided_program file lattices lexed items _ _ (PastLimit many) = tt
-decided_program file lattices lexed items _ _ (Judged _ _ few (JudgedAccepted _ report)) = tt
-decided_program file lattices lexed items _ _ (Judged _ _ few (JudgedRejected _ report)) = tt
+pub decided_program : (file : List ℕ) (program : Program) (status : Status) (text : List ℕ) → OfProgram file program status text → IsDecided status
+decided_program file program _ _ (ManyVariables many) = tt
+decided_program file program _ _ (ManyConstraints variables many) = tt
+decided_program file program _ _ (Judged _ _ variables few (JudgedAccepted _ report)) = tt
+decided_program file program _ _ (Judged _ _ variables few (JudgedRejected _ report)) = tt
 
 pub decided_as : (one other : Status) → one ≡ other → IsDecided other → IsDecided one
 decided_as one other same is = subst IsDecided (sym same) is

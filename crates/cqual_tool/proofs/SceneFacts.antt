@@ -1,17 +1,18 @@
 -- What a source gives the scene of its report.
-use Rattle.std.proofs.Common.{◌≡◌, ℕ, zero, suc, ◌+◌, ◌*◌, ◌<◌, ◌⊎◌, inl, inr, List, [], ◌∷◌, ◌++◌, length, Some, None, slice_get, refl, sym, ◌∙◌, ap, subst, arith, length-append, true, false, MatchOption}
+use Rattle.std.proofs.Common.{◌≡◌, ℕ, zero, suc, ◌+◌, ◌*◌, ◌<◌, ◌≤◌, ◌⊎◌, inl, inr, List, [], ◌∷◌, ◌++◌, length, Some, None, slice_get, refl, sym, ◌∙◌, ap, subst, arith, length-append, true, false, MatchOption}
 use Rattle.std.specs.declared.option.Option.{Option}
 use Rattle.std.specs.Option.{is_some}
 use Rattle.std.proofs.lemmas.Bool.{cases_order}
 use Rattle.lattice_core.specs.View.{LatticeView}
 use Rattle.flow_graph.specs.declared.constraint.Link.{Link}
 use Rattle.flow_graph.specs.declared.constraint.Link.TheVariants.{Le, Const, Bound, Enter, Leave}
-use Rattle.flow_graph.specs.System.{System}
+use Rattle.flow_graph.specs.System.{System, most_variables}
 use Rattle.flow_graph.specs.Unfolding.{NamesElementsIn}
 use Rattle.lattice_solver.specs.Solution.{IsKept}
 use Rattle.c_lexer.specs.Reading.{Meanings}
-use Rattle.c_lexer.specs.Tokens.{IsSpelled}
+use Rattle.c_lexer.specs.Tokens.{IsSpelled, Lexed}
 use Rattle.second_form.specs.Facts.{IsNamed, AreNamed, AreObjects}
+use Rattle.second_form.specs.Positions.{positions_of}
 use Rattle.cqual_tool.specs.declared.solving.Solved.{Solved}
 use Rattle.cqual_tool.specs.declared.texts.Scene.{Scene as Lent}
 use Rattle.cqual_tool.specs.Scenes.{HasLink, HasObjects, IsShown, IsSolution}
@@ -48,6 +49,14 @@ module _ (lent : Lent) (words : Meanings) (spelled : IsSpelled words lent.tokens
     };
     elements = elements;
   }
+
+-- A source has no more variables than may be numbered.
+pub few_positions : (lexed : Lexed) (names objects : List ℕ) → names ≡ objects → AreObjects lexed names → length (positions_of objects) ≤ most_variables
+few_positions lexed names objects same are =
+    let Few : List ℕ → Type 0 = λ tokens. length (positions_of tokens) ≤ most_variables in
+    let count = are.count in
+    let few = are.few in
+    subst Few same (omega (arith, count, few))
 
 -- ---- a solution for each lattice, one after the other
 

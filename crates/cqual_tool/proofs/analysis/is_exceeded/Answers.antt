@@ -6,17 +6,17 @@ use Rattle.cqual_tool.proofs.SceneFacts.{kept_next, none_kept, found_over}
 use Rattle.cqual_tool.proofs.analysis.is_exceeded.Goals as goal
 
 pub first_exceeded-requires-clause-solved : goal.first_exceeded-requires-clause-solved
-first_exceeded-requires-clause-solved c = (c.requires.solutions.each c.new-number.result c.solver_of-solver.result.now c.solver_of-solver.ensures).solved
+first_exceeded-requires-clause-solved c = (c.requires.solutions.each c.new-number.result c.solved_of-solved.result.now c.solved_of-solved.ensures).solved
 
 pub first_exceeded-requires-clause-named : goal.first_exceeded-requires-clause-named
 first_exceeded-requires-clause-named c =
-    let own = c.requires.solutions.each c.new-number.result c.solver_of-solver.result.now c.solver_of-solver.ensures in
+    let own = c.requires.solutions.each c.new-number.result c.solved_of-solved.result.now c.solved_of-solved.ensures in
     let In : ℕ → Type 0 = λ l. NamesElementsIn c.args.graph.now l c.get.result.now.order in
     subst In (sym own.lattice_is) (c.requires.shown.elements c.new-number.result c.get.result.now c.get.ensures)
 
 pub returns-then-is_some-clause-over : goal.returns-then-is_some-clause-over
 returns-then-is_some-clause-over c =
-    let own = c.requires.solutions.each c.new-number.result c.solver_of-solver.result.now c.solver_of-solver.ensures in
+    let own = c.requires.solutions.each c.new-number.result c.solved_of-solved.result.now c.solved_of-solved.ensures in
     let found = found_over _ _ c.first_exceeded.result c.first_exceeded.ensures (sym c.is_some.ensures ∙ c.if-is_some.true) in
     let In : ℕ → Type 0 = λ l. IsExceeded c.args.graph.now l c.get.result.now.order found.0 in (
       found.0,
@@ -32,8 +32,8 @@ pub loop-n-preserved : goal.loop-n-preserved
 loop-n-preserved c =
     let number : c.new-number.result ≡ c.loop-n.n = c.new-number.ensures in
     let kept = none_kept _ _ c.first_exceeded.result c.first_exceeded.ensures (sym c.is_some.ensures ∙ c.if-is_some.false) in
-    kept_next c.args.graph.now c.args.scene.now.lattices.now c.args.solvers.now c.loop-n.n c.get.result.now c.solver_of-solver.result.now (ap (slice_get c.args.scene.now.lattices.now) (sym number) ∙ c.get.ensures)
-    (ap (slice_get c.args.solvers.now) (sym number) ∙ c.solver_of-solver.ensures) kept c.loop-n.invariant
+    kept_next c.args.graph.now c.args.scene.now.lattices.now c.args.solutions.now c.loop-n.n c.get.result.now c.solved_of-solved.result.now (ap (slice_get c.args.scene.now.lattices.now) (sym number) ∙ c.get.ensures)
+    (ap (slice_get c.args.solutions.now) (sym number) ∙ c.solved_of-solved.ensures) kept c.loop-n.invariant
 
 pub returns-clause-kept : goal.returns-clause-kept
 returns-clause-kept c =

@@ -1,12 +1,12 @@
 use Rattle.std.proofs.Common.{List, sym, ◌∙◌, subst}
-use Rattle.lattice_solver.specs.Solution.{Solution}
+use Rattle.cqual_tool.specs.declared.solving.Solved.{Solved}
 use Rattle.cqual_tool.specs.Scenes.{AreKept}
 use Rattle.cqual_tool.specs.Reports.{JudgedAccepted, JudgedRejected}
 use Rattle.cqual_tool.proofs.analysis.judge.Goals as goal
 
 pub accepted-requires-clause-kept : goal.accepted-requires-clause-kept
 accepted-requires-clause-kept c =
-    let Kept : List Solution → Type 0 = λ solutions. AreKept c.args.graph.now c.args.scene.now.lattices.now solutions in
+    let Kept : List Solved → Type 0 = λ solutions. AreKept c.args.graph.now c.args.scene.now.lattices.now solutions in
     subst Kept (c.deref.ensures.value ∙ sym c.deref-2.ensures.value) c.if-is_exceeded.ensures.kept
 
 pub returns-then-is_exceeded : goal.returns-then-is_exceeded

@@ -12,4 +12,4 @@ loop-n-preserved c =
     let before = c.loop-n.invariant in
     let lines = c.in_ok-put_var_lines.ensures in
     let Of : ℕ → Type 0 = λ var. VarLines (scene_of c.args.scene.now) c.args.graph.now var (length c.args.scene.now.lattices.now) lines.0 in
-    (before.0 ++ lines.0, more_behind _ _ _ _ _ before.1 lines.1, NextVar _ _ _ before.2 (subst Of c.new.ensures lines.2))
+    (before.0 ++ lines.0, more_behind _ _ _ _ _ before.1 lines.1, NextVar _ _ _ _ before.2 (subst Of c.new.ensures lines.2))

@@ -16,7 +16,7 @@ loop-n-preserved c =
     (before.0 ++ line.0, more_behind _ _ _ _ _ before.1 line.1, NextLattice _ in_lattice.order _ _ in_lattice.there before.2 in_lattice.is)
 
 pub put_line-requires-clause-lattice : goal.put_line-requires-clause-lattice
-put_line-requires-clause-lattice c = (c.requires.solutions.each c.new-number.result c.solver_of.result.now c.solver_of.ensures).lattice_is
+put_line-requires-clause-lattice c = (c.requires.solutions.each c.new-number.result c.solved_of-solved.result.now c.solved_of-solved.ensures).lattice_is
 
 pub put_line-requires-clause-kept : goal.put_line-requires-clause-kept
-put_line-requires-clause-kept c = λ view there. c.requires.kept c.new-number.result view c.solver_of.result.now there c.solver_of.ensures
+put_line-requires-clause-kept c = λ view there. c.requires.kept c.new-number.result view c.solved_of-solved.result.now there c.solved_of-solved.ensures
