@@ -1,6 +1,7 @@
 //! How a call of the tool ends.
 
 ghost use Rattle.std.specs.Prelude.{◌≡◌};
+ghost use Rattle.cqual_tool.specs.Statuses.{exit_of};
 
 /// What the tool answers.
 #[derive(Clone, Copy, PartialEq, Eq, Debug)]
@@ -25,7 +26,9 @@ pub enum Status {
 
 impl Status {
     /// The number with which the program exits.
-    pub fn exit(self) -> u8 {
+    pub fn exit(self) -> u8
+        ensures { result ≡ exit_of self }
+    {
         match self {
             Status::Accepted => 0,
             Status::Rejected => 1,

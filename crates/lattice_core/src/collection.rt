@@ -3,6 +3,7 @@
 ghost use Rattle.std.specs.Prelude.{◌≡◌, ◌<◌, ◌≤◌, ◌++◌, ◌∷◌, [], length, Some, slice_get, OnOk, OnErr, IfOk};
 ghost use Rattle.qual_base.specs.Words.{meaning_of, MeansTheSame};
 ghost use Rattle.lattice_core.specs.Names.{words_of};
+ghost use Rattle.lattice_core.specs.View.{AreSized};
 
 use crate::Lattice;
 use crate::checks::find_name;
@@ -20,13 +21,13 @@ pub struct Lattices {
 
 impl Model for Lattices {
     ghost use Rattle.std.specs.Prelude.{◌≤◌, List, length};
-    ghost use Rattle.lattice_core.specs.View.{LatticeView};
+    ghost use Rattle.lattice_core.specs.View.{LatticeView, AreSized};
 
     ghost Value = { List LatticeView };
 
     ghost view = { λ a. a.items.items };
 
-    ghost invariant = { λ a. length a.items.items ≤ 16 };
+    ghost invariant = { λ a. (length a.items.items ≤ 16) × AreSized a.items.items };
 }
 
 impl Lattices {
@@ -45,8 +46,16 @@ impl Lattices {
         ensures ok { OnOk result (self.new ≡ self.old ++ lattice ∷ []) }
         ensures err { OnErr result (self.new ≡ self.old) }
     {
+        lattice.law();
         self.items.push(lattice)?;
         Ok(())
+    }
+
+    /// What is true of the lattices of every file. It does nothing.
+    pub fn law(&self)
+        ensures sized { AreSized self.now }
+    {
+        let _ = &self.items;
     }
 
     /// How many lattices there are, at most 16.

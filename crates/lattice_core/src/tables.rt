@@ -169,7 +169,7 @@ impl Lattice {
     }
 
     /// Adds the name of each element to words, as that of an element of the lattice with a number.
-    pub fn add_words(&self, at: LatticeNo, words: &mut QualWords) -> Result<(), NoMemory>
+    pub(crate) fn add_words(&self, at: LatticeNo, words: &mut QualWords) -> Result<(), NoMemory>
         ensures { OnOk result (MeansTheSame words.new (words.old ++ entry_words at 0 self.now.entries)) }
     {
         for (n, entry) in self.entries.iter().enumerate() {

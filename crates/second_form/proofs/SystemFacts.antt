@@ -304,16 +304,3 @@ module _ (lattices : List LatticeView) (lexed : Lexed) (items : List ItemView) (
     const = λ n e v st. element_of lattice e view there sized (link_named n (Const lattice e v) (record { constraint = st.constraint; there = st.there; link_is = st.link_is })).0;
     bound = λ n v b st. element_of lattice b view there sized (link_named n (Bound v lattice b) (record { constraint = st.constraint; there = st.there; link_is = st.link_is })).0;
   }
-
--- one lattice more has an order on its entries
-pub sized_more : (lattices : List LatticeView) (at m : ℕ) (here : LatticeView) → ((n : ℕ) (view : LatticeView) → n < at → slice_get lattices n ≡ Some view → size view.order ≡ length view.entries) →
-    m ≡ at → slice_get lattices m ≡ Some here → size here.order ≡ length here.entries → (n : ℕ) (view : LatticeView) → n < at + 1 → slice_get lattices n ≡ Some view → size view.order ≡ length view.entries
-sized_more lattices at m here all e there sized n view lt is = by_place (eq-or-lt_of_le (omega (arith, lt)))
-  where
-    by_place : (n ≡ at) ⊎ (n < at) → size view.order ≡ length view.entries
-    by_place (inl same) =
-        let P : ℕ → Type 0 = λ k. slice_get lattices k ≡ Some view in
-        let h : Some here ≡ Some view = sym there ∙ subst P (same ∙ sym e) is in
-        let one : here ≡ view = cc in
-        let Q : LatticeView → Type 0 = λ v. size v.order ≡ length v.entries in subst Q one sized
-    by_place (inr less) = all n view less is

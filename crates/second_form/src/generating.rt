@@ -404,18 +404,6 @@ fn constraints(
     Ok(graph)
 }
 
-/// What is true of every lattice of a file: its elements are its entries. It takes at most 16 steps.
-fn law(lattices: &Lattices)
-    ensures { (n : ℕ) (view : LatticeView) → slice_get lattices.now n ≡ Some view → size view.order ≡ length view.entries }
-{
-    let mut at = 0;
-    while at < lattices.len() {
-        let lattice = lattices.get(LatticeNo::new(at));
-        lattice.law();
-        at += 1;
-    }
-}
-
 /// The constraints of a source, in order. Linear in the source and, for each assignment, in the sizes of the lattices.
 pub fn generate(
     alloc: Global,
@@ -432,7 +420,7 @@ pub fn generate(
     ensures named { IfOk result (λ graph. AreNamed lattices.now tokens.now (length (Rattle.second_form.specs.Constraints.object_tokens (items_of items.now))) graph) }
     ensures elements { IfOk result (λ graph. (lattice : ℕ) (view : LatticeView) → slice_get lattices.now lattice ≡ Some view → NamesElementsIn graph lattice view.order) }
 {
-    law(lattices);
+    lattices.law();
     constraints(alloc, lattices, tokens, items)
 }
 

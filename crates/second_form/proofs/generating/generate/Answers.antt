@@ -24,4 +24,4 @@ pub returns-clause-elements : goal.returns-clause-elements
 returns-clause-elements c =
     let P : System → Type 0 = λ sys. (lattice : ℕ) (view : LatticeView) → slice_get c.args.lattices.now lattice ≡ Some view → NamesElementsIn sys lattice view.order in
     IfOk-weaker c.constraints.result _ _
-    (λ graph is. subst P (sym is) (λ lattice view there. elements c.args.lattices.now c.args.tokens.now (items_of c.args.items.now) c.requires.source lattice view there (c.law.ensures lattice view there))) c.constraints.ensures.graph
+    (λ graph is. subst P (sym is) (λ lattice view there. elements c.args.lattices.now c.args.tokens.now (items_of c.args.items.now) c.requires.source lattice view there (c.law.ensures.sized lattice view there))) c.constraints.ensures.graph

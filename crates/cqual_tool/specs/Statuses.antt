@@ -1,0 +1,14 @@
+-- The number with which the program exits.
+use Rattle.std.specs.Prelude.{ℕ}
+use Rattle.cqual_tool.specs.declared.status.Status.{Status}
+use Rattle.cqual_tool.specs.declared.status.Status.TheVariants.{Accepted, Rejected, NotYet, Malformed, BadWords, ReadFault, WriteFault, NoMemory}
+
+abbrev pub exit_of : Status → ℕ
+exit_of Accepted = 0
+exit_of Rejected = 1
+exit_of Malformed = 2
+exit_of BadWords = 3
+exit_of ReadFault = 4
+exit_of WriteFault = 5
+exit_of NoMemory = 6
+exit_of NotYet = 7
