@@ -1,29 +1,26 @@
 -- A path proof holds exactly where it has the form of one.
-use Rattle.std.proofs.Common.{◌≡◌, ℕ, Bool, true, false, List, [], ◌∷◌, map, Option, Some, None, unwrap_or, refl, sym, ◌∙◌, ap, subst, ◌↔◌, slice_get}
+use Rattle.std.proofs.Common.{◌≡◌, ℕ, true, false, List, [], ◌∷◌, map, None, unwrap_or, refl, sym, ◌∙◌, subst, slice_get}
 use Rattle.qual_base.specs.declared.places.Span.{Span}
 use Rattle.lattice_core.specs.Order.{Order, leq}
 use Rattle.flow_graph.specs.declared.constraint.Link.{Link}
 use Rattle.flow_graph.specs.declared.constraint.Link.TheVariants.{Le, Const, Bound, Enter, Leave}
-use Rattle.flow_graph.specs.declared.phase.Phase.TheVariants.{First}
 use Rattle.flow_graph.specs.declared.proof.PathStep.{PathStep}
 use Rattle.flow_graph.specs.declared.proof.PathStep.TheVariants.{Take, Sub as SubStep}
-use Rattle.flow_graph.specs.declared.proof.PathProof.{PathProof}
 use Rattle.flow_graph.specs.declared.place.Seen.{Seen}
 use Rattle.flow_graph.specs.declared.place.Seen.TheVariants.{Edge, Through, NoSub, NoEdge}
 use Rattle.flow_graph.specs.declared.place.Path.TheVariants.{Main}
 use Rattle.flow_graph.specs.System.{System, owner_of, Stands}
-use Rattle.flow_graph.specs.Unfolding.{NamesElements}
 use Rattle.flow_graph.specs.PathRules.{is_const}
 use Rattle.flow_graph.specs.PathProofs.{look, edge_or, edge_at, last_of, line_of, first_failing, main_fault, first_fault, start_of, no_order, steps_of}
-use Rattle.flow_graph.specs.Parts.{AreSubs, None as NoSubs, Next, settled, Onward, IsPath}
-use Rattle.flow_laws.specs.PathForms.{without_lines, AreSubPaths, NoPaths, Stepped, Exceeds, ShowsIn, Shows, SubsAreSubPaths, HoldsInSome, HoldsExactly}
+use Rattle.flow_graph.specs.Parts.{None as NoSubs, Next, Onward}
+use Rattle.flow_laws.specs.PathForms.{without_lines, NoPaths, Stepped, Exceeds, ShowsIn, SubsAreSubPaths, HoldsInSome, HoldsExactly}
 use Rattle.flow_laws.proofs.Links.{has_of, one_bound}
 use Rattle.flow_laws.proofs.Clear.{clear}
 use Rattle.flow_laws.proofs.Places.{edge}
 use Rattle.flow_laws.proofs.Runs.{no_fault, nothing, last_seen, last_is}
 use Rattle.flow_laws.proofs.MainPath.{headed, if_none, const_edge, ends_bound}
 use Rattle.flow_laws.proofs.Parsing.{edge_there, Stops}
-use Rattle.flow_laws.proofs.Forming.{phase_of, settled_is, MainOn, main_builds, main_on, Known, all_known}
+use Rattle.flow_laws.proofs.Forming.{settled_is, MainOn, main_builds, main_on, Known, all_known}
 use Rattle.flow_laws.proofs.Shown.{form_holds, shown_holds}
 
 pub subs_are_sub_paths : SubsAreSubPaths

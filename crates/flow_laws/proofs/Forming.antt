@@ -1,35 +1,30 @@
 -- What holds has the form of a path proof.
-use Rattle.std.proofs.Common.{◌≡◌, ℕ, zero, suc, ◌-◌, ◌==◌, Bool, true, false, not, ◌&&◌, List, [], ◌∷◌, ◌++◌, map, Option, Some, None, unwrap_or, refl, sym, ◌∙◌, ap, subst, inl, inr, append_assoc, slice_get, if◌then◌else◌}
+use Rattle.std.proofs.Common.{◌≡◌, ℕ, zero, suc, ◌-◌, ◌==◌, Bool, true, false, not, ◌&&◌, List, [], ◌∷◌, ◌++◌, map, Option, Some, None, refl, sym, ◌∙◌, ap, subst, inl, inr, append_assoc, slice_get, if◌then◌else◌}
 use Rattle.std.proofs.lemmas.Bool.{eqb-true}
 use Rattle.std.proofs.lemmas.List.{append-nil}
 use Rattle.qual_base.specs.declared.places.Span.{Span}
 use Rattle.qual_base.specs.declared.places.Owner.{Owner}
 use Rattle.qual_base.specs.declared.places.Owner.TheVariants.{Nobody, Function}
 use Rattle.lattice_core.specs.Order.{Order, leq}
-use Rattle.flow_graph.specs.declared.constraint.Constraint.{Constraint}
-use Rattle.flow_graph.specs.declared.constraint.Link.{Link}
-use Rattle.flow_graph.specs.declared.constraint.Link.TheVariants.{Le, Const, Bound, Enter, Leave}
+use Rattle.flow_graph.specs.declared.constraint.Link.TheVariants.{Const, Bound, Enter, Leave}
 use Rattle.flow_graph.specs.declared.phase.Phase.{Phase}
 use Rattle.flow_graph.specs.declared.phase.Phase.TheVariants.{First, Second}
 use Rattle.flow_graph.specs.declared.proof.PathStep.{PathStep}
 use Rattle.flow_graph.specs.declared.proof.PathStep.TheVariants.{Take, Sub as SubStep}
 use Rattle.flow_graph.specs.declared.place.Seen.{Seen}
-use Rattle.flow_graph.specs.declared.place.Seen.TheVariants.{Edge, Through, NoSub, NoEdge}
-use Rattle.flow_graph.specs.declared.place.Path.{Path}
+use Rattle.flow_graph.specs.declared.place.Seen.TheVariants.{Through, NoSub}
 use Rattle.flow_graph.specs.declared.place.Path.TheVariants.{Main, Sub}
 use Rattle.flow_graph.specs.System.{System, owner_of, Stands}
-use Rattle.flow_graph.specs.PathRules.{begins, is_const, is_owned_by, lacks}
-use Rattle.flow_graph.specs.PathProofs.{is_nobodys, look, edge_or, edge_at, span_of, of_step, first_of, last_of, line_of, owner_at, home_of, first_failing, subs_fault, main_fault, first_fault, start_of, no_order}
-use Rattle.flow_graph.specs.Parts.{settled, Flow, Empty, Full, Inside, Done, More, IsSub, Onward, Ends, Along, Back, Into, IsPath}
-use Rattle.flow_laws.specs.PathForms.{without_line, without_lines, AreSubPaths, NoPaths, NoSteps, Stepped, Exceeds}
-use Rattle.flow_laws.proofs.Links.{one_bound}
+use Rattle.flow_graph.specs.PathRules.{begins, is_owned_by}
+use Rattle.flow_graph.specs.PathProofs.{is_nobodys, look, span_of, of_step, first_of, line_of, owner_at, home_of, first_failing, subs_fault}
+use Rattle.flow_graph.specs.Parts.{settled, Flow, Empty, Full, Inside, Done, More, IsSub, Onward, Ends, Along, Back, Into}
+use Rattle.flow_laws.specs.PathForms.{without_line, without_lines, AreSubPaths, NoSteps, Stepped}
 use Rattle.flow_laws.proofs.Clear.{clear, neither}
 use Rattle.flow_laws.proofs.Places.{not_false, edge, stays_const}
-use Rattle.flow_laws.proofs.Runs.{no_fault, nothing, last_seen, last_is, nobody_fails, look_sub}
-use Rattle.flow_laws.proofs.MainPath.{headed, if_none, const_edge, ends_bound}
+use Rattle.flow_laws.proofs.Runs.{no_fault, nothing, last_seen, nobody_fails, look_sub}
 use Rattle.flow_laws.proofs.Erasing.{map_more, span_same, look_same}
 use Rattle.flow_laws.proofs.Showing.{sub_span}
-use Rattle.flow_laws.proofs.Parsing.{settle, AreOwned, Names, edge_there, no_site, Builds, between, Stops, parsed}
+use Rattle.flow_laws.proofs.Parsing.{settle, AreOwned, Names, no_site, Builds, between, Stops, parsed}
 
 abbrev pub phase_of : Bool → Phase
 phase_of true = Second

@@ -1,5 +1,5 @@
 -- The parts of a path that fails no rule, one behind the other.
-use Rattle.std.proofs.Common.{◌≡◌, ℕ, Bool, true, false, not, ◌&&◌, ◌||◌, ◌==◌, List, [], ◌∷◌, ◌++◌, map, Option, Some, None, refl, sym, ◌∙◌, ap, subst, ◌⊎◌, inl, inr, slice_get}
+use Rattle.std.proofs.Common.{◌≡◌, ℕ, Bool, true, false, not, ◌&&◌, List, [], ◌∷◌, ◌++◌, map, Option, Some, None, refl, sym, ◌∙◌, ap, subst, ◌⊎◌, inl, slice_get}
 use Rattle.qual_base.specs.declared.places.Span.{Span}
 use Rattle.qual_base.specs.declared.places.Owner.TheVariants.{Function}
 use Rattle.lattice_core.specs.Order.{Order, leq}
@@ -16,7 +16,7 @@ use Rattle.flow_graph.specs.PathRules.{begins, ends, is_sub, is_bound, leaves, i
 use Rattle.flow_graph.specs.PathProofs.{is_nobodys, stays_in_call, edge_or, look, first_of, second_of, in_call_at, first_failing, line_of}
 use Rattle.flow_laws.specs.PathForms.{without_line, without_lines}
 use Rattle.flow_laws.proofs.Clear.{Clear, clear, neither}
-use Rattle.flow_laws.proofs.Places.{not_false, and_false, agree_is, eq_is, edge, in_lattice, owned_is, here, joins, unmatched, not_unmatched, unmatched_back, main_enters, main_leaves, no_call, main_bound, no_start, loose, stays_le, stays_leave, stays_bound, stays_through, split_group}
+use Rattle.flow_laws.proofs.Places.{not_false, and_false, agree_is, eq_is, edge, in_lattice, owned_is, here, joins, unmatched, not_unmatched, unmatched_back, main_enters, main_leaves, no_call, main_bound, no_start, loose, stays_le, stays_leave, stays_through, split_group}
 use Rattle.flow_laws.proofs.Runs.{no_fault, last_seen}
 
 -- whether a call is open behind a variable, where one was

@@ -1,5 +1,5 @@
 -- A path with its sub-paths, whose steps were read from no lines, is a path proof that holds.
-use Rattle.std.proofs.Common.{◌≡◌, ℕ, zero, ◌-◌, false, List, [], ◌∷◌, ◌++◌, map, length, slice_get, Option, Some, None, unwrap_or, if◌then◌else◌, suc, arith, refl, sym, ◌∙◌, ap, subst, append_assoc, append-nil, ◌⊎◌, inl, inr}
+use Rattle.std.proofs.Common.{◌≡◌, ℕ, ◌-◌, false, List, [], ◌∷◌, ◌++◌, map, length, slice_get, Option, Some, None, if◌then◌else◌, suc, arith, refl, sym, ◌∙◌, ap, subst, append_assoc, append-nil}
 use Rattle.qual_base.specs.declared.places.Owner.TheVariants.{Function}
 use Rattle.lattice_core.specs.Order.{Order, leq}
 use Rattle.flow_graph.specs.declared.constraint.Link.{Link}
@@ -15,7 +15,7 @@ use Rattle.flow_graph.specs.declared.place.Path.{Path}
 use Rattle.flow_graph.specs.declared.place.Path.TheVariants.{Main, Sub as SubOf}
 use Rattle.flow_graph.specs.System.{System, owner_of, Stands}
 use Rattle.flow_graph.specs.PathRules.{begins, ends, is_bound, rule_at}
-use Rattle.flow_graph.specs.PathProofs.{first_failing, first_fault, main_fault, subs_fault, place, look, edge_at, first_of, last_of, of_step, through, span_of, home_of, owner_at, start_of, fault_or, or_else, end_fault, ends_in_bound, no_order}
+use Rattle.flow_graph.specs.PathProofs.{first_failing, main_fault, subs_fault, place, look, edge_at, first_of, last_of, of_step, through, span_of, home_of, owner_at, fault_or, or_else, end_fault, ends_in_bound}
 use Rattle.flow_graph.specs.declared.phase.Phase.{Phase}
 use Rattle.flow_graph.specs.declared.phase.Phase.TheVariants.{First, Second}
 use Rattle.flow_graph.specs.Parts.{settled, Part, Flow, Empty, Full, Inside, Done, More, IsSub, Onward, Ends, Along, Back, Into, IsPath}

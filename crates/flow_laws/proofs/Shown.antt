@@ -1,16 +1,14 @@
 -- A path proof whose sub-paths are sub-paths, and whose main path leads over its bound, holds.
-use Rattle.std.proofs.Common.{◌≡◌, ℕ, ◌-◌, Bool, true, false, List, [], ◌∷◌, length, map, Option, Some, None, option_map, unwrap_or, refl, sym, ◌∙◌, ap, subst, slice_get, if◌then◌else◌}
-use Rattle.lattice_core.specs.Order.{Order, leq}
-use Rattle.flow_graph.specs.declared.constraint.Link.TheVariants.{Const, Bound}
+use Rattle.std.proofs.Common.{◌≡◌, ℕ, Bool, true, false, List, [], ◌∷◌, map, Option, Some, None, option_map, unwrap_or, refl, sym, ◌∙◌, ap, subst, slice_get, if◌then◌else◌}
+use Rattle.lattice_core.specs.Order.{Order}
+use Rattle.flow_graph.specs.declared.constraint.Link.TheVariants.{Const}
 use Rattle.flow_graph.specs.declared.proof.PathStep.{PathStep}
 use Rattle.flow_graph.specs.declared.proof.PathStep.TheVariants.{Take, Sub as SubStep}
 use Rattle.flow_graph.specs.declared.proof.BadStep.{BadStep}
 use Rattle.flow_graph.specs.declared.proof.Why.TheVariants.{B1}
-use Rattle.flow_graph.specs.declared.proof.PathProof.{PathProof}
 use Rattle.flow_graph.specs.declared.place.Path.TheVariants.{Main}
-use Rattle.flow_graph.specs.System.{System, Stands}
-use Rattle.flow_graph.specs.PathProofs.{last_of, edge_at, look, start_of, ends_in_bound, end_fault, line_of, main_fault, first_fault, no_order, steps_of}
-use Rattle.flow_graph.specs.Parts.{IsPath}
+use Rattle.flow_graph.specs.System.{System}
+use Rattle.flow_graph.specs.PathProofs.{last_of, edge_at, start_of, ends_in_bound, end_fault, line_of, main_fault, first_fault, no_order, steps_of}
 use Rattle.flow_laws.specs.PathForms.{without_line, without_lines, Exceeds, ShownHolds}
 use Rattle.flow_laws.proofs.Runs.{no_fault, nothing}
 use Rattle.flow_laws.proofs.Erasing.{both_none, both_pass, edge_same, last_map, rule_same, failing_same, subs_same}

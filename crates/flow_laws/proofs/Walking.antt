@@ -14,7 +14,7 @@ use Rattle.flow_graph.specs.declared.place.Seen.{Seen}
 use Rattle.flow_graph.specs.declared.place.Seen.TheVariants.{Through}
 use Rattle.flow_graph.specs.declared.place.Path.{Path}
 use Rattle.flow_graph.specs.declared.place.Path.TheVariants.{Main, Sub as SubOf}
-use Rattle.flow_graph.specs.System.{System, owner_of, Has, Stands, IsWellOwned}
+use Rattle.flow_graph.specs.System.{System, owner_of, Has, Stands}
 use Rattle.flow_graph.specs.PathRules.{rule_at, is_main, begins_group, is_unmatched_enter, is_sub, agree, leaves, lacks, site_entered}
 use Rattle.flow_graph.specs.PathProofs.{first_failing, place, look, edge_or, first_of, second_of, fault_or, in_call_at, is_nobodys}
 use Rattle.flow_graph.specs.declared.phase.Phase.{Phase}
