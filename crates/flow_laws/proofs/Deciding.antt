@@ -1,12 +1,12 @@
 -- What tests of paths decide.
-use Rattle.std.proofs.Common.{◌≡◌, ℕ, Bool, true, false, List, refl, subst, ◌⊎◌, inl, inr}
+use Rattle.std.proofs.Common.{◌≡◌, ℕ, Bool, true, false, refl, subst, ◌⊎◌, inl, inr}
 use Rattle.lattice_core.specs.Order.{Order, leq, IsLattice}
 use Rattle.flow_graph.specs.declared.constraint.Link.TheVariants.{Bound}
 use Rattle.flow_graph.specs.System.{System, Stands, IsWellOwned}
-use Rattle.flow_graph.specs.Unfolding.{Assignment, IsAcceptedIn, IsExceeded, Printed, NamesElements, NamesElementsIn}
+use Rattle.flow_graph.specs.Unfolding.{Assignment, IsAcceptedIn, IsExceeded, Printed, NamesElementsIn}
 use Rattle.flow_graph.specs.Paths.{Lead}
 use Rattle.flow_laws.specs.Least.{IsLeastOver, IsSolution, KeepsBounds}
-use Rattle.flow_laws.specs.Sets.{Reaches, IsLeastInCopies}
+use Rattle.flow_laws.specs.Sets.{IsLeastInCopies}
 use Rattle.flow_laws.specs.Rejected.{InEach}
 use Rattle.flow_laws.specs.Deciding.{PathTests, AreExact, ExceedsNone, IsSolved, TestsDecide}
 use Rattle.flow_laws.proofs.Leads.{solution_stands, names_in_each}

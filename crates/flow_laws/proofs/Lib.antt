@@ -17,3 +17,11 @@ pub mod MainPath
 pub mod Testing
 pub mod Deciding
 pub mod Inside
+pub mod Erasing
+pub mod Passing
+pub mod Walking
+pub mod Showing
+pub mod Shown
+pub mod Parsing
+pub mod Forming
+pub mod Exact

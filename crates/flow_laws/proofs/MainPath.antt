@@ -75,7 +75,7 @@ module _ (sys : System) (lattice elem most total : ℕ) where
     back = λ main u v s n to st. (returns u v s n to.0 st, omega (arith, to.1), omega (arith, to.2));
   }
 
-headed : (lattice elem : ℕ) (next : Option Seen) (step : Seen) → is_headless (here Main lattice elem None None step next false) ≡ false → is_const step ≡ true
+pub headed : (lattice elem : ℕ) (next : Option Seen) (step : Seen) → is_headless (here Main lattice elem None None step next false) ≡ false → is_const step ≡ true
 unfolding is_headless
 headed lattice elem next step e = not_false (is_const step) e
 
@@ -85,16 +85,16 @@ both (Through u v) sub const = cc
 both NoSub sub const = cc
 both NoEdge sub const = cc
 
-if_none : (b : Bool) (x : BadStep) → (if b then None else Some x) ≡ None → b ≡ true
+pub if_none : (b : Bool) (x : BadStep) → (if b then None else Some x) ≡ None → b ≡ true
 if_none true x e = refl
 if_none false x e = absurd cc
 
 module _ (sys : System) (order : Order) (lattice elem : ℕ) where
-  const_edge : (subs : List (List PathStep)) (s : PathStep) → is_const (look sys subs s) ≡ true → is_const (edge_at sys s) ≡ true
+  pub const_edge : (subs : List (List PathStep)) (s : PathStep) → is_const (look sys subs s) ≡ true → is_const (edge_at sys s) ≡ true
   const_edge subs (Take n line) is = is
   const_edge subs (SubStep n line) is = absurd (both _ (look_sub sys order lattice elem subs n line) is)
 
-  ends_bound : (subs : List (List PathStep)) (o : Option PathStep) (seen : Option Seen) → seen ≡ option_map (look sys subs) o → holds_of seen is_sub ≡ false → holds_of seen is_bound ≡ false →
+  pub ends_bound : (subs : List (List PathStep)) (o : Option PathStep) (seen : Option Seen) → seen ≡ option_map (look sys subs) o → holds_of seen is_sub ≡ false → holds_of seen is_bound ≡ false →
       ends_in_bound sys o ≡ true → ⊥
   ends_bound subs (Some s) seen is no_sub unbound end =
       let same = look_edge sys order lattice elem subs s (rw is at no_sub) in

@@ -48,7 +48,7 @@ Good sys lattice most (Edge c) = (n : ℕ) × (slice_get sys.constraints n ≡ S
 Good sys lattice most (Through u v) = (g : ℕ) × (p : Matches sys lattice g u v) × (depth_inside sys lattice g u v p ≤ most)
 Good sys lattice most _ = Unit {0}
 
-in_lattice : (lattice : ℕ) (l : Link) (m : ℕ) → is_outside_link lattice l m ≡ false → IsInLattice lattice l m
+pub in_lattice : (lattice : ℕ) (l : Link) (m : ℕ) → is_outside_link lattice l m ≡ false → IsInLattice lattice l m
 in_lattice lattice (Le u v) m e = eq_is (bit_at m lattice) 1 (not_false _ e)
 in_lattice lattice (Const l e' v) m e = eq_is l lattice (not_false _ e)
 in_lattice lattice (Bound v l b) m e = eq_is l lattice (not_false _ e)

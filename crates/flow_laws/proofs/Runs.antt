@@ -66,7 +66,7 @@ module _ (sys : System) (order : Order) (lattice elem : ℕ) where
         run (see s ∷ before) steps (advance sys order lattice elem most path (To (suc (length steps))) (To (length steps)) owned (goes (length steps)) _ _ _ _ (see s) st (good s) parts.0) parts.1
 
   -- a sub-path that nobody owns fails at its first step
-  nobody_fails : (next : Option Seen) (step : Seen) → Clear sys order (here (Sub Nobody) lattice elem None None step next false) → ⊥
+  pub nobody_fails : (next : Option Seen) (step : Seen) → Clear sys order (here (Sub Nobody) lattice elem None None step next false) → ⊥
   unfolding is_late_const is_stray_bound is_loose_sub is_after_sub
   nobody_fails next (Edge e) k = on_link e.link e.lattices e.span k
     where

@@ -7,3 +7,4 @@ pub mod Accepting
 pub mod Deciding
 pub mod Holding
 pub mod PathLaws
+pub mod PathForms

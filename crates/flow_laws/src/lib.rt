@@ -2,6 +2,7 @@
 #![tactic(auto)]
 
 pub mod accepting;
+pub mod forms;
 pub mod holding;
 pub mod laws;
 pub mod paths;

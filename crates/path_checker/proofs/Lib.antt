@@ -4,3 +4,4 @@ mod Numbers
 mod Reading
 mod WholeReports
 mod Placed
+mod Ordered

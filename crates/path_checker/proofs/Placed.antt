@@ -1,5 +1,5 @@
 -- Where the first fault of a report stands.
-use Rattle.std.proofs.Common.{◌≡◌, ℕ, suc, ◌+◌, ◌<◌, ◌≤◌, Bool, true, false, List, [], ◌∷◌, ◌++◌, length, take, slice_get, Option, Some, None, refl, ap, subst, arith, cond}
+use Rattle.std.proofs.Common.{◌≡◌, ℕ, suc, ◌+◌, ◌<◌, ◌≤◌, Bool, true, false, List, [], ◌∷◌, ◌++◌, length, take, slice_get, Option, Some, None, refl, sym, ap, subst, arith, cond}
 use Rattle.path_checker.specs.declared.lines.Line.{Line}
 use Rattle.path_checker.specs.declared.lines.Line.TheVariants.{Rejected, Error, Sub, Path, Take, Through, Other}
 use Rattle.path_checker.specs.declared.report.Section.{Section}
@@ -12,12 +12,12 @@ use Rattle.path_checker.proofs.WholeReports.{report_passes, passing_is_report}
 
 module _ (edges : ℕ) where
   -- from each section some lines lead to the end
-  completes : (section : Section) (n : ℕ) → (behind : List Line) × (fault_from edges section n behind ≡ None)
-  completes Start n = (Rejected ∷ Error ∷ Path ∷ [], refl)
-  completes Opened n = (Error ∷ Path ∷ [], refl)
-  completes InError n = (Path ∷ [], refl)
-  completes (InSub k) n = (Path ∷ [], refl)
-  completes InPath n = ([], refl)
+  completes : (section : Section) (n : ℕ) → (behind : List Line) × ((others : ℕ) → fault_from others section n behind ≡ None)
+  completes Start n = (Rejected ∷ Error ∷ Path ∷ [], λ others. refl)
+  completes Opened n = (Error ∷ Path ∷ [], λ others. refl)
+  completes InError n = (Path ∷ [], λ others. refl)
+  completes (InSub k) n = (Path ∷ [], λ others. refl)
+  completes InPath n = ([], λ others. refl)
 
   -- the fault of lines that stand in a section from number n on is at the line that k lines come before
   pub record StandsAt (section : Section) (n k : ℕ) (lines : List Line) : Type 0 where
@@ -34,6 +34,8 @@ module _ (edges : ℕ) where
     pub number : ℕ
     pub is : slice_get lines k ≡ Some (Take number)
     pub past : edges ≤ number
+    pub behind : List Line
+    pub fits : fault_from (suc number) section n (take (suc k) lines ++ behind) ≡ None
 
   abbrev Placed : Section → ℕ → List Line → ReportFault → Type 0
   Placed section n lines (Grammar m) = (k : ℕ) × (m ≡ n + k) × Misfits section n k lines
@@ -41,7 +43,7 @@ module _ (edges : ℕ) where
   Placed section n lines NoMemory = Unit {0}
 
   here : (section : Section) (n : ℕ) (lines : List Line) → StandsAt section n 0 lines
-  here section n lines = let done = completes section n in record { within = omega arith; behind = done.0; begins = done.1 }
+  here section n lines = let done = completes section n in record { within = omega arith; behind = done.0; begins = done.1 edges }
 
   unknown_line : (line : Line) → is_unknown edges line ≡ true → (number : ℕ) × (line ≡ Take number) × (edges ≤ number)
   unknown_line (Take m) unknown = (m, refl, grind (arith, unknown))
@@ -51,6 +53,16 @@ module _ (edges : ℕ) where
   unknown_line Path unknown = absurd cc
   unknown_line (Through m) unknown = absurd cc
   unknown_line Other unknown = absurd cc
+
+  -- what names one of the constraints names one of more
+  known_of_more : (others : ℕ) (line : Line) → edges ≤ others → is_unknown edges line ≡ false → is_unknown others line ≡ false
+  known_of_more others (Take m) more known = grind (arith, known, more)
+  known_of_more others Rejected more known = refl
+  known_of_more others Error more known = refl
+  known_of_more others (Sub m) more known = refl
+  known_of_more others Path more known = refl
+  known_of_more others (Through m) more known = refl
+  known_of_more others Other more known = refl
 
   -- a line that passes moves the place by one
   stands_on : (section to : Section) (n k : ℕ) (line : Line) (lines : List Line) → next section line ≡ Some to → is_unknown edges line ≡ false →
@@ -87,6 +99,8 @@ module _ (edges : ℕ) where
       number = names.number;
       is = names.is;
       past = names.past;
+      behind = names.behind;
+      fits = rw (follows, known_of_more (suc names.number) line (omega (arith, names.past)) named) names.fits;
     },
   )
   placed_on section to n line lines NoMemory follows named placed = tt
@@ -106,9 +120,16 @@ module _ (edges : ℕ) where
       ) in
       subst (λ (f : ReportFault). Placed section n (line ∷ lines) f) is placed
 
-  unnamed : (section : Section) (n : ℕ) (line : Line) (lines : List Line) (fault : ReportFault) → is_unknown edges line ≡ true → NoSuchConstraint n ≡ fault → Placed section n (line ∷ lines) fault
-  unnamed section n line lines fault unknown is =
+  -- the number itself is below one more
+  known_below : (m : ℕ) → is_unknown (suc m) (Take m) ≡ false
+  known_below m = grind arith
+
+  unnamed : (section to : Section) (n : ℕ) (line : Line) (lines : List Line) (fault : ReportFault) → next section line ≡ Some to → is_unknown edges line ≡ true → NoSuchConstraint n ≡ fault →
+      Placed section n (line ∷ lines) fault
+  unnamed section to n line lines fault follows unknown is =
       let number = unknown_line line unknown in
+      let end = completes to (n + 1) in
+      let known : is_unknown (suc number.0) line ≡ false = subst (λ (l : Line). is_unknown (suc number.0) l ≡ false) (sym number.1) (known_below number.0) in
       let placed : Placed section n (line ∷ lines) (NoSuchConstraint n) = (
         0,
         omega arith,
@@ -117,6 +138,8 @@ module _ (edges : ℕ) where
           number = number.0;
           is = ap Some number.1;
           past = number.2;
+          behind = end.0;
+          fits = rw (follows, known) (end.1 (suc number.0));
         },
       ) in
       subst (λ (f : ReportFault). Placed section n (line ∷ lines) f) is placed
@@ -124,7 +147,7 @@ module _ (edges : ℕ) where
   placed_named : (section to : Section) (n : ℕ) (line : Line) (lines : List Line) (fault : ReportFault) (b : Bool) → is_unknown edges line ≡ b → next section line ≡ Some to →
       ((to : Section) → fault_from edges to (n + 1) lines ≡ Some fault → Placed to (n + 1) lines fault) →
       cond b (Some (NoSuchConstraint n)) (fault_from edges to (n + 1) lines) ≡ Some fault → Placed section n (line ∷ lines) fault
-  placed_named section to n line lines fault true unknown follows deeper h = unnamed section n line lines fault unknown cc
+  placed_named section to n line lines fault true unknown follows deeper h = unnamed section to n line lines fault follows unknown cc
   placed_named section to n line lines fault false named follows deeper h = placed_on section to n line lines fault follows named (deeper to h)
 
   placed_behind : (section : Section) (n : ℕ) (line : Line) (lines : List Line) (fault : ReportFault) (o : Option Section) → next section line ≡ o →
@@ -155,8 +178,10 @@ module _ (edges : ℕ) where
       record {
         before = there.0;
         number = omega (arith, there.1);
+        within = there.2.stands.within;
         begins = begins_report there.0 lines there.2.stands;
         misfit = λ below others begun. there.2.none below others begun.0 (report_passes others (take (suc there.0) lines ++ begun.0) begun.1);
+        unfinished = λ end is. let passes = report_passes edges lines is in cc;
       }
   fault_is_placed lines (NoSuchConstraint m) h =
       let there = placed lines Start 1 (NoSuchConstraint m) h in
@@ -167,5 +192,6 @@ module _ (edges : ℕ) where
         constraint = there.2.number;
         line_is = there.2.is;
         past = there.2.past;
+        fits = (there.2.behind, passing_is_report (suc there.2.number) (take (suc there.0) lines ++ there.2.behind) there.2.fits);
       }
   fault_is_placed lines NoMemory h = tt

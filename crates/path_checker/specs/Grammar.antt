@@ -55,15 +55,18 @@ pub record IsReport (edges : ℕ) (lines : List Line) : Type 0 where
 abbrev pub BeginsReport : ℕ → List Line → Type 0
 BeginsReport edges lines = (behind : List Line) × IsReport edges (lines ++ behind)
 
--- Line n is the first that does not fit: the lines before it begin a report, and no report begins with it too, whatever
--- the constraints are.
+-- Line n is the first that does not fit: the lines before it begin a report. No report begins with it too, whatever the
+-- constraints are, or it is the line behind the last one and the lines are not yet a report.
 pub record IsMisfit (edges : ℕ) (lines : List Line) (n : ℕ) : Type 0 where
   pub before : ℕ
   pub number : n ≡ before + 1
+  pub within : before ≤ length lines
   pub begins : BeginsReport edges (take before lines)
   pub misfit : before < length lines → (others : ℕ) → BeginsReport others (take (suc before) lines) → ⊥
+  pub unfinished : before ≡ length lines → IsReport edges lines → ⊥
 
--- Line n is the first that names no constraint: the lines before it begin a report.
+-- Line n is the first that names no constraint: the lines before it begin a report, and with it too, were there enough
+-- constraints.
 pub record NamesNothing (edges : ℕ) (lines : List Line) (n : ℕ) : Type 0 where
   pub before : ℕ
   pub number : n ≡ before + 1
@@ -71,6 +74,7 @@ pub record NamesNothing (edges : ℕ) (lines : List Line) (n : ℕ) : Type 0 whe
   pub constraint : ℕ
   pub line_is : slice_get lines before ≡ Some (Take constraint)
   pub past : edges ≤ constraint
+  pub fits : BeginsReport (suc constraint) (take (suc before) lines)
 
 abbrev pub IsPlaced : ℕ → List Line → ReportFault → Type 0
 IsPlaced edges lines (Grammar n) = IsMisfit edges lines n

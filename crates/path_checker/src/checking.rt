@@ -24,6 +24,15 @@ use lattice_core::Lattices;
 use qual_base::ids::{EdgeId, Elem, LatticeNo, Numbered, VarId};
 use qual_base::places::Owner;
 
+/// Each of the lattices is an order. Takes a step for each, at most 16.
+fn are_orders(lattices: &Lattices)
+    ensures { AreOrders (orders_of lattices.now) }
+{
+    for n in 0..lattices.len() {
+        lattices.get(LatticeNo::new(n)).law();
+    }
+}
+
 /// Whether element a is at or below element b of a lattice. False where there is no such lattice or element.
 fn is_at_or_below(lattices: &Lattices, lattice: LatticeNo, a: Elem, b: Elem) -> bool
     ensures { result ≡ leq (order_at lattices.now lattice) a b }
@@ -384,13 +393,14 @@ fn first_fault(graph: &FlowGraph, lattices: &Lattices, proof: &PathProof) -> Opt
 /// The line of the first step that fails, and the first of the rules that it fails.
 pub fn check(graph: &FlowGraph, lattices: &Lattices, proof: &PathProof) -> Result<(), BadStep>
     ensures holds { IsOk result ↔ Holds graph.now (orders_of lattices.now) proof.now }
-    ensures rejects { OnOk result (IsWellOwned graph.now → NamesElements graph.now (orders_of lattices.now) → AreOrders (orders_of lattices.now) → IsAccepted graph.now (orders_of lattices.now) → ⊥) }
-    ensures unmet { OnOk result (IsWellOwned graph.now → NamesElements graph.now (orders_of lattices.now) → AreOrders (orders_of lattices.now) → IsUnmetWithin graph.now (orders_of lattices.now) (steps_in_proof proof.now)) }
+    ensures rejects { OnOk result (IsWellOwned graph.now → NamesElements graph.now (orders_of lattices.now) → IsAccepted graph.now (orders_of lattices.now) → ⊥) }
+    ensures unmet { OnOk result (IsWellOwned graph.now → NamesElements graph.now (orders_of lattices.now) → IsUnmetWithin graph.now (orders_of lattices.now) (steps_in_proof proof.now)) }
     ensures fails { IfErr result (λ bad. fault_of graph.now (orders_of lattices.now) proof.now ≡ Some bad) }
 {
     match first_fault(graph, lattices, proof) {
         Some(bad) => Err(bad),
         None => {
+            are_orders(lattices);
             holds_rejects();
             holds_is_unmet();
             Ok(())

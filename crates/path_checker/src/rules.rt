@@ -15,13 +15,7 @@ pub fn begins(step: &Seen) -> Option<VarId>
     ensures { result ≡ begins step.now }
 {
     match step {
-        Seen::Edge(c) => match &c.link {
-            Link::Le(u, _) => Some(*u),
-            Link::Const(_, _, _) => None,
-            Link::Bound(u, _, _) => Some(*u),
-            Link::Enter(_, u, _) => Some(*u),
-            Link::Leave(_, u, _) => Some(*u),
-        },
+        Seen::Edge(c) => c.link.begin(),
         Seen::Through(u, _) => Some(*u),
         Seen::NoSub => None,
         Seen::NoEdge => None,
@@ -33,13 +27,7 @@ pub fn ends(step: &Seen) -> Option<VarId>
     ensures { result ≡ ends step.now }
 {
     match step {
-        Seen::Edge(c) => match &c.link {
-            Link::Le(_, v) => Some(*v),
-            Link::Const(_, _, v) => Some(*v),
-            Link::Bound(u, _, _) => Some(*u),
-            Link::Enter(_, _, v) => Some(*v),
-            Link::Leave(_, _, v) => Some(*v),
-        },
+        Seen::Edge(c) => Some(c.link.end()),
         Seen::Through(_, v) => Some(*v),
         Seen::NoSub => None,
         Seen::NoEdge => None,
@@ -50,14 +38,12 @@ pub fn ends(step: &Seen) -> Option<VarId>
 fn enters(step: &Seen) -> Option<SiteId>
     ensures { result ≡ enters step.now }
 {
-    match step {
-        Seen::Edge(
-            Constraint {
-                link: Link::Enter(site, _, _),
-                ..
-            },
-        ) => Some(*site),
-        _ => None,
+    let Seen::Edge(constraint) = step else {
+        return None;
+    };
+    match constraint.link.as_enter() {
+        Some(call) => Some(call.site),
+        None => None,
     }
 }
 
@@ -65,14 +51,12 @@ fn enters(step: &Seen) -> Option<SiteId>
 fn leaves(step: &Seen) -> Option<SiteId>
     ensures { result ≡ leaves step.now }
 {
-    match step {
-        Seen::Edge(
-            Constraint {
-                link: Link::Leave(site, _, _),
-                ..
-            },
-        ) => Some(*site),
-        _ => None,
+    let Seen::Edge(constraint) = step else {
+        return None;
+    };
+    match constraint.link.as_leave() {
+        Some(back) => Some(back.site),
+        None => None,
     }
 }
 
