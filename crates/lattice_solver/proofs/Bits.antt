@@ -20,7 +20,7 @@ pub from_right : (a b e : ℕ) → bit_at b e ≡ 1 → bit_at (bit_or a b) e �
 from_right a b e is = let low : bit_at a e < 2 = bit_at-lt a e in bit_at_or a b e ∙ omega (arith, low, is)
 
 -- nothing is in the empty set, and so in that of a variable past all
-none_in : (e : ℕ) → bit_at 0 e ≡ 1 → ⊥
+pub none_in : (e : ℕ) → bit_at 0 e ≡ 1 → ⊥
 none_in e is = let zero_is : bit_at 0 e ≡ 0 = bit_at-zero e in omega (arith, is, zero_is)
 
 pub none_past : (sets : List ℕ) (v e : ℕ) → length sets ≤ v → bit_at (get_or sets v 0) e ≡ 1 → ⊥

@@ -1,13 +1,13 @@
--- What leads to a variable after a set was added to its own.
-use Rattle.std.proofs.Common.{◌≡◌, ◌≢◌, ℕ, ◌⊎◌, inl, inr, bit_or, refl, sym, subst}
+-- What a variable has, and what leads to it, after a set was added to its own.
+use Rattle.std.proofs.Common.{◌≡◌, ◌≢◌, ℕ, ◌≤◌, Bool, true, false, ◌⊎◌, inl, inr, bit_or, refl, sym, subst, arith}
 use Rattle.std.specs.Int.{bit_at}
 use Rattle.std.proofs.lemmas.Bool.{cases_eq}
 use Rattle.flow_graph.specs.System.{System}
 use Rattle.flow_graph.specs.declared.phase.Phase.{Phase}
 use Rattle.flow_graph.specs.declared.phase.Phase.TheVariants.{First, Second}
 use Rattle.lattice_solver.specs.PhaseSets.{PhaseSets}
-use Rattle.lattice_solver.specs.Phases.{set_of, HasIn, LeadsIn, AllLeadIn}
-use Rattle.lattice_solver.proofs.Bits.{in_union, from_right}
+use Rattle.lattice_solver.specs.Phases.{set_of, room_of, HasIn, LeadsIn, AllLeadIn, AllLeadTo, Includes, Moves}
+use Rattle.lattice_solver.proofs.Bits.{in_union, from_left, from_right}
 
 same_phase : (p q : Phase) → (p ≡ q) ⊎ (p ≢ q)
 same_phase First First = inl refl
@@ -15,13 +15,17 @@ same_phase First Second = inr (λ e. absurd cc)
 same_phase Second First = inr (λ e. absurd cc)
 same_phase Second Second = inl refl
 
+pub moves_room : (old new : PhaseSets) (grew : Bool) → Moves old new grew → room_of new ≤ room_of old
+moves_room old new true moves = omega (arith, moves.less)
+moves_room old new false moves = subst (λ sets. room_of sets ≤ room_of old) (sym moves.same) (omega arith)
+
 module _ (old new : PhaseSets) (phase : Phase) (at elems : ℕ) (here : set_of new phase at ≡ bit_or (set_of old phase at) elems) where
   -- an element of the set is an old one or one of those added
   was_or_came : (e : ℕ) → HasIn new phase at e → (HasIn old phase at e) ⊎ (bit_at elems e ≡ 1)
   was_or_came e has = in_union (set_of old phase at) elems e (subst (λ set. bit_at set e ≡ 1) here has)
 
   pub raised_leads : (sys : System) (lattice : ℕ) → ((p : Phase) (v : ℕ) → (p ≡ phase → v ≢ at) → set_of new p v ≡ set_of old p v) →
-      AllLeadIn sys lattice old → ((e : ℕ) → bit_at elems e ≡ 1 → LeadsIn sys lattice phase e at) → AllLeadIn sys lattice new
+      AllLeadIn sys lattice old → AllLeadTo sys lattice elems phase at → AllLeadIn sys lattice new
   raised_leads sys lattice others all come p v e has = elim (same_phase p phase) [
     | inl same ↦ elim (cases_eq v at) [
       | inl is ↦
@@ -35,5 +39,16 @@ module _ (old new : PhaseSets) (phase : Phase) (at elems : ℕ) (here : set_of n
     | inr other ↦ all p v e (subst (λ set. bit_at set e ≡ 1) (others p v (λ q. absurd (other q))) has)
   ]
 
-  pub raised_has : new ≡ old → (e : ℕ) → bit_at elems e ≡ 1 → HasIn old phase at e
-  raised_has same e has = subst (λ sets. HasIn sets phase at e) same (subst (λ set. bit_at set e ≡ 1) (sym here) (from_right (set_of old phase at) elems e has))
+  pub raised_has : Includes elems new phase at
+  raised_has e has = subst (λ set. bit_at set e ≡ 1) (sym here) (from_right (set_of old phase at) elems e has)
+
+  pub raised_keeps : ((p : Phase) (v : ℕ) → (p ≡ phase → v ≢ at) → set_of new p v ≡ set_of old p v) → (p : Phase) (v e : ℕ) → HasIn old p v e → HasIn new p v e
+  raised_keeps others p v e has = elim (same_phase p phase) [
+    | inl same ↦ elim (cases_eq v at) [
+      | inl is ↦
+          let moved = subst (λ w. HasIn old phase w e) is (subst (λ q. HasIn old q v e) same has) in
+          subst (λ q. HasIn new q v e) (sym same) (subst (λ w. HasIn new phase w e) (sym is) (subst (λ set. bit_at set e ≡ 1) (sym here) (from_left (set_of old phase at) elems e moved)))
+      | inr ne ↦ subst (λ set. bit_at set e ≡ 1) (sym (others p v (λ q. ne))) has
+    ]
+    | inr other ↦ subst (λ set. bit_at set e ≡ 1) (sym (others p v (λ q. absurd (other q)))) has
+  ]

@@ -1,20 +1,20 @@
 -- Which bounds are exceeded, by the sets of what reaches each variable.
-use Rattle.std.proofs.Common.{◌≡◌, ℕ, Bool, true, false, slice_get, Some, None, MatchOption, IsSome, nat_eq, eq-eqb, refl, sym, ◌∙◌, ap, subst, ◌↔◌, ◌⊎◌, inl, inr}
+use Rattle.std.proofs.Common.{◌≡◌, ◌<◌, ℕ, Bool, true, false, slice_get, Some, None, MatchOption, IfNone, IfSome, IsSome, is_some, nat_eq, eq-eqb, refl, sym, ◌∙◌, ap, subst, ◌↔◌, ◌⊎◌, inl, inr}
 use Rattle.std.specs.Int.{bit_at}
 use Rattle.std.specs.declared.option.Option.{Option}
 use Rattle.std.proofs.lemmas.Bool.{eqb-true}
-use Rattle.lattice_core.specs.Order.{Order, leq, IsLattice, IsJoinOf}
+use Rattle.lattice_core.specs.Order.{Order, size, leq, IsLattice, IsJoinOf}
 use Rattle.flow_graph.specs.declared.constraint.Constraint.{Constraint}
 use Rattle.flow_graph.specs.declared.constraint.Link.TheVariants.{Bound, Enter}
-use Rattle.flow_graph.specs.System.{System, Stands, IsWellOwned}
+use Rattle.flow_graph.specs.System.{System, Stands, IsNoBound, IsWellOwned}
 use Rattle.flow_graph.specs.Unfolding.{Assignment, IsExceeded, Printed, NamesElementsIn}
 use Rattle.flow_graph.specs.Paths.{Lead, Match, Returning}
-use Rattle.flow_laws.specs.Accepting.{CopiesStand, ExceededIsOver, KeptIsAccepted, OverIsExceeded, SolutionIsPrinted}
+use Rattle.flow_laws.specs.Accepting.{AllAtOnce, CopiesStand, ExceededIsOver, KeptIsAccepted, OverIsExceeded, SolutionIsPrinted}
 use Rattle.flow_laws.specs.PathLaws.{ReachedIsTested}
 use Rattle.flow_laws.specs.Sets.{IsLeastInCopies}
 use Rattle.flow_laws.specs.Laws.{SolutionStands}
 use Rattle.flow_laws.specs.Least.{IsSolution, KeepsBounds}
-use Rattle.lattice_solver.specs.Solution.{Solution, reached_at, HasElement, IsSolved, IsKept, IsNoBound, AllUnder, IsOver}
+use Rattle.lattice_solver.specs.Solution.{Solution, reached_at, HasElement, IsSolved, IsKept, IsUnder, Exceeds, AllUnder, IsOver}
 use Rattle.flow_graph.specs.declared.phase.Phase.TheVariants.{First}
 use Rattle.lattice_solver.specs.Phases.{set_of}
 use Rattle.match_summary.specs.Summary.{HasPair}
@@ -29,8 +29,8 @@ either_way false = inr refl
 pub not_both : {b : Bool} → b ≡ true → b ≡ false → ⊥
 not_both is not = let both : true ≡ false = sym is ∙ not in cc
 
-module _ (sys : System) (solution : Solution) (order : Order) (owned : IsWellOwned sys) (solved : IsSolved sys solution) (named : NamesElementsIn sys solution.lattice order)
-    (lattice : IsLattice order) (stands : SolutionStands) (tests : ReachedIsTested) (all_copies : CopiesStand) where
+module _ (sys : System) (solution : Solution) (order : Order) (solved : IsSolved sys solution) (named : NamesElementsIn sys solution.lattice order)
+    (lattice : IsLattice order) (stands : SolutionStands) where
   abbrev comes : ℕ → ℕ → Bool
   comes e v = nat_eq (bit_at (reached_at solution v) e) 1
 
@@ -40,79 +40,117 @@ module _ (sys : System) (solution : Solution) (order : Order) (owned : IsWellOwn
   tested : (e v : ℕ) → (comes e v ≡ true) ↔ Lead sys solution.lattice e v
   tested e v = (λ is. (leads e v).0 (eqb-true _ 1 is), λ lead. eq-eqb _ 1 ((leads e v).1 lead))
 
-  abbrev returned : ℕ → ℕ → Bool
-  returned e v = nat_eq (bit_at (set_of solution.phases First v) e) 1
-
-  returned_is : (e v : ℕ) → (returned e v ≡ true) ↔ Returning sys solution.lattice e v
-  returned_is e v = (λ is. (solved.exact First v e).0 (eqb-true _ 1 is), λ path. eq-eqb _ 1 ((solved.exact First v e).1 path))
-
-  matched : ℕ → ℕ → Bool
-  matched u v = (test_of (HasPair solved.summaries u v) (pair_tells solved.summaries u v)).0
-
-  matched_is : (n s w u v : ℕ) → Stands sys solution.lattice n (Enter s w u) → (matched u v ≡ true) ↔ Match sys solution.lattice u v
-  unfolding matched
-  matched_is n s w u v st =
-      let test = (test_of (HasPair solved.summaries u v) (pair_tells solved.summaries u v)).1 in
-      (λ is. solved.summarised.sound u v (test.0 is), λ path. test.1 (solved.summarised.whole u v (n, s, w, st) path))
-
-  copies : (c : Assignment) × IsLeastInCopies sys solution.lattice order c
-  copies =
-      let reached = tests sys solution.lattice returned matched returned_is matched_is in
-      all_copies sys solution.lattice order reached.0 lattice named reached.1
-
   least : (s : ℕ → ℕ) × IsSolution sys solution.lattice order s
   least = stands sys solution.lattice order comes lattice named tested
 
-  -- an element that reaches a bound's variable and is not below the bound
-  pub over_exceeds : OverIsExceeded → (n v b e : ℕ) → Stands sys solution.lattice n (Bound v solution.lattice b) → HasElement solution v e → leq order e b ≡ false →
-      IsExceeded sys solution.lattice order n
-  over_exceeds law n v b e st has over = elim (either_way (leq order (least.0 v) b)) [
-    | inl under ↦ absurd (not_both (lattice.ordered.through e (least.0 v) b ((least.1 v).upper e ((leads e v).0 has)) under) over)
-    | inr not ↦ law sys solution.lattice order (least.0) comes owned lattice.ordered (least.1) tested n v b st not
-  ]
-
-  -- all that reaches a bound's variable is below the bound
-  pub under_keeps : ExceededIsOver → (n v b : ℕ) → Stands sys solution.lattice n (Bound v solution.lattice b) → AllUnder order (reached_at solution v) b →
-      IsExceeded sys solution.lattice order n → ⊥
-  under_keeps law n v b st under exceeded =
-      not_both
-      ((least.1 v).least b (named.bound n v b st)
-      (λ e lead. under e (lattice.ordered.inside e (least.0 v) ((least.1 v).upper e lead)).0 ((leads e v).1 lead)))
-      (law sys solution.lattice order (least.0) (copies.0) owned lattice.ordered (least.1) (copies.1) n v b st exceeded)
+  -- what reaches a variable is an element
+  pub reached_element : (v e : ℕ) → HasElement solution v e → e < size order
+  reached_element v e has = (lattice.ordered.inside e (least.0 v) ((least.1 v).upper e ((leads e v).0 has))).0
 
   some_is : {x y : Constraint} → Some x ≡ Some y → x ≡ y
   some_is e = cc
 
-  -- a constraint that is no bound of the lattice is not exceeded
-  pub other_keeps : (n : ℕ) (c : Constraint) → slice_get sys.constraints n ≡ Some c → IsNoBound c.link solution.lattice → IsExceeded sys solution.lattice order n → ⊥
-  other_keeps n c there other exceeded =
-      other exceeded.var exceeded.element (ap (λ (k : Constraint). k.link) (some_is (sym there ∙ exceeded.bound.there)) ∙ exceeded.bound.link_is)
+  -- a constraint that is no bound of the lattice is no bound that stands
+  pub no_bound : (n : ℕ) (c : Constraint) → slice_get sys.constraints n ≡ Some c → IsNoBound c.link solution.lattice →
+      (v b : ℕ) → Stands sys solution.lattice n (Bound v solution.lattice b) → ⊥
+  no_bound n c there other v b st = other v b (ap (λ (k : Constraint). k.link) (some_is (sym there ∙ st.there)) ∙ st.link_is)
 
-  -- the bound is exceeded exactly where an element over it is found
-  pub found_exceeds : OverIsExceeded → ExceededIsOver → (n v b : ℕ) → Stands sys solution.lattice n (Bound v solution.lattice b) → (found : Option ℕ) →
-      MatchOption found (AllUnder order (reached_at solution v) b) (IsOver order (reached_at solution v) b) → IsSome found ↔ IsExceeded sys solution.lattice order n
-  found_exceeds one other n v b st None under = (λ some. absurd cc, λ exceeded. absurd (under_keeps other n v b st under exceeded))
-  found_exceeds one other n v b st (Some e) over = (λ some. over_exceeds one n v b e st over.1 over.2, λ exceeded. refl)
+  same_bound : {v b w d l : ℕ} → Bound v l b ≡ Bound w l d → (v ≡ w) × (b ≡ d)
+  same_bound e = (cc, cc)
 
-  keeps : OverIsExceeded → ((n : ℕ) → IsExceeded sys solution.lattice order n → ⊥) → KeepsBounds sys solution.lattice order (least.0)
-  keeps law none n v b st = elim (either_way (leq order (least.0 v) b)) [
-    | inl under ↦ under
-    | inr not ↦ absurd (none n (law sys solution.lattice order (least.0) comes owned lattice.ordered (least.1) tested n v b st not))
-  ]
+  -- where all that reaches the variable of a bound is at or below it, nothing exceeds the bound
+  pub bound_under : (n v b : ℕ) → Stands sys solution.lattice n (Bound v solution.lattice b) → AllUnder order (reached_at solution v) b → IsUnder sys solution order n
+  bound_under n v b st under w d e other has =
+      let link = sym st.link_is ∙ ap (λ (k : Constraint). k.link) (some_is (sym st.there ∙ other.there)) ∙ other.link_is in
+      let same = same_bound link in
+      let has_here : HasElement solution v e = subst (λ x. HasElement solution x e) (sym same.0) has in
+      subst (λ x. leq order e x ≡ true) same.1 (under e (reached_element v e has_here) has_here)
 
-  -- the join of a set is the least element of the solution
-  joined : (v r : ℕ) → IsJoinOf order (reached_at solution v) r → r ≡ least.0 v
-  joined v r join =
-      lattice.ordered.apart r (least.0 v)
-      (join.least (least.0 v) (least.1 v).element (λ a within has. (least.1 v).upper a ((leads a v).0 has)))
-      ((least.1 v).least r join.element (λ e lead. join.upper e (lattice.ordered.inside e (least.0 v) ((least.1 v).upper e lead)).0 ((leads e v).1 lead)))
+  -- what was looked for in the set of a bound's variable
+  pub found_over : (n v b : ℕ) → Stands sys solution.lattice n (Bound v solution.lattice b) → (found : Option ℕ) →
+      MatchOption found (AllUnder order (reached_at solution v) b) (IsOver order (reached_at solution v) b) →
+      MatchOption found (IsUnder sys solution order n) (Exceeds sys solution order n)
+  found_over n v b st None under = bound_under n v b st under
+  found_over n v b st (Some e) over = record { var = v; limit = b; bound = st; element = over.0; reached = over.1; over = over.2 }
 
-  -- with no exceeded bound the system is accepted, and the joins are printed
-  pub kept : OverIsExceeded → KeptIsAccepted → SolutionIsPrinted → ((n : ℕ) → IsExceeded sys solution.lattice order n → ⊥) → IsKept sys solution order
-  kept over accepted printed none = record {
-    accepted = accepted sys solution.lattice order (least.0) (copies.0) owned lattice.ordered (least.1) (copies.1) (keeps over none);
-    none = none;
-    printed = λ v r join.
-        let Is : ℕ → Type 0 = λ a. Printed sys solution.lattice order v a in
-        subst Is (sym (joined v r join)) (printed sys solution.lattice order (least.0) (copies.0) owned lattice.ordered (least.1) (copies.1) (keeps over none) v);
-  }
+  module _ (owned : IsWellOwned sys) (tests : ReachedIsTested) (all_copies : CopiesStand) where
+    abbrev returned : ℕ → ℕ → Bool
+    returned e v = nat_eq (bit_at (set_of solution.phases First v) e) 1
+
+    returned_is : (e v : ℕ) → (returned e v ≡ true) ↔ Returning sys solution.lattice e v
+    returned_is e v = (λ is. (solved.exact First v e).0 (eqb-true _ 1 is), λ path. eq-eqb _ 1 ((solved.exact First v e).1 path))
+
+    matched : ℕ → ℕ → Bool
+    matched u v = (test_of (HasPair solved.summaries u v) (pair_tells solved.summaries u v)).0
+
+    matched_is : (n s w u v : ℕ) → Stands sys solution.lattice n (Enter s w u) → (matched u v ≡ true) ↔ Match sys solution.lattice u v
+    unfolding matched
+    matched_is n s w u v st =
+        let test = (test_of (HasPair solved.summaries u v) (pair_tells solved.summaries u v)).1 in
+        (λ is. solved.summarised.sound u v (test.0 is), λ path. test.1 (solved.summarised.whole u v (n, s, w, st) path))
+
+    copies : (c : Assignment) × IsLeastInCopies sys solution.lattice order c
+    copies =
+        let reached = tests sys solution.lattice returned matched returned_is matched_is in
+        all_copies sys solution.lattice order reached.0 lattice named reached.1
+
+    -- a bound that an element exceeds is exceeded
+    pub over_exceeds : OverIsExceeded → (n e : ℕ) → Exceeds sys solution order n e → IsExceeded sys solution.lattice order n
+    over_exceeds law n e over = elim (either_way (leq order (least.0 over.var) over.limit)) [
+      | inl under ↦ absurd (not_both (lattice.ordered.through e (least.0 over.var) over.limit ((least.1 over.var).upper e ((leads e over.var).0 over.reached)) under) over.over)
+      | inr not ↦ law sys solution.lattice order (least.0) comes owned lattice.ordered (least.1) tested n over.var over.limit over.bound not
+    ]
+
+    -- one that no element exceeds is not
+    pub under_keeps : ExceededIsOver → (n : ℕ) → IsUnder sys solution order n → IsExceeded sys solution.lattice order n → ⊥
+    under_keeps law n under exceeded =
+        let v = exceeded.var in
+        let b = exceeded.element in
+        not_both
+        ((least.1 v).least b (named.bound n v b exceeded.bound) (λ e lead. under v b e exceeded.bound ((leads e v).1 lead)))
+        (law sys solution.lattice order (least.0) (copies.0) owned lattice.ordered (least.1) (copies.1) n v b exceeded.bound exceeded)
+
+    -- the bound is exceeded exactly where an element over it is found
+    pub found_exceeds : OverIsExceeded → ExceededIsOver → (n : ℕ) (found : Option ℕ) → MatchOption found (IsUnder sys solution order n) (Exceeds sys solution order n) →
+        IsSome found ↔ IsExceeded sys solution.lattice order n
+    found_exceeds one other n None under = (λ some. absurd cc, λ exceeded. absurd (under_keeps other n under exceeded))
+    found_exceeds one other n (Some e) over = (λ some. over_exceeds one n e over, λ exceeded. refl)
+
+    keeps : ((n : ℕ) → IsUnder sys solution order n) → KeepsBounds sys solution.lattice order (least.0)
+    keeps none n v b st = (least.1 v).least b (named.bound n v b st) (λ e lead. none n v b e st ((leads e v).1 lead))
+
+    -- the join of a set is the least element of the solution
+    joined : (v r : ℕ) → IsJoinOf order (reached_at solution v) r → r ≡ least.0 v
+    joined v r join =
+        lattice.ordered.apart r (least.0 v)
+        (join.least (least.0 v) (least.1 v).element (λ a within has. (least.1 v).upper a ((leads a v).0 has)))
+        ((least.1 v).least r join.element (λ e lead. join.upper e (lattice.ordered.inside e (least.0 v) ((least.1 v).upper e lead)).0 ((leads e v).1 lead)))
+
+    -- with no exceeded bound the system is accepted, the joins are printed, and all copies stay below them at once
+    pub kept : ExceededIsOver → KeptIsAccepted → SolutionIsPrinted → AllAtOnce → ((n : ℕ) → IsUnder sys solution order n) → IsKept sys solution order
+    kept over accepted printed together none =
+        let once = together sys solution.lattice order (least.0) (copies.0) owned lattice.ordered (least.1) (copies.1) (keeps none) in
+        record {
+          accepted = accepted sys solution.lattice order (least.0) (copies.0) owned lattice.ordered (least.1) (copies.1) (keeps none);
+          none = λ n exceeded. under_keeps over n (none n) exceeded;
+          printed = λ v r join.
+              let Is : ℕ → Type 0 = λ a. Printed sys solution.lattice order v a in
+              subst Is (sym (joined v r join)) (printed sys solution.lattice order (least.0) (copies.0) owned lattice.ordered (least.1) (copies.1) (keeps none) v);
+          at_once = record {
+            copies = copies.0;
+            meets = once.0;
+            below = λ v r sites join. subst (λ a. leq order (copies.0 v sites) a ≡ true) (sym (joined v r join)) (once.1 v sites);
+          };
+        }
+
+pub found_none : (Under : Type 0) (Over : ℕ → Type 0) (found : Option ℕ) → MatchOption found Under Over → IfNone found Under
+found_none Under Over None under = under
+found_none Under Over (Some e) over = tt
+
+pub none_is : (Under : Type 0) (found : Option ℕ) → is_some found ≡ false → IfNone found Under → Under
+none_is Under None is under = under
+none_is Under (Some e) is under = absurd cc
+
+pub some_of : (Over : ℕ → Type 0) (found : Option ℕ) → is_some found ≡ true → IfSome found Over → (e : ℕ) × Over e
+some_of Over None is over = absurd cc
+some_of Over (Some e) is over = (e, over)

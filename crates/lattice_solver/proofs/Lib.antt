@@ -6,6 +6,9 @@ mod Exceeding
 mod Groups
 mod Leading
 mod Links
-mod Moving
+mod Gaining
 mod Pairs
 mod Rooms
+mod Marks
+mod Stacking
+mod Items

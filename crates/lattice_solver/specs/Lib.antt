@@ -3,3 +3,6 @@ pub mod PhaseSets
 pub mod Sets
 pub mod Solution
 pub mod Stable
+pub mod Stack
+pub mod Waiting
+pub mod Working

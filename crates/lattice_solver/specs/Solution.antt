@@ -1,10 +1,11 @@
--- What a solver holds: its lattice, and the sets of the constants that reach each variable in each phase.
+-- What a solver holds: its lattice, the sets of the constants that reach each variable in each phase, and where the
+-- constraints begin and end.
 use Rattle.std.specs.Prelude.{◌≡◌, ◌<◌, ℕ, List, true, false, bit_or, ◌↔◌}
 use Rattle.std.specs.Int.{bit_at}
 use Rattle.lattice_core.specs.Order.{Order, size, leq, IsJoinOf}
 use Rattle.flow_graph.specs.System.{System, AllBelow, Stands}
-use Rattle.flow_graph.specs.Unfolding.{IsAcceptedIn, IsExceeded, Printed}
-use Rattle.flow_graph.specs.declared.constraint.Link.{Link}
+use Rattle.flow_graph.specs.Index.{Lists, IsIndexOf}
+use Rattle.flow_graph.specs.Unfolding.{Assignment, Meets, IsAcceptedIn, IsExceeded, Printed}
 use Rattle.flow_graph.specs.declared.constraint.Link.TheVariants.{Bound}
 use Rattle.match_summary.specs.declared.reason.Summary.{Summary}
 use Rattle.match_summary.specs.Summary.{Summarises}
@@ -16,6 +17,7 @@ use Rattle.lattice_solver.specs.Phases.{set_of, size_of, HasIn, LeadsIn}
 pub record Solution : Type 0 where
   pub lattice : ℕ
   pub phases : PhaseSets
+  pub index : Lists
 
 -- the set of what reaches a variable in either phase, bit e for element e
 abbrev pub reached_at : Solution → ℕ → ℕ
@@ -24,15 +26,18 @@ reached_at solution v = bit_or (set_of solution.phases First v) (set_of solution
 abbrev pub HasElement : Solution → ℕ → ℕ → Type 0
 HasElement solution v e = bit_at (reached_at solution v) e ≡ 1
 
--- it fits a system: it has sets for each variable of a constraint
-abbrev pub Fits : System → Solution → Type 0
-Fits sys solution = AllBelow sys (size_of solution.phases)
+-- it fits a system: it has sets for each variable of a constraint, and the index of the constraints
+pub record Fits (sys : System) (solution : Solution) : Type 0 where
+  pub below : AllBelow sys (size_of solution.phases)
+  pub indexed : IsIndexOf sys solution.index
 
--- Its sets have exactly what leads to each variable in each phase, by the summaries of the system.
+-- Its sets have exactly what leads to each variable in each phase, by the summaries of the system, and its index is that of
+-- the constraints.
 pub record IsSolved (sys : System) (solution : Solution) : Type 0 where
   pub exact : (p : Phase) (v e : ℕ) → HasIn solution.phases p v e ↔ LeadsIn sys solution.lattice p e v
   pub summaries : List Summary
   pub summarised : Summarises sys solution.lattice summaries
+  pub fits : Fits sys solution
 
 -- An element exceeds a bound: it reaches the bound's variable, and is not at or below the bound.
 pub record Exceeds (sys : System) (solution : Solution) (order : Order) (n e : ℕ) : Type 0 where
@@ -43,16 +48,35 @@ pub record Exceeds (sys : System) (solution : Solution) (order : Order) (n e : �
   pub reached : HasElement solution var e
   pub over : leq order e limit ≡ false
 
--- No bound is exceeded: the system is accepted in the lattice, and the least element over the set of a variable is the one
--- that is printed.
+-- No element exceeds a constraint: where it is a bound, all that reaches its variable is at or below it.
+abbrev pub IsUnder : System → Solution → Order → ℕ → Type 0
+IsUnder sys solution order n = (v limit e : ℕ) → Stands sys solution.lattice n (Bound v solution.lattice limit) → HasElement solution v e →
+    leq order e limit ≡ true
+
+-- the first constraint that an element exceeds
+pub record IsFirstOver (sys : System) (solution : Solution) (order : Order) (n : ℕ) : Type 0 where
+  pub element : ℕ
+  pub exceeds : Exceeds sys solution order n element
+  pub before : (m : ℕ) → m < n → IsUnder sys solution order m
+
+-- the first bound that is exceeded
+pub record IsFirstExceeded (sys : System) (lattice : ℕ) (order : Order) (n : ℕ) : Type 0 where
+  pub exceeded : IsExceeded sys lattice order n
+  pub before : (m : ℕ) → m < n → IsExceeded sys lattice order m → ⊥
+
+-- One assignment meets the unfolding at every depth, and is at or below the least elements on all copies of all variables.
+pub record IsMetAtOnce (sys : System) (solution : Solution) (order : Order) : Type 0 where
+  pub copies : Assignment
+  pub meets : (depth : ℕ) → Meets sys solution.lattice order depth copies
+  pub below : (v r : ℕ) (sites : List ℕ) → IsJoinOf order (reached_at solution v) r → leq order (copies v sites) r ≡ true
+
+-- No bound is exceeded: the system is accepted in the lattice, the least element over the set of a variable is the one that
+-- is printed, and all of them can be kept at once.
 pub record IsKept (sys : System) (solution : Solution) (order : Order) : Type 0 where
   pub accepted : IsAcceptedIn sys solution.lattice order
   pub none : (n : ℕ) → IsExceeded sys solution.lattice order n → ⊥
   pub printed : (v r : ℕ) → IsJoinOf order (reached_at solution v) r → Printed sys solution.lattice order v r
-
--- a link is no bound of a lattice
-abbrev pub IsNoBound : Link → ℕ → Type 0
-IsNoBound link lattice = (v e : ℕ) → link ≡ Bound v lattice e → ⊥
+  pub at_once : IsMetAtOnce sys solution order
 
 -- each element of a set is at or below one
 abbrev pub AllUnder : Order → ℕ → ℕ → Type 0

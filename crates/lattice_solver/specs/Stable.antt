@@ -1,36 +1,49 @@
 -- Sets that no constraint makes grow.
-use Rattle.std.specs.Prelude.{◌≡◌, ℕ, List}
-use Rattle.qual_base.specs.declared.places.Owner.TheVariants.{Nobody}
+use Rattle.std.specs.Prelude.{ℕ, ◌<◌, List}
 use Rattle.flow_graph.specs.declared.constraint.Link.TheVariants.{Le, Const, Enter, Leave}
-use Rattle.flow_graph.specs.System.{System, owner_of, Stands}
+use Rattle.flow_graph.specs.System.{System, AllBelow, Stands}
+use Rattle.flow_graph.specs.Index.{IsIndexOf}
 use Rattle.match_summary.specs.declared.reason.Summary.{Summary}
-use Rattle.match_summary.specs.Summary.{Leads, AreOfOne}
+use Rattle.match_summary.specs.Summary.{Leads, AreOfOne, Summarises}
 use Rattle.flow_graph.specs.declared.phase.Phase.{Phase}
 use Rattle.flow_graph.specs.declared.phase.Phase.TheVariants.{First, Second}
 use Rattle.lattice_solver.specs.PhaseSets.{PhaseSets}
-use Rattle.lattice_solver.specs.Phases.{HasIn, Includes}
+use Rattle.lattice_solver.specs.Phases.{set_of, HasIn, Includes, StartsAnew, AllLeadTo, AllLeadIn}
+use Rattle.lattice_solver.specs.Working.{had_of}
+use Rattle.lattice_solver.specs.declared.turns.Flows.{Flows}
+use Rattle.lattice_solver.specs.declared.work.Taken.{Taken}
 
--- in each phase one variable has all of another
-abbrev pub IncludesBoth : PhaseSets → ℕ → ℕ → Type 0
-IncludesBoth sets u v = (p : Phase) → Includes sets p u p v
+-- what was lent is of one system, in which variables are below a number
+pub record AreOfSystem (flows : Flows) (vars : ℕ) : Type 0 where
+  pub lattice : flows.lattice < 16
+  pub below : AllBelow flows.graph.now vars
+  pub indexed : IsIndexOf flows.graph.now flows.index.now
+  pub summarised : Summarises flows.graph.now flows.lattice flows.summaries.now
 
--- in the second phase one variable has all of another in either
-abbrev pub IncludesCalled : PhaseSets → ℕ → ℕ → Type 0
-IncludesCalled sets u v = (p : Phase) → Includes sets p u Second v
+module _ (sys : System) (lattice : ℕ) (rows : List Summary) where
+  -- the group of an Enter of a site to a variable and of a constraint brings sets from its beginning to its end
+  abbrev pub IsPassed : (Phase → ℕ) → PhaseSets → ℕ → ℕ → ℕ → Type 0
+  IsPassed had sets site inner leave = (b v : ℕ) → Stands sys lattice leave (Leave site b v) → Leads rows inner b → AreOfOne sys inner b →
+      (p : Phase) → Includes (had p) sets p v
 
--- the groups of an Enter and a constraint bring nothing new
-abbrev pub IsPassed : System → ℕ → List Summary → PhaseSets → ℕ → ℕ → ℕ → ℕ → Type 0
-IsPassed sys lattice rows sets site before inner leave = (b v : ℕ) → Stands sys lattice leave (Leave site b v) → Leads rows inner b → AreOfOne sys inner b →
-    IncludesBoth sets before v
+  -- A constraint that begins at a variable brings the variable's sets to its end, and to the ends of the groups that it
+  -- begins, in the phases that it leads to.
+  pub record IsCarried (had : Phase → ℕ) (sets : PhaseSets) (u n : ℕ) : Type 0 where
+    pub flow : (v : ℕ) → Stands sys lattice n (Le u v) → (p : Phase) → Includes (had p) sets p v
+    pub back : (s v : ℕ) → Stands sys lattice n (Leave s u v) → Includes (had First) sets First v
+    pub call : (s v : ℕ) → Stands sys lattice n (Enter s u v) → (p : Phase) → Includes (had p) sets Second v
+    pub group : (s a m : ℕ) → Stands sys lattice n (Enter s u a) → IsPassed had sets s a m
 
--- a constraint brings nothing new, by itself or as the first of a group
-pub record AgreesWith (sys : System) (lattice : ℕ) (rows : List Summary) (sets : PhaseSets) (n : ℕ) : Type 0 where
-  pub constant : (e v : ℕ) → Stands sys lattice n (Const lattice e v) → HasIn sets First v e
-  pub flow : (u v : ℕ) → Stands sys lattice n (Le u v) → IncludesBoth sets u v
-  pub back : (s u v : ℕ) → Stands sys lattice n (Leave s u v) → Includes sets First u First v
-  pub call : (s u v : ℕ) → Stands sys lattice n (Enter s u v) → IncludesCalled sets u v
-  pub group : (s u a m : ℕ) → Stands sys lattice n (Enter s u a) → IsPassed sys lattice rows sets s u a m
+  -- no constraint that begins at a variable brings anything new
+  pub record AgreesAt (sets : PhaseSets) (u : ℕ) : Type 0 where
+    pub carried : (n : ℕ) → IsCarried (λ p. set_of sets p u) sets u n
+    pub anew : StartsAnew sys sets u
 
--- at a variable of nobody what comes in the second phase comes in the first
-abbrev pub StartsAnew : System → PhaseSets → ℕ → Type 0
-StartsAnew sys sets v = owner_of sys v ≡ Nobody → Includes sets Second v First v
+-- each constant is in the first set of its variable
+abbrev pub AreBegun : System → ℕ → PhaseSets → Type 0
+AreBegun sys lattice sets = (n e v : ℕ) → Stands sys lattice n (Const lattice e v) → HasIn sets First v e
+
+-- Sets hold only what leads to their variables, if they did and what was taken does.
+abbrev pub StaySound : Flows → Taken → PhaseSets → PhaseSets → Type 0
+StaySound flows taken old new = ((p : Phase) → AllLeadTo flows.graph.now flows.lattice (had_of taken p) p taken.at) →
+    AllLeadIn flows.graph.now flows.lattice old → AllLeadIn flows.graph.now flows.lattice new

@@ -2,5 +2,7 @@
 #![tactic(auto)]
 
 pub mod phases;
-pub mod rounds;
 pub mod solver;
+pub mod turns;
+pub mod waiting;
+pub mod work;

@@ -3,8 +3,7 @@
 ghost use Rattle.std.specs.Prelude.{◌≡◌, ◌≢◌, ◌<◌, ◌≤◌, ℕ, IsTrue, IfOk, length, slice_index, bit_or};
 ghost use Rattle.std.specs.Bool.{OnTrue, OnFalse};
 ghost use Rattle.lattice_solver.specs.Sets.{room};
-ghost use Rattle.lattice_solver.specs.Phases.{AllLeadIn, HasIn, Includes, LeadsIn, Moves, set_of, size_of};
-ghost use Rattle.flow_graph.specs.System.{System};
+ghost use Rattle.lattice_solver.specs.Phases.{Moves, set_of, size_of};
 
 use flow_graph::phase::Phase;
 use qual_base::faults::NoMemory;
@@ -77,17 +76,6 @@ impl Phases {
             Phase::First => raise_set(&mut self.first, at, elems),
             Phase::Second => raise_set(&mut self.second, at, elems),
         }
-    }
-
-    /// Adds the set of one variable in a phase to that of another, and says whether it has grown. Constant time.
-    pub fn carry(&mut self, phase: Phase, from: VarId, onto: Phase, to: VarId) -> bool
-        requires { to < size_of self.old }
-        ensures moves { Moves self.old self.new result }
-        ensures sound { (sys : System) (lattice : ℕ) → AllLeadIn sys lattice self.old → ((e : ℕ) → LeadsIn sys lattice phase e from → LeadsIn sys lattice onto e to) → AllLeadIn sys lattice self.new }
-        ensures done { OnFalse result (Includes self.old phase from onto to) }
-    {
-        let elems = self.set(phase, from);
-        self.raise(onto, to, elems)
     }
 }
 

@@ -1,25 +1,25 @@
 //! A solver for one lattice.
 
-ghost use Rattle.std.specs.Prelude.{◌≡◌, ◌<◌, ◌↔◌, ℕ, IsSome, IsTrue, IfOk, IfSome, MatchOption, length};
+ghost use Rattle.std.specs.Prelude.{◌≡◌, ◌<◌, ◌↔◌, ℕ, IsSome, IsTrue, IfNone, IfOk, IfSome, MatchOption, length};
 ghost use Rattle.std.specs.Int.{bit_at};
 ghost use Rattle.lattice_core.specs.Order.{size, IsJoinOf, IsLattice};
-ghost use Rattle.flow_graph.specs.declared.constraint.Link.TheVariants.{Bound};
 ghost use Rattle.flow_graph.specs.System.{IsWellOwned};
 ghost use Rattle.flow_graph.specs.Unfolding.{IsExceeded, NamesElementsIn};
 ghost use Rattle.flow_graph.specs.Paths.{Lead};
-ghost use Rattle.flow_laws.specs.Accepting.{CopiesStand, ExceededIsOver, KeptIsAccepted, OverIsExceeded, SolutionIsPrinted};
+ghost use Rattle.flow_laws.specs.Accepting.{AllAtOnce, CopiesStand, ExceededIsOver, KeptIsAccepted, OverIsExceeded, SolutionIsPrinted};
 ghost use Rattle.flow_laws.specs.Laws.{SolutionStands};
 ghost use Rattle.flow_laws.specs.PathLaws.{ReachedIsTested};
 ghost use Rattle.match_summary.specs.Summary.{Summarises};
-ghost use Rattle.lattice_solver.specs.Solution.{AllUnder, Exceeds, Fits, HasElement, IsKept, IsNoBound, IsOver, IsSolved, reached_at};
+ghost use Rattle.lattice_solver.specs.Solution.{AllUnder, Exceeds, Fits, HasElement, IsFirstExceeded, IsFirstOver, IsKept, IsOver, IsSolved, IsUnder, reached_at};
 
-use crate::phases::Phases;
-use crate::rounds::saturate;
-use flow_graph::constraint::{Constraint, Link};
+use crate::turns::{Flows, saturate};
+use crate::work::Work;
+use flow_graph::adjacency::Adjacency;
 use flow_graph::graph::FlowGraph;
 use flow_graph::phase::Phase;
 use flow_laws::accepting::{
-    copies_stand, exceeded_is_over, kept_is_accepted, over_is_exceeded, solution_is_printed,
+    all_at_once, copies_stand, exceeded_is_over, kept_is_accepted, over_is_exceeded,
+    solution_is_printed,
 };
 use flow_laws::laws::solution_stands;
 use flow_laws::paths::reached_is_tested;
@@ -30,11 +30,13 @@ use qual_base::ids::{EdgeId, Elem, ElemSet, LatticeNo, Numbered, VarId};
 use std::alloc::Global;
 use std::marker::Model;
 
-/// The sets of the constants that reach each variable in each phase, in one lattice. Clauses see it as a `Solution`.
+/// The sets of the constants that reach each variable in each phase, in one lattice, and an index of the constraints.
+/// Clauses see it as a `Solution`.
 #[derive(Drop)]
 pub struct Solver {
     lattice: LatticeNo,
-    phases: Phases,
+    work: Work,
+    index: Adjacency,
 }
 
 impl Model for Solver {
@@ -42,11 +44,12 @@ impl Model for Solver {
 
     ghost Value = { Solution };
 
-    ghost view = { λ s. record { lattice = s.lattice; phases = s.phases } };
+    ghost view = { λ s. record { lattice = s.lattice; phases = s.work.sets; index = s.index } };
 }
 
 impl Solver {
-    /// A solver with empty sets for each variable: 16 bytes each, and all the memory that it takes.
+    /// A solver with empty sets, and all the memory that it takes: 21 bytes for each variable, and the index of the
+    /// constraints. Linear in the constraints, the variables and the sites.
     pub fn new(
         alloc: Global,
         graph: &FlowGraph,
@@ -57,11 +60,16 @@ impl Solver {
         ensures fits { IfOk result (Fits graph.now) }
     {
         let _ = summaries;
-        let phases = Phases::new(alloc, graph.vars())?;
-        Ok(Solver { lattice, phases })
+        let work = Work::new(alloc, graph.vars())?;
+        let index = Adjacency::build(alloc, graph)?;
+        Ok(Solver {
+            lattice,
+            work,
+            index,
+        })
     }
 
-    /// Finds all constants that reach each variable. Takes no memory; `rounds::saturate` says its time.
+    /// Finds all constants that reach each variable. Takes no memory; `turns::saturate` says its time.
     pub fn run(&mut self, graph: &FlowGraph, summaries: &Summaries)
         requires lattice { self.old.lattice < 16 }
         requires fits { Fits graph.now self.old }
@@ -70,15 +78,28 @@ impl Solver {
         ensures reached { (v e : ℕ) → HasElement self.new v e ↔ Lead graph.now self.old.lattice e v }
         ensures lattice { self.new.lattice ≡ self.old.lattice }
     {
-        self.phases.clear();
-        saturate(&mut self.phases, graph, summaries, self.lattice);
+        self.work.clear();
+        let flows = Flows {
+            graph,
+            index: &self.index,
+            summaries,
+            lattice: self.lattice,
+        };
+        saturate(&mut self.work, &flows);
+    }
+
+    /// Where the constraints begin and end.
+    pub fn index(&self) -> &Adjacency
+        ensures { result.now ≡ self.now.index }
+    {
+        &self.index
     }
 
     /// The elements of the constants that lead to a variable; empty for a variable past all. Constant time.
     pub fn reached(&self, at: VarId) -> ElemSet
         ensures { result ≡ reached_at self.now at }
     {
-        ElemSet::new(self.phases.set(Phase::First, at) | self.phases.set(Phase::Second, at))
+        ElemSet::new(self.work.set(Phase::First, at) | self.work.set(Phase::Second, at))
     }
 
     /// The least element at or above each that reaches a variable, in at most 128 steps.
@@ -91,28 +112,28 @@ impl Solver {
     /// An element that exceeds a bound: it reaches the bound's variable and is not at or below the bound. None where the
     /// constraint is no exceeded bound of this lattice. At most 64 steps.
     pub fn exceeded(&self, graph: &FlowGraph, lattice: &Lattice, bound: EdgeId) -> Option<Elem>
-        requires owned { IsWellOwned graph.now }
         requires solved { IsSolved graph.now self.now }
         requires named { NamesElementsIn graph.now self.now.lattice lattice.now.order }
         requires bound { bound < length graph.now.constraints }
-        ensures exceeded { IsSome result ↔ IsExceeded graph.now self.now.lattice lattice.now.order bound }
         ensures element { IfSome result (Exceeds graph.now self.now lattice.now.order bound) }
+        ensures none { IfNone result (IsUnder graph.now self.now lattice.now.order bound) }
+        ensures exceeded { IsWellOwned graph.now → (IsSome result ↔ IsExceeded graph.now self.now.lattice lattice.now.order bound) }
     {
         laws(lattice);
         let constraint = graph.constraint(bound);
-        match bound_of(&constraint, self.lattice) {
-            Some(limit) => first_over(lattice, self.reached(limit.at), limit.elem),
-            None => None,
-        }
+        let limit = constraint.bound_in(self.lattice)?;
+        first_over(lattice, self.reached(limit.at), limit.elem)
     }
 
     /// The first exceeded bound. None where the system is accepted in this lattice; then the value of each variable is
-    /// the element that is printed. Linear in the constraints.
+    /// the element that is printed. At most 64 steps for each constraint.
     pub fn first_exceeded(&self, graph: &FlowGraph, lattice: &Lattice) -> Option<EdgeId>
-        requires owned { IsWellOwned graph.now }
         requires solved { IsSolved graph.now self.now }
         requires named { NamesElementsIn graph.now self.now.lattice lattice.now.order }
-        ensures { MatchOption result (IsKept graph.now self.now lattice.now.order) (λ n. IsExceeded graph.now self.now.lattice lattice.now.order n) }
+        ensures over { IfSome result (IsFirstOver graph.now self.now lattice.now.order) }
+        ensures under { IfNone result ((n : ℕ) → IsUnder graph.now self.now lattice.now.order n) }
+        ensures first { IsWellOwned graph.now → IfSome result (IsFirstExceeded graph.now self.now.lattice lattice.now.order) }
+        ensures kept { IsWellOwned graph.now → IfNone result (IsKept graph.now self.now lattice.now.order) }
     {
         laws(lattice);
         for n in 0..graph.len() {
@@ -121,23 +142,6 @@ impl Solver {
             }
         }
         None
-    }
-}
-
-/// A bound: its variable and its element.
-#[derive(Clone, Copy)]
-struct Limit {
-    at: VarId,
-    elem: Elem,
-}
-
-/// The bound that a constraint is in a lattice.
-fn bound_of(constraint: &Constraint, lattice: LatticeNo) -> Option<Limit>
-    ensures { MatchOption result (IsNoBound constraint.now.link lattice) (λ limit. constraint.now.link ≡ Bound limit.at lattice limit.elem) }
-{
-    match constraint.link {
-        Link::Bound(at, named, elem) if named == lattice => Some(Limit { at, elem }),
-        _ => None,
     }
 }
 
@@ -171,6 +175,7 @@ fn laws(lattice: &Lattice)
     ensures tested { ReachedIsTested }
     ensures copies { CopiesStand }
     ensures accepted { KeptIsAccepted }
+    ensures at_once { AllAtOnce }
     ensures printed { SolutionIsPrinted }
     ensures over { ExceededIsOver }
     ensures exceeded { OverIsExceeded }
@@ -180,6 +185,7 @@ fn laws(lattice: &Lattice)
     reached_is_tested();
     copies_stand();
     kept_is_accepted();
+    all_at_once();
     solution_is_printed();
     exceeded_is_over();
     over_is_exceeded();

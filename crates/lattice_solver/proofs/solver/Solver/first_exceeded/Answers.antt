@@ -1,19 +1,47 @@
-use Rattle.std.proofs.Common.{◌≡◌, ℕ, ◌<◌, below_more, is_some, true, subst, arith, sym, ◌∙◌, length}
+use Rattle.std.proofs.Common.{◌≡◌, ℕ, ◌<◌, below_more, subst, arith, sym, ◌∙◌, length}
 use Rattle.std.proofs.lemmas.Option.{slice_get_within}
-use Rattle.flow_graph.specs.Unfolding.{IsExceeded}
-use Rattle.lattice_solver.proofs.Exceeding.{kept, not_both}
+use Rattle.lattice_solver.specs.Solution.{IsUnder, Exceeds}
+use Rattle.lattice_solver.proofs.Exceeding.{kept, over_exceeds, under_keeps, none_is, some_of}
 use Rattle.lattice_solver.proofs.solver.Solver.first_exceeded.Goals as goal
 
 pub loop-n-preserved : goal.loop-n-preserved
-loop-n-preserved c = below_more _ _ c.loop-n.invariant (λ exceeded.
-    let Is : ℕ → Type 0 = λ k. IsExceeded c.args.graph.now c.args.self.now.lattice c.args.lattice.now.order k in
-    let found : is_some c.exceeded.result ≡ true = c.exceeded.ensures.exceeded.1 (subst Is (sym c.new.ensures) exceeded) in
-    not_both found (sym c.is_some.ensures ∙ c.if-is_some.false))
+loop-n-preserved c = below_more _ _ c.loop-n.invariant
+    (let Is : ℕ → Type 0 = λ k. IsUnder c.args.graph.now c.args.self.now c.args.lattice.now.order k in
+    subst Is c.new.ensures (none_is _ c.exceeded.result (sym c.is_some.ensures ∙ c.if-is_some.false) c.exceeded.ensures.none))
 
-pub returns : goal.returns
-returns c =
-    kept c.args.graph.now c.args.self.now c.args.lattice.now.order c.requires.owned c.requires.solved c.requires.named c.laws.ensures.lattice c.laws.ensures.solution c.laws.ensures.tested c.laws.ensures.copies
-    c.laws.ensures.exceeded c.laws.ensures.accepted c.laws.ensures.printed
-    (λ n exceeded.
-    let within : n < length c.args.graph.now.constraints = slice_get_within c.args.graph.now.constraints n exceeded.bound.constraint exceeded.bound.there in
-    c.loop-n.invariant n (omega (arith, within, c.loop-n-test.false, c.len-n-end.ensures.length)) exceeded)
+pub returns-then-is_some-clause-over : goal.returns-then-is_some-clause-over
+returns-then-is_some-clause-over c =
+    let found = some_of _ c.exceeded.result (sym c.is_some.ensures ∙ c.if-is_some.true) c.exceeded.ensures.element in
+    let at : c.new.result ≡ c.new-then-is_some.result = c.new.ensures ∙ sym c.new-then-is_some.ensures in
+    let Is : ℕ → Type 0 = λ n. Exceeds c.args.graph.now c.args.self.now c.args.lattice.now.order n found.0 in
+    record {
+      element = found.0;
+      exceeds = subst Is at found.1;
+      before = λ m lt. c.loop-n.invariant m (omega (arith, lt, c.new-then-is_some.ensures));
+    }
+
+pub returns-then-is_some-clause-first : goal.returns-then-is_some-clause-first
+returns-then-is_some-clause-first c = λ owned.
+    let found = some_of _ c.exceeded.result (sym c.is_some.ensures ∙ c.if-is_some.true) c.exceeded.ensures.element in
+    let at : c.new.result ≡ c.new-then-is_some.result = c.new.ensures ∙ sym c.new-then-is_some.ensures in
+    let Is : ℕ → Type 0 = λ n. Exceeds c.args.graph.now c.args.self.now c.args.lattice.now.order n found.0 in
+    record {
+      exceeded = over_exceeds c.args.graph.now c.args.self.now c.args.lattice.now.order c.requires.solved c.requires.named c.laws.ensures.lattice c.laws.ensures.solution
+          owned c.laws.ensures.tested c.laws.ensures.copies c.laws.ensures.exceeded c.new-then-is_some.result found.0 (subst Is at found.1);
+      before = λ m lt.
+          under_keeps c.args.graph.now c.args.self.now c.args.lattice.now.order c.requires.solved c.requires.named c.laws.ensures.lattice c.laws.ensures.solution
+          owned c.laws.ensures.tested c.laws.ensures.copies c.laws.ensures.over m (c.loop-n.invariant m (omega (arith, lt, c.new-then-is_some.ensures)));
+    }
+
+pub returns-clause-under : goal.returns-clause-under
+returns-clause-under c = λ n v limit e st.
+    let within : n < length c.args.graph.now.constraints = slice_get_within c.args.graph.now.constraints n st.constraint st.there in
+    c.loop-n.invariant n (omega (arith, within, c.loop-n-test.false, c.len-n-end.ensures.length)) v limit e st
+
+pub returns-clause-kept : goal.returns-clause-kept
+returns-clause-kept c = λ owned.
+    kept c.args.graph.now c.args.self.now c.args.lattice.now.order c.requires.solved c.requires.named c.laws.ensures.lattice c.laws.ensures.solution
+    owned c.laws.ensures.tested c.laws.ensures.copies c.laws.ensures.over c.laws.ensures.accepted c.laws.ensures.printed c.laws.ensures.at_once
+    (λ n v limit e st.
+    let within : n < length c.args.graph.now.constraints = slice_get_within c.args.graph.now.constraints n st.constraint st.there in
+    c.loop-n.invariant n (omega (arith, within, c.loop-n-test.false, c.len-n-end.ensures.length)) v limit e st)

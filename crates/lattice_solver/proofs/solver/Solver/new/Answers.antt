@@ -1,5 +1,9 @@
-use Rattle.lattice_solver.proofs.Moving.{below_same}
+use Rattle.lattice_solver.specs.Phases.{size_of}
+use Rattle.lattice_solver.proofs.Gaining.{below_same}
 use Rattle.lattice_solver.proofs.solver.Solver.new.Goals as goal
 
 pub returns-clause-fits : goal.returns-clause-fits
-returns-clause-fits c = below_same c.args.graph.now _ _ c.in_ok-phases.ensures c.vars.ensures.above
+returns-clause-fits c = record {
+  below = below_same c.args.graph.now c.vars.result (size_of c.in_ok-work.work.sets) c.in_ok-work.ensures c.vars.ensures.above;
+  indexed = c.in_ok-index.ensures;
+}

@@ -1,17 +1,40 @@
-use Rattle.std.proofs.Common.{◌≡◌, ap, sym, ◌∙◌, subst}
+use Rattle.std.proofs.Common.{◌≡◌, ◌<◌, ap, sym, ◌∙◌, subst}
+use Rattle.match_summary.specs.Summary.{Summarises}
+use Rattle.flow_graph.specs.Index.{IsIndexOf}
 use Rattle.flow_graph.specs.Paths.{Lead}
 use Rattle.lattice_solver.specs.Phases.{size_of}
 use Rattle.lattice_solver.specs.Solution.{Solution}
 use Rattle.lattice_solver.proofs.Leading.{union_leads}
-use Rattle.lattice_solver.proofs.Moving.{below_same}
+use Rattle.lattice_solver.proofs.Gaining.{below_same}
 use Rattle.lattice_solver.proofs.solver.Solver.run.Goals as goal
 
-pub saturate-requires-clause-below : goal.saturate-requires-clause-below
-saturate-requires-clause-below c =
-    below_same c.args.graph.now _ _ (c.clear.ensures.size ∙ ap (λ (s : Solution). size_of s.phases) c.self.view_is) c.requires.fits
+pub saturate-requires-clause-ready : goal.saturate-requires-clause-ready
+saturate-requires-clause-ready c =
+    let named : c.self.inside.lattice ≡ c.args.self.now.lattice = ap (λ (s : Solution). s.lattice) c.self.view_is in
+    let size = c.clear.ensures.size ∙ ap (λ (s : Solution). size_of s.phases) c.self.view_is in
+    record {
+      lattice = subst (λ n. n < 16) (sym named) c.requires.lattice;
+      below = below_same c.args.graph.now _ _ size c.requires.fits.below;
+      indexed = subst (IsIndexOf c.args.graph.now) (sym (ap (λ (s : Solution). s.index) c.self.view_is)) c.requires.fits.indexed;
+      summarised = subst (λ l. Summarises c.args.graph.now l c.args.summaries.now) (sym named) c.requires.summaries;
+    }
+
+pub returns-clause-solved : goal.returns-clause-solved
+returns-clause-solved c =
+    let named : c.self.inside.lattice ≡ c.args.self.now.lattice = ap (λ (s : Solution). s.lattice) c.self.view_is in
+    let size = c.saturate.ensures.size ∙ c.clear.ensures.size ∙ ap (λ (s : Solution). size_of s.phases) c.self.view_is in
+    record {
+      exact = c.saturate.ensures.exact;
+      summaries = c.args.summaries.now;
+      summarised = subst (λ l. Summarises c.args.graph.now l c.args.summaries.now) (sym named) c.requires.summaries;
+      fits = record {
+        below = below_same c.args.graph.now _ _ size c.requires.fits.below;
+        indexed = subst (IsIndexOf c.args.graph.now) (sym (ap (λ (s : Solution). s.index) c.self.view_is)) c.requires.fits.indexed;
+      };
+    }
 
 pub returns-clause-reached : goal.returns-clause-reached
 returns-clause-reached c = λ v e.
-    let here = union_leads c.args.graph.now c.self.inside.lattice c.saturate.new.phases c.saturate.ensures.exact v e in
+    let here = union_leads c.args.graph.now c.self.inside.lattice c.saturate.new.work.sets c.saturate.ensures.exact v e in
     let named : c.self.inside.lattice ≡ c.args.self.now.lattice = ap (λ (s : Solution). s.lattice) c.self.view_is in
     (λ has. subst (λ l. Lead c.args.graph.now l e v) named (here.0 has), λ path. here.1 (subst (λ l. Lead c.args.graph.now l e v) (sym named) path))

@@ -1,0 +1,11 @@
+use Rattle.std.proofs.Common.{ℕ, ◌<◌, get_or}
+use Rattle.lattice_solver.specs.Stable.{IsCarried, StaySound}
+use Rattle.lattice_solver.specs.Working.{Gains, had_of}
+use Rattle.lattice_solver.proofs.turns.pass_on.Given as goal
+
+abbrev pub invariant-loop-edge : goal.invariant-loop-edge
+invariant-loop-edge l = record {
+  gains : Gains l.fn.work l.work;
+  sound : StaySound l.flows l.taken l.fn.work.sets l.work.sets;
+  carried : (k : ℕ) → k < l.edge-index → (other : ℕ) → IsCarried l.flows.graph.now l.flows.lattice l.flows.summaries.now (had_of l.taken) l.work.sets l.taken.at (get_or l.edge-items k other);
+}
