@@ -8,10 +8,10 @@ use Rattle.flow_graph.specs.Paths.{Lead}
 use Rattle.flow_laws.specs.Least.{IsLeastOver, IsSolution, KeepsBounds}
 use Rattle.flow_laws.specs.Sets.{IsLeastInCopies}
 use Rattle.flow_laws.specs.Rejected.{InEach}
-use Rattle.flow_laws.specs.Deciding.{PathTests, AreExact, ExceedsNone, IsSolved, TestsDecide}
+use Rattle.flow_laws.specs.Deciding.{PathTests, AreExact, ExceedsNone, IsSolved, IsDecided, TestsSolve, TestsDecide}
 use Rattle.flow_laws.proofs.Leads.{solution_stands, names_in_each}
 use Rattle.flow_laws.proofs.Testing.{reached_is_tested}
-use Rattle.flow_laws.proofs.Accept.{copies_stand, met, below_solution, kept_is_accepted, solution_is_printed, over_is_exceeded}
+use Rattle.flow_laws.proofs.Accept.{copies_stand, met, below_solution, kept_is_accepted, solution_is_printed, exceeded_is_over, over_is_exceeded}
 use Rattle.flow_laws.proofs.Rejected.{keeps_or_over, accepted_or_exceeded, has_refutes}
 
 module _ (sys : System) (lattice : ℕ) (order : Order) (tests : PathTests) (owned : IsWellOwned sys) (lat : IsLattice order) (names : NamesElementsIn sys lattice order)
@@ -52,6 +52,32 @@ module _ (sys : System) (lattice : ℕ) (order : Order) (tests : PathTests) (own
         least = λ v. (solution.0 v, solution.1 v);
         printed = λ v r least. subst (Printed sys lattice order v) (one_least v r least) (printed v);
       }
+
+  -- an element that leads to a bound and is not at or below it exceeds the bound
+  over : (n v b e : ℕ) → Stands sys lattice n (Bound v lattice b) → Lead sys lattice e v → leq order e b ≡ false → IsExceeded sys lattice order n
+  over n v b e st lead not_below = by_test (leq order (solution.0 v) b) refl
+    where
+      by_test : (t : Bool) → leq order (solution.0 v) b ≡ t → IsExceeded sys lattice order n
+      by_test false is = exceeds n v b st is
+      by_test true is = let below : leq order e b ≡ true = lat.ordered.through e (solution.0 v) b ((solution.1 v).upper e lead) is in absurd cc
+
+  -- a bound that is at or above all that leads to it is not exceeded
+  under : (n v b : ℕ) → Stands sys lattice n (Bound v lattice b) → ((e : ℕ) → Lead sys lattice e v → leq order e b ≡ true) → IsExceeded sys lattice order n → ⊥
+  under n v b st all exceeded =
+      let below : leq order (solution.0 v) b ≡ true = (solution.1 v).least b (names.bound n v b st) all in
+      let not_below : leq order (solution.0 v) b ≡ false = exceeded_is_over sys lattice order solution.0 copies.0 owned lat.ordered solution.1 copies.1 n v b st exceeded in
+      absurd cc
+
+  accepted : ExceedsNone sys lattice order → IsAcceptedIn sys lattice order
+  accepted none = kept_is_accepted sys lattice order solution.0 copies.0 owned lat.ordered solution.1 copies.1 (keeps none)
+
+pub tests_solve : TestsSolve
+tests_solve sys lattice order tests owned lat names exact = record {
+  over = over sys lattice order tests owned lat names exact;
+  under = under sys lattice order tests owned lat names exact;
+  accepted = accepted sys lattice order tests owned lat names exact;
+  solved = solved sys lattice order tests owned lat names exact;
+}
 
 pub tests_decide : TestsDecide
 tests_decide sys orders tests owned lattices names exact =

@@ -1,9 +1,9 @@
 -- What tests of paths decide: whether a program is accepted, and what is printed of it.
-use Rattle.std.specs.Prelude.{◌≡◌, ℕ, Bool, true, List, ◌↔◌}
+use Rattle.std.specs.Prelude.{◌≡◌, ℕ, Bool, true, false, List, ◌↔◌}
 use Rattle.lattice_core.specs.Order.{Order, leq, IsLattice}
-use Rattle.flow_graph.specs.declared.constraint.Link.TheVariants.{Enter}
+use Rattle.flow_graph.specs.declared.constraint.Link.TheVariants.{Bound, Enter}
 use Rattle.flow_graph.specs.System.{System, Stands, IsWellOwned}
-use Rattle.flow_graph.specs.Unfolding.{Assignment, Meets, NamesElements, IsAccepted, IsExceeded, Printed}
+use Rattle.flow_graph.specs.Unfolding.{Assignment, Meets, NamesElements, NamesElementsIn, IsAccepted, IsAcceptedIn, IsExceeded, Printed}
 use Rattle.flow_graph.specs.Paths.{Match, Returning, Lead}
 use Rattle.flow_laws.specs.Least.{IsLeastOver}
 use Rattle.flow_laws.specs.Rejected.{HasExceeded, InEach}
@@ -33,6 +33,20 @@ pub record IsSolved (sys : System) (lattice : ℕ) (order : Order) : Type 0 wher
   pub below : (v r : ℕ) (sites : List ℕ) → Printed sys lattice order v r → leq order (map v sites) r ≡ true
   pub least : (v : ℕ) → (r : ℕ) × IsLeastOver order (λ e. Lead sys lattice e v) r
   pub printed : (v r : ℕ) → IsLeastOver order (λ e. Lead sys lattice e v) r → Printed sys lattice order v r
+
+-- What is decided of a lattice: an element that leads to a bound and is not at or below it exceeds the bound, and a bound is
+-- exceeded only where there is one; where no bound is, the lattice is solved.
+pub record IsDecided (sys : System) (lattice : ℕ) (order : Order) : Type 0 where
+  pub over : (n v b e : ℕ) → Stands sys lattice n (Bound v lattice b) → Lead sys lattice e v → leq order e b ≡ false → IsExceeded sys lattice order n
+  pub under : (n v b : ℕ) → Stands sys lattice n (Bound v lattice b) → ((e : ℕ) → Lead sys lattice e v → leq order e b ≡ true) → IsExceeded sys lattice order n → ⊥
+  pub accepted : ExceedsNone sys lattice order → IsAcceptedIn sys lattice order
+  pub solved : ExceedsNone sys lattice order → IsSolved sys lattice order
+
+-- In a well owned system and one lattice, of which its constants and bounds name elements, tests that say exactly which
+-- constants lead where decide it.
+abbrev pub TestsSolve : Type 0
+TestsSolve = (sys : System) (lattice : ℕ) (order : Order) (tests : PathTests) → IsWellOwned sys → IsLattice order → NamesElementsIn sys lattice order →
+    AreExact sys lattice tests → IsDecided sys lattice order
 
 -- In a well owned system whose constants and bounds name elements of lattices, and where tests say exactly which constants
 -- lead where, not accepted means exactly that some bound is exceeded; and a lattice with no exceeded bound is solved.

@@ -1,7 +1,7 @@
 //! When a well owned system is accepted, what is printed of it, and which of its bounds are exceeded.
 
 ghost use Rattle.flow_laws.specs.Accepting.{CopiesStand, KeptIsAccepted, SolutionIsPrinted, ExceededIsOver, OverIsExceeded};
-ghost use Rattle.flow_laws.specs.Deciding.{TestsDecide};
+ghost use Rattle.flow_laws.specs.Deciding.{TestsDecide, TestsSolve};
 
 /// Where it can be tested what reaches a copy, a least element above that stands.
 pub fn copies_stand()
@@ -26,6 +26,11 @@ pub fn exceeded_is_over()
 /// A bound that the solution is not at or below is exceeded.
 pub fn over_is_exceeded()
     ensures { OverIsExceeded }
+{}
+
+/// Where it can be tested what leads where in a lattice, its bounds and what is printed of it are decided.
+pub fn tests_solve()
+    ensures { TestsSolve }
 {}
 
 /// Where it can be tested what leads where, a system is rejected exactly where some bound is exceeded, and is solved where

@@ -7,13 +7,11 @@ use Rattle.lattice_core.specs.Order.{Order, size, leq, IsLattice, IsJoinOf}
 use Rattle.flow_graph.specs.declared.constraint.Constraint.{Constraint}
 use Rattle.flow_graph.specs.declared.constraint.Link.TheVariants.{Bound, Enter}
 use Rattle.flow_graph.specs.System.{System, Stands, IsNoBound, IsWellOwned}
-use Rattle.flow_graph.specs.Unfolding.{Assignment, IsExceeded, Printed, NamesElementsIn}
+use Rattle.flow_graph.specs.Unfolding.{IsExceeded, NamesElementsIn}
 use Rattle.flow_graph.specs.Paths.{Lead, Match, Returning}
-use Rattle.flow_laws.specs.Accepting.{AllAtOnce, CopiesStand, ExceededIsOver, KeptIsAccepted, OverIsExceeded, SolutionIsPrinted}
-use Rattle.flow_laws.specs.PathLaws.{ReachedIsTested}
-use Rattle.flow_laws.specs.Sets.{IsLeastInCopies}
+use Rattle.flow_laws.specs.Deciding.{IsDecided, TestsSolve}
 use Rattle.flow_laws.specs.Laws.{SolutionStands}
-use Rattle.flow_laws.specs.Least.{IsSolution, KeepsBounds}
+use Rattle.flow_laws.specs.Least.{IsLeastOver, IsSolution}
 use Rattle.lattice_solver.specs.Solution.{Solution, reached_at, HasElement, IsSolved, IsKept, IsUnder, Exceeds, AllUnder, IsOver}
 use Rattle.flow_graph.specs.declared.phase.Phase.TheVariants.{First}
 use Rattle.lattice_solver.specs.Phases.{set_of}
@@ -73,7 +71,7 @@ module _ (sys : System) (solution : Solution) (order : Order) (solved : IsSolved
   found_over n v b st None under = bound_under n v b st under
   found_over n v b st (Some e) over = record { var = v; limit = b; bound = st; element = over.0; reached = over.1; over = over.2 }
 
-  module _ (owned : IsWellOwned sys) (tests : ReachedIsTested) (all_copies : CopiesStand) where
+  module _ (owned : IsWellOwned sys) (law : TestsSolve) where
     abbrev returned : ℕ → ℕ → Bool
     returned e v = nat_eq (bit_at (set_of solution.phases First v) e) 1
 
@@ -89,58 +87,44 @@ module _ (sys : System) (solution : Solution) (order : Order) (solved : IsSolved
         let test = (test_of (HasPair solved.summaries u v) (pair_tells solved.summaries u v)).1 in
         (λ is. solved.summarised.sound u v (test.0 is), λ path. test.1 (solved.summarised.whole u v (n, s, w, st) path))
 
-    copies : (c : Assignment) × IsLeastInCopies sys solution.lattice order c
-    copies =
-        let reached = tests sys solution.lattice returned matched returned_is matched_is in
-        all_copies sys solution.lattice order reached.0 lattice named reached.1
+    -- the sets and the summaries decide the lattice
+    decided : IsDecided sys solution.lattice order
+    decided = law sys solution.lattice order (record { returned = returned; leads = comes; matched = matched }) owned lattice named
+        (record { returned = returned_is; leads = tested; matched = matched_is })
 
     -- a bound that an element exceeds is exceeded
-    pub over_exceeds : OverIsExceeded → (n e : ℕ) → Exceeds sys solution order n e → IsExceeded sys solution.lattice order n
-    over_exceeds law n e over = elim (either_way (leq order (least.0 over.var) over.limit)) [
-      | inl under ↦ absurd (not_both (lattice.ordered.through e (least.0 over.var) over.limit ((least.1 over.var).upper e ((leads e over.var).0 over.reached)) under) over.over)
-      | inr not ↦ law sys solution.lattice order (least.0) comes owned lattice.ordered (least.1) tested n over.var over.limit over.bound not
-    ]
+    pub over_exceeds : (n e : ℕ) → Exceeds sys solution order n e → IsExceeded sys solution.lattice order n
+    over_exceeds n e over = decided.over n over.var over.limit e over.bound ((leads e over.var).0 over.reached) over.over
 
     -- one that no element exceeds is not
-    pub under_keeps : ExceededIsOver → (n : ℕ) → IsUnder sys solution order n → IsExceeded sys solution.lattice order n → ⊥
-    under_keeps law n under exceeded =
-        let v = exceeded.var in
-        let b = exceeded.element in
-        not_both
-        ((least.1 v).least b (named.bound n v b exceeded.bound) (λ e lead. under v b e exceeded.bound ((leads e v).1 lead)))
-        (law sys solution.lattice order (least.0) (copies.0) owned lattice.ordered (least.1) (copies.1) n v b exceeded.bound exceeded)
+    pub under_keeps : (n : ℕ) → IsUnder sys solution order n → IsExceeded sys solution.lattice order n → ⊥
+    under_keeps n under exceeded =
+        decided.under n exceeded.var exceeded.element exceeded.bound (λ e lead. under exceeded.var exceeded.element e exceeded.bound ((leads e exceeded.var).1 lead)) exceeded
 
     -- the bound is exceeded exactly where an element over it is found
-    pub found_exceeds : OverIsExceeded → ExceededIsOver → (n : ℕ) (found : Option ℕ) → MatchOption found (IsUnder sys solution order n) (Exceeds sys solution order n) →
+    pub found_exceeds : (n : ℕ) (found : Option ℕ) → MatchOption found (IsUnder sys solution order n) (Exceeds sys solution order n) →
         IsSome found ↔ IsExceeded sys solution.lattice order n
-    found_exceeds one other n None under = (λ some. absurd cc, λ exceeded. absurd (under_keeps other n under exceeded))
-    found_exceeds one other n (Some e) over = (λ some. over_exceeds one n e over, λ exceeded. refl)
+    found_exceeds n None under = (λ some. absurd cc, λ exceeded. absurd (under_keeps n under exceeded))
+    found_exceeds n (Some e) over = (λ some. over_exceeds n e over, λ exceeded. refl)
 
-    keeps : ((n : ℕ) → IsUnder sys solution order n) → KeepsBounds sys solution.lattice order (least.0)
-    keeps none n v b st = (least.1 v).least b (named.bound n v b st) (λ e lead. none n v b e st ((leads e v).1 lead))
-
-    -- the join of a set is the least element of the solution
-    joined : (v r : ℕ) → IsJoinOf order (reached_at solution v) r → r ≡ least.0 v
-    joined v r join =
-        lattice.ordered.apart r (least.0 v)
-        (join.least (least.0 v) (least.1 v).element (λ a within has. (least.1 v).upper a ((leads a v).0 has)))
-        ((least.1 v).least r join.element (λ e lead. join.upper e (lattice.ordered.inside e (least.0 v) ((least.1 v).upper e lead)).0 ((leads e v).1 lead)))
+    -- the join of a set is the least element over all that leads to the variable
+    joined : (v r : ℕ) → IsJoinOf order (reached_at solution v) r → IsLeastOver order (λ e. Lead sys solution.lattice e v) r
+    joined v r join = record {
+      element = join.element;
+      upper = λ e lead. let has = (leads e v).1 lead in join.upper e (reached_element v e has) has;
+      least = λ d within all. join.least d within (λ a element has. all a ((leads a v).0 has));
+    }
 
     -- with no exceeded bound the system is accepted, the joins are printed, and all copies stay below them at once
-    pub kept : ExceededIsOver → KeptIsAccepted → SolutionIsPrinted → AllAtOnce → ((n : ℕ) → IsUnder sys solution order n) → IsKept sys solution order
-    kept over accepted printed together none =
-        let once = together sys solution.lattice order (least.0) (copies.0) owned lattice.ordered (least.1) (copies.1) (keeps none) in
+    pub kept : ((n : ℕ) → IsUnder sys solution order n) → IsKept sys solution order
+    kept none =
+        let no_bound_exceeded : (n : ℕ) → IsExceeded sys solution.lattice order n → ⊥ = λ n. under_keeps n (none n) in
+        let is = decided.solved no_bound_exceeded in
         record {
-          accepted = accepted sys solution.lattice order (least.0) (copies.0) owned lattice.ordered (least.1) (copies.1) (keeps none);
-          none = λ n exceeded. under_keeps over n (none n) exceeded;
-          printed = λ v r join.
-              let Is : ℕ → Type 0 = λ a. Printed sys solution.lattice order v a in
-              subst Is (sym (joined v r join)) (printed sys solution.lattice order (least.0) (copies.0) owned lattice.ordered (least.1) (copies.1) (keeps none) v);
-          at_once = record {
-            copies = copies.0;
-            meets = once.0;
-            below = λ v r sites join. subst (λ a. leq order (copies.0 v sites) a ≡ true) (sym (joined v r join)) (once.1 v sites);
-          };
+          accepted = decided.accepted no_bound_exceeded;
+          none = no_bound_exceeded;
+          printed = λ v r join. is.printed v r (joined v r join);
+          at_once = record { copies = is.map; meets = is.meets; below = is.below };
         }
 
 pub found_none : (Under : Type 0) (Over : ℕ → Type 0) (found : Option ℕ) → MatchOption found Under Over → IfNone found Under

@@ -64,11 +64,11 @@ pub record IsFirstExceeded (sys : System) (lattice : ℕ) (order : Order) (n : �
   pub exceeded : IsExceeded sys lattice order n
   pub before : (m : ℕ) → m < n → IsExceeded sys lattice order m → ⊥
 
--- One assignment meets the unfolding at every depth, and is at or below the least elements on all copies of all variables.
+-- One assignment meets the unfolding at every depth, and is at or below the printed elements on all copies of all variables.
 pub record IsMetAtOnce (sys : System) (solution : Solution) (order : Order) : Type 0 where
   pub copies : Assignment
   pub meets : (depth : ℕ) → Meets sys solution.lattice order depth copies
-  pub below : (v r : ℕ) (sites : List ℕ) → IsJoinOf order (reached_at solution v) r → leq order (copies v sites) r ≡ true
+  pub below : (v r : ℕ) (sites : List ℕ) → Printed sys solution.lattice order v r → leq order (copies v sites) r ≡ true
 
 -- No bound is exceeded: the system is accepted in the lattice, the least element over the set of a variable is the one that
 -- is printed, and all of them can be kept at once.

@@ -6,9 +6,8 @@ ghost use Rattle.lattice_core.specs.Order.{size, IsJoinOf, IsLattice};
 ghost use Rattle.flow_graph.specs.System.{IsWellOwned};
 ghost use Rattle.flow_graph.specs.Unfolding.{IsExceeded, NamesElementsIn};
 ghost use Rattle.flow_graph.specs.Paths.{Lead};
-ghost use Rattle.flow_laws.specs.Accepting.{AllAtOnce, CopiesStand, ExceededIsOver, KeptIsAccepted, OverIsExceeded, SolutionIsPrinted};
+ghost use Rattle.flow_laws.specs.Deciding.{TestsSolve};
 ghost use Rattle.flow_laws.specs.Laws.{SolutionStands};
-ghost use Rattle.flow_laws.specs.PathLaws.{ReachedIsTested};
 ghost use Rattle.match_summary.specs.Summary.{Summarises};
 ghost use Rattle.lattice_solver.specs.Solution.{AllUnder, Exceeds, Fits, HasElement, IsFirstExceeded, IsFirstOver, IsKept, IsOver, IsSolved, IsUnder, reached_at};
 
@@ -17,12 +16,8 @@ use crate::work::Work;
 use flow_graph::adjacency::Adjacency;
 use flow_graph::graph::FlowGraph;
 use flow_graph::phase::Phase;
-use flow_laws::accepting::{
-    all_at_once, copies_stand, exceeded_is_over, kept_is_accepted, over_is_exceeded,
-    solution_is_printed,
-};
+use flow_laws::accepting::tests_solve;
 use flow_laws::laws::solution_stands;
-use flow_laws::paths::reached_is_tested;
 use lattice_core::Lattice;
 use match_summary::summary::Summaries;
 use qual_base::faults::NoMemory;
@@ -172,21 +167,9 @@ fn has_element(set: ElemSet, elem: Elem) -> bool
 fn laws(lattice: &Lattice)
     ensures lattice { IsLattice lattice.now.order }
     ensures solution { SolutionStands }
-    ensures tested { ReachedIsTested }
-    ensures copies { CopiesStand }
-    ensures accepted { KeptIsAccepted }
-    ensures at_once { AllAtOnce }
-    ensures printed { SolutionIsPrinted }
-    ensures over { ExceededIsOver }
-    ensures exceeded { OverIsExceeded }
+    ensures solved { TestsSolve }
 {
     lattice.law();
     solution_stands();
-    reached_is_tested();
-    copies_stand();
-    kept_is_accepted();
-    all_at_once();
-    solution_is_printed();
-    exceeded_is_over();
-    over_is_exceeded();
+    tests_solve();
 }

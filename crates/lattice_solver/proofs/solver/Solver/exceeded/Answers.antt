@@ -33,4 +33,4 @@ returns-clause-none c = found_none _ _ c.first_over.result (looked c)
 pub returns-clause-exceeded : goal.returns-clause-exceeded
 returns-clause-exceeded c = λ owned.
     found_exceeds c.args.graph.now c.args.self.now c.args.lattice.now.order c.requires.solved c.requires.named c.laws.ensures.lattice c.laws.ensures.solution
-    owned c.laws.ensures.tested c.laws.ensures.copies c.laws.ensures.exceeded c.laws.ensures.over c.args.bound c.first_over.result (looked c)
+    owned c.laws.ensures.solved c.args.bound c.first_over.result (looked c)

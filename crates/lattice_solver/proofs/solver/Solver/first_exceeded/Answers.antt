@@ -27,10 +27,10 @@ returns-then-is_some-clause-first c = λ owned.
     let Is : ℕ → Type 0 = λ n. Exceeds c.args.graph.now c.args.self.now c.args.lattice.now.order n found.0 in
     record {
       exceeded = over_exceeds c.args.graph.now c.args.self.now c.args.lattice.now.order c.requires.solved c.requires.named c.laws.ensures.lattice c.laws.ensures.solution
-          owned c.laws.ensures.tested c.laws.ensures.copies c.laws.ensures.exceeded c.new-then-is_some.result found.0 (subst Is at found.1);
+          owned c.laws.ensures.solved c.new-then-is_some.result found.0 (subst Is at found.1);
       before = λ m lt.
           under_keeps c.args.graph.now c.args.self.now c.args.lattice.now.order c.requires.solved c.requires.named c.laws.ensures.lattice c.laws.ensures.solution
-          owned c.laws.ensures.tested c.laws.ensures.copies c.laws.ensures.over m (c.loop-n.invariant m (omega (arith, lt, c.new-then-is_some.ensures)));
+          owned c.laws.ensures.solved m (c.loop-n.invariant m (omega (arith, lt, c.new-then-is_some.ensures)));
     }
 
 pub returns-clause-under : goal.returns-clause-under
@@ -41,7 +41,7 @@ returns-clause-under c = λ n v limit e st.
 pub returns-clause-kept : goal.returns-clause-kept
 returns-clause-kept c = λ owned.
     kept c.args.graph.now c.args.self.now c.args.lattice.now.order c.requires.solved c.requires.named c.laws.ensures.lattice c.laws.ensures.solution
-    owned c.laws.ensures.tested c.laws.ensures.copies c.laws.ensures.over c.laws.ensures.accepted c.laws.ensures.printed c.laws.ensures.at_once
+    owned c.laws.ensures.solved
     (λ n v limit e st.
     let within : n < length c.args.graph.now.constraints = slice_get_within c.args.graph.now.constraints n st.constraint st.there in
     c.loop-n.invariant n (omega (arith, within, c.loop-n-test.false, c.len-n-end.ensures.length)) v limit e st)
