@@ -20,7 +20,7 @@ use c_lexer::tokens::Tokens;
 use flow_graph::graph::{FlowGraph, GraphFault};
 use lattice_core::Lattices;
 use lattice_solver::solver::Solver;
-use match_summary::rounds::summarise;
+use match_summary::summarise;
 use qual_base::faults::NoMemory;
 use qual_base::ids::LatticeNo;
 use second_form::generating::{generate, object_tokens};

@@ -10,7 +10,7 @@ use super::shortest;
 use flow_graph::constraint::{Constraint, Link};
 use flow_graph::graph::FlowGraph;
 use lattice_solver::solver::Solver;
-use match_summary::rounds::summarise;
+use match_summary::summarise;
 use qual_base::ids::{EdgeId, Elem, ElemSet, LatticeNo, Numbered, TokenId, UnitNo, VarId};
 use qual_base::places::Span;
 use std::alloc::Global;
