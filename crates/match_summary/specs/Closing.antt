@@ -1,10 +1,11 @@
 -- What the closure keeps while it looks at one pair after another, and when no pair is left.
-use Rattle.std.specs.Prelude.{◌≡◌, ℕ, ◌+◌, ◌<◌, ◌≤◌, ◌⊎◌, ◌↔◌, Bool, true, false, List, ◌++◌, length, slice_get, get_or, map, Some}
+use Rattle.std.specs.Prelude.{◌≡◌, ℕ, ◌<◌, ◌⊎◌, ◌↔◌, Bool, true, false, List, ◌++◌, slice_get, get_or, map, Some}
 use Rattle.flow_graph.specs.declared.constraint.Link.TheVariants.{Le, Enter, Leave}
-use Rattle.flow_graph.specs.System.{System, Stands}
-use Rattle.flow_graph.specs.Index.{Lists, IsIndexOf}
+use Rattle.flow_graph.specs.System.{System, AllBelow, Stands}
+use Rattle.flow_graph.specs.Index.{IsIndexOf}
 use Rattle.match_summary.specs.declared.reason.Reason.{Reason}
 use Rattle.match_summary.specs.declared.reason.Summary.{Summary}
+use Rattle.match_summary.specs.declared.closure.Premises.{Premises}
 use Rattle.match_summary.specs.declared.found.Found.{Found}
 use Rattle.match_summary.specs.Chained.{AreChained}
 use Rattle.match_summary.specs.Summary.{HasPair, Leads, AreOfOne, IsGrounded, StandsOnce, IsInnerEnd}
@@ -33,11 +34,12 @@ pub record IsKept (sys : System) (lattice : ℕ) (found : Found) : Type 0 where
 abbrev pub AreEnds : System → ℕ → List Bool → Type 0
 AreEnds sys lattice ends = (a : ℕ) → (get_or ends a false ≡ true) ↔ IsInnerEnd sys lattice a
 
--- the lists are the index of the system, and the marks its inner ends in the lattice
-pub record AreReady (sys : System) (lattice : ℕ) (lists : Lists) (ends : List Bool) : Type 0 where
-  pub low : lattice < 16
-  pub index : IsIndexOf sys lists
-  pub ends : AreEnds sys lattice ends
+-- the lists are the index of the system, the number is above its variables, and the marks are its inner ends in the lattice
+pub record AreReady (given : Premises) : Type 0 where
+  pub low : given.lattice < 16
+  pub index : IsIndexOf given.graph.now given.index.now
+  pub below : AllBelow given.graph.now given.vars
+  pub marked : AreEnds given.graph.now given.lattice given.ends.now
 
 -- the pair is there, where its variables are of one function
 abbrev pub Follows : System → List Summary → ℕ → ℕ → Type 0

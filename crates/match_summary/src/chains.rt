@@ -26,10 +26,10 @@ impl Chains {
     }
 
     /// The last place with a key. Constant time.
-    pub fn newest(&self, key: usize) -> Option<usize>
+    pub fn newest(&self, key: u32) -> Option<usize>
         ensures { (keys : List ℕ) → AreChained keys self.now → IsLink keys key (length keys) (link_of result) }
     {
-        match self.newest.get(key) {
+        match self.newest.get(key as usize) {
             Some(link) => place(*link),
             None => None,
         }
@@ -47,12 +47,13 @@ impl Chains {
 
     /// Chains one place more. Constant time but for growth, and 4 bytes; the first place of a key takes 4 bytes for each key
     /// up to it.
-    pub fn push(&mut self, key: usize) -> Result<(), NoMemory>
+    pub fn push(&mut self, key: u32) -> Result<(), NoMemory>
         ensures { OnOk result ((keys : List ℕ) → AreChained keys self.old → AreChained (keys ++ key ∷ []) self.new) }
     {
         let Ok(at) = u32::try_from(self.before.len() + 1) else {
             return Err(NoMemory);
         };
+        let key = key as usize;
         make_room(&mut self.newest, key + 1)?;
         self.before.push(self.newest[key])?;
         self.newest[key] = at;

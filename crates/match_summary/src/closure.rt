@@ -10,10 +10,14 @@
 //! Each pair is looked at once, as the first premise of flow and of group and as the third premise of group. Of two pairs
 //! that make a group together, the one that is looked at later finds the other.
 
-ghost use Rattle.std.specs.Prelude.{◌≡◌, ℕ, ◌<◌, ◌≤◌, ◌↔◌, [], length, slice_get, Some, IsTrue, IfOk, OnOk};
-ghost use Rattle.flow_graph.specs.System.{Stands};
+ghost use Rattle.std.specs.Prelude.{◌≡◌, ℕ, ◌<◌, ◌≤◌, ◌⊎◌, ◌↔◌, true, false, [], length, slice_index_or, IsTrue, IfOk, OnOk};
 ghost use Rattle.flow_graph.specs.declared.constraint.Link.TheVariants.{Enter, Leave};
-ghost use Rattle.match_summary.specs.Summary.{Summarises};
+ghost use Rattle.flow_graph.specs.System.{AllBelow, Stands};
+ghost use Rattle.flow_graph.specs.PathRules.{link_begins};
+ghost use Rattle.flow_graph.specs.Index.{link_site, IsKeyed};
+ghost use Rattle.match_summary.specs.Reason.{before_of};
+ghost use Rattle.match_summary.specs.Summary.{AreOfOne, EndsAt, HasPair, IsInnerEnd, Leads, Summarises};
+ghost use Rattle.match_summary.specs.Closing.{AllFollow, AreDone, AreEnds, AreReady, Follows, Grows, IsEntered, IsFollowed, IsKept, IsLeft, IsLookedAt, Looked};
 
 use crate::found::Found;
 use crate::inside::{are_of_one, joins};
@@ -26,12 +30,13 @@ use qual_base::faults::NoMemory;
 use qual_base::ids::{EdgeId, LatticeNo, Numbered, VarId};
 use std::alloc::Global;
 
-/// What the rules read: the constraints of one lattice, where they begin and their sites, and for each variable whether an
-/// `Enter` leads to it.
+/// What the rules read: the constraints of one lattice, how many variables there are, where the constraints begin and their
+/// sites, and for each variable whether an `Enter` leads to it.
 #[derive(Clone, Copy)]
 struct Premises<'a> {
     graph: &'a FlowGraph,
     lattice: LatticeNo,
+    vars: u32,
     index: &'a Adjacency,
     ends: &'a [bool],
 }
@@ -55,6 +60,7 @@ pub fn summarise(
     let given = Premises {
         graph,
         lattice,
+        vars: graph.vars(),
         index: &index,
         ends: ends.as_slice(),
     };
@@ -65,7 +71,10 @@ pub fn summarise(
 }
 
 /// For each variable whether an `Enter` of the lattice leads to it.
-fn inner_ends(alloc: Global, graph: &FlowGraph, lattice: LatticeNo) -> Result<Vec<bool>, NoMemory> {
+fn inner_ends(alloc: Global, graph: &FlowGraph, lattice: LatticeNo) -> Result<Vec<bool>, NoMemory>
+    requires { lattice < 16 }
+    ensures { IfOk result (λ ends. AreEnds graph.now lattice ends.items) }
+{
     let mut ends = vec![in alloc; false; graph.vars() as usize]?;
     for n in 0..graph.len() {
         mark(graph, lattice, EdgeId::new(n), &mut ends);
@@ -74,7 +83,15 @@ fn inner_ends(alloc: Global, graph: &FlowGraph, lattice: LatticeNo) -> Result<Ve
 }
 
 /// Marks the variable that a constraint enters.
-fn mark(graph: &FlowGraph, lattice: LatticeNo, at: EdgeId, ends: &mut Vec<bool>) {
+fn mark(graph: &FlowGraph, lattice: LatticeNo, at: EdgeId, ends: &mut Vec<bool>)
+    requires lattice { lattice < 16 }
+    requires at { at < length graph.now.constraints }
+    requires below { AllBelow graph.now (length ends.old.items) }
+    ensures size { length ends.new.items ≡ length ends.old.items }
+    ensures kept { (a : ℕ) → slice_index_or ends.old.items a false ≡ true → slice_index_or ends.new.items a false ≡ true }
+    ensures only { (a : ℕ) → slice_index_or ends.new.items a false ≡ true → (slice_index_or ends.old.items a false ≡ true) ⊎ IsInnerEnd graph.now lattice a }
+    ensures there { (s u a : ℕ) → Stands graph.now lattice at (Enter s u a) → slice_index_or ends.new.items a false ≡ true }
+{
     let constraint = graph.constraint(at);
     if !constraint.is_in(lattice) {
         return;
@@ -85,18 +102,41 @@ fn mark(graph: &FlowGraph, lattice: LatticeNo, at: EdgeId, ends: &mut Vec<bool>)
 }
 
 /// Looks at nothing, as the path from each inner end to itself.
-fn from_ends(given: &Premises, found: &mut Found) -> Result<(), NoMemory> {
-    for n in 0..given.graph.vars() {
-        let at = VarId::new(n);
-        if is_end(given, at) {
-            look(given, found, at, at)?;
-        }
+fn from_ends(given: &Premises, found: &mut Found) -> Result<(), NoMemory>
+    requires ready { AreReady given.now }
+    requires kept { IsKept given.now.graph.now given.now.lattice found.old }
+    requires none { found.old.known ≡ [] }
+    ensures kept { OnOk result (IsKept given.now.graph.now given.now.lattice found.new) }
+    ensures done { OnOk result (AreDone given.now.graph.now given.now.lattice (Looked found.new.known given.now.vars 0) found.new.known) }
+{
+    for n in 0..given.vars {
+        from_end(given, found, VarId::new(n))?;
     }
     Ok(())
 }
 
+/// Looks at nothing, as the path from a variable to itself, where an `Enter` leads to it.
+fn from_end(given: &Premises, found: &mut Found, at: VarId) -> Result<(), NoMemory>
+    requires ready { AreReady given.now }
+    requires kept { IsKept given.now.graph.now given.now.lattice found.old }
+    ensures kept { OnOk result (IsKept given.now.graph.now given.now.lattice found.new) }
+    ensures grows { OnOk result (Grows found.old.known found.new.known) }
+    ensures done { OnOk result (IsInnerEnd given.now.graph.now given.now.lattice at → IsLookedAt given.now.graph.now given.now.lattice found.old.known found.new.known at at) }
+{
+    if !is_end(given, at) {
+        return Ok(());
+    }
+    look(given, found, at, at)
+}
+
 /// Looks at each pair in turn, and at those that this adds.
-fn from_pairs(given: &Premises, found: &mut Found) -> Result<(), NoMemory> {
+fn from_pairs(given: &Premises, found: &mut Found) -> Result<(), NoMemory>
+    requires ready { AreReady given.now }
+    requires kept { IsKept given.now.graph.now given.now.lattice found.old }
+    requires done { AreDone given.now.graph.now given.now.lattice (Looked found.old.known given.now.vars 0) found.old.known }
+    ensures kept { OnOk result (IsKept given.now.graph.now given.now.lattice found.new) }
+    ensures done { OnOk result (AreDone given.now.graph.now given.now.lattice (Looked found.new.known given.now.vars (length found.new.known)) found.new.known) }
+{
     let mut at = 0;
     while at < found.len() {
         let pair = found.row(at);
@@ -107,7 +147,10 @@ fn from_pairs(given: &Premises, found: &mut Found) -> Result<(), NoMemory> {
 }
 
 /// Whether an `Enter` leads to a variable.
-fn is_end(given: &Premises, at: VarId) -> bool {
+fn is_end(given: &Premises, at: VarId) -> bool
+    requires { AreReady given.now }
+    ensures { IsTrue result ↔ IsInnerEnd given.now.graph.now given.now.lattice at }
+{
     match given.ends.get(at.number() as usize) {
         Some(is_end) => *is_end,
         None => false,
@@ -115,7 +158,15 @@ fn is_end(given: &Premises, at: VarId) -> bool {
 }
 
 /// Adds what follows from a path and the constraints that begin where it ends.
-fn look(given: &Premises, found: &mut Found, from: VarId, to: VarId) -> Result<(), NoMemory> {
+fn look(given: &Premises, found: &mut Found, from: VarId, to: VarId) -> Result<(), NoMemory>
+    requires ready { AreReady given.now }
+    requires kept { IsKept given.now.graph.now given.now.lattice found.old }
+    requires begins { IsInnerEnd given.now.graph.now given.now.lattice from }
+    requires path { Leads found.old.known from to }
+    ensures kept { OnOk result (IsKept given.now.graph.now given.now.lattice found.new) }
+    ensures grows { OnOk result (Grows found.old.known found.new.known) }
+    ensures done { OnOk result (IsLookedAt given.now.graph.now given.now.lattice found.old.known found.new.known from to) }
+{
     for edge in given.index.out(to) {
         follow(given, found, from, to, *edge)?;
     }
@@ -129,7 +180,16 @@ fn follow(
     from: VarId,
     to: VarId,
     edge: EdgeId,
-) -> Result<(), NoMemory> {
+) -> Result<(), NoMemory>
+    requires ready { AreReady given.now }
+    requires kept { IsKept given.now.graph.now given.now.lattice found.old }
+    requires begins { IsInnerEnd given.now.graph.now given.now.lattice from }
+    requires path { Leads found.old.known from to }
+    requires edge { IsKeyed given.now.graph.now link_begins to edge }
+    ensures kept { OnOk result (IsKept given.now.graph.now given.now.lattice found.new) }
+    ensures grows { OnOk result (Grows found.old.known found.new.known) }
+    ensures done { OnOk result (IsFollowed given.now.graph.now given.now.lattice found.old.known found.new.known from to edge) }
+{
     let constraint = given.graph.constraint(edge);
     if !constraint.is_in(given.lattice) {
         return Ok(());
@@ -164,7 +224,16 @@ fn enter(
     from: VarId,
     edge: EdgeId,
     call: &Crossing,
-) -> Result<(), NoMemory> {
+) -> Result<(), NoMemory>
+    requires ready { AreReady given.now }
+    requires kept { IsKept given.now.graph.now given.now.lattice found.old }
+    requires begins { IsInnerEnd given.now.graph.now given.now.lattice from }
+    requires path { Leads found.old.known from call.now.from }
+    requires call { Stands given.now.graph.now given.now.lattice edge (Enter call.now.site call.now.from call.now.to) }
+    ensures kept { OnOk result (IsKept given.now.graph.now given.now.lattice found.new) }
+    ensures grows { OnOk result (Grows found.old.known found.new.known) }
+    ensures done { OnOk result ((m : ℕ) → IsLeft given.now.graph.now given.now.lattice found.old.known found.new.known from call.now.site call.now.to m) }
+{
     for other in given.index.of_site(call.site) {
         close(given, found, from, edge, call, *other)?;
     }
@@ -180,7 +249,17 @@ fn close(
     edge: EdgeId,
     call: &Crossing,
     other: EdgeId,
-) -> Result<(), NoMemory> {
+) -> Result<(), NoMemory>
+    requires ready { AreReady given.now }
+    requires kept { IsKept given.now.graph.now given.now.lattice found.old }
+    requires begins { IsInnerEnd given.now.graph.now given.now.lattice from }
+    requires path { Leads found.old.known from call.now.from }
+    requires call { Stands given.now.graph.now given.now.lattice edge (Enter call.now.site call.now.from call.now.to) }
+    requires other { IsKeyed given.now.graph.now link_site call.now.site other }
+    ensures kept { OnOk result (IsKept given.now.graph.now given.now.lattice found.new) }
+    ensures grows { OnOk result (Grows found.old.known found.new.known) }
+    ensures done { OnOk result (IsLeft given.now.graph.now given.now.lattice found.old.known found.new.known from call.now.site call.now.to other) }
+{
     let constraint = given.graph.constraint(other);
     if !constraint.is_in(given.lattice) {
         return Ok(());
@@ -206,7 +285,15 @@ fn leave(
     from: VarId,
     edge: EdgeId,
     back: &Crossing,
-) -> Result<(), NoMemory> {
+) -> Result<(), NoMemory>
+    requires ready { AreReady given.now }
+    requires kept { IsKept given.now.graph.now given.now.lattice found.old }
+    requires path { Leads found.old.known from back.now.from }
+    requires back { Stands given.now.graph.now given.now.lattice edge (Leave back.now.site back.now.from back.now.to) }
+    ensures kept { OnOk result (IsKept given.now.graph.now given.now.lattice found.new) }
+    ensures grows { OnOk result (Grows found.old.known found.new.known) }
+    ensures done { OnOk result (AreOfOne given.now.graph.now from back.now.from → (m : ℕ) → IsEntered given.now.graph.now given.now.lattice found.old.known found.new.known from back.now.site back.now.to m) }
+{
     if !are_of_one(given.graph, from, back.from) {
         return Ok(());
     }
@@ -225,7 +312,17 @@ fn open(
     edge: EdgeId,
     back: &Crossing,
     other: EdgeId,
-) -> Result<(), NoMemory> {
+) -> Result<(), NoMemory>
+    requires ready { AreReady given.now }
+    requires kept { IsKept given.now.graph.now given.now.lattice found.old }
+    requires path { Leads found.old.known from back.now.from }
+    requires inside { AreOfOne given.now.graph.now from back.now.from }
+    requires back { Stands given.now.graph.now given.now.lattice edge (Leave back.now.site back.now.from back.now.to) }
+    requires other { IsKeyed given.now.graph.now link_site back.now.site other }
+    ensures kept { OnOk result (IsKept given.now.graph.now given.now.lattice found.new) }
+    ensures grows { OnOk result (Grows found.old.known found.new.known) }
+    ensures done { OnOk result (IsEntered given.now.graph.now given.now.lattice found.old.known found.new.known from back.now.site back.now.to other) }
+{
     let constraint = given.graph.constraint(other);
     if !constraint.is_in(given.lattice) {
         return Ok(());
@@ -245,24 +342,50 @@ fn open(
 }
 
 /// Adds what follows from a group and each path to where it begins.
-fn behind(given: &Premises, found: &mut Found, to: VarId, why: &Reason) -> Result<(), NoMemory> {
-    let before = why.before();
-    let newest = found.newest(before);
-    if is_end(given, before) {
-        extend(given, found, before, to, why)?;
-    }
-    behind_pairs(given, found, newest, to, why)
+fn behind(given: &Premises, found: &mut Found, to: VarId, why: &Reason) -> Result<(), NoMemory>
+    requires ready { AreReady given.now }
+    requires kept { IsKept given.now.graph.now given.now.lattice found.old }
+    requires part { EndsAt given.now.graph.now given.now.lattice found.old.known why.now to }
+    ensures kept { OnOk result (IsKept given.now.graph.now given.now.lattice found.new) }
+    ensures grows { OnOk result (Grows found.old.known found.new.known) }
+    ensures done { OnOk result (AllFollow given.now.graph.now given.now.lattice found.old.known found.new.known (before_of why.now) to) }
+{
+    behind_end(given, found, to, why)?;
+    behind_pairs(given, found, to, why)?;
+    Ok(())
 }
 
-/// Adds what follows from a group and each pair that leads to where it begins, from a place back.
+/// Adds what follows from a group and nothing before it, where an `Enter` leads to where it begins.
+fn behind_end(given: &Premises, found: &mut Found, to: VarId, why: &Reason) -> Result<(), NoMemory>
+    requires ready { AreReady given.now }
+    requires kept { IsKept given.now.graph.now given.now.lattice found.old }
+    requires part { EndsAt given.now.graph.now given.now.lattice found.old.known why.now to }
+    ensures kept { OnOk result (IsKept given.now.graph.now given.now.lattice found.new) }
+    ensures grows { OnOk result (Grows found.old.known found.new.known) }
+    ensures done { OnOk result (IsInnerEnd given.now.graph.now given.now.lattice (before_of why.now) → Follows given.now.graph.now found.new.known (before_of why.now) to) }
+{
+    let before = why.before();
+    if !is_end(given, before) {
+        return Ok(());
+    }
+    extend(given, found, before, to, why)
+}
+
+/// Adds what follows from a group and each pair that leads to where it begins, the newest first.
 fn behind_pairs(
     given: &Premises,
     found: &mut Found,
-    newest: Option<usize>,
     to: VarId,
     why: &Reason,
-) -> Result<(), NoMemory> {
-    let mut next = newest;
+) -> Result<(), NoMemory>
+    requires ready { AreReady given.now }
+    requires kept { IsKept given.now.graph.now given.now.lattice found.old }
+    requires part { EndsAt given.now.graph.now given.now.lattice found.old.known why.now to }
+    ensures kept { OnOk result (IsKept given.now.graph.now given.now.lattice found.new) }
+    ensures grows { OnOk result (Grows found.old.known found.new.known) }
+    ensures done { OnOk result ((t : ℕ) → HasPair found.old.known t (before_of why.now) → Follows given.now.graph.now found.new.known t to) }
+{
+    let mut next = found.newest(why.before());
     while let Some(at) = next {
         let pair = found.row(at);
         extend(given, found, pair.from, to, why)?;
@@ -278,9 +401,19 @@ fn extend(
     from: VarId,
     to: VarId,
     why: &Reason,
-) -> Result<(), NoMemory> {
+) -> Result<(), NoMemory>
+    requires ready { AreReady given.now }
+    requires kept { IsKept given.now.graph.now given.now.lattice found.old }
+    requires begins { IsInnerEnd given.now.graph.now given.now.lattice from }
+    requires front { Leads found.old.known from (before_of why.now) }
+    requires part { EndsAt given.now.graph.now given.now.lattice found.old.known why.now to }
+    ensures kept { OnOk result (IsKept given.now.graph.now given.now.lattice found.new) }
+    ensures grows { OnOk result (Grows found.old.known found.new.known) }
+    ensures done { OnOk result (Follows given.now.graph.now found.new.known from to) }
+{
     if found.known.holds(from, to) || !are_of_one(given.graph, from, to) {
         return Ok(());
     }
-    found.push(from, to, *why)
+    found.push(from, to, *why)?;
+    Ok(())
 }

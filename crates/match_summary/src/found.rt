@@ -50,7 +50,7 @@ impl Found {
         requires { AreChained (targets self.now.known) self.now.chains }
         ensures { IsLink (targets self.now.known) to (length self.now.known) (link_of result) }
     {
-        self.chains.newest(to.number() as usize)
+        self.chains.newest(to.number())
     }
 
     /// The place of the last pair before another that leads to the same variable. Constant time.
@@ -68,6 +68,6 @@ impl Found {
         ensures chained { OnOk result (AreChained (targets self.new.known) self.new.chains) }
     {
         self.known.push(from, to, why)?;
-        self.chains.push(to.number() as usize)
+        self.chains.push(to.number())
     }
 }
