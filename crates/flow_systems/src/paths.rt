@@ -15,7 +15,7 @@ use flow_graph::graph::FlowGraph;
 use flow_graph::proof::{PathProof, PathStep};
 use lattice_core::{Lattice, Lattices};
 use lattice_solver::solver::Solver;
-use match_summary::rounds::summarise;
+use match_summary::summarise;
 use match_summary::summary::Summaries;
 use path_checker::check;
 use qual_base::ids::{EdgeId, LatticeNo, Numbered};

@@ -14,7 +14,7 @@ use flow_graph::graph::FlowGraph;
 use flow_unfolding::unfolding::is_met;
 use lattice_core::Lattice;
 use lattice_solver::solver::Solver;
-use match_summary::rounds::summarise;
+use match_summary::summarise;
 use match_summary::summary::Summaries;
 use qual_base::ids::{EdgeId, LatticeNo, Numbered, VarId};
 use std::alloc::Global;

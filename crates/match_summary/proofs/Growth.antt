@@ -1,16 +1,16 @@
 -- How lists of summaries grow, and what stays true of them.
-use Rattle.std.proofs.Common.{◌≡◌, ℕ, zero, suc, ◌≤◌, ◌<◌, ◌⊎◌, inl, inr, List, [], ◌∷◌, ◌++◌, Some, length, take, slice_get, refl, sym, ◌∙◌, ap, subst, arith, append_assoc, append-nil}
+use Rattle.std.proofs.Common.{◌≡◌, ℕ, zero, suc, ◌+◌, ◌≤◌, ◌<◌, ◌⊎◌, inl, inr, List, [], ◌∷◌, ◌++◌, Some, length, take, slice_get, refl, sym, ◌∙◌, ap, subst, arith, append_assoc, append-nil}
 use Rattle.std.specs.List.{Contains}
 use Rattle.std.proofs.lemmas.List.{length-append, take-append-le}
-use Rattle.std.proofs.lemmas.List.Elements.{Contains-append_left}
+use Rattle.std.proofs.lemmas.List.Elements.{Contains-append_left, Contains-push_cases}
 use Rattle.std.proofs.lemmas.Option.{slice_get_within, slice_get-get_or, get_or_from_slice_get}
 use Rattle.std.proofs.Math.Seq.{take-append_seam}
 use Rattle.flow_graph.specs.System.{System}
 use Rattle.match_summary.specs.declared.reason.Reason.{Reason}
 use Rattle.match_summary.specs.declared.reason.Reason.TheVariants.{Last, Group}
 use Rattle.match_summary.specs.declared.reason.Summary.{Summary}
-use Rattle.match_summary.specs.Summary.{HasPair, Leads, EndsAt, RestsOn}
-use Rattle.match_summary.specs.Closing.{Grows, IsGood, GoesOn, IsLeft, IsFollowed}
+use Rattle.match_summary.specs.Summary.{HasPair, Leads, EndsAt, RestsOn, IsInnerEnd}
+use Rattle.match_summary.specs.Closing.{AllFollow, Follows, Grows, IsEntered, IsFollowed, IsGood, IsLeft, targets}
 
 -- an element by its place
 pub contains_at : {X : Type 0} (xs : List X) (n : ℕ) (x : X) → slice_get xs n ≡ Some x → Contains xs x
@@ -30,6 +30,32 @@ push_cases (z ∷ xs) x (suc n) y is = elim (push_cases xs x n y is) [
   | inr new ↦ inr (ap (λ k. suc k) new.0, new.1)
 ]
 
+pub push_left : {X : Type 0} (xs : List X) (last x : X) (n : ℕ) → slice_get xs n ≡ Some x → slice_get (xs ++ last ∷ []) n ≡ Some x
+push_left [] last x n is = absurd cc
+push_left (y ∷ xs) last x zero is = is
+push_left (y ∷ xs) last x (suc n) is = push_left xs last x n is
+
+pub push_last : {X : Type 0} (xs : List X) (last : X) → slice_get (xs ++ last ∷ []) (length xs) ≡ Some last
+push_last [] last = refl
+push_last (x ∷ xs) last = push_last xs last
+
+-- the elements of a longer list at the places of the shorter one
+front_on : {X : Type 0} (xs ys : List X) (n : ℕ) (x : X) → slice_get xs n ≡ Some x → slice_get (xs ++ ys) n ≡ Some x
+front_on [] ys n x is = absurd cc
+front_on (y ∷ xs) ys zero x is = is
+front_on (y ∷ xs) ys (suc n) x is = front_on xs ys n x is
+
+front_back : {X : Type 0} (xs ys : List X) (n : ℕ) (x : X) → n < length xs → slice_get (xs ++ ys) n ≡ Some x → slice_get xs n ≡ Some x
+front_back [] ys n x lt is = absurd (omega arith)
+front_back (y ∷ xs) ys zero x lt is = is
+front_back (y ∷ xs) ys (suc n) x lt is = front_back xs ys n x (omega arith) is
+
+pub at_grown : (old new : List Summary) (n : ℕ) (row : Summary) → Grows old new → slice_get old n ≡ Some row → slice_get new n ≡ Some row
+at_grown old new n row p is = ap (λ (rows : List Summary). slice_get rows n) p.is ∙ front_on old p.more n row is
+
+pub at_early : (old new : List Summary) (n : ℕ) (row : Summary) → Grows old new → n < length old → slice_get new n ≡ Some row → slice_get old n ≡ Some row
+at_early old new n row p lt is = front_back old p.more n row lt (ap (λ (rows : List Summary). slice_get rows n) (sym p.is) ∙ is)
+
 pub grows_not : (rows : List Summary) → Grows rows rows
 grows_not rows = record { more = []; is = sym (append-nil rows) }
 
@@ -39,13 +65,8 @@ grows_then a b c p q = record { more = p.more ++ q.more; is = q.is ∙ ap (λ xs
 pub grows_by : (rows : List Summary) (row : Summary) → Grows rows (rows ++ row ∷ [])
 grows_by rows row = record { more = row ∷ []; is = refl }
 
--- a list that is as long as before is the same
-pub grows_same : (old new : List Summary) → Grows old new → length new ≡ length old → new ≡ old
-grows_same old new p e = p.is ∙ none p.more (omega (arith, length-append old p.more, ap length p.is))
-  where
-    none : (more : List Summary) → length more ≡ 0 → old ++ more ≡ old
-    none [] z = append-nil old
-    none (x ∷ xs) z = absurd (omega arith)
+pub grows_longer : (old new : List Summary) → Grows old new → length old ≤ length new
+grows_longer old new p = let whole : length new ≡ length old + length p.more = ap length p.is ∙ length-append old p.more in omega (arith, whole)
 
 pub contains_grown : (old new : List Summary) (row : Summary) → Grows old new → Contains old row → Contains new row
 contains_grown old new row p there = subst (λ rows. Contains rows row) (sym p.is) (Contains-append_left old p.more row there)
@@ -63,8 +84,12 @@ ends_grown sys lattice old new (Group before enter leave) v p h = (h.0, h.1, h.2
 
 -- a new pair whose reason rests on the list keeps the list good
 pub good_push : (sys : System) (lattice : ℕ) (rows : List Summary) (row : Summary) → IsGood sys lattice rows → RestsOn sys lattice rows row →
-    (HasPair rows row.from row.to → ⊥) → IsGood sys lattice (rows ++ row ∷ [])
-good_push sys lattice rows row good rests new = record {
+    (HasPair rows row.from row.to → ⊥) → IsInnerEnd sys lattice row.from → IsGood sys lattice (rows ++ row ∷ [])
+good_push sys lattice rows row good rests new inner = record {
+  begins = λ u v pair. elim (Contains-push_cases rows row _ pair.1) [
+    | inl old ↦ good.begins u v (pair.0, old)
+    | inr last ↦ subst (λ x. IsInnerEnd sys lattice x) (ap (λ (r : Summary). r.from) last) inner
+  ];
   grounded = λ n r is. elim (push_cases rows row n r is) [
     | inl old ↦
         let lt = old.0 in
@@ -85,39 +110,60 @@ good_push sys lattice rows row good rests new = record {
   ];
 }
 
--- what goes on stays, and what leads in an older list leads in a newer one
-pub goes_on_on : (sys : System) (ends : List ℕ) (first old new : List Summary) (x v : ℕ) → Grows old new → GoesOn sys ends first old x v → GoesOn sys ends first new x v
-goes_on_on sys ends first old new x v p h = λ u there leads one. has_grown old new u v p (h u there leads one)
+pub follows_on : (sys : System) (old new : List Summary) (u w : ℕ) → Grows old new → Follows sys old u w → Follows sys new u w
+follows_on sys old new u w p h = λ one. has_grown old new u w p (h one)
 
-pub goes_on_from : (sys : System) (ends : List ℕ) (first old new : List Summary) (x v : ℕ) → Grows first old → GoesOn sys ends old new x v → GoesOn sys ends first new x v
-goes_on_from sys ends first old new x v p h = λ u there leads one. h u there (leads_grown first old u x p leads) one
+pub left_on : (sys : System) (lattice : ℕ) (first old new : List Summary) (u s a m : ℕ) → Grows old new → IsLeft sys lattice first old u s a m → IsLeft sys lattice first new u s a m
+left_on sys lattice first old new u s a m p h = λ b w st leads one. follows_on sys old new u w p (h b w st leads one)
 
-pub left_on : (sys : System) (lattice : ℕ) (ends : List ℕ) (first old new : List Summary) (site before inner leave : ℕ) → Grows old new →
-    IsLeft sys lattice ends first old site before inner leave → IsLeft sys lattice ends first new site before inner leave
-left_on sys lattice ends first old new site before inner leave p h = λ b v st leads one. goes_on_on sys ends first old new before v p (h b v st leads one)
+pub left_from : (sys : System) (lattice : ℕ) (first old new : List Summary) (u s a m : ℕ) → Grows first old → IsLeft sys lattice old new u s a m → IsLeft sys lattice first new u s a m
+left_from sys lattice first old new u s a m p h = λ b w st leads one. h b w st (leads_grown first old a b p leads) one
 
-pub left_from : (sys : System) (lattice : ℕ) (ends : List ℕ) (first old new : List Summary) (site before inner leave : ℕ) → Grows first old →
-    IsLeft sys lattice ends old new site before inner leave → IsLeft sys lattice ends first new site before inner leave
-left_from sys lattice ends first old new site before inner leave p h = λ b v st leads one.
-    goes_on_from sys ends first old new before v p (h b v st (leads_grown first old inner b p leads) one)
+pub all_on : (sys : System) (lattice : ℕ) (first old new : List Summary) (x w : ℕ) → Grows old new → AllFollow sys lattice first old x w → AllFollow sys lattice first new x w
+all_on sys lattice first old new x w p h = λ t inner leads. follows_on sys old new t w p (h t inner leads)
 
-pub followed_on : (sys : System) (lattice : ℕ) (ends : List ℕ) (first old new : List Summary) (n : ℕ) → Grows old new →
-    IsFollowed sys lattice ends n first old → IsFollowed sys lattice ends n first new
-followed_on sys lattice ends first old new n p h = record {
-  flow = λ x v st. goes_on_on sys ends first old new x v p (h.flow x v st);
-  group = λ s x a m st. left_on sys lattice ends first old new s x a m p (h.group s x a m st);
+pub all_from : (sys : System) (lattice : ℕ) (first old new : List Summary) (x w : ℕ) → Grows first old → AllFollow sys lattice old new x w → AllFollow sys lattice first new x w
+all_from sys lattice first old new x w p h = λ t inner leads. h t inner (leads_grown first old t x p leads)
+
+pub entered_on : (sys : System) (lattice : ℕ) (first old new : List Summary) (u s w m : ℕ) → Grows old new → IsEntered sys lattice first old u s w m → IsEntered sys lattice first new u s w m
+entered_on sys lattice first old new u s w m p h = λ x st. all_on sys lattice first old new x w p (h x st)
+
+pub entered_from : (sys : System) (lattice : ℕ) (first old new : List Summary) (u s w m : ℕ) → Grows first old → IsEntered sys lattice old new u s w m → IsEntered sys lattice first new u s w m
+entered_from sys lattice first old new u s w m p h = λ x st. all_from sys lattice first old new x w p (h x st)
+
+pub followed_on : (sys : System) (lattice : ℕ) (first old new : List Summary) (u v n : ℕ) → Grows old new → IsFollowed sys lattice first old u v n → IsFollowed sys lattice first new u v n
+followed_on sys lattice first old new u v n p h = record {
+  flow = λ w st. follows_on sys old new u w p (h.flow w st);
+  enter = λ s a m st. left_on sys lattice first old new u s a m p (h.enter s a m st);
+  leave = λ s w m st one. entered_on sys lattice first old new u s w m p (h.leave s w m st one);
 }
 
-pub followed_from : (sys : System) (lattice : ℕ) (ends : List ℕ) (first old new : List Summary) (n : ℕ) → Grows first old →
-    IsFollowed sys lattice ends n old new → IsFollowed sys lattice ends n first new
-followed_from sys lattice ends first old new n p h = record {
-  flow = λ x v st. goes_on_from sys ends first old new x v p (h.flow x v st);
-  group = λ s x a m st. left_from sys lattice ends first old new s x a m p (h.group s x a m st);
+pub followed_from : (sys : System) (lattice : ℕ) (first old new : List Summary) (u v n : ℕ) → Grows first old → IsFollowed sys lattice old new u v n → IsFollowed sys lattice first new u v n
+followed_from sys lattice first old new u v n p h = record {
+  flow = h.flow;
+  enter = λ s a m st. left_from sys lattice first old new u s a m p (h.enter s a m st);
+  leave = λ s w m st one. entered_from sys lattice first old new u s w m p (h.leave s w m st one);
 }
 
--- a number of no constraint has no parts
-pub followed_past : (sys : System) (lattice : ℕ) (ends : List ℕ) (old new : List Summary) (n : ℕ) → length sys.constraints ≤ n → IsFollowed sys lattice ends n old new
-followed_past sys lattice ends old new n past = record {
-  flow = λ x v st. let lt = slice_get_within sys.constraints n st.constraint st.there in absurd (omega arith);
-  group = λ s x a m st. let lt = slice_get_within sys.constraints n st.constraint st.there in absurd (omega arith);
-}
+-- what the pairs lead to, by their places
+pub target_at : (rows : List Summary) (n : ℕ) (row : Summary) → slice_get rows n ≡ Some row → slice_get (targets rows) n ≡ Some row.to
+target_at [] n row is = absurd cc
+target_at (x ∷ rows) zero row is = cc
+target_at (x ∷ rows) (suc n) row is = target_at rows n row is
+
+pub row_at : (rows : List Summary) (n to : ℕ) → slice_get (targets rows) n ≡ Some to → (row : Summary) × (slice_get rows n ≡ Some row) × (row.to ≡ to)
+row_at [] n to is = absurd cc
+row_at (x ∷ rows) zero to is = (x, refl, cc)
+row_at (x ∷ rows) (suc n) to is = row_at rows n to is
+
+pub targets_grown : (old new : List Summary) (n to : ℕ) → Grows old new → slice_get (targets old) n ≡ Some to → slice_get (targets new) n ≡ Some to
+targets_grown old new n to p is =
+    let row = row_at old n to is in
+    target_at new n row.0 (at_grown old new n row.0 p row.1) ∙ ap (λ (x : ℕ). Some x) row.2
+
+-- what follows of a part behind nothing and behind the pairs
+pub all_follow : (sys : System) (lattice : ℕ) (first old new : List Summary) (x w : ℕ) → Grows first old → Grows old new → (IsInnerEnd sys lattice x → Follows sys old x w) →
+    ((t : ℕ) → HasPair old t x → Follows sys new t w) → AllFollow sys lattice first new x w
+all_follow sys lattice first old new x w p q here pairs t inner (inl same) one =
+    has_grown old new t w q (subst (λ y. Follows sys old y w) (sym same) (here (subst (λ y. IsInnerEnd sys lattice y) same inner)) one)
+all_follow sys lattice first old new x w p q here pairs t inner (inr pair) one = pairs t (has_grown first old t x p pair) one

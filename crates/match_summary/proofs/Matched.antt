@@ -11,7 +11,7 @@ use Rattle.match_summary.specs.declared.reason.Reason.TheVariants.{Last, Group}
 use Rattle.match_summary.specs.declared.reason.Summary.{Summary}
 use Rattle.match_summary.specs.Reason.{before_of}
 use Rattle.match_summary.specs.Summary.{HasPair, Leads, EndsAt, IsGrounded, IsInnerEnd, Summarises}
-use Rattle.match_summary.specs.Closing.{HasEnds, IsGood, IsClosed}
+use Rattle.match_summary.specs.Closing.{IsGood, IsClosed}
 
 -- a matched path begins and ends in its function
 pub matches_begin : (sys : System) (lattice f u v : ℕ) → Matches sys lattice f u v → owner_of sys u ≡ Function f
@@ -77,23 +77,24 @@ good_match sys lattice rows good u v pair =
     grounded_match sys lattice rows good.grounded (suc there.0) there.0 (record { from = u; to = v; why = pair.0 }) (omega arith)
     (slice_get-get_or rows there.0 _ there.1 ∙ ap (λ (x : Summary). Some x) there.2)
 
-module _ (sys : System) (lattice : ℕ) (ends : List ℕ) (rows : List Summary) (closed : IsClosed sys lattice ends rows) (all : HasEnds sys lattice ends) where
+module _ (sys : System) (lattice : ℕ) (rows : List Summary) (closed : IsClosed sys lattice rows) where
   mutual
     matches_lead : (f u x : ℕ) → IsInnerEnd sys lattice u → Matches sys lattice f u x → Leads rows u x
     matches_lead f u x inner (stay _ _ o) = inl refl
     matches_lead f u x inner (longer _ _ y _ m p) = inr (part_leads f u y x inner (matches_begin sys lattice f u y m) (matches_lead f u y inner m) p)
 
     part_leads : (f u y x : ℕ) → IsInnerEnd sys lattice u → owner_of sys u ≡ Function f → Leads rows u y → Part sys lattice f y x → HasPair rows u x
-    part_leads f u y x inner begins front (flow _ _ _ n st o) = (closed n).flow y x st u (all u inner) front (f, begins, o)
+    part_leads f u y x inner begins front (flow _ _ _ n st o) = closed.flow n u y x inner front st (f, begins, o)
     part_leads f u y x inner begins front (group _ _ a b _ s g n m st p st2 o) =
-        (closed n).group s y a m st b x st2 (matches_lead g a b (n, s, y, st) p) (g, matches_begin sys lattice g a b p, matches_end sys lattice g a b p) u (all u inner) front (f, begins, o)
+        closed.group n m s u y a b x inner front st (inr (matches_lead g a b (n, s, y, st) p)) (g, matches_begin sys lattice g a b p, matches_end sys lattice g a b p) st2 (f, begins, o)
 
-  pub closed_whole : (u v : ℕ) → IsInnerEnd sys lattice u → Match sys lattice u v → HasPair rows u v
+  closed_whole : (u v : ℕ) → IsInnerEnd sys lattice u → Match sys lattice u v → HasPair rows u v
   closed_whole u v inner path =
       part_leads path.0 u path.1 v inner (matches_begin sys lattice path.0 u path.1 path.2) (matches_lead path.0 u path.1 inner path.2) path.3
 
   pub closed_summarises : IsGood sys lattice rows → Summarises sys lattice rows
   closed_summarises good = record {
+    begins = good.begins;
     sound = good_match sys lattice rows good;
     whole = closed_whole;
     grounded = good.grounded;

@@ -1,20 +1,12 @@
 -- The places of a list with one more summary.
-use Rattle.std.proofs.Common.{◌≡◌, ◌≢◌, ℕ, zero, suc, List, [], ◌∷◌, ◌++◌, length, slice_get, Option, Some, None, inl, inr, refl, sym, ◌∙◌, ap, subst}
+use Rattle.std.proofs.Common.{◌≡◌, ◌≢◌, ℕ, List, [], ◌∷◌, ◌++◌, length, slice_get, Option, Some, None, inl, inr, sym, ◌∙◌, ap, subst}
 use Rattle.std.proofs.lemmas.Bool.{cases_eq}
 use Rattle.std.proofs.lemmas.List.Elements.{Contains-push_cases}
 use Rattle.match_summary.specs.declared.reason.Reason.{Reason}
 use Rattle.match_summary.specs.declared.reason.Summary.{Summary}
 use Rattle.match_summary.specs.Summary.{HasPair}
 use Rattle.match_summary.specs.Placed.{ArePlaced}
-
-push_left : (rows : List Summary) (last row : Summary) (n : ℕ) → slice_get rows n ≡ Some row → slice_get (rows ++ last ∷ []) n ≡ Some row
-push_left [] last row n is = absurd cc
-push_left (x ∷ rows) last row zero is = is
-push_left (x ∷ rows) last row (suc n) is = push_left rows last row n is
-
-push_last : (rows : List Summary) (last : Summary) → slice_get (rows ++ last ∷ []) (length rows) ≡ Some last
-push_last [] last = refl
-push_last (x ∷ rows) last = push_last rows last
+use Rattle.match_summary.proofs.Growth.{push_last, push_left}
 
 some_is : (n m : ℕ) → Some n ≡ Some m → n ≡ m
 some_is n m e = cc

@@ -1,9 +1,13 @@
--- What the rounds of the closure keep, and when no round finds more.
-use Rattle.std.specs.Prelude.{◌≡◌, ℕ, List, ◌++◌}
-use Rattle.std.specs.List.{Contains}
+-- What the closure keeps while it looks at one pair after another, and when no pair is left.
+use Rattle.std.specs.Prelude.{◌≡◌, ℕ, ◌<◌, ◌⊎◌, ◌↔◌, Bool, true, false, List, ◌++◌, slice_get, get_or, map, Some}
 use Rattle.flow_graph.specs.declared.constraint.Link.TheVariants.{Le, Enter, Leave}
-use Rattle.flow_graph.specs.System.{System, Stands}
+use Rattle.flow_graph.specs.System.{System, AllBelow, Stands}
+use Rattle.flow_graph.specs.Index.{IsIndexOf}
+use Rattle.match_summary.specs.declared.reason.Reason.{Reason}
 use Rattle.match_summary.specs.declared.reason.Summary.{Summary}
+use Rattle.match_summary.specs.declared.closure.Premises.{Premises}
+use Rattle.match_summary.specs.declared.found.Found.{Found}
+use Rattle.match_summary.specs.Chained.{AreChained}
 use Rattle.match_summary.specs.Summary.{HasPair, Leads, AreOfOne, IsGrounded, StandsOnce, IsInnerEnd}
 
 -- a list of summaries after more were found
@@ -11,27 +15,68 @@ pub record Grows (old new : List Summary) : Type 0 where
   pub more : List Summary
   pub is : new ≡ old ++ more
 
--- each reason rests on earlier pairs, and no pair stands twice
+-- each pair begins at an inner end, each reason rests on earlier pairs, and no pair stands twice
 pub record IsGood (sys : System) (lattice : ℕ) (rows : List Summary) : Type 0 where
+  pub begins : (u v : ℕ) → HasPair rows u v → IsInnerEnd sys lattice u
   pub grounded : IsGrounded sys lattice rows
   pub once : StandsOnce rows
 
--- the list has each inner end
-abbrev pub HasEnds : System → ℕ → List ℕ → Type 0
-HasEnds sys lattice ends = (a : ℕ) → IsInnerEnd sys lattice a → Contains ends a
+-- the variables that the pairs lead to
+abbrev pub targets : List Summary → List ℕ
+targets rows = map (λ row. row.to) rows
 
--- what leads from one of these to the first variable in the old list leads on to the other in the new one
-abbrev pub GoesOn : System → List ℕ → List Summary → List Summary → ℕ → ℕ → Type 0
-GoesOn sys ends old new x v = (u : ℕ) → Contains ends u → Leads old u x → AreOfOne sys u v → HasPair new u v
+-- what was found is good, and chained by the variables that the pairs lead to
+pub record IsKept (sys : System) (lattice : ℕ) (found : Found) : Type 0 where
+  pub good : IsGood sys lattice found.known
+  pub chained : AreChained (targets found.known) found.chains
 
--- each group that begins with an Enter of the site, inside the function with one variable of the old list, was followed
-abbrev pub IsLeft : System → ℕ → List ℕ → List Summary → List Summary → ℕ → ℕ → ℕ → ℕ → Type 0
-IsLeft sys lattice ends old new site before inner leave = (b v : ℕ) → Stands sys lattice leave (Leave site b v) → Leads old inner b → AreOfOne sys inner b → GoesOn sys ends old new before v
+-- a mark for each variable where an Enter leads
+abbrev pub AreEnds : System → ℕ → List Bool → Type 0
+AreEnds sys lattice ends = (a : ℕ) → (get_or ends a false ≡ true) ↔ IsInnerEnd sys lattice a
 
--- each part that begins with a constraint was followed
-pub record IsFollowed (sys : System) (lattice : ℕ) (ends : List ℕ) (n : ℕ) (old new : List Summary) : Type 0 where
-  pub flow : (x v : ℕ) → Stands sys lattice n (Le x v) → GoesOn sys ends old new x v
-  pub group : (s x a m : ℕ) → Stands sys lattice n (Enter s x a) → IsLeft sys lattice ends old new s x a m
+-- the lists are the index of the system, the number is above its variables, and the marks are its inner ends in the lattice
+pub record AreReady (given : Premises) : Type 0 where
+  pub low : given.lattice < 16
+  pub index : IsIndexOf given.graph.now given.index.now
+  pub below : AllBelow given.graph.now given.vars
+  pub marked : AreEnds given.graph.now given.lattice given.ends.now
 
-abbrev pub IsClosed : System → ℕ → List ℕ → List Summary → Type 0
-IsClosed sys lattice ends rows = (n : ℕ) → IsFollowed sys lattice ends n rows rows
+-- the pair is there, where its variables are of one function
+abbrev pub Follows : System → List Summary → ℕ → ℕ → Type 0
+Follows sys rows u w = AreOfOne sys u w → HasPair rows u w
+
+-- constraint m, as a Leave of the site behind an Enter from u to a, was followed
+abbrev pub IsLeft : System → ℕ → List Summary → List Summary → ℕ → ℕ → ℕ → ℕ → Type 0
+IsLeft sys lattice old new u s a m = (b w : ℕ) → Stands sys lattice m (Leave s b w) → Leads old a b → AreOfOne sys a b → Follows sys new u w
+
+-- the pairs that a part from x to w adds to what leads to x
+abbrev pub AllFollow : System → ℕ → List Summary → List Summary → ℕ → ℕ → Type 0
+AllFollow sys lattice old new x w = (t : ℕ) → IsInnerEnd sys lattice t → Leads old t x → Follows sys new t w
+
+-- constraint m, as an Enter to u before a Leave of the site to w, was followed
+abbrev pub IsEntered : System → ℕ → List Summary → List Summary → ℕ → ℕ → ℕ → ℕ → Type 0
+IsEntered sys lattice old new u s w m = (x : ℕ) → Stands sys lattice m (Enter s x u) → AllFollow sys lattice old new x w
+
+-- What follows from a path from u to v and constraint n is there.
+pub record IsFollowed (sys : System) (lattice : ℕ) (old new : List Summary) (u v n : ℕ) : Type 0 where
+  pub flow : (w : ℕ) → Stands sys lattice n (Le v w) → Follows sys new u w
+  pub enter : (s a m : ℕ) → Stands sys lattice n (Enter s v a) → IsLeft sys lattice old new u s a m
+  pub leave : (s w m : ℕ) → Stands sys lattice n (Leave s v w) → AreOfOne sys u v → IsEntered sys lattice old new u s w m
+
+-- What follows from a path from u to v is there.
+abbrev pub IsLookedAt : System → ℕ → List Summary → List Summary → ℕ → ℕ → Type 0
+IsLookedAt sys lattice old new u v = (n : ℕ) → IsFollowed sys lattice old new u v n
+
+-- The paths that were looked at: nothing at each variable below `low`, and each pair before place `at`.
+abbrev pub Looked : List Summary → ℕ → ℕ → ℕ → ℕ → Type 0
+Looked rows low at u v = ((u ≡ v) × (u < low)) ⊎ ((n : ℕ) × (why : Reason) × (n < at) × (slice_get rows n ≡ Some (record { from = u; to = v; why = why })))
+
+-- What follows by the rules from such paths is there.
+pub record AreDone (sys : System) (lattice : ℕ) (Path : ℕ → ℕ → Type 0) (rows : List Summary) : Type 0 where
+  pub flow : (n u v w : ℕ) → IsInnerEnd sys lattice u → Path u v → Stands sys lattice n (Le v w) → Follows sys rows u w
+  pub group : (n m s u x a b w : ℕ) → IsInnerEnd sys lattice u → Path u x → Stands sys lattice n (Enter s x a) → (a ≡ b) ⊎ Path a b → AreOfOne sys a b →
+      Stands sys lattice m (Leave s b w) → Follows sys rows u w
+
+-- All that follows by the rules is there.
+abbrev pub IsClosed : System → ℕ → List Summary → Type 0
+IsClosed sys lattice rows = AreDone sys lattice (Leads rows) rows

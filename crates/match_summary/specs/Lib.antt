@@ -1,3 +1,4 @@
+pub mod Chained
 pub mod Closing
 pub mod Placed
 pub mod Places

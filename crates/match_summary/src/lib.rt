@@ -1,10 +1,14 @@
 //! Which variables of a function matched paths join: the closure of the constraints under calls whose returns match.
 #![tactic(auto)]
 
+mod chains;
+mod closure;
+mod found;
 pub mod inside;
 pub mod places;
 pub mod reason;
-pub mod rounds;
 pub mod summary;
 #[cfg(test)]
 mod tests;
+
+pub use closure::summarise;

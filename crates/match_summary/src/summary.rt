@@ -1,6 +1,6 @@
 //! Pairs of variables with the last part of a path from one to the other.
 
-ghost use Rattle.std.specs.Prelude.{◌≡◌, ℕ, ◌+◌, ◌<◌, ◌^◌, ◌↔◌, [], ◌∷◌, ◌++◌, length, IsTrue, IsSome, IfSome, OnOk, OnErr};
+ghost use Rattle.std.specs.Prelude.{◌≡◌, ℕ, ◌+◌, ◌<◌, ◌^◌, ◌↔◌, [], ◌∷◌, ◌++◌, length, slice_get, Some, IsTrue, IsSome, IfSome, OnOk, OnErr};
 ghost use Rattle.std.specs.List.{Contains};
 ghost use Rattle.match_summary.specs.Summary.{HasPair, Leads};
 
@@ -48,6 +48,14 @@ impl Summaries {
         ensures { result ≡ length self.now }
     {
         self.rows.len()
+    }
+
+    /// A summary by its place. Constant time.
+    pub fn row(&self, at: usize) -> Summary
+        requires { at < length self.now }
+        ensures { slice_get self.now at ≡ Some result }
+    {
+        self.rows[at]
     }
 
     /// Adds a summary. Constant time but for growth.

@@ -4,7 +4,8 @@ ghost use Rattle.std.specs.Prelude.{◌≡◌, length};
 ghost use Rattle.flow_graph.specs.System.{IsWithin};
 
 use crate::reason::Reason;
-use crate::rounds::summarise;
+use crate::summarise;
+use crate::summary::Summaries;
 use flow_graph::constraint::{Constraint, Link, Site};
 use flow_graph::graph::FlowGraph;
 use qual_base::ids::{EdgeId, FuncId, LatticeNo, Numbered, SiteId, TokenId, UnitNo, VarId};
@@ -15,7 +16,7 @@ use std::test::Fail;
 
 /// Adds a call of a function in another, or at file scope.
 fn call(rt: &impl Abort, graph: &mut FlowGraph, target: u32, owner: Owner) -> Result<(), Fail> {
-    assert!(rt; graph.sites() < 1000);
+    assert!(rt; graph.sites() < 1_000_000);
     graph.add_site(Site {
         unit: UnitNo::new(1),
         token: TokenId::new(0),
@@ -102,5 +103,122 @@ fn a_group_rests_on_the_path_inside(rt: HostRuntime) -> Result<(), Fail> {
     }
     let none = summarise(rt.alloc(), &graph, LatticeNo::new(0))?;
     assert!(rt; !none.holds(VarId::new(2), VarId::new(3)));
+    Ok(())
+}
+
+/// Functions that call one another in a row, function k with variables 2k and 2k + 1: site k is a call of the function
+/// behind function k, which takes variable 2k and gives variable 2k + 1. In the last function 2k flows to 2k + 1. The
+/// constraints stand from the first function on, or the other way round.
+fn row_of_calls(
+    rt: &impl Abort,
+    alloc: Global,
+    functions: u32,
+    is_reversed: bool,
+) -> Result<FlowGraph, Fail> {
+    let mut graph = functions_of_two(rt, alloc, functions)?;
+    for k in 0..functions - 1 {
+        call(rt, &mut graph, k + 1, Owner::Function(FuncId::new(k)))?;
+    }
+    let last = functions - 1;
+    if is_reversed {
+        flow(rt, &mut graph, 2 * last, 2 * last + 1)?;
+    }
+    for n in 0..last {
+        let k = if is_reversed { last - 1 - n } else { n };
+        put_call(rt, &mut graph, k, k + 1, is_reversed)?;
+    }
+    if !is_reversed {
+        flow(rt, &mut graph, 2 * last, 2 * last + 1)?;
+    }
+    Ok(graph)
+}
+
+/// The same, but the last function calls the first, and the flow is in the middle.
+fn ring_of_calls(rt: &impl Abort, alloc: Global, functions: u32) -> Result<FlowGraph, Fail> {
+    let mut graph = functions_of_two(rt, alloc, functions)?;
+    for k in 0..functions {
+        let target = if k + 1 == functions { 0 } else { k + 1 };
+        call(rt, &mut graph, target, Owner::Function(FuncId::new(k)))?;
+        put_call(rt, &mut graph, k, target, false)?;
+    }
+    flow(rt, &mut graph, functions, functions + 1)?;
+    Ok(graph)
+}
+
+/// Functions with two variables each.
+fn functions_of_two(rt: &impl Abort, alloc: Global, functions: u32) -> Result<FlowGraph, Fail> {
+    assert!(rt; 0 < functions && functions < 1_000_000);
+    let mut graph = FlowGraph::new(alloc);
+    for k in 0..functions {
+        graph.set_owner(VarId::new(2 * k), Owner::Function(FuncId::new(k)))?;
+        graph.set_owner(VarId::new(2 * k + 1), Owner::Function(FuncId::new(k)))?;
+    }
+    Ok(graph)
+}
+
+/// Adds the call and the return of a site, or the other way round, from one function of two variables to another.
+fn put_call(
+    rt: &impl Abort,
+    graph: &mut FlowGraph,
+    caller: u32,
+    target: u32,
+    is_reversed: bool,
+) -> Result<(), Fail> {
+    assert!(rt; caller < graph.sites() && caller < 1_000_000 && target < 1_000_000);
+    let at = SiteId::new(caller);
+    let enter = Link::Enter(at, VarId::new(2 * caller), VarId::new(2 * target));
+    let leave = Link::Leave(at, VarId::new(2 * target + 1), VarId::new(2 * caller + 1));
+    if is_reversed {
+        put(graph, leave)?;
+        put(graph, enter)
+    } else {
+        put(graph, enter)?;
+        put(graph, leave)
+    }
+}
+
+/// Adds a flow.
+fn flow(rt: &impl Abort, graph: &mut FlowGraph, from: u32, to: u32) -> Result<(), Fail> {
+    assert!(rt; from < 2_000_001 && to < 2_000_001);
+    put(graph, Link::Le(VarId::new(from), VarId::new(to)))
+}
+
+/// Whether a path leads from one variable to another.
+fn leads(summaries: &Summaries, from: u32, to: u32) -> bool {
+    summaries.holds(VarId::new(from), VarId::new(to))
+}
+
+#[test]
+fn half_a_million_calls_in_a_row(rt: HostRuntime) -> Result<(), Fail> {
+    let graph = row_of_calls(&rt, rt.alloc(), 500_001, false)?;
+    let summaries = summarise(rt.alloc(), &graph, LatticeNo::new(1))?;
+    assert!(rt; leads(&summaries, 2, 3));
+    assert!(rt; !leads(&summaries, 2, 5));
+    Ok(())
+}
+
+#[test]
+fn half_a_million_calls_in_a_row_from_the_last(rt: HostRuntime) -> Result<(), Fail> {
+    let graph = row_of_calls(&rt, rt.alloc(), 500_001, true)?;
+    let summaries = summarise(rt.alloc(), &graph, LatticeNo::new(1))?;
+    assert!(rt; leads(&summaries, 2, 3));
+    assert!(rt; !leads(&summaries, 2, 5));
+    Ok(())
+}
+
+#[test]
+fn a_chain_and_a_ring_of_calls(rt: HostRuntime) -> Result<(), Fail> {
+    let functions = 100_000;
+    let chain = row_of_calls(&rt, rt.alloc(), functions, false)?;
+    let ring = ring_of_calls(&rt, rt.alloc(), functions)?;
+    let of_chain = summarise(rt.alloc(), &chain, LatticeNo::new(1))?;
+    let of_ring = summarise(rt.alloc(), &ring, LatticeNo::new(1))?;
+    assert!(rt; !leads(&of_chain, 0, 1));
+    assert!(rt; leads(&of_ring, 0, 1));
+    for k in 1..functions {
+        assert!(rt; leads(&of_chain, 2 * k, 2 * k + 1), "function {k}");
+        assert!(rt; leads(&of_ring, 2 * k, 2 * k + 1), "function {k}");
+        assert!(rt; !leads(&of_ring, 2 * k, 2 * k - 1), "function {k}");
+    }
     Ok(())
 }

@@ -1,0 +1,8 @@
+use Rattle.match_summary.specs.Closing.{AreDone, IsKept, Looked}
+use Rattle.match_summary.proofs.closure.from_ends.Given as goal
+
+abbrev pub invariant-loop-n : goal.invariant-loop-n
+invariant-loop-n l = record {
+  kept : IsKept l.given.graph.now l.given.lattice l.found;
+  done : AreDone l.given.graph.now l.given.lattice (Looked l.found.known l.n 0) l.found.known;
+}

@@ -1,0 +1,83 @@
+//! Places of a list, chained by a key of each.
+
+ghost use Rattle.std.specs.Prelude.{◌≡◌, ℕ, ◌≤◌, List, [], ◌∷◌, ◌++◌, length, slice_get, slice_index, Some, OnOk};
+ghost use Rattle.match_summary.specs.Chained.{AreChained, IsLink, link_of};
+
+use qual_base::faults::NoMemory;
+use std::alloc::Global;
+
+/// For each key the newest place of a list that has it, and for each place the one before it with the same key. A link is
+/// one more than a place, and 0 where there is none.
+#[derive(Drop)]
+pub struct Chains {
+    newest: Vec<u32>,
+    before: Vec<u32>,
+}
+
+impl Chains {
+    /// The chains of an empty list. Takes no memory.
+    pub fn new(alloc: Global) -> Self
+        ensures { AreChained [] result }
+    {
+        Chains {
+            newest: Vec::new(alloc),
+            before: Vec::new(alloc),
+        }
+    }
+
+    /// The last place with a key. Constant time.
+    pub fn newest(&self, key: u32) -> Option<usize>
+        ensures { (keys : List ℕ) → AreChained keys self.now → IsLink keys key (length keys) (link_of result) }
+    {
+        match self.newest.get(key as usize) {
+            Some(link) => place(*link),
+            None => None,
+        }
+    }
+
+    /// The last place before another that has the same key. Constant time.
+    pub fn before(&self, at: usize) -> Option<usize>
+        ensures { (keys : List ℕ) (key : ℕ) → AreChained keys self.now → slice_get keys at ≡ Some key → IsLink keys key at (link_of result) }
+    {
+        match self.before.get(at) {
+            Some(link) => place(*link),
+            None => None,
+        }
+    }
+
+    /// Chains one place more. Constant time but for growth, and 4 bytes; the first place of a key takes 4 bytes for each key
+    /// up to it.
+    pub fn push(&mut self, key: u32) -> Result<(), NoMemory>
+        ensures { OnOk result ((keys : List ℕ) → AreChained keys self.old → AreChained (keys ++ key ∷ []) self.new) }
+    {
+        let Ok(at) = u32::try_from(self.before.len() + 1) else {
+            return Err(NoMemory);
+        };
+        let key = key as usize;
+        make_room(&mut self.newest, key + 1)?;
+        self.before.push(self.newest[key])?;
+        self.newest[key] = at;
+        Ok(())
+    }
+}
+
+/// The place of a link.
+fn place(link: u32) -> Option<usize>
+    ensures { link_of result ≡ link }
+{
+    if link == 0 {
+        return None;
+    }
+    Some(link as usize - 1)
+}
+
+/// Gives at least so many keys a link, at first to no place.
+fn make_room(links: &mut Vec<u32>, count: usize) -> Result<(), NoMemory>
+    ensures room { OnOk result (count ≤ length links.new.items) }
+    ensures same { OnOk result ((key : ℕ) → slice_index links.new.items key ≡ slice_index links.old.items key) }
+{
+    if count > links.len() {
+        links.resize(count, 0)?;
+    }
+    Ok(())
+}

@@ -1,0 +1,419 @@
+//! The closure of matched paths by a worklist. Its rules, for variables u and w of one function and variables a and b of
+//! one function:
+//!
+//! ```text
+//! start:  from an Enter to u                                                     follows u ⇒ u
+//! flow:   from u ⇒ v and a flow from v to w                                      follows u ⇒ w
+//! group:  from u ⇒ x, an Enter of s from x to a, a ⇒ b, a Leave of s from b to w  follows u ⇒ w
+//! ```
+//!
+//! Each pair is looked at once, as the first premise of flow and of group and as the third premise of group. Of two pairs
+//! that make a group together, the one that is looked at later finds the other.
+
+ghost use Rattle.std.specs.Prelude.{◌≡◌, ℕ, ◌<◌, ◌≤◌, ◌⊎◌, ◌↔◌, true, false, [], length, slice_index_or, IsTrue, IfOk, OnOk};
+ghost use Rattle.flow_graph.specs.declared.constraint.Link.TheVariants.{Enter, Leave};
+ghost use Rattle.flow_graph.specs.System.{AllBelow, Stands};
+ghost use Rattle.flow_graph.specs.PathRules.{link_begins};
+ghost use Rattle.flow_graph.specs.Index.{link_site, IsKeyed};
+ghost use Rattle.match_summary.specs.Reason.{before_of};
+ghost use Rattle.match_summary.specs.Summary.{AreOfOne, EndsAt, HasPair, IsInnerEnd, Leads, Summarises};
+ghost use Rattle.match_summary.specs.Closing.{AllFollow, AreDone, AreEnds, AreReady, Follows, Grows, IsEntered, IsFollowed, IsKept, IsLeft, IsLookedAt, Looked};
+
+use crate::found::Found;
+use crate::inside::{are_of_one, joins};
+use crate::reason::Reason;
+use crate::summary::Summaries;
+use flow_graph::adjacency::Adjacency;
+use flow_graph::constraint::{Crossing, Link};
+use flow_graph::graph::FlowGraph;
+use qual_base::faults::NoMemory;
+use qual_base::ids::{EdgeId, LatticeNo, Numbered, VarId};
+use std::alloc::Global;
+
+/// What the rules read: the constraints of one lattice, how many variables there are, where the constraints begin and their
+/// sites, and for each variable whether an `Enter` leads to it.
+#[derive(Clone, Copy)]
+struct Premises<'a> {
+    graph: &'a FlowGraph,
+    lattice: LatticeNo,
+    vars: u32,
+    index: &'a Adjacency,
+    ends: &'a [bool],
+}
+
+/// All matched paths of a lattice that begin at the inner end of an `Enter`, as pairs of variables: the summaries of
+/// Rehof and Fähndrich (POPL 2001), found as Horwitz, Reps and Sagiv find theirs (FSE 1995).
+///
+/// Each pair is looked at once, and for each pair each constraint that begins where it ends; a call or a return is looked
+/// at with those of its site, and a return with the pairs that lead to where each call of the site begins. The index of
+/// the constraints and the marks of variables are let go.
+pub fn summarise(
+    alloc: Global,
+    graph: &FlowGraph,
+    lattice: LatticeNo,
+) -> Result<Summaries, NoMemory>
+    requires { lattice < 16 }
+    ensures { IfOk result (λ summaries. Summarises graph.now lattice summaries) }
+{
+    let index = Adjacency::build(alloc, graph)?;
+    let ends = inner_ends(alloc, graph, lattice)?;
+    let given = Premises {
+        graph,
+        lattice,
+        vars: graph.vars(),
+        index: &index,
+        ends: ends.as_slice(),
+    };
+    let mut found = Found::new(alloc);
+    from_ends(&given, &mut found)?;
+    from_pairs(&given, &mut found)?;
+    Ok(found.known)
+}
+
+/// For each variable whether an `Enter` of the lattice leads to it.
+fn inner_ends(alloc: Global, graph: &FlowGraph, lattice: LatticeNo) -> Result<Vec<bool>, NoMemory>
+    requires { lattice < 16 }
+    ensures { IfOk result (λ ends. AreEnds graph.now lattice ends.items) }
+{
+    let mut ends = vec![in alloc; false; graph.vars() as usize]?;
+    for n in 0..graph.len() {
+        mark(graph, lattice, EdgeId::new(n), &mut ends);
+    }
+    Ok(ends)
+}
+
+/// Marks the variable that a constraint enters.
+fn mark(graph: &FlowGraph, lattice: LatticeNo, at: EdgeId, ends: &mut Vec<bool>)
+    requires lattice { lattice < 16 }
+    requires at { at < length graph.now.constraints }
+    requires below { AllBelow graph.now (length ends.old.items) }
+    ensures size { length ends.new.items ≡ length ends.old.items }
+    ensures kept { (a : ℕ) → slice_index_or ends.old.items a false ≡ true → slice_index_or ends.new.items a false ≡ true }
+    ensures only { (a : ℕ) → slice_index_or ends.new.items a false ≡ true → (slice_index_or ends.old.items a false ≡ true) ⊎ IsInnerEnd graph.now lattice a }
+    ensures there { (s u a : ℕ) → Stands graph.now lattice at (Enter s u a) → slice_index_or ends.new.items a false ≡ true }
+{
+    let constraint = graph.constraint(at);
+    if !constraint.is_in(lattice) {
+        return;
+    }
+    if let Some(call) = constraint.link.as_enter() {
+        ends[call.to.number() as usize] = true;
+    }
+}
+
+/// Looks at nothing, as the path from each inner end to itself.
+fn from_ends(given: &Premises, found: &mut Found) -> Result<(), NoMemory>
+    requires ready { AreReady given.now }
+    requires kept { IsKept given.now.graph.now given.now.lattice found.old }
+    requires none { found.old.known ≡ [] }
+    ensures kept { OnOk result (IsKept given.now.graph.now given.now.lattice found.new) }
+    ensures done { OnOk result (AreDone given.now.graph.now given.now.lattice (Looked found.new.known given.now.vars 0) found.new.known) }
+{
+    for n in 0..given.vars {
+        from_end(given, found, VarId::new(n))?;
+    }
+    Ok(())
+}
+
+/// Looks at nothing, as the path from a variable to itself, where an `Enter` leads to it.
+fn from_end(given: &Premises, found: &mut Found, at: VarId) -> Result<(), NoMemory>
+    requires ready { AreReady given.now }
+    requires kept { IsKept given.now.graph.now given.now.lattice found.old }
+    ensures kept { OnOk result (IsKept given.now.graph.now given.now.lattice found.new) }
+    ensures grows { OnOk result (Grows found.old.known found.new.known) }
+    ensures done { OnOk result (IsInnerEnd given.now.graph.now given.now.lattice at → IsLookedAt given.now.graph.now given.now.lattice found.old.known found.new.known at at) }
+{
+    if !is_end(given, at) {
+        return Ok(());
+    }
+    look(given, found, at, at)
+}
+
+/// Looks at each pair in turn, and at those that this adds.
+fn from_pairs(given: &Premises, found: &mut Found) -> Result<(), NoMemory>
+    requires ready { AreReady given.now }
+    requires kept { IsKept given.now.graph.now given.now.lattice found.old }
+    requires done { AreDone given.now.graph.now given.now.lattice (Looked found.old.known given.now.vars 0) found.old.known }
+    ensures kept { OnOk result (IsKept given.now.graph.now given.now.lattice found.new) }
+    ensures done { OnOk result (AreDone given.now.graph.now given.now.lattice (Looked found.new.known given.now.vars (length found.new.known)) found.new.known) }
+{
+    let mut at = 0;
+    while at < found.len() {
+        let pair = found.row(at);
+        look(given, found, pair.from, pair.to)?;
+        at += 1;
+    }
+    Ok(())
+}
+
+/// Whether an `Enter` leads to a variable.
+fn is_end(given: &Premises, at: VarId) -> bool
+    requires { AreReady given.now }
+    ensures { IsTrue result ↔ IsInnerEnd given.now.graph.now given.now.lattice at }
+{
+    match given.ends.get(at.number() as usize) {
+        Some(is_end) => *is_end,
+        None => false,
+    }
+}
+
+/// Adds what follows from a path and the constraints that begin where it ends.
+fn look(given: &Premises, found: &mut Found, from: VarId, to: VarId) -> Result<(), NoMemory>
+    requires ready { AreReady given.now }
+    requires kept { IsKept given.now.graph.now given.now.lattice found.old }
+    requires begins { IsInnerEnd given.now.graph.now given.now.lattice from }
+    requires path { Leads found.old.known from to }
+    ensures kept { OnOk result (IsKept given.now.graph.now given.now.lattice found.new) }
+    ensures grows { OnOk result (Grows found.old.known found.new.known) }
+    ensures done { OnOk result (IsLookedAt given.now.graph.now given.now.lattice found.old.known found.new.known from to) }
+{
+    for edge in given.index.out(to) {
+        follow(given, found, from, to, *edge)?;
+    }
+    Ok(())
+}
+
+/// Adds what follows from a path and one constraint that begins where it ends.
+fn follow(
+    given: &Premises,
+    found: &mut Found,
+    from: VarId,
+    to: VarId,
+    edge: EdgeId,
+) -> Result<(), NoMemory>
+    requires ready { AreReady given.now }
+    requires kept { IsKept given.now.graph.now given.now.lattice found.old }
+    requires begins { IsInnerEnd given.now.graph.now given.now.lattice from }
+    requires path { Leads found.old.known from to }
+    requires edge { IsKeyed given.now.graph.now link_begins to edge }
+    ensures kept { OnOk result (IsKept given.now.graph.now given.now.lattice found.new) }
+    ensures grows { OnOk result (Grows found.old.known found.new.known) }
+    ensures done { OnOk result (IsFollowed given.now.graph.now given.now.lattice found.old.known found.new.known from to edge) }
+{
+    let constraint = given.graph.constraint(edge);
+    if !constraint.is_in(given.lattice) {
+        return Ok(());
+    }
+    let link = constraint.link;
+    match link {
+        Link::Le(before, end) => extend(given, found, from, end, &Reason::Last(edge, before)),
+        Link::Enter(site, before, inner) => {
+            let call = Crossing {
+                site,
+                from: before,
+                to: inner,
+            };
+            enter(given, found, from, edge, &call)
+        }
+        Link::Leave(site, last, end) => {
+            let back = Crossing {
+                site,
+                from: last,
+                to: end,
+            };
+            leave(given, found, from, edge, &back)
+        }
+        _ => Ok(()),
+    }
+}
+
+/// The rule group by its first premise: adds what follows from a path to an `Enter` and each `Leave` of its site.
+fn enter(
+    given: &Premises,
+    found: &mut Found,
+    from: VarId,
+    edge: EdgeId,
+    call: &Crossing,
+) -> Result<(), NoMemory>
+    requires ready { AreReady given.now }
+    requires kept { IsKept given.now.graph.now given.now.lattice found.old }
+    requires begins { IsInnerEnd given.now.graph.now given.now.lattice from }
+    requires path { Leads found.old.known from call.now.from }
+    requires call { Stands given.now.graph.now given.now.lattice edge (Enter call.now.site call.now.from call.now.to) }
+    ensures kept { OnOk result (IsKept given.now.graph.now given.now.lattice found.new) }
+    ensures grows { OnOk result (Grows found.old.known found.new.known) }
+    ensures done { OnOk result ((m : ℕ) → IsLeft given.now.graph.now given.now.lattice found.old.known found.new.known from call.now.site call.now.to m) }
+{
+    for other in given.index.of_site(call.site) {
+        close(given, found, from, edge, call, *other)?;
+    }
+    Ok(())
+}
+
+/// Adds what follows from a path to an `Enter` and another constraint of its site, where that is a `Leave` and a path
+/// leads to it inside.
+fn close(
+    given: &Premises,
+    found: &mut Found,
+    from: VarId,
+    edge: EdgeId,
+    call: &Crossing,
+    other: EdgeId,
+) -> Result<(), NoMemory>
+    requires ready { AreReady given.now }
+    requires kept { IsKept given.now.graph.now given.now.lattice found.old }
+    requires begins { IsInnerEnd given.now.graph.now given.now.lattice from }
+    requires path { Leads found.old.known from call.now.from }
+    requires call { Stands given.now.graph.now given.now.lattice edge (Enter call.now.site call.now.from call.now.to) }
+    requires other { IsKeyed given.now.graph.now link_site call.now.site other }
+    ensures kept { OnOk result (IsKept given.now.graph.now given.now.lattice found.new) }
+    ensures grows { OnOk result (Grows found.old.known found.new.known) }
+    ensures done { OnOk result (IsLeft given.now.graph.now given.now.lattice found.old.known found.new.known from call.now.site call.now.to other) }
+{
+    let constraint = given.graph.constraint(other);
+    if !constraint.is_in(given.lattice) {
+        return Ok(());
+    }
+    let Some(back) = constraint.link.as_leave() else {
+        return Ok(());
+    };
+    if !joins(given.graph, &found.known, call.to, back.from) {
+        return Ok(());
+    }
+    let why = Reason::Group {
+        before: call.from,
+        enter: edge,
+        leave: other,
+    };
+    extend(given, found, from, back.to, &why)
+}
+
+/// The rule group by its third premise: adds what follows from a path to a `Leave` and each `Enter` of its site.
+fn leave(
+    given: &Premises,
+    found: &mut Found,
+    from: VarId,
+    edge: EdgeId,
+    back: &Crossing,
+) -> Result<(), NoMemory>
+    requires ready { AreReady given.now }
+    requires kept { IsKept given.now.graph.now given.now.lattice found.old }
+    requires path { Leads found.old.known from back.now.from }
+    requires back { Stands given.now.graph.now given.now.lattice edge (Leave back.now.site back.now.from back.now.to) }
+    ensures kept { OnOk result (IsKept given.now.graph.now given.now.lattice found.new) }
+    ensures grows { OnOk result (Grows found.old.known found.new.known) }
+    ensures done { OnOk result (AreOfOne given.now.graph.now from back.now.from → (m : ℕ) → IsEntered given.now.graph.now given.now.lattice found.old.known found.new.known from back.now.site back.now.to m) }
+{
+    if !are_of_one(given.graph, from, back.from) {
+        return Ok(());
+    }
+    for other in given.index.of_site(back.site) {
+        open(given, found, from, edge, back, *other)?;
+    }
+    Ok(())
+}
+
+/// Adds what follows from a path to a `Leave` and another constraint of its site, where that is an `Enter` to where the
+/// path begins.
+fn open(
+    given: &Premises,
+    found: &mut Found,
+    from: VarId,
+    edge: EdgeId,
+    back: &Crossing,
+    other: EdgeId,
+) -> Result<(), NoMemory>
+    requires ready { AreReady given.now }
+    requires kept { IsKept given.now.graph.now given.now.lattice found.old }
+    requires path { Leads found.old.known from back.now.from }
+    requires inside { AreOfOne given.now.graph.now from back.now.from }
+    requires back { Stands given.now.graph.now given.now.lattice edge (Leave back.now.site back.now.from back.now.to) }
+    requires other { IsKeyed given.now.graph.now link_site back.now.site other }
+    ensures kept { OnOk result (IsKept given.now.graph.now given.now.lattice found.new) }
+    ensures grows { OnOk result (Grows found.old.known found.new.known) }
+    ensures done { OnOk result (IsEntered given.now.graph.now given.now.lattice found.old.known found.new.known from back.now.site back.now.to other) }
+{
+    let constraint = given.graph.constraint(other);
+    if !constraint.is_in(given.lattice) {
+        return Ok(());
+    }
+    let Some(call) = constraint.link.as_enter() else {
+        return Ok(());
+    };
+    if call.to != from {
+        return Ok(());
+    }
+    let why = Reason::Group {
+        before: call.from,
+        enter: other,
+        leave: edge,
+    };
+    behind(given, found, back.to, &why)
+}
+
+/// Adds what follows from a group and each path to where it begins.
+fn behind(given: &Premises, found: &mut Found, to: VarId, why: &Reason) -> Result<(), NoMemory>
+    requires ready { AreReady given.now }
+    requires kept { IsKept given.now.graph.now given.now.lattice found.old }
+    requires part { EndsAt given.now.graph.now given.now.lattice found.old.known why.now to }
+    ensures kept { OnOk result (IsKept given.now.graph.now given.now.lattice found.new) }
+    ensures grows { OnOk result (Grows found.old.known found.new.known) }
+    ensures done { OnOk result (AllFollow given.now.graph.now given.now.lattice found.old.known found.new.known (before_of why.now) to) }
+{
+    behind_end(given, found, to, why)?;
+    behind_pairs(given, found, to, why)?;
+    Ok(())
+}
+
+/// Adds what follows from a group and nothing before it, where an `Enter` leads to where it begins.
+fn behind_end(given: &Premises, found: &mut Found, to: VarId, why: &Reason) -> Result<(), NoMemory>
+    requires ready { AreReady given.now }
+    requires kept { IsKept given.now.graph.now given.now.lattice found.old }
+    requires part { EndsAt given.now.graph.now given.now.lattice found.old.known why.now to }
+    ensures kept { OnOk result (IsKept given.now.graph.now given.now.lattice found.new) }
+    ensures grows { OnOk result (Grows found.old.known found.new.known) }
+    ensures done { OnOk result (IsInnerEnd given.now.graph.now given.now.lattice (before_of why.now) → Follows given.now.graph.now found.new.known (before_of why.now) to) }
+{
+    let before = why.before();
+    if !is_end(given, before) {
+        return Ok(());
+    }
+    extend(given, found, before, to, why)
+}
+
+/// Adds what follows from a group and each pair that leads to where it begins, the newest first.
+fn behind_pairs(
+    given: &Premises,
+    found: &mut Found,
+    to: VarId,
+    why: &Reason,
+) -> Result<(), NoMemory>
+    requires ready { AreReady given.now }
+    requires kept { IsKept given.now.graph.now given.now.lattice found.old }
+    requires part { EndsAt given.now.graph.now given.now.lattice found.old.known why.now to }
+    ensures kept { OnOk result (IsKept given.now.graph.now given.now.lattice found.new) }
+    ensures grows { OnOk result (Grows found.old.known found.new.known) }
+    ensures done { OnOk result ((t : ℕ) → HasPair found.old.known t (before_of why.now) → Follows given.now.graph.now found.new.known t to) }
+{
+    let mut next = found.newest(why.before());
+    while let Some(at) = next {
+        let pair = found.row(at);
+        extend(given, found, pair.from, to, why)?;
+        next = found.before(at);
+    }
+    Ok(())
+}
+
+/// Adds a pair, where its variables are of one function and it is not there.
+fn extend(
+    given: &Premises,
+    found: &mut Found,
+    from: VarId,
+    to: VarId,
+    why: &Reason,
+) -> Result<(), NoMemory>
+    requires ready { AreReady given.now }
+    requires kept { IsKept given.now.graph.now given.now.lattice found.old }
+    requires begins { IsInnerEnd given.now.graph.now given.now.lattice from }
+    requires front { Leads found.old.known from (before_of why.now) }
+    requires part { EndsAt given.now.graph.now given.now.lattice found.old.known why.now to }
+    ensures kept { OnOk result (IsKept given.now.graph.now given.now.lattice found.new) }
+    ensures grows { OnOk result (Grows found.old.known found.new.known) }
+    ensures done { OnOk result (Follows given.now.graph.now found.new.known from to) }
+{
+    if found.known.holds(from, to) || !are_of_one(given.graph, from, to) {
+        return Ok(());
+    }
+    found.push(from, to, *why)?;
+    Ok(())
+}
