@@ -17,8 +17,7 @@ use Rattle.flow_laws.specs.PathForms.{without_lines, NoPaths, Stepped, LeadsOver
 use Rattle.flow_laws.proofs.Links.{has_of, one_bound}
 use Rattle.flow_laws.proofs.Clear.{clear}
 use Rattle.flow_laws.proofs.Places.{edge}
-use Rattle.flow_laws.proofs.Runs.{no_fault, nothing, last_seen, last_is}
-use Rattle.flow_laws.proofs.MainPath.{headed, if_none, const_edge, ends_bound}
+use Rattle.flow_laws.proofs.Runs.{no_fault, nothing, last_seen, last_is, headed, if_none, const_edge, ends_bound}
 use Rattle.flow_laws.proofs.Parsing.{edge_there, Stops}
 use Rattle.flow_laws.proofs.Forming.{settled_is, MainOn, main_builds, main_on, Known, all_known}
 use Rattle.flow_laws.proofs.Shown.{form_holds, shown_holds}
