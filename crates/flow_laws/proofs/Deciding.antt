@@ -7,9 +7,8 @@ use Rattle.flow_graph.specs.Unfolding.{Assignment, IsAcceptedIn, IsExceeded, Pri
 use Rattle.flow_graph.specs.Paths.{Lead}
 use Rattle.flow_laws.specs.Least.{IsLeastOver, IsSolution, KeepsBounds}
 use Rattle.flow_laws.specs.Sets.{IsLeastInCopies}
-use Rattle.flow_laws.specs.Rejected.{InEach}
 use Rattle.flow_laws.specs.Deciding.{PathTests, AreExact, ExceedsNone, IsSolved, IsDecided, TestsSolve, TestsDecide}
-use Rattle.flow_laws.proofs.Leads.{solution_stands, names_in_each}
+use Rattle.flow_laws.proofs.Leads.{solution_stands}
 use Rattle.flow_laws.proofs.Testing.{reached_is_tested}
 use Rattle.flow_laws.proofs.Accept.{copies_stand, met, below_solution, kept_is_accepted, solution_is_printed, exceeded_is_over, over_is_exceeded}
 use Rattle.flow_laws.proofs.Rejected.{keeps_or_over, accepted_or_exceeded, has_refutes}
@@ -80,16 +79,15 @@ tests_solve sys lattice order tests owned lat names exact = record {
 }
 
 pub tests_decide : TestsDecide
-tests_decide sys orders tests owned lattices names exact =
-    let named : InEach orders (NamesElementsIn sys) = λ lattice order there. names_in_each sys orders lattice order names there in (
-      (
-        λ rejected. elim (accepted_or_exceeded sys orders
-            (λ lattice order there. tells sys lattice order (tests lattice) owned (lattices lattice order there) (named lattice order there) (exact lattice order there))) [
-              | inl accepted ↦ absurd (rejected accepted)
-              | inr has ↦ has
-            ],
-        λ has accepted. has_refutes sys orders has accepted,
-      ),
-      λ lattice order there none.
-          solved sys lattice order (tests lattice) owned (lattices lattice order there) (named lattice order there) (exact lattice order there) none,
-    )
+tests_decide sys orders tests owned lattices names exact = (
+  (
+    λ rejected. elim (accepted_or_exceeded sys orders
+        (λ lattice order there. tells sys lattice order (tests lattice) owned (lattices lattice order there) (names lattice order there) (exact lattice order there))) [
+          | inl accepted ↦ absurd (rejected accepted)
+          | inr has ↦ has
+        ],
+    λ has accepted. has_refutes sys orders has accepted,
+  ),
+  λ lattice order there none.
+      solved sys lattice order (tests lattice) owned (lattices lattice order there) (names lattice order there) (exact lattice order there) none,
+)

@@ -18,7 +18,7 @@ use Rattle.flow_laws.proofs.Runs.{no_fault, nothing}
 pub both_none : (a b : Option BadStep) → a ≡ None → b ≡ None → or_else a b ≡ None
 both_none a b first second = ap (λ x. or_else x b) first ∙ second
 
-map_length : {A B : Type 0} (f : A → B) (xs : List A) → length (map f xs) ≡ length xs
+pub map_length : {A B : Type 0} (f : A → B) (xs : List A) → length (map f xs) ≡ length xs
 map_length f [] = refl
 map_length f (x ∷ xs) = ap suc (map_length f xs)
 

@@ -13,12 +13,11 @@ use Rattle.flow_graph.specs.System.{System, owner_of, Stands}
 use Rattle.flow_graph.specs.PathRules.{is_const}
 use Rattle.flow_graph.specs.PathProofs.{look, edge_or, edge_at, last_of, line_of, first_failing, main_fault, first_fault, start_of, no_order, steps_of}
 use Rattle.flow_graph.specs.Parts.{None as NoSubs, Next, Onward}
-use Rattle.flow_laws.specs.PathForms.{without_lines, NoPaths, Stepped, Exceeds, ShowsIn, SubsAreSubPaths, HoldsInSome, HoldsExactly}
+use Rattle.flow_laws.specs.PathForms.{without_lines, NoPaths, Stepped, LeadsOver, ShowsIn, SubsAreSubPaths, HoldsInSome, HoldsExactly}
 use Rattle.flow_laws.proofs.Links.{has_of, one_bound}
 use Rattle.flow_laws.proofs.Clear.{clear}
 use Rattle.flow_laws.proofs.Places.{edge}
-use Rattle.flow_laws.proofs.Runs.{no_fault, nothing, last_seen, last_is}
-use Rattle.flow_laws.proofs.MainPath.{headed, if_none, const_edge, ends_bound}
+use Rattle.flow_laws.proofs.Runs.{no_fault, nothing, last_seen, last_is, headed, if_none, const_edge, ends_bound}
 use Rattle.flow_laws.proofs.Parsing.{edge_there, Stops}
 use Rattle.flow_laws.proofs.Forming.{settled_is, MainOn, main_builds, main_on, Known, all_known}
 use Rattle.flow_laws.proofs.Shown.{form_holds, shown_holds}
@@ -32,7 +31,7 @@ module _ (sys : System) (orders : List Order) (subs : List (List PathStep)) (fir
   order_at lattice = unwrap_or (slice_get orders lattice) no_order
 
   abbrev Formed : ℕ → Type 0
-  Formed lattice = Exceeds sys lattice (order_at lattice) (map without_lines subs) (without_lines (first ∷ main))
+  Formed lattice = LeadsOver sys lattice (order_at lattice) (map without_lines subs) (without_lines (first ∷ main))
 
   -- the first step is a constant
   const_first : (lattice elem : ℕ) (x : Seen) → edge_at sys first ≡ x → main_fault sys (order_at lattice) lattice elem subs first main end ≡ None → is_const x ≡ true
@@ -103,7 +102,7 @@ module _ (sys : System) (orders : List Order) (subs : List (List PathStep)) (mai
   by_start first NoEdge is h = absurd (not_const first _ refl is h)
 
 formed : (sys : System) (orders : List Order) (subs : List (List PathStep)) (main : List PathStep) (end : ℕ) → first_fault sys orders subs main end ≡ None →
-    (lattice : ℕ) × Exceeds sys lattice (unwrap_or (slice_get orders lattice) no_order) (map without_lines subs) (without_lines main)
+    (lattice : ℕ) × LeadsOver sys lattice (unwrap_or (slice_get orders lattice) no_order) (map without_lines subs) (without_lines main)
 formed sys orders subs [] end e = absurd cc
 formed sys orders subs (first ∷ main) end e = by_start sys orders subs main end first (edge_at sys first) refl e
 

@@ -11,7 +11,6 @@ pub mod Reaching
 pub mod Accept
 pub mod Clear
 pub mod Places
-pub mod Steps
 pub mod Runs
 pub mod MainPath
 pub mod Testing

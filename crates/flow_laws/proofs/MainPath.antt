@@ -1,33 +1,30 @@
 -- The main path of a proof that holds leads from its constant to its bound.
-use Rattle.std.proofs.Common.{◌≡◌, ℕ, suc, ◌+◌, ◌≤◌, Bool, true, false, not, ◌&&◌, List, [], ◌∷◌, length, map, arith, Option, Some, None, option_map, unwrap_or, refl, sym, ◌∙◌, ap, subst, inl, inr, slice_get, if◌then◌else◌}
-use Rattle.qual_base.specs.declared.places.Span.{Span}
+use Rattle.std.proofs.Common.{◌≡◌, ℕ, zero, suc, ◌+◌, ◌-◌, ◌≤◌, Bool, true, false, not, ◌&&◌, ◌==◌, List, [], ◌∷◌, ◌++◌, length, map, arith, Option, Some, None, option_map, refl, sym, ◌∙◌, ap, subst, inl, inr, slice_get, if◌then◌else◌}
 use Rattle.qual_base.specs.declared.places.Owner.{Owner}
 use Rattle.qual_base.specs.declared.places.Owner.TheVariants.{Nobody, Function}
-use Rattle.lattice_core.specs.Order.{Order, leq}
-use Rattle.flow_graph.specs.declared.constraint.Link.{Link}
-use Rattle.flow_graph.specs.declared.constraint.Link.TheVariants.{Le, Const, Bound, Enter, Leave}
-use Rattle.flow_graph.specs.declared.constraint.Constraint.{Constraint}
+use Rattle.lattice_core.specs.Order.{Order}
+use Rattle.flow_graph.specs.declared.constraint.Link.TheVariants.{Le, Bound, Enter, Leave}
+use Rattle.flow_graph.specs.declared.phase.Phase.{Phase}
+use Rattle.flow_graph.specs.declared.phase.Phase.TheVariants.{First, Second}
 use Rattle.flow_graph.specs.declared.proof.PathStep.{PathStep}
 use Rattle.flow_graph.specs.declared.proof.PathStep.TheVariants.{Take, Sub as SubStep}
 use Rattle.flow_graph.specs.declared.proof.PathProof.{PathProof}
-use Rattle.flow_graph.specs.declared.proof.BadStep.{BadStep}
 use Rattle.flow_graph.specs.declared.place.Seen.{Seen}
 use Rattle.flow_graph.specs.declared.place.Seen.TheVariants.{Edge, Through, NoSub, NoEdge}
-use Rattle.flow_graph.specs.declared.place.Path.TheVariants.{Main}
 use Rattle.flow_graph.specs.System.{System, owner_of, Stands, IsWellOwned}
 use Rattle.flow_graph.specs.Unfolding.{NamesElements}
-use Rattle.flow_graph.specs.Paths.{Matches, Returning, start, flows, returns, grouped, anew, Calling, calls, calls_on, flows_on, grouped_on, Lead}
-use Rattle.flow_graph.specs.PathRules.{is_sub, is_bound, is_const, holds_of, is_headless}
-use Rattle.flow_graph.specs.PathProofs.{is_nobodys, first_of, last_of, line_of, edge_or, edge_at, look, first_failing, main_fault, first_fault, end_fault, ends_in_bound, start_of, steps_of, no_order, Holds}
-use Rattle.flow_laws.proofs.Depths.{depth_inside, open_calls, depth_returning, depth_calling, depth_of}
+use Rattle.flow_graph.specs.Paths.{Matches, stay, longer, Part as Piece, flow, group, Returning, start, flows, returns, grouped, anew, Calling, calls, calls_on, flows_on, grouped_on, Lead}
+use Rattle.flow_graph.specs.Parts.{settled, Part, Flow, Empty, Full, Inside, Done, More, IsSub, Onward, Ends, Along, Back, Into, IsPath}
+use Rattle.flow_graph.specs.PathProofs.{is_nobodys, last_of, look, span_of, steps_of, Holds}
+use Rattle.flow_laws.specs.PathForms.{without_line, without_lines, AreSubPaths, NoPaths, NoSteps, Stepped}
 use Rattle.flow_laws.specs.Holding.{LeadsToBound, steps_in, steps_in_proof, HoldsLeads, HoldsRefutes, HoldsRefutesWithin, HoldsIsUnmet, HoldsRejects}
-use Rattle.flow_laws.proofs.Links.{has_of}
+use Rattle.flow_laws.proofs.Depths.{depth_inside, depth_of_part, open_calls, depth_returning, depth_calling, depth_of}
+use Rattle.flow_laws.proofs.Owners.{entering}
 use Rattle.flow_laws.proofs.Force.{paths_refute, refuted_at}
 use Rattle.flow_laws.proofs.Rejected.{has_refutes}
-use Rattle.flow_laws.proofs.Clear.{clear}
-use Rattle.flow_laws.proofs.Places.{Good, not_false, edge, here, stands}
-use Rattle.flow_laws.proofs.Steps.{GoesOn, at_var, at_bound, begin_main}
-use Rattle.flow_laws.proofs.Runs.{no_fault, nothing, last_is, run, look_good, look_sub, look_edge, AllGood, all_good}
+use Rattle.flow_laws.proofs.Erasing.{map_length, last_map}
+use Rattle.flow_laws.proofs.Showing.{sub_span, path_last}
+use Rattle.flow_laws.proofs.Exact.{holds_exactly}
 
 -- What leads to where the main path has come, with some of its steps left. It is no deeper than the steps of the sub-paths,
 -- which are `most`, and the steps so far, and with a group of a sub-path it is not either.
@@ -65,183 +62,183 @@ module _ (sys : System) (lattice elem most total : ℕ) where
   call_led left true u v s n h st = (calls_on u v s n h.0 st, omega (arith, h.1), omega (arith, h.2))
   call_led left false u v s n h st = (calls u v s n h.0 st, omega (arith, h.1), omega (arith, h.2))
 
-  main_goes_on : (left : ℕ) → GoesOn sys lattice most Main (Led (suc left)) (Led left)
-  main_goes_on left = record {
-    settle = settle_led left;
-    later = later_led left;
-    flow = λ c u v n to st own. flow_led left c u v n to st;
-    group = λ c u a b v s g n m to st q low st2 own. group_led left c u a b v s g n m to st q low st2;
-    call = λ main c u v s n to st. call_led left c u v s n to st;
-    back = λ main u v s n to st. (returns u v s n to.0 st, omega (arith, to.1), omega (arith, to.2));
-  }
+-- sub-paths join variables by matched paths
+module _ (sys : System) (lattice : ℕ) (owned : IsWellOwned sys) where
+  -- a matched path between the ends of a sub-path, no deeper than a number
+  abbrev Joins : ℕ → Seen → Type 0
+  Joins most (Edge c) = Unit {0}
+  Joins most (Through u v) = (g : ℕ) × (p : Matches sys lattice g u v) × (depth_inside sys lattice g u v p ≤ most)
+  Joins most NoSub = Unit {0}
+  Joins most NoEdge = Unit {0}
 
-pub headed : (lattice elem : ℕ) (next : Option Seen) (step : Seen) → is_headless (here Main lattice elem None None step next false) ≡ false → is_const step ≡ true
-unfolding is_headless
-headed lattice elem next step e = not_false (is_const step) e
+  joins_up : (low most : ℕ) (x : Seen) → low ≤ most → Joins low x → Joins most x
+  joins_up low most (Edge c) up joins = tt
+  joins_up low most (Through u v) up joins = (joins.0, joins.1, omega (arith, up, joins.2))
+  joins_up low most NoSub up joins = tt
+  joins_up low most NoEdge up joins = tt
 
-both : (x : Seen) → is_sub x ≡ true → is_const x ≡ true → ⊥
-both (Edge c) sub const = cc
-both (Through u v) sub const = cc
-both NoSub sub const = cc
-both NoEdge sub const = cc
+  if_joins : (most : ℕ) (b : Bool) (x : Seen) → Joins most x → Joins most (if b then NoSub else x)
+  if_joins most true x joins = tt
+  if_joins most false x joins = joins
 
-pub if_none : (b : Bool) (x : BadStep) → (if b then None else Some x) ≡ None → b ≡ true
-if_none true x e = refl
-if_none false x e = absurd cc
+  abbrev AllJoin : ℕ → List (List PathStep) → Type 0
+  AllJoin most subs = (n : ℕ) → Joins most (span_of sys (slice_get subs n))
 
-module _ (sys : System) (order : Order) (lattice elem : ℕ) where
-  pub const_edge : (subs : List (List PathStep)) (s : PathStep) → is_const (look sys subs s) ≡ true → is_const (edge_at sys s) ≡ true
-  const_edge subs (Take n line) is = is
-  const_edge subs (SubStep n line) is = absurd (both _ (look_sub sys order lattice elem subs n line) is)
+  named_joins : (most : ℕ) (subs : List (List PathStep)) → AllJoin most subs → (k a b : ℕ) → look sys subs (SubStep k 0) ≡ Through a b → Joins most (Through a b)
+  named_joins most subs all k a b is = subst (Joins most) is (if_joins most (k == 0) (span_of sys (slice_get subs (k - 1))) (all (k - 1)))
 
-  pub ends_bound : (subs : List (List PathStep)) (o : Option PathStep) (seen : Option Seen) → seen ≡ option_map (look sys subs) o → holds_of seen is_sub ≡ false → holds_of seen is_bound ≡ false →
-      ends_in_bound sys o ≡ true → ⊥
-  ends_bound subs (Some s) seen is no_sub unbound end =
-      let same = look_edge sys order lattice elem subs s (rw is at no_sub) in
-      let none : is_bound (look sys subs s) ≡ false = rw is at unbound in
-      let clash : false ≡ true = sym none ∙ ap is_bound same ∙ end in
-      cc
-  ends_bound subs None seen is no_sub unbound end = cc
+  one_more : (most : ℕ) (subs : List (List PathStep)) (s : List PathStep) → AllJoin most subs → Joins most (span_of sys (Some s)) → AllJoin most (subs ++ s ∷ [])
+  one_more most [] s all joins zero = joins
+  one_more most [] s all joins (suc n) = tt
+  one_more most (x ∷ subs) s all joins zero = all 0
+  one_more most (x ∷ subs) s all joins (suc n) = one_more most subs s (λ n. all (suc n)) joins n
 
-  edge_is : (o : Option Constraint) (c : Constraint) → Some (edge_or o) ≡ Some (Edge c) → o ≡ Some c
-  edge_is (Some d) c e = cc
-  edge_is None c e = absurd cc
+  -- the path inside the function that a group enters
+  inner : (most : ℕ) (n s u a : ℕ) → Stands sys lattice n (Enter s u a) → Joins most (Through a a)
+  inner most n s u a st = let call = entering sys lattice owned n s u a st in (call.it.target, stay call.it.target a call.inner_is, omega arith)
 
-  -- a step that is looked at as an edge takes it
-  taken : (subs : List (List PathStep)) (o : Option PathStep) (c : Constraint) → option_map (look sys subs) o ≡ Some (Edge c) →
-      (n : ℕ) × (line : ℕ) × (o ≡ Some (Take n line)) × (slice_get sys.constraints n ≡ Some c)
-  taken subs (Some (Take n line)) c e = (n, line, refl, edge_is (slice_get sys.constraints n) c e)
-  taken subs (Some (SubStep n line)) c e =
-      let other : true ≡ false = sym (look_sub sys order lattice elem subs n line) ∙ ap (λ seen. holds_of seen is_sub) e in absurd cc
-  taken subs None c e = absurd cc
+  module _ (most : ℕ) (subs : List (List PathStep)) (all : AllJoin most subs) where
+    piece : (f u v : ℕ) (front : List PathStep) → Part sys lattice subs u v front → owner_of sys v ≡ Function f →
+        (p : Piece sys lattice f u v) × (depth_of_part sys lattice f u v p ≤ suc most)
+    piece f u v _ (Flow _ _ n st) is = (flow f u v n st is, omega arith)
+    piece f u v _ (Empty _ a _ s n m st ts) is = let q = inner most n s u a st in (group f u a a v s q.0 n m st q.1 ts is, omega (arith, q.2))
+    piece f u v _ (Full _ a b _ s n m k st looks ts) is = let q = named_joins most subs all k a b looks in (group f u a b v s q.0 n m st q.1 ts is, omega (arith, q.2))
 
-  -- what the main path shows in its lattice
-  record MainLeads (main : List PathStep) (total : ℕ) : Type 0 where
+    -- a path inside a function with a part more
+    further : (f w u x : ℕ) (front : List PathStep) → Part sys lattice subs u x front → owner_of sys x ≡ Function f →
+        (p : Matches sys lattice f w u) × (depth_inside sys lattice f w u p ≤ suc most) → (p : Matches sys lattice f w x) × (depth_inside sys lattice f w x p ≤ suc most)
+    further f w u x front part is m = let q = piece f u x front part is in (longer f w u x m.0 q.0, omega (arith, m.1, q.1))
+
+    inside_match : (f w u v : ℕ) (steps : List PathStep) → Inside sys lattice subs f u v steps → (p : Matches sys lattice f w u) × (depth_inside sys lattice f w u p ≤ suc most) →
+        (p : Matches sys lattice f w v) × (depth_inside sys lattice f w v p ≤ suc most)
+    inside_match f w u _ _ (Done _) m = m
+    inside_match f w u v _ (More _ x _ front rest part from to on) m = inside_match f w x v rest on (further f w u x front part to m)
+
+    sub_joins : (u v : ℕ) (steps : List PathStep) → IsSub sys lattice subs u v steps → Joins (suc most) (Through u v)
+    sub_joins u v steps sub =
+        let f = sub.function in
+        let m = inside_match f u sub.next v sub.rest sub.more (further f u u sub.next sub.front sub.part sub.next_is (stay f u sub.from_is, omega arith)) in
+        (f, m.0, m.1)
+
+  part_long : (subs : List (List PathStep)) (u v : ℕ) (front rest : List PathStep) → Part sys lattice subs u v front → 1 ≤ length (front ++ rest)
+  part_long subs u v _ rest (Flow _ _ n st) = omega arith
+  part_long subs u v _ rest (Empty _ a _ s n m st ts) = omega arith
+  part_long subs u v _ rest (Full _ a b _ s n m k st looks ts) = omega arith
+
+  steps_more : (subs : List (List PathStep)) (s : List PathStep) → steps_in (subs ++ s ∷ []) ≡ steps_in subs + length s
+  steps_more [] s = omega arith
+  steps_more (x ∷ subs) s = let more = steps_more subs s in omega (arith, more)
+
+  -- no sub-path is deeper than the steps of all
+  all_join : (subs : List (List PathStep)) → AreSubPaths sys lattice subs → AllJoin (steps_in subs) subs
+  all_join _ NoPaths = λ n. tt
+  all_join _ (NoSteps subs before) =
+      let count = steps_more subs [] in
+      one_more (steps_in (subs ++ [] ∷ [])) subs [] (λ n. joins_up (steps_in subs) (steps_in (subs ++ [] ∷ [])) (span_of sys (slice_get subs n)) (omega (arith, count)) (all_join subs before n)) tt
+  all_join _ (Stepped subs u v steps before sub) =
+      let count = steps_more subs steps in
+      let most = steps_in (subs ++ steps ∷ []) in
+      let all = all_join subs before in
+      let some : 1 ≤ length steps = subst (λ xs. 1 ≤ length xs) (sym sub.steps_are) (part_long subs u sub.next sub.front sub.rest sub.part) in
+      one_more most subs steps (λ n. joins_up (steps_in subs) most (span_of sys (slice_get subs n)) (omega (arith, count)) (all n))
+      (subst (Joins most) (sym (sub_span sys lattice subs u v steps sub)) (joins_up (suc (steps_in subs)) most (Through u v) (omega (arith, count, some)) (sub_joins (steps_in subs) subs all u v steps sub)))
+
+-- the second phase has an open call
+abbrev is_second : Phase → Bool
+is_second First = false
+is_second Second = true
+
+second_on : (o : Owner) (p : Phase) → is_second (settled o p) ≡ (not (is_nobodys o) && is_second p)
+second_on Nobody p = refl
+second_on (Function f) p = refl
+
+module _ (sys : System) (lattice elem most total : ℕ) (owned : IsWellOwned sys) (subs : List (List PathStep)) (all : AllJoin sys lattice owned most subs) where
+  abbrev At : ℕ → Bool → ℕ → Type 0
+  At = Led sys lattice elem most total
+
+  -- a part leads on
+  part_led : (c : Bool) (u v : ℕ) (front rest : List PathStep) → Part sys lattice subs u v front → At (length (front ++ rest)) c u → At (length rest) c v
+  part_led c u v _ rest (Flow _ _ n st) led = flow_led sys lattice elem most total (length rest) c u v n led st
+  part_led c u v _ rest (Empty _ a _ s n m st ts) led =
+      let q = inner sys lattice owned most n s u a st in
+      group_led sys lattice elem most total (length rest) c u a a v s q.0 n m (later_led sys lattice elem most total (suc (length rest)) c u led) st q.1 q.2 ts
+  part_led c u v _ rest (Full _ a b _ s n m k st looks ts) led =
+      let q = named_joins sys lattice owned most subs all k a b looks in
+      group_led sys lattice elem most total (length rest) c u a b v s q.0 n m
+      (later_led sys lattice elem most total (suc (length rest)) c u (later_led sys lattice elem most total (suc (suc (length rest))) c u led)) st q.1 q.2 ts
+
+  -- a bound to which the constant leads
+  record Reached (bound : ℕ) : Type 0 where
     var : ℕ
+    limit : ℕ
+    stands : Stands sys lattice bound (Bound var lattice limit)
     lead : Lead sys lattice elem var
     low : depth_of sys lattice elem var lead ≤ total
-    number : ℕ
-    bound_element : ℕ
-    bound : Stands sys lattice number (Bound var lattice bound_element)
-    over : leq order elem bound_element ≡ false
-    line : ℕ
-    last : last_of main ≡ Some (Take number line)
 
-  const_stands : (subs : List (List PathStep)) (first : PathStep) (main : List PathStep) (v m most : ℕ) (p : Span) → IsWellOwned sys → AllGood sys order lattice elem most subs →
-      look sys subs first ≡ edge (Const lattice elem v) m p → first_failing sys order Main lattice elem (look sys subs) [] (first ∷ main) ≡ None → (n : ℕ) × Stands sys lattice n (Const lattice elem v)
-  const_stands subs first main v m most p owned all is passed =
-      let k = clear sys order _ (no_fault _ (line_of first) _ passed).0 in
-      stands sys lattice most (Const lattice elem v) m p (subst (Good sys lattice most) is (look_good sys order lattice elem most owned subs all first)) (rw is at k.carried)
+  settled_at : (left : ℕ) (p : Phase) (v : ℕ) → At left (is_second p) v → At left (is_second (settled (owner_of sys v) p)) v
+  settled_at left p v led = subst (λ c. At left c v) (sym (second_on (owner_of sys v) p)) (settle_led sys lattice elem most total left (is_second p) v led)
 
-  main_leads : (subs : List (List PathStep)) (first : PathStep) (main : List PathStep) (end v m most : ℕ) (p : Span) → IsWellOwned sys → AllGood sys order lattice elem most subs →
-      look sys subs first ≡ edge (Const lattice elem v) m p → first_failing sys order Main lattice elem (look sys subs) [] (first ∷ main) ≡ None → end_fault sys (first ∷ main) end ≡ None →
-      MainLeads (first ∷ main) (length (first ∷ main) + most)
-  main_leads subs first main end v m most p owned all is passed ended =
-      let see = look sys subs in
-      let left = length main in
-      let total = length (first ∷ main) + most in
-      let led = Led sys lattice elem most total in
-      let goes = main_goes_on sys lattice elem most total in
-      let st = const_stands subs first main v m most p owned all is passed in
-      let started : led left false v = (start v st.0 st.1, omega arith, omega arith) in
-      let begun = begin_main sys order lattice elem most Main (led left) (led (suc left)) owned (goes left) (first_of (map see main)) lattice elem v m p started in
-      let end_state = run sys order lattice elem most Main led owned goes see (look_good sys order lattice elem most owned subs all) (see first ∷ []) main
-      (rw is begun) (no_fault _ (line_of first) _ passed).1 in
-      elim end_state [
-        | at_var c x h unbound no_sub _ ↦ absurd (ends_bound subs (last_of (first ∷ main)) _ (last_is see [] first main) no_sub unbound (if_none _ _ ended))
-        | at_bound c x b k q h last over _ ↦
-            let led_to = either_led sys lattice elem most total c x h in
-            let step = taken subs (last_of (first ∷ main)) (record { link = Bound x lattice b; lattices = k; span = q }) (sym (last_is see [] first main) ∙ last) in
-            record {
-              var = x;
-              lead = led_to.0;
-              low = led_to.1;
-              number = step.0;
-              bound_element = b;
-              bound = record { constraint = record { link = Bound x lattice b; lattices = k; span = q }; there = step.3; link_is = refl; carried = refl };
-              over = over;
-              line = step.1;
-              last = step.2;
-            }
-      ]
+  reached : (bound : ℕ) (p : Phase) (u : ℕ) (steps : List PathStep) → Onward sys lattice subs bound p u steps → At (length steps) (is_second p) u → Reached bound
+  reached bound p u _ (Ends _ _ limit st) led =
+      let end = either_led sys lattice elem most total (is_second p) u (later_led sys lattice elem most total 0 (is_second p) u led) in
+      record { var = u; limit = limit; stands = st; lead = end.0; low = end.1 }
+  reached bound p u _ (Along _ _ v front rest part on) led =
+      reached bound (settled (owner_of sys v) p) v rest on (settled_at (length rest) p v (part_led (is_second p) u v front rest part led))
+  reached bound _ u _ (Back _ v s n rest st on) led =
+      reached bound (settled (owner_of sys v) First) v rest on (settled_at (length rest) First v (returns u v s n led.0 st, omega (arith, led.1), omega (arith, led.2)))
+  reached bound p u _ (Into _ _ v s n rest st on) led =
+      reached bound (settled (owner_of sys v) Second) v rest on (settled_at (length rest) Second v (call_led sys lattice elem most total (length rest) (is_second p) u v s n led st))
+
+path_reaches : (sys : System) (lattice elem bound most : ℕ) (owned : IsWellOwned sys) (subs : List (List PathStep)) (all : AllJoin sys lattice owned most subs) (steps : List PathStep) →
+    IsPath sys lattice subs elem bound steps → Reached sys lattice elem most (length steps + most) owned subs all bound
+path_reaches sys lattice elem bound most owned subs all steps path =
+    let count : length steps ≡ suc (length path.rest) = ap length path.steps_are in
+    reached sys lattice elem most (length steps + most) owned subs all bound (settled (owner_of sys path.from) First) path.from path.rest path.onward
+    (settled_at sys lattice elem most (length steps + most) owned subs all (length path.rest) First path.from (start path.from path.start path.constant, omega (arith, count), omega (arith, count)))
+
+taken_last : (bound : ℕ) (o : Option PathStep) → option_map without_line o ≡ Some (Take bound 0) → (line : ℕ) × (o ≡ Some (Take bound line))
+taken_last bound (Some (Take n line)) e = (line, let same : n ≡ bound = cc in ap (λ n. Some (Take n line)) same)
+taken_last bound (Some (SubStep n line)) e = absurd cc
+taken_last bound None e = absurd cc
+
+steps_same : (subs : List (List PathStep)) → steps_in (map without_lines subs) ≡ steps_in subs
+steps_same [] = refl
+steps_same (s ∷ subs) = let one : length (without_lines s) ≡ length s = map_length without_line s in let more = steps_same subs in omega (arith, one, more)
 
 -- with the depth at which the path leads
 record LeadsWithin (sys : System) (orders : List Order) (main : List PathStep) (total : ℕ) : Type 0 where
   leads : LeadsToBound sys orders main
   low : depth_of sys leads.lattice leads.element leads.var leads.lead ≤ total
 
-look_is : (sys : System) (subs : List (List PathStep)) (s : PathStep) (c : Constraint) → edge_at sys s ≡ Edge c → look sys subs s ≡ Edge c
-look_is sys subs (Take n line) c is = is
-look_is sys subs (SubStep n line) c is = absurd cc
-
-none_before : (most : ℕ) → 0 + most ≤ most
-none_before most = omega arith
-
-order_is : (orders : List Order) (lattice : ℕ) (order : Order) → slice_get orders lattice ≡ Some order → unwrap_or (slice_get orders lattice) no_order ≡ order
-order_is orders lattice order there = rw there refl
-
-module _ (sys : System) (orders : List Order) (owned : IsWellOwned sys) (names : NamesElements sys orders) (subs : List (List PathStep)) (first : PathStep) (main : List PathStep) (end : ℕ) where
-  -- the order in which the main path is read
-  abbrev order_at : ℕ → Order
-  order_at lattice = unwrap_or (slice_get orders lattice) no_order
-
-  const_first : (lattice elem : ℕ) (x : Seen) → edge_at sys first ≡ x → main_fault sys (order_at lattice) lattice elem subs first main end ≡ None → is_const x ≡ true
-  const_first lattice elem x is e =
-      let head = nothing _ _ e in
-      let k = clear sys (order_at lattice) _ (no_fault _ (line_of first) None head.0).0 in
-      subst (λ x. is_const x ≡ true) is (const_edge sys (order_at lattice) lattice elem subs first (headed lattice elem _ _ k.headed))
-
-  by_const : (l e v m : ℕ) (p : Span) → edge_at sys first ≡ edge (Const l e v) m p → main_fault sys (order_at l) l e subs first main end ≡ None → LeadsWithin sys orders (first ∷ main) (length (first ∷ main) + steps_in subs)
-  by_const l e v m p is h =
-      let head = nothing _ _ h in
-      let of_subs = nothing _ _ head.1 in
-      let of_main = nothing _ _ of_subs.1 in
-      let most = steps_in subs in
-      let all = all_good sys (order_at l) l e 0 most owned [] subs (λ n. tt) (none_before most) of_subs.0 in
-      let seen = look_is sys subs first (record { link = Const l e v; lattices = m; span = p }) is in
-      let st = const_stands sys (order_at l) l e subs first main v m most p owned all seen of_main.0 in
-      let named = names.const st.0 l e v (has_of sys l st.0 (Const l e v) st.1) in
-      let leads = main_leads sys (order_at l) l e subs first main end v m most p owned all seen of_main.0 of_main.1 in
-      record {
-        leads = record {
-          lattice = l;
-          order = named.0;
-          there = named.1;
-          element = e;
-          var = leads.var;
-          lead = leads.lead;
-          number = leads.number;
-          bound_element = leads.bound_element;
-          bound = leads.bound;
-          over = subst (λ o. leq o e leads.bound_element ≡ false) (order_is orders l named.0 named.1) leads.over;
-          line = leads.line;
-          last = leads.last;
-        };
-        low = leads.low;
-      }
-
-  by_link : (l : Link) (m : ℕ) (p : Span) → edge_at sys first ≡ edge l m p → (let start = start_of (edge l m p) in main_fault sys (order_at start.0) start.0 start.1 subs first main end ≡ None) →
-      LeadsWithin sys orders (first ∷ main) (length (first ∷ main) + steps_in subs)
-  by_link (Const l e v) m p is h = by_const l e v m p is h
-  by_link (Le u v) m p is h = absurd (let wrong : false ≡ true = const_first 0 0 _ is h in cc)
-  by_link (Bound u l b) m p is h = absurd (let wrong : false ≡ true = const_first 0 0 _ is h in cc)
-  by_link (Enter s u v) m p is h = absurd (let wrong : false ≡ true = const_first 0 0 _ is h in cc)
-  by_link (Leave s u v) m p is h = absurd (let wrong : false ≡ true = const_first 0 0 _ is h in cc)
-
-  by_start : (x : Seen) → edge_at sys first ≡ x → (let start = start_of x in main_fault sys (order_at start.0) start.0 start.1 subs first main end ≡ None) → LeadsWithin sys orders (first ∷ main) (length (first ∷ main) + steps_in subs)
-  by_start (Edge c) is h = by_link c.link c.lattices c.span is h
-  by_start (Through u v) is h = absurd (let wrong : false ≡ true = const_first 0 0 _ is h in cc)
-  by_start NoSub is h = absurd (let wrong : false ≡ true = const_first 0 0 _ is h in cc)
-  by_start NoEdge is h = absurd (let wrong : false ≡ true = const_first 0 0 _ is h in cc)
-
-leads_of : (sys : System) (orders : List Order) (subs : List (List PathStep)) (main : List PathStep) (end : ℕ) → IsWellOwned sys → NamesElements sys orders → first_fault sys orders subs main end ≡ None →
-    LeadsWithin sys orders main (length main + steps_in subs)
-leads_of sys orders subs [] end owned names e = absurd cc
-leads_of sys orders subs (first ∷ main) end owned names e = by_start sys orders owned names subs first main end (edge_at sys first) refl e
-
 -- how deep the path leads
 leads_within : (sys : System) (orders : List Order) (proof : PathProof) → IsWellOwned sys → NamesElements sys orders → Holds sys orders proof → LeadsWithin sys orders proof.main.items (steps_in_proof proof)
-leads_within sys orders proof owned names holds = leads_of sys orders (steps_of proof.subs.items) proof.main.items proof.end owned names holds
+leads_within sys orders proof owned names holds =
+    let shows = (holds_exactly sys orders proof names).0 holds in
+    let shown = shows.shown in
+    let main = proof.main.items in
+    let named = map without_lines (steps_of proof.subs.items) in
+    let most = steps_in named in
+    let end = path_reaches sys shows.lattice shown.element shown.bound most owned named (all_join sys shows.lattice owned named shown.sub_paths) (without_lines main) shown.path in
+    let last = taken_last shown.bound (last_of main) (sym (last_map without_line main) ∙ path_last sys shows.lattice named shown.bound shown.element (without_lines main) shown.path) in
+    let count : length (without_lines main) ≡ length main = map_length without_line main in
+    let counts : most ≡ steps_in (steps_of proof.subs.items) = steps_same (steps_of proof.subs.items) in
+    record {
+      leads = record {
+        lattice = shows.lattice;
+        order = shows.order;
+        there = shows.there;
+        element = shown.element;
+        var = end.var;
+        lead = end.lead;
+        number = shown.bound;
+        bound_element = end.limit;
+        bound = end.stands;
+        over = shown.over end.var end.limit end.stands;
+        line = last.0;
+        last = last.1;
+      };
+      low = omega (arith, end.low, count, counts);
+    }
 
 pub holds_leads : HoldsLeads
 holds_leads sys orders proof owned names holds = (leads_within sys orders proof owned names holds).leads

@@ -1,5 +1,5 @@
 -- What the tests of the rules say of a step at a place.
-use Rattle.std.proofs.Common.{◌≡◌, ℕ, ◌≤◌, Bool, true, false, not, ◌&&◌, ◌||◌, ◌==◌, Option, Some, None, refl, sym, ◌∙◌, ap, ◌⊎◌, inl, inr, slice_get}
+use Rattle.std.proofs.Common.{◌≡◌, ℕ, Bool, true, false, not, ◌&&◌, ◌||◌, ◌==◌, Option, Some, None, refl, sym, ◌∙◌, ap, ◌⊎◌, inl, inr}
 use Rattle.std.specs.Int.{bit_at}
 use Rattle.std.proofs.lemmas.Bool.{eqb-true}
 use Rattle.qual_base.specs.declared.places.Span.{Span}
@@ -10,11 +10,9 @@ use Rattle.flow_graph.specs.declared.place.Seen.{Seen}
 use Rattle.flow_graph.specs.declared.place.Seen.TheVariants.{Edge, Through}
 use Rattle.flow_graph.specs.declared.place.Path.{Path}
 use Rattle.flow_graph.specs.declared.place.Place.{Place}
-use Rattle.flow_graph.specs.System.{System, owner_of, IsInLattice, Stands}
-use Rattle.flow_graph.specs.Paths.{Matches}
-use Rattle.flow_graph.specs.PathRules.{begins, is_sub, leaves, is_main, is_there, holds_of, agree, differ, end_of, site_entered, begins_group, is_after_sub, closes, is_unmatched_enter, is_unmatched_leave, is_late_const, is_stray_bound, is_late_return, is_unmatched_in_sub, is_loose_sub, fails_b2, is_outside, is_outside_link}
+use Rattle.flow_graph.specs.System.{System, owner_of, IsInLattice}
+use Rattle.flow_graph.specs.PathRules.{begins, is_sub, leaves, is_main, is_there, holds_of, agree, differ, end_of, site_entered, begins_group, is_after_sub, closes, is_unmatched_enter, is_unmatched_leave, is_late_const, is_stray_bound, is_late_return, is_unmatched_in_sub, is_loose_sub, fails_b2, is_outside_link}
 use Rattle.flow_graph.specs.PathProofs.{is_nobodys, stays_in_call}
-use Rattle.flow_laws.proofs.Depths.{depth_inside}
 
 pub eq_is : (a b : ℕ) → (a == b) ≡ true → a ≡ b
 eq_is a b e = eqb-true a b e
@@ -42,22 +40,12 @@ differ_is a b e = eq_is a b (not_false (a == b) e)
 abbrev pub edge : Link → ℕ → Span → Seen
 edge l m p = Edge (record { link = l; lattices = m; span = p })
 
--- what is known of a step that is looked at: a sub-path is no deeper than a number
-abbrev pub Good : System → ℕ → ℕ → Seen → Type 0
-Good sys lattice most (Edge c) = (n : ℕ) × (slice_get sys.constraints n ≡ Some c)
-Good sys lattice most (Through u v) = (g : ℕ) × (p : Matches sys lattice g u v) × (depth_inside sys lattice g u v p ≤ most)
-Good sys lattice most _ = Unit {0}
-
 pub in_lattice : (lattice : ℕ) (l : Link) (m : ℕ) → is_outside_link lattice l m ≡ false → IsInLattice lattice l m
 in_lattice lattice (Le u v) m e = eq_is (bit_at m lattice) 1 (not_false _ e)
 in_lattice lattice (Const l e' v) m e = eq_is l lattice (not_false _ e)
 in_lattice lattice (Bound v l b) m e = eq_is l lattice (not_false _ e)
 in_lattice lattice (Enter s u v) m e = eq_is (bit_at m lattice) 1 (not_false _ e)
 in_lattice lattice (Leave s u v) m e = eq_is (bit_at m lattice) 1 (not_false _ e)
-
-pub stands : (sys : System) (lattice most : ℕ) (l : Link) (m : ℕ) (p : Span) → Good sys lattice most (edge l m p) → is_outside lattice (edge l m p) ≡ false → (n : ℕ) × Stands sys lattice n l
-stands sys lattice most l m p good carried =
-    (good.0, record { constraint = record { link = l; lattices = m; span = p }; there = good.1; link_is = refl; carried = in_lattice lattice l m carried })
 
 pub owned_is : (sys : System) (v g : ℕ) → owner_of sys v ≡ Function g → is_nobodys (owner_of sys v) ≡ false
 owned_is sys v g is = rw is refl
@@ -130,10 +118,6 @@ module _ (path : Path) (lattice elem : ℕ) where
     pub stays_leave : (s u v m : ℕ) (p : Span) → stays_in_call sys (here two one (edge (Leave s u v) m p) next c) ≡ (not (is_nobodys (owner_of sys v)) && c)
     unfolding is_unmatched_enter
     stays_leave s u v m p = refl
-
-    pub stays_bound : (u l b m : ℕ) (p : Span) → stays_in_call sys (here two one (edge (Bound u l b) m p) next c) ≡ (not (is_nobodys (owner_of sys u)) && c)
-    unfolding is_unmatched_enter
-    stays_bound u l b m p = refl
 
     pub stays_const : (l e v m : ℕ) (p : Span) → stays_in_call sys (here two one (edge (Const l e v) m p) next c) ≡ (not (is_nobodys (owner_of sys v)) && c)
     unfolding is_unmatched_enter

@@ -135,9 +135,6 @@ module _ (sys : System) (lattice : ℕ) (subs : List (List PathStep)) (bound : �
   pub path_last : (elem : ℕ) (steps : List PathStep) → IsPath sys lattice subs elem bound steps → last_of steps ≡ Some (Take bound 0)
   path_last elem steps path = ap last_of path.steps_are ∙ onward_last _ path.from path.rest path.onward (Take path.start 0)
 
-  pub path_first : (elem : ℕ) (steps : List PathStep) (path : IsPath sys lattice subs elem bound steps) → first_of steps ≡ Some (Take path.start 0)
-  path_first elem steps path = ap first_of path.steps_are
-
   onward_bound : (p : Phase) (u : ℕ) (steps : List PathStep) → Onward sys lattice subs bound p u steps → (v : ℕ) × (limit : ℕ) × Stands sys lattice bound (Bound v lattice limit)
   onward_bound p u _ (Ends _ _ limit st) = (u, limit, st)
   onward_bound p u _ (Along _ _ v front rest part more) = onward_bound (settled (owner_of sys v) p) v rest more

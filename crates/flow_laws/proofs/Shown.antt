@@ -9,7 +9,7 @@ use Rattle.flow_graph.specs.declared.proof.Why.TheVariants.{B1}
 use Rattle.flow_graph.specs.declared.place.Path.TheVariants.{Main}
 use Rattle.flow_graph.specs.System.{System}
 use Rattle.flow_graph.specs.PathProofs.{last_of, edge_at, start_of, ends_in_bound, end_fault, line_of, main_fault, first_fault, no_order, steps_of}
-use Rattle.flow_laws.specs.PathForms.{without_line, without_lines, Exceeds, ShownHolds}
+use Rattle.flow_laws.specs.PathForms.{without_line, without_lines, LeadsOver, ShownHolds}
 use Rattle.flow_laws.proofs.Runs.{no_fault, nothing}
 use Rattle.flow_laws.proofs.Erasing.{both_none, both_pass, edge_same, last_map, rule_same, failing_same, subs_same}
 use Rattle.flow_laws.proofs.Walking.{seen}
@@ -50,7 +50,7 @@ rest_is e = cc
 
 -- whatever the order of the lattice
 pub form_holds : (sys : System) (orders : List Order) (lattice : ℕ) (subs : List (List PathStep)) (main : List PathStep) (end : ℕ) →
-    Exceeds sys lattice (unwrap_or (slice_get orders lattice) no_order) (map without_lines subs) (without_lines main) → first_fault sys orders subs main end ≡ None
+    LeadsOver sys lattice (unwrap_or (slice_get orders lattice) no_order) (map without_lines subs) (without_lines main) → first_fault sys orders subs main end ≡ None
 form_holds sys orders lattice subs [] end shown = absurd (let wrong : [] ≡ Take shown.path.start 0 ∷ shown.path.rest = shown.path.steps_are in cc)
 form_holds sys orders lattice subs (first ∷ main) end shown =
     let path = shown.path in
@@ -69,6 +69,6 @@ form_holds sys orders lattice subs (first ∷ main) end shown =
 
 pub shown_holds : ShownHolds
 shown_holds sys orders proof shows =
-    let Ordered : Order → Type 0 = λ order. Exceeds sys shows.lattice order (map without_lines (steps_of proof.subs.items)) (without_lines proof.main.items) in
+    let Ordered : Order → Type 0 = λ order. LeadsOver sys shows.lattice order (map without_lines (steps_of proof.subs.items)) (without_lines proof.main.items) in
     let same : unwrap_or (slice_get orders shows.lattice) no_order ≡ shows.order = rw shows.there refl in
     form_holds sys orders shows.lattice (steps_of proof.subs.items) proof.main.items proof.end (subst Ordered (sym same) shows.shown)

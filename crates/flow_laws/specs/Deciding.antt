@@ -3,7 +3,7 @@ use Rattle.std.specs.Prelude.{◌≡◌, ℕ, Bool, true, false, List, ◌↔◌
 use Rattle.lattice_core.specs.Order.{Order, leq, IsLattice}
 use Rattle.flow_graph.specs.declared.constraint.Link.TheVariants.{Bound, Enter}
 use Rattle.flow_graph.specs.System.{System, Stands, IsWellOwned}
-use Rattle.flow_graph.specs.Unfolding.{Assignment, Meets, NamesElements, NamesElementsIn, IsAccepted, IsAcceptedIn, IsExceeded, Printed}
+use Rattle.flow_graph.specs.Unfolding.{Assignment, Meets, NamesElementsIn, IsAccepted, IsAcceptedIn, IsExceeded, Printed}
 use Rattle.flow_graph.specs.Paths.{Match, Returning, Lead}
 use Rattle.flow_laws.specs.Least.{IsLeastOver}
 use Rattle.flow_laws.specs.Rejected.{HasExceeded, InEach}
@@ -48,10 +48,10 @@ abbrev pub TestsSolve : Type 0
 TestsSolve = (sys : System) (lattice : ℕ) (order : Order) (tests : PathTests) → IsWellOwned sys → IsLattice order → NamesElementsIn sys lattice order →
     AreExact sys lattice tests → IsDecided sys lattice order
 
--- In a well owned system whose constants and bounds name elements of lattices, and where tests say exactly which constants
--- lead where, not accepted means exactly that some bound is exceeded; and a lattice with no exceeded bound is solved.
+-- In a well owned system whose constants and bounds in each lattice name elements of it, and where tests say exactly which
+-- constants lead where, not accepted means exactly that some bound is exceeded; and a lattice where none is, is solved.
 abbrev pub TestsDecide : Type 0
 TestsDecide = (sys : System) (orders : List Order) (tests : ℕ → PathTests) → IsWellOwned sys → InEach orders (λ lattice order. IsLattice order) →
-    NamesElements sys orders → InEach orders (λ lattice order. AreExact sys lattice (tests lattice)) →
+    InEach orders (λ lattice order. NamesElementsIn sys lattice order) → InEach orders (λ lattice order. AreExact sys lattice (tests lattice)) →
     ((IsAccepted sys orders → ⊥) ↔ HasExceeded sys orders)
     × InEach orders (λ lattice order. ExceedsNone sys lattice order → IsSolved sys lattice order)

@@ -26,7 +26,7 @@ pub data AreSubPaths (sys : System) (lattice : ℕ) : List (List PathStep) → T
       AreSubPaths sys lattice (subs ++ steps ∷ [])
 
 -- These are sub-paths, and the main path leads from a constant to a bound which the constant's element is not at or below.
-pub record Exceeds (sys : System) (lattice : ℕ) (order : Order) (subs : List (List PathStep)) (main : List PathStep) : Type 0 where
+pub record LeadsOver (sys : System) (lattice : ℕ) (order : Order) (subs : List (List PathStep)) (main : List PathStep) : Type 0 where
   pub sub_paths : AreSubPaths sys lattice subs
   pub element : ℕ
   pub bound : ℕ
@@ -35,7 +35,7 @@ pub record Exceeds (sys : System) (lattice : ℕ) (order : Order) (subs : List (
 
 -- a path proof does so in a lattice
 abbrev pub ShowsIn : System → ℕ → Order → PathProof → Type 0
-ShowsIn sys lattice order proof = Exceeds sys lattice order (map without_lines (steps_of proof.subs.items)) (without_lines proof.main.items)
+ShowsIn sys lattice order proof = LeadsOver sys lattice order (map without_lines (steps_of proof.subs.items)) (without_lines proof.main.items)
 
 -- A path proof does so in a lattice of the list.
 pub record Shows (sys : System) (orders : List Order) (proof : PathProof) : Type 0 where

@@ -1,21 +1,20 @@
 -- Raising keeps an assignment at or below each that rises along the constraints.
-use Rattle.std.proofs.Common.{◌≡◌, ℕ, ◌<◌, List, [], ◌∷◌, length, Ok, Err, IfOk, OnOk, MatchBool, Bool, true, false, cond, nat_eq, refl, sym, ◌∙◌, ap, subst, arith}
+use Rattle.std.proofs.Common.{◌≡◌, ℕ, ◌<◌, List, [], ◌∷◌, Ok, Err, IfOk, OnOk, MatchBool, Bool, true, false, cond, nat_eq, refl, sym, ◌∙◌, ap, subst, arith}
 use Rattle.std.specs.declared.result.Result.{Result}
 use Rattle.std.specs.Str.{bytes_eq}
 use Rattle.std.specs.Cmp.Lexicographic.{bytes_decides}
-use Rattle.std.proofs.lemmas.Bool.{eqb-true, and_parts, ltb-true, lt-ltb}
-use Rattle.std.proofs.lemmas.Option.{slice_get_within}
+use Rattle.std.proofs.lemmas.Bool.{eqb-true, and_parts}
 use Rattle.qual_base.specs.declared.places.Owner.{Owner}
 use Rattle.lattice_core.specs.Order.{Order, size, leq, IsOrder}
 use Rattle.flow_graph.specs.declared.constraint.Link.{Link}
 use Rattle.flow_graph.specs.declared.constraint.Link.TheVariants.{Le, Const, Bound, Enter, Leave}
-use Rattle.flow_graph.specs.System.{System, IsInLattice, Stands, owner_of}
+use Rattle.flow_graph.specs.System.{System, Stands, owner_of}
 use Rattle.flow_graph.specs.CallStrings.{either}
 use Rattle.flow_graph.specs.PathRules.{link_ends}
 use Rattle.flow_graph.specs.Unfolding.{Assignment, at, seen_from, Rises, Meets, NamesElementsIn}
 use Rattle.flow_unfolding.specs.Copies.{stands, behind}
 use Rattle.flow_unfolding.specs.Assigned.{is_same, changed, Raises}
-use Rattle.flow_unfolding.specs.Meeting.{begin_element, end_sites, is_below, AreElements, HasBoundIn, IsLow, IsOver, IsUnmet, NamesNone, NamesUpTo, is_inside}
+use Rattle.flow_unfolding.specs.Meeting.{begin_element, end_sites, AreElements, IsLow, IsOver, IsUnmet}
 use Rattle.flow_unfolding.proofs.CopyTests.{copy_is, entered_is, root_copy}
 
 -- what is true of the new element and of the elements that stay is true of each
@@ -64,13 +63,6 @@ module _ (sys : System) (lattice : ℕ) (order : Order) (depth : ℕ) where
   begins_inside map named elements n (Enter s u v) w st = elements u (seen_from (owner_of sys u) (behind w))
   begins_inside map named elements n (Leave s u v) w st = elements u (seen_from (owner_of sys u) w)
 
-  pub bound_inside : NamesElementsIn sys lattice order → (n : ℕ) (link : Link) → Stands sys lattice n link → HasBoundIn order link
-  bound_inside named n (Le u v) st = tt
-  bound_inside named n (Const l e v) st = tt
-  bound_inside named n (Bound v l e) st = named.bound n v e (bound_here n l e v st)
-  bound_inside named n (Enter s u v) st = tt
-  bound_inside named n (Leave s u v) st = tt
-
   pub raised_low : (old new : Assignment) → IsOrder order → IsLow sys lattice order depth old → (n : ℕ) (link : Link) (w : List ℕ) → Stands sys lattice n link →
       stands sys depth link w ≡ true →
       Raises order old new (link_ends link) (seen_from (owner_of sys (link_ends link)) (end_sites link w)) (begin_element sys old link w) → IsLow sys lattice order depth new
@@ -104,49 +96,19 @@ module _ (sys : System) (lattice : ℕ) (order : Order) (depth : ℕ) where
       raised_low old new ordered low n link w st is (subst By e_is (subst Copy seen (subst At end_is raises)))
 
   -- where the least assignment is not below a bound, none meets the unfolding
-  over_below : (map other : Assignment) → IsOrder order → IsLow sys lattice order depth map → Meets sys lattice order depth other →
-      (n : ℕ) (link : Link) (w : List ℕ) → Stands sys lattice n link → stands sys depth link w ≡ true → is_below sys order map link w ≡ true
-  over_below map other ordered low meets n (Le u v) w st is = refl
-  over_below map other ordered low meets n (Const l e v) w st is = refl
-  over_below map other ordered low meets n (Bound v l e) w st is =
-      ordered.through (at sys map v w) (at sys other v w) e (low.below other meets.rises v (seen_from (owner_of sys v) w))
-      (meets.bound n e v w (bound_here n l e v st) (copy_is sys depth (owner_of sys v) w is))
-  over_below map other ordered low meets n (Enter s u v) w st is = refl
-  over_below map other ordered low meets n (Leave s u v) w st is = refl
-
   pub over_unmet : (map : Assignment) → IsOrder order → IsLow sys lattice order depth map → IsOver sys lattice order depth map → IsUnmet sys lattice order depth
   over_unmet map ordered low over other meets =
-      let under = over_below map other ordered low meets over.number over.constraint.link over.sites
-      (record { constraint = over.constraint; there = over.there; link_is = refl; carried = over.carried }) over.in_copy in
+      let copy = copy_is sys depth (owner_of sys over.var) over.sites over.in_copy in
+      let under : leq order (at sys map over.var over.sites) over.element ≡ true =
+      ordered.through (at sys map over.var over.sites) (at sys other over.var over.sites) over.element
+      (low.below other meets.rises over.var (seen_from (owner_of sys over.var) over.sites)) (meets.bound over.number over.element over.var over.sites over.bound copy) in
       let both : true ≡ false = sym under ∙ over.over in absurd cc
 
   -- where some assignment meets the unfolding, each constant and bound names an element
-  inside_met : (other : Assignment) → IsOrder order → Meets sys lattice order depth other → (n : ℕ) (link : Link) → Stands sys lattice n link → is_inside order link ≡ true
-  inside_met other ordered meets n (Le u v) st = refl
-  inside_met other ordered meets n (Const l e v) st =
-      let inside = ordered.inside e (at sys other v []) (meets.rises.const n e v [] (named_here n l e v st) (root_copy sys depth (owner_of sys v))) in
-      lt-ltb e (size order) inside.0
-  inside_met other ordered meets n (Bound v l e) st =
-      let inside = ordered.inside (at sys other v []) e (meets.bound n e v [] (bound_here n l e v st) (root_copy sys depth (owner_of sys v))) in
-      lt-ltb e (size order) inside.1
-  inside_met other ordered meets n (Enter s u v) st = refl
-  inside_met other ordered meets n (Leave s u v) st = refl
-
-  pub none_unmet : IsOrder order → NamesNone sys lattice order → IsUnmet sys lattice order depth
-  none_unmet ordered none other meets =
-      let within = inside_met other ordered meets none.number none.constraint.link
-      (record { constraint = none.constraint; there = none.there; link_is = refl; carried = none.carried }) in
-      let both : true ≡ false = sym within ∙ none.out in absurd cc
-
-  inside_here : NamesUpTo sys lattice order (length sys.constraints) → (n : ℕ) (link : Link) → Stands sys lattice n link → is_inside order link ≡ true
-  inside_here named n link st =
-      let Fits : Link → Type 0 = λ k. IsInLattice lattice k st.constraint.lattices → is_inside order k ≡ true in
-      subst Fits st.link_is (named n (slice_get_within sys.constraints n st.constraint st.there) st.constraint st.there) st.carried
-
-  pub named_all : NamesUpTo sys lattice order (length sys.constraints) → NamesElementsIn sys lattice order
-  named_all named = record {
-    const = λ n e v st. ltb-true e (size order) (inside_here named n (Const lattice e v) st);
-    bound = λ n v b st. ltb-true b (size order) (inside_here named n (Bound v lattice b) st);
+  pub met_names : (other : Assignment) → IsOrder order → Meets sys lattice order depth other → NamesElementsIn sys lattice order
+  met_names other ordered meets = record {
+    const = λ n e v st. (ordered.inside e (at sys other v []) (meets.rises.const n e v [] st (root_copy sys depth (owner_of sys v)))).0;
+    bound = λ n v b st. (ordered.inside (at sys other v []) b (meets.bound n b v [] st (root_copy sys depth (owner_of sys v)))).1;
   }
 
 -- the two outcomes of raising

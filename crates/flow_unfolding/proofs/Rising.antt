@@ -10,7 +10,7 @@ use Rattle.flow_graph.specs.PathRules.{link_ends}
 use Rattle.flow_graph.specs.Unfolding.{Assignment, at, Rises, Meets}
 use Rattle.flow_unfolding.specs.Strings.{AreBelow, HasAll}
 use Rattle.flow_unfolding.specs.Copies.{stands}
-use Rattle.flow_unfolding.specs.Meeting.{begin_element, end_sites, is_below, AreElements, AgreesBelow, KeepsBelow}
+use Rattle.flow_unfolding.specs.Meeting.{begin_element, end_sites, AreElements, AgreesBelow, KeepsBelow}
 use Rattle.flow_unfolding.proofs.CopyTests.{copy_below, copy_test, entered_test}
 
 module _ (sys : System) (lattice : ℕ) (order : Order) (depth : ℕ) (map : Assignment) (strings : List (List ℕ)) (all : HasAll strings (length sys.sites) depth) where
@@ -52,7 +52,5 @@ module _ (sys : System) (lattice : ℕ) (order : Order) (depth : ℕ) (map : Ass
     bound = λ n e v w st copy.
         let low = copy_below sys depth (owner_of sys v) w copy in
         let found = place w low.0 low.1 in
-        let Fits : Link → Type 0 = λ k. IsInLattice lattice k st.constraint.lattices → stands sys depth k w ≡ true → is_below sys order map k w ≡ true in
-        subst Fits st.link_is (keeps n (slice_get_within sys.constraints n st.constraint st.there) found.0 w found.1 found.2 st.constraint st.there) st.carried
-        (copy_test sys depth (owner_of sys v) w copy);
+        keeps n (slice_get_within sys.constraints n st.constraint st.there) found.0 w found.1 found.2 v e st (copy_test sys depth (owner_of sys v) w copy);
   }

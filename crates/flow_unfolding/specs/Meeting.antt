@@ -1,13 +1,13 @@
 -- The constraints of an unfolding one by one, in one copy each.
-use Rattle.std.specs.Prelude.{◌≡◌, ℕ, ◌<◌, List, length, slice_get, Some, Bool, true, false, nat_lt}
+use Rattle.std.specs.Prelude.{◌≡◌, ℕ, ◌<◌, List, length, slice_get, Some, true, false}
 use Rattle.lattice_core.specs.Order.{Order, size, leq}
 use Rattle.flow_graph.specs.declared.constraint.Link.{Link}
 use Rattle.flow_graph.specs.declared.constraint.Link.TheVariants.{Le, Const, Bound, Enter, Leave}
 use Rattle.flow_graph.specs.declared.constraint.Constraint.{Constraint}
-use Rattle.flow_graph.specs.System.{System, IsInLattice}
+use Rattle.flow_graph.specs.System.{System, owner_of, IsInLattice, Stands}
 use Rattle.flow_graph.specs.PathRules.{link_ends}
 use Rattle.flow_graph.specs.Unfolding.{Assignment, at, Rises, Meets}
-use Rattle.flow_unfolding.specs.Copies.{stands, behind}
+use Rattle.flow_unfolding.specs.Copies.{is_copy, stands, behind}
 
 -- the element at which a link begins, in the copy where it stands; a bound's own variable has what it has
 abbrev pub begin_element : System → Assignment → Link → List ℕ → ℕ
@@ -47,26 +47,10 @@ AgreesUpTo sys lattice order depth map n strings count = (k : ℕ) (w : List ℕ
 abbrev pub AgreesBelow : System → ℕ → Order → ℕ → Assignment → List (List ℕ) → ℕ → Type 0
 AgreesBelow sys lattice order depth map strings count = (n : ℕ) → n < count → AgreesUpTo sys lattice order depth map n strings (length strings)
 
--- the assignment is at or below the bound, if the link is one
-abbrev pub is_below : System → Order → Assignment → Link → List ℕ → Bool
-is_below sys order map (Le u v) w = true
-is_below sys order map (Const l e v) w = true
-is_below sys order map (Bound v l e) w = leq order (at sys map v w) e
-is_below sys order map (Enter s u v) w = true
-is_below sys order map (Leave s u v) w = true
-
--- the element of the bound, if the link is one, is of the order
-abbrev pub HasBoundIn : Order → Link → Type 0
-HasBoundIn order (Le u v) = Unit {0}
-HasBoundIn order (Const l e v) = Unit {0}
-HasBoundIn order (Bound v l e) = e < size order
-HasBoundIn order (Enter s u v) = Unit {0}
-HasBoundIn order (Leave s u v) = Unit {0}
-
 -- the assignment keeps constraint n, if it is a bound, in copy w
 abbrev pub KeepsAt : System → ℕ → Order → ℕ → Assignment → ℕ → List ℕ → Type 0
-KeepsAt sys lattice order depth map n w = (c : Constraint) → slice_get sys.constraints n ≡ Some c → IsInLattice lattice c.link c.lattices → stands sys depth c.link w ≡ true →
-    is_below sys order map c.link w ≡ true
+KeepsAt sys lattice order depth map n w = (v e : ℕ) → Stands sys lattice n (Bound v lattice e) → is_copy sys depth (owner_of sys v) w ≡ true →
+    leq order (at sys map v w) e ≡ true
 
 abbrev pub KeepsUpTo : System → ℕ → Order → ℕ → Assignment → ℕ → List (List ℕ) → ℕ → Type 0
 KeepsUpTo sys lattice order depth map n strings count = (k : ℕ) (w : List ℕ) → k < count → slice_get strings k ≡ Some w → KeepsAt sys lattice order depth map n w
@@ -77,35 +61,12 @@ KeepsBelow sys lattice order depth map strings count = (n : ℕ) → n < count �
 -- in some copy it is not at or below some bound
 pub record IsOver (sys : System) (lattice : ℕ) (order : Order) (depth : ℕ) (map : Assignment) : Type 0 where
   pub number : ℕ
+  pub var : ℕ
+  pub element : ℕ
+  pub bound : Stands sys lattice number (Bound var lattice element)
   pub sites : List ℕ
-  pub constraint : Constraint
-  pub there : slice_get sys.constraints number ≡ Some constraint
-  pub carried : IsInLattice lattice constraint.link constraint.lattices
-  pub in_copy : stands sys depth constraint.link sites ≡ true
-  pub over : is_below sys order map constraint.link sites ≡ false
-
--- the link names no number or that of an element
-abbrev pub is_inside : Order → Link → Bool
-is_inside order (Le u v) = true
-is_inside order (Const l e v) = nat_lt e (size order)
-is_inside order (Bound v l e) = nat_lt e (size order)
-is_inside order (Enter s u v) = true
-is_inside order (Leave s u v) = true
-
--- constraint n, if it is a constant or a bound of the lattice, names an element
-abbrev pub NamesAt : System → ℕ → Order → ℕ → Type 0
-NamesAt sys lattice order n = (c : Constraint) → slice_get sys.constraints n ≡ Some c → IsInLattice lattice c.link c.lattices → is_inside order c.link ≡ true
-
-abbrev pub NamesUpTo : System → ℕ → Order → ℕ → Type 0
-NamesUpTo sys lattice order count = (n : ℕ) → n < count → NamesAt sys lattice order n
-
--- some constant or bound of the lattice names no element
-pub record NamesNone (sys : System) (lattice : ℕ) (order : Order) : Type 0 where
-  pub number : ℕ
-  pub constraint : Constraint
-  pub there : slice_get sys.constraints number ≡ Some constraint
-  pub carried : IsInLattice lattice constraint.link constraint.lattices
-  pub out : is_inside order constraint.link ≡ false
+  pub in_copy : is_copy sys depth (owner_of sys var) sites ≡ true
+  pub over : leq order (at sys map var sites) element ≡ false
 
 -- no assignment meets the unfolding
 abbrev pub IsUnmet : System → ℕ → Order → ℕ → Type 0

@@ -55,7 +55,7 @@ fn is_call_string(graph: &FlowGraph, owner: Owner, sites: &[SiteId]) -> bool
 }
 
 /// Whether a list of sites is a copy of an owner at a depth.
-fn is_copy(graph: &FlowGraph, depth: u32, owner: Owner, sites: &[SiteId]) -> bool
+pub fn is_copy(graph: &FlowGraph, depth: u32, owner: Owner, sites: &[SiteId]) -> bool
     ensures { result ≡ Copies.is_copy graph.now depth owner sites.now }
 {
     match owner {

@@ -1,18 +1,19 @@
 //! The least assignment that rises along the constraints of an unfolding, and whether it keeps the bounds.
 
-ghost use Rattle.std.specs.Prelude.{◌≡◌, ℕ, ◌<◌, length, IfOk, OnOk, MatchBool, List, nat_lt};
+ghost use Rattle.std.specs.Prelude.{◌≡◌, ℕ, ◌<◌, length, IfOk, OnOk, MatchBool, List};
 ghost use Rattle.std.specs.Bool.{OnFalse};
-ghost use Rattle.lattice_core.specs.Order.{size, IsLattice};
+ghost use Rattle.lattice_core.specs.Order.{IsLattice};
 ghost use Rattle.flow_graph.specs.Unfolding;
 ghost use Rattle.flow_graph.specs.Unfolding.{Assignment, Meets, Rises, NamesElementsIn};
 ghost use Rattle.flow_unfolding.specs.Assigned.{map_of};
 ghost use Rattle.flow_unfolding.specs.Strings.{HasAll};
 ghost use Rattle.flow_unfolding.specs.Meeting;
-ghost use Rattle.flow_unfolding.specs.Meeting.{IsLow, AgreesAt, AgreesUpTo, AgreesBelow, AreElements, KeepsAt, KeepsUpTo, KeepsBelow, IsOver, IsUnmet, NamesAt, NamesNone, NamesUpTo};
+ghost use Rattle.flow_unfolding.specs.Meeting.{IsLow, AgreesAt, AgreesUpTo, AgreesBelow, AreElements, KeepsAt, KeepsUpTo, KeepsBelow, IsOver, IsUnmet};
 
 use crate::assigned::Assigned;
-use crate::copies::{behind, seen_from, stands};
+use crate::copies::{behind, is_copy, seen_from, stands};
 use crate::strings::{CallString, all_strings};
+use flow_graph::conditions::names_elements;
 use flow_graph::constraint::Link;
 use flow_graph::graph::FlowGraph;
 use lattice_core::Lattice;
@@ -187,27 +188,6 @@ fn raise_all(
     Err(NoMemory)
 }
 
-/// Whether an assignment is at or below a link's bound in one copy. True of any link but a bound.
-fn is_below(
-    map: &Assigned,
-    graph: &FlowGraph,
-    lattice: &Lattice,
-    link: Link,
-    sites: &[SiteId],
-) -> bool
-    requires elements { AreElements lattice.now.order (map_of map.now) }
-    requires bound { Meeting.HasBoundIn lattice.now.order link }
-    ensures { result ≡ Meeting.is_below graph.now lattice.now.order (map_of map.now) link sites.now }
-{
-    match link {
-        Link::Le(_, _) => true,
-        Link::Const(_, _, _) => true,
-        Link::Bound(at, _, elem) => lattice.leq(element_at(map, graph, at, sites), elem),
-        Link::Enter(_, _, _) => true,
-        Link::Leave(_, _, _) => true,
-    }
-}
-
 /// Whether an assignment keeps a bound in one copy. True of any constraint but a bound of the lattice.
 fn keeps_at(
     graph: &FlowGraph,
@@ -225,13 +205,13 @@ fn keeps_at(
     ensures { MatchBool result (KeepsAt graph.now lattice_no lattice.now.order depth (map_of map.now) at sites.now) (IsOver graph.now lattice_no lattice.now.order depth (map_of map.now)) }
 {
     let constraint = graph.constraint(at);
-    if !constraint.is_in(lattice_no) {
+    let Some(limit) = constraint.bound_in(lattice_no) else {
+        return true;
+    };
+    if !is_copy(graph, depth, graph.owner(limit.at), sites) {
         return true;
     }
-    if !stands(graph, depth, constraint.link, sites) {
-        return true;
-    }
-    is_below(map, graph, lattice, constraint.link, sites)
+    lattice.leq(element_at(map, graph, limit.at, sites), limit.elem)
 }
 
 /// Whether an assignment keeps a bound in each copy.
@@ -282,52 +262,6 @@ fn keeps_bounds(
             strings,
             map,
         ) {
-            return false;
-        }
-    }
-    true
-}
-
-/// Whether a number is that of an element.
-fn is_element(lattice: &Lattice, elem: Elem) -> bool
-    ensures { result ≡ nat_lt elem (size lattice.now.order) }
-{
-    elem.number() < lattice.size()
-}
-
-/// Whether a link names no number or that of an element.
-fn is_inside(lattice: &Lattice, link: Link) -> bool
-    ensures { result ≡ Meeting.is_inside lattice.now.order link }
-{
-    match link {
-        Link::Le(_, _) => true,
-        Link::Const(_, elem, _) => is_element(lattice, elem),
-        Link::Bound(_, _, elem) => is_element(lattice, elem),
-        Link::Enter(_, _, _) => true,
-        Link::Leave(_, _, _) => true,
-    }
-}
-
-/// Whether a constraint names an element, if it is a constant or a bound of a lattice.
-fn names_element(graph: &FlowGraph, lattice_no: LatticeNo, lattice: &Lattice, at: EdgeId) -> bool
-    requires lattice { lattice_no < 16 }
-    requires at { at < length graph.now.constraints }
-    ensures { MatchBool result (NamesAt graph.now lattice_no lattice.now.order at) (NamesNone graph.now lattice_no lattice.now.order) }
-{
-    let constraint = graph.constraint(at);
-    if !constraint.is_in(lattice_no) {
-        return true;
-    }
-    is_inside(lattice, constraint.link)
-}
-
-/// Whether each constant and bound of a lattice names an element of it.
-fn names_elements(graph: &FlowGraph, lattice_no: LatticeNo, lattice: &Lattice) -> bool
-    requires { lattice_no < 16 }
-    ensures { MatchBool result (NamesUpTo graph.now lattice_no lattice.now.order (length graph.now.constraints)) (NamesNone graph.now lattice_no lattice.now.order) }
-{
-    for named in 0..graph.len() {
-        if !names_element(graph, lattice_no, lattice, EdgeId::new(named)) {
             return false;
         }
     }

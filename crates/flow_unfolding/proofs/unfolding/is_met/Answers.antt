@@ -1,24 +1,23 @@
-use Rattle.std.proofs.Common.{List, ℕ, length}
+use Rattle.std.proofs.Common.{◌≡◌, List, ℕ, length, true, false, refl}
 use Rattle.flow_graph.specs.Unfolding.{Assignment, Meets}
 use Rattle.flow_unfolding.specs.Assigned.{map_of}
 use Rattle.flow_unfolding.specs.Strings.{HasAll}
 use Rattle.flow_unfolding.specs.Meeting.{KeepsBelow, IsOver, IsUnmet}
 use Rattle.flow_unfolding.proofs.Rising.{all_kept}
-use Rattle.flow_unfolding.proofs.Low.{none_unmet, named_all, over_unmet}
+use Rattle.flow_unfolding.proofs.Low.{met_names, over_unmet}
 use Rattle.flow_unfolding.proofs.Answering.{answered}
 use Rattle.flow_unfolding.proofs.unfolding.is_met.Goals as goal
 
 pub returns-then-not-names_elements : goal.returns-then-not-names_elements
-returns-then-not-names_elements c =
-    none_unmet c.args.graph.now c.args.lattice_no c.args.lattice.now.order c.args.depth c.law.ensures.lattice.ordered c.if-not-names_elements.ensures
+returns-then-not-names_elements c other meets =
+    let names = met_names c.args.graph.now c.args.lattice_no c.args.lattice.now.order c.args.depth other c.law.ensures.lattice.ordered meets in
+    let wrong : false ≡ true = c.if-not-names_elements.ensures.1 names in cc
 
 pub raise_all-requires-clause-named : goal.raise_all-requires-clause-named
-raise_all-requires-clause-named c =
-    named_all c.args.graph.now c.args.lattice_no c.args.lattice.now.order c.args.depth c.if-not-names_elements.ensures
+raise_all-requires-clause-named c = c.if-not-names_elements.ensures.0 refl
 
 pub keeps_bounds-requires-clause-named : goal.keeps_bounds-requires-clause-named
-keeps_bounds-requires-clause-named c =
-    named_all c.args.graph.now c.args.lattice_no c.args.lattice.now.order c.args.depth c.if-not-names_elements.ensures
+keeps_bounds-requires-clause-named c = c.if-not-names_elements.ensures.0 refl
 
 pub returns : goal.returns
 returns c =
