@@ -62,7 +62,7 @@ at_once_all sys lattices solutions are kept n order is =
     let within = slice_get_within lattices n v.view v.there in
     let count = are.count in
     let s = item_at solutions n (omega (arith, within, count)) in
-    let own : IsAtOnce sys s.item.solver.lattice v.view.order = (let once = (kept n v.view s.item v.there s.there).at_once in record { copies = once.copies; meets = once.meets; below = once.below }) in
+    let own : IsAtOnce sys s.item.solver.lattice v.view.order = (let once = (kept n v.view s.item v.there s.there).at_once in record { copies = once.copies; meets = once.meets; below = λ v sites r is. once.below v r sites is }) in
     let At : ℕ → Type 0 = λ l. IsAtOnce sys l v.view.order in
     subst (IsAtOnce sys n) v.order_is (subst At (are.each n s.item s.there).lattice_is own)
 
@@ -99,4 +99,3 @@ bound_elem lent link v lattice limit has is = (subst (HasLink lent) is has).1
 pub bound_lattice : (lent : Lent) (link : Link) (v lattice limit : ℕ) → HasLink lent link → link ≡ Bound v lattice limit → lattice < length lent.lattices.now
 bound_lattice lent link v lattice limit has is =
     let element = bound_elem lent link v lattice limit has is in slice_get_within lent.lattices.now lattice element.view element.there
-

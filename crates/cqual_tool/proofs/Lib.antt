@@ -6,3 +6,4 @@ mod LatticeLemmas
 mod SceneFacts
 mod ReportLemmas
 mod Outcomes
+mod SubsLemmas

@@ -1,19 +1,21 @@
 -- Reports from their parts.
-use Rattle.std.proofs.Common.{◌≡◌, ℕ, ◌*◌, List, [], ◌++◌, length, slice_get, Some, codes, refl, sym, ◌∙◌, ap, subst, append_assoc, append-nil}
-use Rattle.lattice_core.specs.Order.{Order, leq, IsLattice, IsJoinOf}
+use Rattle.std.proofs.Common.{◌≡◌, ℕ, suc, ◌+◌, ◌<◌, arith, List, [], ◌++◌, length, slice_get, Some, codes, refl, sym, ◌∙◌, ap, subst, append_assoc, append-nil}
+use Rattle.std.proofs.lemmas.Option.{slice_get_within}
+use Rattle.lattice_core.specs.Order.{Order, size, leq, IsLattice, IsJoinOf}
 use Rattle.flow_graph.specs.declared.constraint.Constraint.{Constraint}
-use Rattle.flow_graph.specs.declared.constraint.Link.TheVariants.{Bound}
+use Rattle.flow_graph.specs.declared.constraint.Link.TheVariants.{Const, Bound}
 use Rattle.flow_graph.specs.System.{System}
 use Rattle.flow_graph.specs.Unfolding.{IsAccepted, Printed}
-use Rattle.flow_graph.specs.PathProofs.{first_of, last_of}
+use Rattle.flow_graph.specs.declared.proof.PathProof.{PathProof}
+use Rattle.flow_graph.specs.PathProofs.{AreApart, Holds, last_of, steps_of}
 use Rattle.flow_laws.specs.Refuting.{ExceededIsRefuted}
-use Rattle.lattice_solver.specs.Solution.{Solution, reached_at, IsKept}
-use Rattle.cqual_tool.specs.Texts.{Scene, line, value_line, error_line, subs_text, steps_text}
-use Rattle.cqual_tool.specs.Scenes.{IsOverBound, IsLineIn}
-use Rattle.cqual_tool.specs.FlatPaths.{takes, IsFlatPath}
-use Rattle.cqual_tool.specs.Reports.{IsBottom, AtBottom, Above, Lines, IsError, IsOver, Errors, IsAcceptedReport, IsRejectedReport}
-use Rattle.lattice_core.specs.View.{orders_of}
-use Rattle.cqual_tool.proofs.FlatHolds.{flat_holds, last_taken}
+use Rattle.lattice_solver.specs.Solution.{Solution, reached_at, IsKept, Exceeds}
+use Rattle.error_path.specs.Shown.{BeginsOver, EndsWith}
+use Rattle.cqual_tool.specs.Texts.{Scene, line, value_line, error_line, proof_text}
+use Rattle.cqual_tool.specs.Programs.{numbers_below}
+use Rattle.cqual_tool.specs.Scenes.{IsLineIn}
+use Rattle.cqual_tool.specs.Reports.{IsAtOnce, IsBottom, AtBottom, Above, VarLines, Lines, NextVar, IsError, IsOver, Errors, IsAcceptedReport, IsRejectedReport}
+use Rattle.lattice_core.specs.View.{LatticeView, orders_of, IsElement}
 
 some_is : {A : Type 0} {x y : A} → Some x ≡ Some y → x ≡ y
 some_is e = cc
@@ -50,6 +52,91 @@ module _ (scene : Scene) (sys : System) (number : ℕ) (order : Order) (there : 
   pub a_line : (elem ≡ bottom → ⊥) → IsLineIn scene sys number var (value_line scene number var elem)
   a_line other = record { order = order; there = there; is = Above elem (λ low. other (lattice.ordered.apart elem bottom (low.1 bottom is_bottom.0) (is_bottom.1 elem low.0))) printed }
 
+-- the lines of one variable more
+pub next_lines : (scene : Scene) (sys : System) (n : ℕ) (text lines : List ℕ) → Lines scene sys (numbers_below n) text → VarLines scene sys n (length scene.lattices) lines →
+    Lines scene sys (numbers_below (n + 1)) (text ++ lines)
+next_lines scene sys n text lines before here =
+    let step : n + 1 ≡ suc n = omega arith in
+    let At : ℕ → Type 0 = λ k. Lines scene sys (numbers_below k) (text ++ lines) in
+    subst At (sym step) (NextVar (numbers_below n) n text lines before here)
+
 -- two parts one behind the other
 pub in_parts : (old first second one two : List ℕ) → one ≡ old ++ first → two ≡ one ++ second → two ≡ old ++ (first ++ second)
 in_parts old first second one two is then = then ∙ ap (λ (t : List ℕ). t ++ second) is ∙ append_assoc old first second
+
+bound_is : {v w l m a b : ℕ} → Bound v l a ≡ Bound w m b → (l ≡ m) × (a ≡ b)
+bound_is e = (cc, cc)
+
+constraint_is : {x y : Constraint} → Some x ≡ Some y → x ≡ y
+constraint_is e = cc
+
+-- the error of a bound that an element exceeds, with its path proof
+module _ (scene : Scene) (sys : System) (solution : Solution) (order : Order) (number : ℕ) (proof : PathProof) (constraint : Constraint) (there : slice_get sys.constraints number ≡ Some constraint)
+    (elem : ℕ) (exceeds : Exceeds sys solution order number elem) where
+  same : exceeds.bound.constraint ≡ constraint
+  same = constraint_is (sym exceeds.bound.there ∙ there)
+
+  link_is : constraint.link ≡ Bound exceeds.var solution.lattice exceeds.limit
+  link_is = ap (λ (c : Constraint). c.link) (sym same) ∙ exceeds.bound.link_is
+
+  pub limit_is : (v lattice limit : ℕ) → constraint.link ≡ Bound v lattice limit → (solution.lattice ≡ lattice) × (exceeds.limit ≡ limit)
+  limit_is v lattice limit is = bound_is (sym link_is ∙ is)
+
+  pub error_of : Holds sys (orders_of scene.lattices) proof → EndsWith number proof → AreApart sys (steps_of proof.subs.items) → (begins : BeginsOver sys solution order number proof) →
+      IsError scene sys number (error_line scene solution.lattice begins.element exceeds.limit constraint.span ++ proof_text scene sys (steps_of proof.subs.items) proof.main.items)
+  error_of holds ends apart begins = record {
+    subs = steps_of proof.subs.items;
+    main = proof.main.items;
+    end = proof.end;
+    holds = holds;
+    apart = apart;
+    start = begins.number;
+    start_line = 0;
+    begins = begins.first;
+    last_line = 0;
+    finishes = ends;
+    lattice = solution.lattice;
+    elem = begins.element;
+    from = begins.var;
+    constant = begins.constant;
+    limit = exceeds.limit;
+    at = exceeds.var;
+    bound = record { constraint = constraint; there = there; link_is = link_is; carried = refl };
+    spelled = refl;
+  }
+
+  -- the same, as the numbers are read
+  pub error_as : Holds sys (orders_of scene.lattices) proof → EndsWith number proof → AreApart sys (steps_of proof.subs.items) → (begins : BeginsOver sys solution order number proof) →
+      (lattice element limit : ℕ) → solution.lattice ≡ lattice → begins.element ≡ element → exceeds.limit ≡ limit →
+      IsError scene sys number (error_line scene lattice element limit constraint.span ++ proof_text scene sys (steps_of proof.subs.items) proof.main.items)
+  error_as holds ends apart begins lattice element limit lattice_is element_is same_limit =
+      let text : ℕ → ℕ → ℕ → List ℕ = λ l e b. error_line scene l e b constraint.span ++ proof_text scene sys (steps_of proof.subs.items) proof.main.items in
+      let In : ℕ → Type 0 = λ l. IsError scene sys number (text l element limit) in
+      let Of : ℕ → Type 0 = λ e. IsError scene sys number (text solution.lattice e limit) in
+      let By : ℕ → Type 0 = λ b. IsError scene sys number (text solution.lattice begins.element b) in
+      subst In lattice_is (subst Of element_is (subst By same_limit (error_of holds ends apart begins)))
+
+const_is : {v w l m a b : ℕ} → Const l a v ≡ Const m b w → a ≡ b
+const_is e = cc
+
+-- the constant that a path proof begins with, as it is read
+module _ (sys : System) (solution : Solution) (order : Order) (bound : ℕ) (proof : PathProof) (begins : BeginsOver sys solution order bound proof) (edge : ℕ) (edge_is : edge ≡ begins.number) where
+  pub edge_within : edge < length sys.constraints
+  edge_within =
+      let within = slice_get_within sys.constraints begins.number begins.constant.constraint begins.constant.there in omega (arith, within, edge_is)
+
+  pub start_link : (start : Constraint) → slice_get sys.constraints edge ≡ Some start → start.link ≡ Const solution.lattice begins.element begins.var
+  start_link start there =
+      ap (λ (c : Constraint). c.link) (constraint_is (sym there ∙ ap (slice_get sys.constraints) edge_is ∙ begins.constant.there)) ∙ begins.constant.link_is
+
+  pub element_is : (start : Constraint) → slice_get sys.constraints edge ≡ Some start → (lattice elem v : ℕ) → start.link ≡ Const lattice elem v → begins.element ≡ elem
+  element_is start there lattice elem v is = const_is (sym (start_link start there) ∙ is)
+
+-- an element of the order of a lattice is one of its entries
+pub entry_of : (lattices : List LatticeView) (view : LatticeView) (lattice other elem element : ℕ) → slice_get lattices lattice ≡ Some view → lattice ≡ other →
+    size view.order ≡ length view.entries → element < size view.order → element ≡ elem → IsElement lattices other elem
+entry_of lattices view lattice other elem element there same sized below is = record {
+  view = view;
+  there = ap (slice_get lattices) (sym same) ∙ there;
+  within = omega (arith, sized, below, is);
+}

@@ -1,5 +1,5 @@
 -- What a source gives the scene of its report.
-use Rattle.std.proofs.Common.{◌≡◌, ℕ, zero, suc, ◌+◌, ◌*◌, ◌<◌, ◌≤◌, ◌⊎◌, inl, inr, List, [], ◌∷◌, ◌++◌, length, Some, None, slice_get, refl, sym, ◌∙◌, ap, subst, arith, length-append, true, false, MatchOption}
+use Rattle.std.proofs.Common.{◌≡◌, ℕ, zero, suc, ◌+◌, ◌*◌, ◌<◌, ◌≤◌, ◌⊎◌, inl, inr, List, [], ◌∷◌, ◌++◌, length, Some, None, slice_get, refl, sym, ◌∙◌, ap, subst, arith, length-append, true, false, IfSome, IfNone}
 use Rattle.std.specs.declared.option.Option.{Option}
 use Rattle.std.specs.Option.{is_some}
 use Rattle.std.proofs.lemmas.Bool.{cases_order}
@@ -113,10 +113,10 @@ kept_next sys lattices solutions count view solution there found own below n v s
     by_order (inr (inr past)) = absurd (omega (arith, past, within))
 
 -- what is answered of the first exceeded bound
-pub found_over : (K : Type 0) (E : ℕ → Type 0) (found : Option ℕ) → MatchOption found K E → is_some found ≡ true → (n : ℕ) × E n
-found_over K E (Some n) is some = (n, is)
-found_over K E None is some = absurd cc
+pub found_first : (E : ℕ → Type 0) (found : Option ℕ) → IfSome found E → is_some found ≡ true → (n : ℕ) × E n
+found_first E (Some n) is some = (n, is)
+found_first E None is some = absurd cc
 
-pub none_kept : (K : Type 0) (E : ℕ → Type 0) (found : Option ℕ) → MatchOption found K E → is_some found ≡ false → K
-none_kept K E (Some n) is none = absurd cc
-none_kept K E None is none = is
+pub none_found_kept : (K : Type 0) (found : Option ℕ) → IfNone found K → is_some found ≡ false → K
+none_found_kept K (Some n) is none = absurd cc
+none_found_kept K None is none = is

@@ -2,10 +2,7 @@
 use Rattle.std.specs.Prelude.{◌≡◌, ℕ, ◌*◌, ◌<◌, ◌≤◌, ◌↔◌, length, List, slice_get, Some, false}
 use Rattle.qual_base.specs.declared.places.Span.{Span}
 use Rattle.flow_graph.specs.declared.constraint.Constraint.{Constraint}
-use Rattle.flow_graph.specs.declared.proof.PathStep.{PathStep}
-use Rattle.flow_graph.specs.declared.proof.PathStep.TheVariants.{Take}
 use Rattle.flow_graph.specs.System.{System, Stands}
-use Rattle.flow_graph.specs.PathProofs.{first_of}
 use Rattle.flow_graph.specs.Paths.{Lead}
 use Rattle.flow_graph.specs.declared.constraint.Link.{Link}
 use Rattle.flow_graph.specs.declared.constraint.Link.TheVariants.{Le, Const, Bound, Enter, Leave}
@@ -93,19 +90,12 @@ pub record IsLineIn (scene : Scene) (sys : System) (lattice var : ℕ) (line : L
 abbrev pub IsNoBound : Link → Type 0
 IsNoBound link = (v lattice limit : ℕ) → link ≡ Bound v lattice limit → ⊥
 
--- a path begins with a constant of an element of a lattice
-pub record BeginsWith (sys : System) (lattice elem : ℕ) (main : List PathStep) : Type 0 where
-  pub number : ℕ
-  pub line : ℕ
-  pub var : ℕ
-  pub first : first_of main ≡ Some (Take number line)
-  pub constant : Stands sys lattice number (Const lattice elem var)
-
--- a constraint is a bound that an element exceeds, by what was found of its lattice
+-- an element exceeds a bound of the lattice with a number, by what was found of it
 pub record IsOverIn (lattices : List LatticeView) (sys : System) (of : Solved) (bound : ℕ) : Type 0 where
   pub view : LatticeView
   pub there : slice_get lattices of.solver.lattice ≡ Some view
-  pub solution : IsSolution sys of.solver.lattice of
+  pub summarised : Summarises sys of.solver.lattice of.summaries
+  pub solved : IsSolved sys of.solver
   pub named : NamesElementsIn sys of.solver.lattice view.order
   pub elem : ℕ
   pub exceeds : Exceeds sys of.solver view.order bound elem

@@ -1,6 +1,7 @@
 //! The lines of path proofs.
 
-ghost use Rattle.std.specs.Prelude.{◌≡◌, ◌++◌, ◌<◌, ◌^◌, length, slice_get, Some, OnOk};
+ghost use Rattle.std.specs.Prelude.{◌≡◌, ◌++◌, codes, slice_get, OnOk};
+ghost use Rattle.std.specs.Fmt.{decimal};
 ghost use Rattle.flow_graph.specs.PathProofs.{steps_of};
 ghost use Rattle.cqual_tool.specs.Texts.{line, constraint_text, step_text, steps_text, subs_text, proof_text};
 ghost use Rattle.cqual_tool.specs.Scenes.{scene_of, IsShown};
@@ -42,7 +43,7 @@ fn put_take(
 
 /// The line of a step that goes through a sub-path.
 fn put_through(out: &mut Vec<u8>, number: u32) -> Result<(), AllocError>
-    ensures { OnOk result (out.new.items ≡ out.old.items ++ line (Rattle.std.specs.Prelude.codes "  sub " ++ Rattle.std.specs.Fmt.decimal number)) }
+    ensures { OnOk result (out.new.items ≡ out.old.items ++ line (codes "  sub " ++ decimal number)) }
 {
     put(out, b"  sub ")?;
     put_decimal(out, u64::from(number))?;
@@ -83,7 +84,7 @@ fn put_steps(
 
 /// The line above a sub-path.
 fn put_heading(out: &mut Vec<u8>, number: u64) -> Result<(), AllocError>
-    ensures { OnOk result (out.new.items ≡ out.old.items ++ line (Rattle.std.specs.Prelude.codes "sub " ++ Rattle.std.specs.Fmt.decimal number)) }
+    ensures { OnOk result (out.new.items ≡ out.old.items ++ line (codes "sub " ++ decimal number)) }
 {
     put(out, b"sub ")?;
     put_decimal(out, number)?;

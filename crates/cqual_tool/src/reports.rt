@@ -2,10 +2,12 @@
 
 ghost use Rattle.std.specs.Prelude.{◌≡◌, ◌<◌, ◌++◌, ◌*◌, ◌≤◌, ◌^◌, ℕ, List, IfOk, OnOk, MatchOption, length, slice_get, Some};
 ghost use Rattle.lattice_core.specs.View.{LatticeView, orders_of};
-ghost use Rattle.flow_graph.specs.declared.constraint.Link.TheVariants.{Bound};
+ghost use Rattle.flow_graph.specs.declared.constraint.Link.TheVariants.{Const, Bound};
+ghost use Rattle.flow_graph.specs.declared.proof.PathStep.TheVariants.{Take};
+ghost use Rattle.flow_graph.specs.PathProofs.{first_of};
 ghost use Rattle.flow_graph.specs.System.{IsWellOwned};
 ghost use Rattle.lattice_solver.specs.Solution.{IsKept};
-ghost use Rattle.cqual_tool.specs.Scenes.{scene_of, HasVar, IsShown, IsLineIn, AreSolutions, AreKept, HasObjects, IsOverIn, IsNoBound, BeginsWith};
+ghost use Rattle.cqual_tool.specs.Scenes.{scene_of, HasVar, IsShown, IsLineIn, AreSolutions, AreKept, HasObjects, IsOverIn, IsNoBound};
 ghost use Rattle.cqual_tool.specs.Reports.{IsOver, VarLines, Lines, IsError, IsErrorOf, Errors, IsAcceptedReport, IsRejectedReport};
 
 use crate::paths::put_proof;
@@ -133,16 +135,24 @@ fn limit_of(constraint: &Constraint) -> Limit
     }
 }
 
-/// The element of the constant that a path begins with.
-fn start_of(graph: &FlowGraph, main: &[PathStep]) -> Elem
-    requires { (lattice : ℕ) × (elem : ℕ) × BeginsWith graph.now lattice elem main.now }
-    ensures { (lattice elem : ℕ) → BeginsWith graph.now lattice elem main.now → result ≡ elem }
+/// The constraint that a path begins with.
+fn first_edge(main: &[PathStep]) -> EdgeId
+    requires { (number : ℕ) × (line : ℕ) × (first_of main.now ≡ Some (Take number line)) }
+    ensures { (number line : ℕ) → first_of main.now ≡ Some (Take number line) → result ≡ number }
 {
-    match main.first() {
-        Some(PathStep::Take { edge, .. }) => match graph.constraint(*edge).link {
-            Link::Const(_, elem, _) => elem,
-            _ => unreachable!(),
-        },
+    match main {
+        [PathStep::Take { edge, .. }, ..] => *edge,
+        _ => unreachable!(),
+    }
+}
+
+/// The element of a constraint that is a constant.
+fn elem_of(constraint: &Constraint) -> Elem
+    requires { (lattice : ℕ) × (elem : ℕ) × (v : ℕ) × (constraint.now.link ≡ Const lattice elem v) }
+    ensures { (lattice : ℕ) × (v : ℕ) × (constraint.now.link ≡ Const lattice result v) }
+{
+    match constraint.link {
+        Link::Const(_, elem, _) => elem,
         _ => unreachable!(),
     }
 }
@@ -160,6 +170,7 @@ fn put_exceeded(
     requires exceeds { IsOverIn scene.now.lattices.now graph.now solved.now bound }
     ensures { OnOk result ((error : List ℕ) × (out.new.items ≡ out.old.items ++ error) × IsError (scene_of scene.now) graph.now bound error) }
 {
+    scene.lattices.law();
     let proof = show(
         alloc,
         graph,
@@ -169,9 +180,17 @@ fn put_exceeded(
         bound,
     )?;
     let constraint = graph.constraint(bound);
-    let elem = start_of(graph, &proof.main);
+    let start = graph.constraint(first_edge(&proof.main));
+    let elem = elem_of(&start);
     let limit = limit_of(&constraint);
-    put_error(out, scene, limit.lattice, elem, limit.elem, &constraint.span)?;
+    put_error(
+        out,
+        scene,
+        limit.lattice,
+        elem,
+        limit.elem,
+        &constraint.span,
+    )?;
     put_proof(out, scene, graph, &proof)?;
     Ok(())
 }

@@ -1,32 +1,61 @@
-use Rattle.std.proofs.Common.{ℕ, List, [], ◌++◌, ◌<◌, length, All, codes, sym, ◌∙◌, ap, subst}
-use Rattle.cqual_tool.specs.Texts.{line, error_line, subs_text, steps_text}
+use Rattle.std.proofs.Common.{◌≡◌, ℕ, ◌++◌, sym, ◌∙◌, ap}
+use Rattle.flow_graph.specs.PathProofs.{first_of, steps_of}
+use Rattle.cqual_tool.specs.Texts.{error_line, proof_text}
 use Rattle.cqual_tool.specs.Scenes.{scene_of}
-use Rattle.cqual_tool.specs.FlatPaths.{takes}
 use Rattle.cqual_tool.proofs.Appended.{on_ok}
-use Rattle.cqual_tool.proofs.FlatWithin.{path_within}
-use Rattle.cqual_tool.proofs.LatticeLemmas.{order_there}
-use Rattle.cqual_tool.proofs.ReportLemmas.{in_parts, error_of}
+use Rattle.cqual_tool.proofs.ReportLemmas.{in_parts, limit_is, error_as, edge_within, start_link, element_is, entry_of}
 use Rattle.cqual_tool.proofs.reports.put_exceeded.Goals as goal
 
-pub put_error-requires-clause-token : goal.put_error-requires-clause-token
-put_error-requires-clause-token c = c.requires.shown.spans c.args.bound c.constraint-constraint.result c.constraint-constraint.ensures.there
+pub first_edge-requires : goal.first_edge-requires
+first_edge-requires c =
+    let b = c.in_ok-proof.ensures.begins c.requires.exceeds.view c.requires.exceeds.there in
+    (b.number, 0, ap first_of c.deref.ensures.value ∙ b.first)
 
-pub put_path-requires-clause-within : goal.put_path-requires-clause-within
-put_path-requires-clause-within c =
-    let Within : List ℕ → Type 0 = λ ns. All (λ n. n < length c.args.graph.now.constraints) ns in
-    subst Within (sym c.deref.ensures.value) (path_within c.args.graph.now c.args.lattice c.args.elem c.args.bound c.in_ok-path.path.items c.in_ok-path.ensures)
+pub constraint-start-requires : goal.constraint-start-requires
+constraint-start-requires c =
+    let b = c.in_ok-proof.ensures.begins c.requires.exceeds.view c.requires.exceeds.there in
+    let edge = c.first_edge.ensures b.number 0 (ap first_of c.deref.ensures.value ∙ b.first) in
+    edge_within c.args.graph.now c.args.solved.now.solver c.requires.exceeds.view.order c.args.bound c.in_ok-proof.proof b c.first_edge.result edge
+
+pub elem_of-elem-requires : goal.elem_of-elem-requires
+elem_of-elem-requires c =
+    let b = c.in_ok-proof.ensures.begins c.requires.exceeds.view c.requires.exceeds.there in
+    let edge = c.first_edge.ensures b.number 0 (ap first_of c.deref.ensures.value ∙ b.first) in (
+      c.args.solved.now.solver.lattice,
+      b.element,
+      b.var,
+      start_link c.args.graph.now c.args.solved.now.solver c.requires.exceeds.view.order c.args.bound c.in_ok-proof.proof b c.first_edge.result edge c.constraint-start.result c.constraint-start.ensures.there,
+    )
+
+pub put_error-requires-clause-span : goal.put_error-requires-clause-span
+put_error-requires-clause-span c = c.requires.shown.spans c.args.bound c.constraint-constraint.result c.constraint-constraint.ensures.there
+
+pub put_error-requires-clause-elem : goal.put_error-requires-clause-elem
+put_error-requires-clause-elem c =
+    let e = c.requires.exceeds in
+    let b = c.in_ok-proof.ensures.begins e.view e.there in
+    let edge = c.first_edge.ensures b.number 0 (ap first_of c.deref.ensures.value ∙ b.first) in
+    let limit = limit_is (scene_of c.args.scene.now) c.args.graph.now c.args.solved.now.solver e.view.order c.args.bound c.in_ok-proof.proof c.constraint-constraint.result c.constraint-constraint.ensures.there e.elem e.exceeds
+    c.limit_of-limit.ensures.0 c.limit_of-limit.result.lattice c.limit_of-limit.result.elem c.limit_of-limit.ensures.1 in
+    let element = element_is c.args.graph.now c.args.solved.now.solver e.view.order c.args.bound c.in_ok-proof.proof b c.first_edge.result edge c.constraint-start.result c.constraint-start.ensures.there
+    c.elem_of-elem.ensures.0 c.elem_of-elem.result c.elem_of-elem.ensures.1 c.elem_of-elem.ensures.2 in
+    entry_of c.args.scene.now.lattices.now e.view c.args.solved.now.solver.lattice c.limit_of-limit.result.lattice c.elem_of-elem.result b.element e.there limit.0
+    (c.law.ensures.sized c.args.solved.now.solver.lattice e.view e.there) b.exceeds.element element
 
 pub returns : goal.returns
 returns c =
     let scene = scene_of c.args.scene.now in
-    let over = c.requires.over in
-    on_ok c.put_path.result c.put_path.ensures (λ steps. (
-      error_line scene c.args.lattice c.args.elem c.bound_of-limit.result c.constraint-constraint.result.span.from
-          ++ subs_text scene c.args.graph.now 1 []
-          ++ line (codes "path")
-          ++ steps_text scene c.args.graph.now (takes c.in_ok-path.path.items),
-      in_parts _ _ _ _ _ _ _ c.in_ok-put_error.ensures c.in_ok-put.ensures
-          (steps ∙ ap (λ ns. c.put.new.out.items ++ steps_text scene c.args.graph.now (takes ns)) c.deref.ensures.value),
-      error_of scene c.args.graph.now c.args.lattice over.view.order (order_there c.args.scene.now.lattices.now c.args.lattice over.view over.there) c.args.bound c.args.elem c.bound_of-limit.result
-          c.in_ok-path.path.items c.constraint-constraint.result over.over c.constraint-constraint.ensures.there c.bound_of-limit.ensures.0 c.bound_of-limit.ensures.1 c.bound_of-limit.ensures.2 c.in_ok-path.ensures,
-    ))
+    let e = c.requires.exceeds in
+    let b = c.in_ok-proof.ensures.begins e.view e.there in
+    let edge = c.first_edge.ensures b.number 0 (ap first_of c.deref.ensures.value ∙ b.first) in
+    let limit = limit_is scene c.args.graph.now c.args.solved.now.solver e.view.order c.args.bound c.in_ok-proof.proof c.constraint-constraint.result c.constraint-constraint.ensures.there e.elem e.exceeds
+    c.limit_of-limit.ensures.0 c.limit_of-limit.result.lattice c.limit_of-limit.result.elem c.limit_of-limit.ensures.1 in
+    let element = element_is c.args.graph.now c.args.solved.now.solver e.view.order c.args.bound c.in_ok-proof.proof b c.first_edge.result edge c.constraint-start.result c.constraint-start.ensures.there
+    c.elem_of-elem.ensures.0 c.elem_of-elem.result c.elem_of-elem.ensures.1 c.elem_of-elem.ensures.2 in (
+      error_line scene c.limit_of-limit.result.lattice c.elem_of-elem.result c.limit_of-limit.result.elem c.constraint-constraint.result.span
+          ++ proof_text scene c.args.graph.now (steps_of c.in_ok-proof.proof.subs.items) c.in_ok-proof.proof.main.items,
+      in_parts c.args.out.now.items _ _ c.put_error.new.out.items c.put_proof.new.out.items c.in_ok-put_error.ensures c.in_ok-put_proof.ensures,
+      error_as scene c.args.graph.now c.args.solved.now.solver e.view.order c.args.bound c.in_ok-proof.proof c.constraint-constraint.result c.constraint-constraint.ensures.there e.elem e.exceeds
+          c.in_ok-proof.ensures.holds c.in_ok-proof.ensures.ends c.in_ok-proof.ensures.apart b
+          c.limit_of-limit.result.lattice c.elem_of-elem.result c.limit_of-limit.result.elem limit.0 element limit.1,
+    )
