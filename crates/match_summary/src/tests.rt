@@ -115,6 +115,7 @@ fn row_of_calls(
     functions: u32,
     is_reversed: bool,
 ) -> Result<FlowGraph, Fail> {
+    assert!(rt; 0 < functions && functions < 1_000_000);
     let mut graph = functions_of_two(rt, alloc, functions)?;
     for k in 0..functions - 1 {
         call(rt, &mut graph, k + 1, Owner::Function(FuncId::new(k)))?;
@@ -135,6 +136,7 @@ fn row_of_calls(
 
 /// The same, but the last function calls the first, and the flow is in the middle.
 fn ring_of_calls(rt: &impl Abort, alloc: Global, functions: u32) -> Result<FlowGraph, Fail> {
+    assert!(rt; 0 < functions && functions < 1_000_000);
     let mut graph = functions_of_two(rt, alloc, functions)?;
     for k in 0..functions {
         let target = if k + 1 == functions { 0 } else { k + 1 };
@@ -147,7 +149,7 @@ fn ring_of_calls(rt: &impl Abort, alloc: Global, functions: u32) -> Result<FlowG
 
 /// Functions with two variables each.
 fn functions_of_two(rt: &impl Abort, alloc: Global, functions: u32) -> Result<FlowGraph, Fail> {
-    assert!(rt; 0 < functions && functions < 1_000_000);
+    assert!(rt; functions < 1_000_000);
     let mut graph = FlowGraph::new(alloc);
     for k in 0..functions {
         graph.set_owner(VarId::new(2 * k), Owner::Function(FuncId::new(k)))?;
