@@ -5,3 +5,8 @@ mod Resting
 mod Searching
 mod Tracing
 mod Walking
+mod Items
+mod Unset
+mod Drafting
+mod Ranks
+mod Unmade

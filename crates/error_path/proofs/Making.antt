@@ -3,18 +3,14 @@ use Rattle.std.proofs.Common.{◌≡◌, ◌≢◌, ℕ, zero, suc, ◌+◌, ◌
 use Rattle.std.proofs.Math.Dec.{eqb-suc-zero}
 use Rattle.std.proofs.lemmas.Bool.{cases_eq}
 use Rattle.std.proofs.lemmas.List.{length-append}
-use Rattle.std.proofs.lemmas.List.Elements.{Contains-push_cases, Contains-push, Contains-append_left}
 use Rattle.flow_graph.specs.declared.proof.PathStep.{PathStep}
 use Rattle.flow_graph.specs.declared.proof.PathStep.TheVariants.{Sub}
 use Rattle.flow_graph.specs.declared.place.Seen.TheVariants.{Through}
 use Rattle.flow_graph.specs.System.{System}
 use Rattle.flow_graph.specs.PathProofs.{look, span_of, AreApart}
 use Rattle.flow_graph.specs.declared.phase.Phase.{Phase}
-use Rattle.match_summary.specs.declared.reason.Summary.{Summary}
-use Rattle.match_summary.specs.Summary.{HasPair}
-use Rattle.error_path.specs.declared.steps.Pair.{Pair}
-use Rattle.flow_graph.specs.Parts.{Part, Flow, Empty, Full, IsSub, None as NoSubs, Next, Onward, Ends, Along, Back, Into}
-use Rattle.error_path.specs.Made.{AllJoined, AreMade}
+use Rattle.flow_graph.specs.Parts.{Part, Flow, Empty, Full, Inside, Done, More, IsSub, None as NoSubs, Next, Onward, Ends, Along, Back, Into}
+use Rattle.error_path.specs.Made.{AreMade}
 use Rattle.error_path.proofs.Holding.{sub_span}
 
 -- an item of a list with one more, by its place
@@ -130,6 +126,10 @@ module _ (sys : System) where
     part_grown u v _ (Empty _ a _ s n m st ts) = Empty u a v s n m st ts
     part_grown u v _ (Full _ a b _ s n m k st is ts) = Full u a b v s n m k st (look_more subs more k a b is) ts
 
+    pub inside_grown : (f u v : ℕ) (steps : List PathStep) → Inside sys lattice subs f u v steps → Inside sys lattice (subs ++ more) f u v steps
+    inside_grown f u _ _ (Done _) = Done u
+    inside_grown f u v _ (More _ x _ front rest part from to on) = More u x v front rest (part_grown u x front part) from to (inside_grown f x v rest on)
+
     pub onward_grown : (bound : ℕ) (p : Phase) (u : ℕ) (steps : List PathStep) → Onward sys lattice subs bound p u steps → Onward sys lattice (subs ++ more) bound p u steps
     onward_grown bound p u _ (Ends _ _ limit st) = Ends p u limit st
     onward_grown bound p u _ (Along _ _ v front rest part on) = Along p u v front rest (part_grown u v front part) (onward_grown bound _ v rest on)
@@ -144,17 +144,3 @@ number_place (Some n) k is = (n, refl, cc)
 pub no_number : (place : Option ℕ) → option_map (λ n. n + 1) place ≡ None → place ≡ None
 no_number None is = refl
 no_number (Some n) is = absurd cc
-
--- pairs that are joined, and one more
-pub joined_push : (rows : List Summary) (pairs : List Pair) (p : Pair) → AllJoined rows pairs → HasPair rows p.from p.to → AllJoined rows (pairs ++ p ∷ [])
-joined_push rows pairs p all one q there = elim (Contains-push_cases pairs p q there) [
-  | inl before ↦ all q before
-  | inr same ↦ subst (λ (x : Pair). HasPair rows x.from x.to) same one
-]
-
--- pairs that are joined, without the last one
-pub joined_last : (rows : List Summary) (pairs : List Pair) (p : Pair) → AllJoined rows (pairs ++ p ∷ []) → HasPair rows p.from p.to
-joined_last rows pairs p all = all p (Contains-push pairs p)
-
-pub joined_rest : (rows : List Summary) (pairs : List Pair) (p : Pair) → AllJoined rows (pairs ++ p ∷ []) → AllJoined rows pairs
-joined_rest rows pairs p all q there = all q (Contains-append_left pairs (p ∷ []) q there)

@@ -1,34 +1,32 @@
 -- How a search grows, and what stays true of it.
-use Rattle.std.proofs.Common.{◌≡◌, ◌≢◌, ℕ, zero, suc, ◌<◌, ◌≤◌, List, [], ◌∷◌, ◌++◌, length, slice_get, Option, Some, None, IfNone, inl, inr, ◌⊎◌, bit_or, not, false, eqb, refl, sym, ◌∙◌, ap, subst, arith, append_assoc, append-nil}
-use Rattle.std.specs.Int.{bit_at}
+use Rattle.std.proofs.Common.{◌≡◌, ◌≢◌, ℕ, zero, suc, ◌<◌, ◌≤◌, List, [], ◌∷◌, ◌++◌, length, slice_get, Option, Some, None, IfNone, inl, inr, ◌⊎◌, true, false, refl, sym, ◌∙◌, ap, subst, arith, append_assoc, append-nil}
 use Rattle.std.proofs.lemmas.Option.{slice_get_within}
-use Rattle.std.proofs.lemmas.Bool.Decides.{nat_tests}
 use Rattle.flow_graph.specs.declared.constraint.Constraint.{Constraint}
 use Rattle.std.proofs.lemmas.Bool.{cases_eq}
 use Rattle.std.proofs.lemmas.List.{length-append}
-use Rattle.std.proofs.lemmas.Nat.Bits.{bit_at-zero, bit_at_or, bit_at-lt}
 use Rattle.qual_base.specs.declared.places.Owner.{Owner}
 use Rattle.qual_base.specs.declared.places.Owner.TheVariants.{Nobody, Function}
 use Rattle.flow_graph.specs.declared.constraint.Link.{Link}
 use Rattle.flow_graph.specs.declared.constraint.Link.TheVariants.{Le, Enter, Leave}
+use Rattle.flow_graph.specs.Index.{IsKeyed}
+use Rattle.flow_graph.specs.PathRules.{link_begins}
 use Rattle.flow_graph.specs.System.{System, owner_of, AllBelow, IsInLattice, Stands, vars_of_link}
 use Rattle.flow_graph.specs.Paths.{Matches, stay, longer, Returning, Calling, Lead, start, flows, returns, grouped, anew, calls, calls_on, flows_on, grouped_on}
 use Rattle.match_summary.specs.declared.reason.Summary.{Summary}
 use Rattle.match_summary.specs.Summary.{Leads, IsInnerEnd, Summarises}
 use Rattle.flow_graph.specs.declared.phase.Phase.{Phase}
 use Rattle.flow_graph.specs.declared.phase.Phase.TheVariants.{First, Second}
-use Rattle.lattice_solver.specs.PhaseSets.{PhaseSets}
-use Rattle.lattice_solver.specs.Phases.{set_of, HasIn, size_of}
+use Rattle.error_path.specs.Marks.{PhaseMarks, mark_of, size_of}
 use Rattle.error_path.specs.declared.search.Cause.{Cause}
 use Rattle.error_path.specs.declared.search.Cause.TheVariants.{Start, Step, Group}
 use Rattle.error_path.specs.declared.search.Reached.{Reached}
 use Rattle.error_path.specs.declared.search.Search.{Search}
 use Rattle.flow_graph.specs.Parts.{settled}
-use Rattle.error_path.specs.Reaching.{Earlier, LeadsBy, ComesBy, AreSound, IsMarked, IsListed, IsGood, Grows, IsFollowed, IsVisited, AreStarted, StandsAt}
+use Rattle.error_path.specs.Reaching.{Earlier, LeadsBy, ComesBy, AreSound, IsMarked, IsListed, IsGood, Grows, IsFollowed, IsRounded, IsVisited, AreStarted, StandsAt}
 use Rattle.error_path.proofs.Making.{push_cases, more_get, push_last}
 
 pub grows_same : (s : Search) → Grows s s
-grows_same s = record { more = []; is = sym (append-nil s.queue.items); kept = λ p v m. m; size = refl; room = omega arith }
+grows_same s = record { more = []; is = sym (append-nil s.queue.items); kept = λ p v m. m; size = refl; free = omega arith }
 
 pub grows_then : (a b c : Search) → Grows a b → Grows b c → Grows a c
 grows_then a b c p q = record {
@@ -36,7 +34,7 @@ grows_then a b c p q = record {
   is = q.is ∙ ap (λ xs. xs ++ q.more) p.is ∙ append_assoc a.queue.items p.more q.more;
   kept = λ f v m. q.kept f v (p.kept f v m);
   size = q.size ∙ p.size;
-  room = let one = p.room in let other = q.room in omega (arith, one, other);
+  free = omega (arith, p.free, q.free);
 }
 
 pub stands_on : (old new : Search) (place : ℕ) (p : Phase) (v : ℕ) → Grows old new → StandsAt old place p v → StandsAt new place p v
@@ -50,7 +48,7 @@ followed_on sys lattice rows old new p u n g f = record {
   flow = λ v st. g.kept _ v (f.flow v st);
   back = λ s v first st. g.kept _ v (f.back s v first st);
   call = λ s a st. g.kept _ a (f.call s a st);
-  group = λ s a m b v st ts leads. g.kept _ v (f.group s a m b v st ts leads);
+  group = λ s a m st b v ts leads. g.kept _ v (f.group s a m st b v ts leads);
 }
 
 abbrev earlier_more : (queue more : List Reached) (from place : ℕ) → Earlier queue from place → Earlier (queue ++ more) from place
@@ -74,13 +72,6 @@ sound_push sys lattice elem rows queue r sound comes n other is = elim (push_cas
       subst Of new.1 (subst At (sym new.0) (comes_more sys lattice elem rows queue (r ∷ []) (length queue) r.phase r.at r.cause comes))
 ]
 
--- the mark of a variable
-pub mark_here : (old new : PhaseSets) (p : Phase) (v : ℕ) → set_of new p v ≡ bit_or (set_of old p v) 1 → HasIn new p v 0
-mark_here old new p v is =
-    let low : bit_at (set_of old p v) 0 < 2 = bit_at-lt (set_of old p v) 0 in
-    let one : bit_at 1 0 ≡ 1 = refl in
-    ap (λ s. bit_at s 0) is ∙ bit_at_or (set_of old p v) 1 0 ∙ omega (arith, low, one)
-
 same_phase : (p q : Phase) → (p ≡ q) ⊎ (p ≢ q)
 same_phase First First = inl refl
 same_phase First Second = inr (λ e. absurd cc)
@@ -88,28 +79,26 @@ same_phase Second First = inr (λ e. absurd cc)
 same_phase Second Second = inl refl
 
 -- a mark is an old one or that of the variable
-pub mark_cases : (old new : PhaseSets) (phase : Phase) (at : ℕ) → ((p : Phase) (v : ℕ) → (p ≡ phase → v ≢ at) → set_of new p v ≡ set_of old p v) →
-    (p : Phase) (v : ℕ) → HasIn new p v 0 → HasIn old p v 0 ⊎ ((phase ≡ p) × (at ≡ v))
+pub mark_cases : (old new : PhaseMarks) (phase : Phase) (at : ℕ) → ((p : Phase) (v : ℕ) → (p ≡ phase → v ≢ at) → mark_of new p v ≡ mark_of old p v) →
+    (p : Phase) (v : ℕ) → mark_of new p v ≡ true → (mark_of old p v ≡ true) ⊎ ((phase ≡ p) × (at ≡ v))
 mark_cases old new phase at others p v has = elim (same_phase p phase) [
-  | inr not ↦ inl (subst (λ s. bit_at s 0 ≡ 1) (others p v (λ e. absurd (not e))) has)
-  | inl same ↦ elim (cases_eq v at) [
-    | inr not ↦ inl (subst (λ s. bit_at s 0 ≡ 1) (others p v (λ e. not)) has)
-    | inl is ↦ inr (sym same, sym is)
-  ]
+  | inr not ↦ inl (sym (others p v (λ e. absurd (not e))) ∙ has)
+  | inl same ↦ elim (cases_eq v at) [ inr not ↦ inl (sym (others p v (λ e. not)) ∙ has) | inl is ↦ inr (sym same, sym is) ]
 ]
 
-pub mark_kept : (old new : PhaseSets) (phase : Phase) (at : ℕ) → set_of new phase at ≡ bit_or (set_of old phase at) 1 →
-    ((p : Phase) (v : ℕ) → (p ≡ phase → v ≢ at) → set_of new p v ≡ set_of old p v) → (p : Phase) (v : ℕ) → HasIn old p v 0 → HasIn new p v 0
+pub mark_kept : (old new : PhaseMarks) (phase : Phase) (at : ℕ) → mark_of new phase at ≡ true →
+    ((p : Phase) (v : ℕ) → (p ≡ phase → v ≢ at) → mark_of new p v ≡ mark_of old p v) → (p : Phase) (v : ℕ) → mark_of old p v ≡ true → mark_of new p v ≡ true
 mark_kept old new phase at here others p v has = elim (same_phase p phase) [
-  | inr not ↦ subst (λ s. bit_at s 0 ≡ 1) (sym (others p v (λ e. absurd (not e)))) has
+  | inr not ↦ others p v (λ e. absurd (not e)) ∙ has
   | inl same ↦ elim (cases_eq v at) [
-    | inr not ↦ subst (λ s. bit_at s 0 ≡ 1) (sym (others p v (λ e. not))) has
-    | inl is ↦ subst (λ q. HasIn new q v 0) (sym same) (subst (λ w. HasIn new phase w 0) (sym is) (mark_here old new phase at here))
+    | inr not ↦ others p v (λ e. not) ∙ has
+    | inl is ↦ subst (λ q. mark_of new q v ≡ true) (sym same) (subst (λ w. mark_of new phase w ≡ true) (sym is) here)
   ]
 ]
 
-pub listed_push : (old new : PhaseSets) (queue : List Reached) (r : Reached) → ((p : Phase) (v : ℕ) → HasIn new p v 0 → HasIn old p v 0 ⊎ ((r.phase ≡ p) × (r.at ≡ v))) →
-    ((p : Phase) (v : ℕ) → HasIn old p v 0 → IsListed queue p v) → (p : Phase) (v : ℕ) → HasIn new p v 0 → IsListed (queue ++ r ∷ []) p v
+pub listed_push : (old new : PhaseMarks) (queue : List Reached) (r : Reached) →
+    ((p : Phase) (v : ℕ) → mark_of new p v ≡ true → (mark_of old p v ≡ true) ⊎ ((r.phase ≡ p) × (r.at ≡ v))) →
+    ((p : Phase) (v : ℕ) → mark_of old p v ≡ true → IsListed queue p v) → (p : Phase) (v : ℕ) → mark_of new p v ≡ true → IsListed (queue ++ r ∷ []) p v
 listed_push old new queue r cases listed p v has = elim (cases p v has) [
   | inl before ↦ let l = listed p v before in record { place = l.place; it = l.it; there = more_get queue (r ∷ []) l.place l.it l.there; phase_is = l.phase_is; at_is = l.at_is }
   | inr here ↦ record { place = length queue; it = r; there = push_last queue r; phase_is = here.0; at_is = here.1 }
@@ -159,7 +148,7 @@ module _ (sys : System) (lattice elem : ℕ) (rows : List Summary) (search : Sea
     returning_in v (flows u _ n p st) = settled_first v ((from_mark First u (returning_in u p) n).flow v st)
     returning_in v (returns u _ s n p st) = settled_first v ((from_mark First u (returning_in u p) n).back s v refl st)
     returning_in v (grouped u a b _ s g n m p st q ts) =
-        settled_first v ((from_mark First u (returning_in u p) n).group s a m b v st ts (matches_leads g a b (n, s, u, st) q))
+        settled_first v ((from_mark First u (returning_in u p) n).group s a m st b v ts (matches_leads g a b (n, s, u, st) q))
     returning_in v (anew _ p is) = anew_in v is (calling_in v p)
 
     calling_in : (v : ℕ) → Calling sys lattice elem v → IsCalled v
@@ -173,8 +162,8 @@ module _ (sys : System) (lattice elem : ℕ) (rows : List Summary) (search : Sea
       | inr mark ↦ inr ((from_mark Second u mark n).flow v st)
     ]
     calling_in v (grouped_on u a b _ s g n m p st q ts) = elim (called_in u (calling_in u p)) [
-      | inl mark ↦ inl (settled_first v ((from_mark First u mark n).group s a m b v st ts (matches_leads g a b (n, s, u, st) q)))
-      | inr mark ↦ inr ((from_mark Second u mark n).group s a m b v st ts (matches_leads g a b (n, s, u, st) q))
+      | inl mark ↦ inl (settled_first v ((from_mark First u mark n).group s a m st b v ts (matches_leads g a b (n, s, u, st) q)))
+      | inr mark ↦ inr ((from_mark Second u mark n).group s a m st b v ts (matches_leads g a b (n, s, u, st) q))
     ]
 
   lead_marked : (v : ℕ) → Lead sys lattice elem v → IsMarked search First v ⊎ IsMarked search Second v
@@ -188,8 +177,8 @@ module _ (sys : System) (lattice elem : ℕ) (rows : List Summary) (search : Sea
   none_leads v missed lead = elim (lead_marked v lead) [ inl mark ↦ missed_at First v missed mark | inr mark ↦ missed_at Second v missed mark ]
 
 -- at the start nothing is marked, and nothing stands in the queue
-pub unmarked : (sets : PhaseSets) (p : Phase) (v : ℕ) → set_of sets p v ≡ 0 → HasIn sets p v 0 → ⊥
-unmarked sets p v none mark = let zero_is : bit_at 0 0 ≡ 0 = bit_at-zero 0 in let one : bit_at 0 0 ≡ 1 = subst (λ s. bit_at s 0 ≡ 1) none mark in omega (arith, zero_is, one)
+pub unmarked : (marks : PhaseMarks) (p : Phase) (v : ℕ) → mark_of marks p v ≡ false → mark_of marks p v ≡ true → ⊥
+unmarked marks p v none mark = let no : false ≡ true = sym none ∙ mark in cc
 
 pub nothing_at : (queue : List Reached) (n : ℕ) (r : Reached) → queue ≡ [] → slice_get queue n ≡ Some r → ⊥
 nothing_at queue n r none is = let none_at : slice_get [] n ≡ Some r = subst (λ (xs : List Reached). slice_get xs n ≡ Some r) none is in cc
@@ -221,6 +210,12 @@ module _ (sys : System) (lattice elem : ℕ) (rows : List Summary) (search : Sea
         },
       )
 
+some_constraint : {x y : Constraint} → Some x ≡ Some y → x ≡ y
+some_constraint e = cc
+
+pub some_number : {x y : ℕ} → Some x ≡ Some y → x ≡ y
+some_number e = cc
+
 module _ (sys : System) (lattice n : ℕ) (constraint : Constraint) (link : Link) (there : slice_get sys.constraints n ≡ Some constraint) (is : constraint.link ≡ link) where
   pub stands_in : IsInLattice lattice constraint.link constraint.lattices → Stands sys lattice n link
   stands_in carried = record { constraint = constraint; there = there; link_is = is; carried = subst (λ l. IsInLattice lattice l constraint.lattices) is carried }
@@ -228,23 +223,25 @@ module _ (sys : System) (lattice n : ℕ) (constraint : Constraint) (link : Link
   pub low_of : (vars : ℕ) → AllBelow sys vars → vars_of_link link ≤ vars
   low_of vars below = below n link (record { constraint = constraint; there = there; link_is = is })
 
+  -- a constraint with a key has it by its link
+  pub key_of_link : (key : Link → Option ℕ) (k : ℕ) → IsKeyed sys key k n → key link ≡ Some k
+  key_of_link key k keyed =
+      let same : keyed.constraint ≡ constraint = some_constraint (sym keyed.there ∙ there) in
+      sym (ap (λ (c : Constraint). key c.link) same ∙ ap key is) ∙ keyed.keyed
+
   -- a constraint is one link
   pub one_link : (other : Link) → Stands sys lattice n other → link ≡ other
   one_link other st = let same : constraint ≡ st.constraint = cc in sym is ∙ ap (λ (c : Constraint). c.link) same ∙ st.link_is
 
-pub same_number : (a b : ℕ) → not (eqb a b) ≡ false → a ≡ b
-same_number a b is = grind (arith, nat_tests)
-
--- a number of no constraint leads nowhere
-pub followed_past : (sys : System) (lattice : ℕ) (rows : List Summary) (search : Search) (p : Phase) (u n : ℕ) → length sys.constraints ≤ n → IsFollowed sys lattice rows search p u n
-followed_past sys lattice rows search p u n past =
-    let none = λ (link : Link) (st : Stands sys lattice n link). let lt = slice_get_within sys.constraints n st.constraint st.there in let no : ⊥ = omega (arith, past, lt) in no in
-    record {
-      flow = λ v st. absurd (none _ st);
-      back = λ s v first st. absurd (none _ st);
-      call = λ s a st. absurd (none _ st);
-      group = λ s a m b v st ts leads. absurd (none _ st);
-    }
+-- a constraint that does not begin at the variable leads nowhere from it
+pub followed_elsewhere : (sys : System) (lattice : ℕ) (rows : List Summary) (search : Search) (p : Phase) (u n : ℕ) →
+    (IsKeyed sys link_begins u n → IsFollowed sys lattice rows search p u n) → IsFollowed sys lattice rows search p u n
+followed_elsewhere sys lattice rows search p u n followed = record {
+  flow = λ v st. (followed (record { constraint = st.constraint; there = st.there; keyed = subst (λ l. link_begins l ≡ Some u) (sym st.link_is) refl })).flow v st;
+  back = λ s v first st. (followed (record { constraint = st.constraint; there = st.there; keyed = subst (λ l. link_begins l ≡ Some u) (sym st.link_is) refl })).back s v first st;
+  call = λ s a st. (followed (record { constraint = st.constraint; there = st.there; keyed = subst (λ l. link_begins l ≡ Some u) (sym st.link_is) refl })).call s a st;
+  group = λ s a m st. (followed (record { constraint = st.constraint; there = st.there; keyed = subst (λ l. link_begins l ≡ Some u) (sym st.link_is) refl })).group s a m st;
+}
 
 old_item : (queue more : List Reached) (n : ℕ) (r : Reached) → n < length queue → slice_get (queue ++ more) n ≡ Some r → slice_get queue n ≡ Some r
 old_item [] more n r within is = absurd (omega (arith, within))
@@ -258,20 +255,20 @@ visited_on sys lattice rows old new place g within v r is n =
     let item : slice_get old.queue.items place ≡ Some r = old_item old.queue.items g.more place r within (sym (ap (λ xs. slice_get xs place) g.is) ∙ is) in
     followed_on sys lattice rows old new r.phase r.at n g (v r item n)
 
-pub enter_followed : (sys : System) (lattice : ℕ) (rows : List Summary) (search : Search) (p : Phase) (n : ℕ) (constraint : Constraint) (s u a : ℕ) →
+pub enter_followed : (sys : System) (lattice : ℕ) (rows : List Summary) (search : Search) (p : Phase) (n : ℕ) (constraint : Constraint) (s u a w : ℕ) →
     slice_get sys.constraints n ≡ Some constraint → constraint.link ≡ Enter s u a → IsMarked search (settled (owner_of sys a) Second) a →
-    ((m b v : ℕ) → Stands sys lattice m (Leave s b v) → Leads rows a b → IsMarked search (settled (owner_of sys v) p) v) → IsFollowed sys lattice rows search p u n
-enter_followed sys lattice rows search p n constraint s u a there is mark groups = record {
-  flow = λ v st. let e = one_link sys lattice n constraint (Enter s u a) there is (Le u v) st in absurd cc;
-  back = λ t v first st. let e = one_link sys lattice n constraint (Enter s u a) there is (Leave t u v) st in absurd cc;
+    ((m : ℕ) → IsRounded sys lattice rows search p s a m) → IsFollowed sys lattice rows search p w n
+enter_followed sys lattice rows search p n constraint s u a w there is mark groups = record {
+  flow = λ v st. let e = one_link sys lattice n constraint (Enter s u a) there is (Le w v) st in absurd cc;
+  back = λ t v first st. let e = one_link sys lattice n constraint (Enter s u a) there is (Leave t w v) st in absurd cc;
   call = λ t b st.
-      let e = one_link sys lattice n constraint (Enter s u a) there is (Enter t u b) st in
+      let e = one_link sys lattice n constraint (Enter s u a) there is (Enter t w b) st in
       let same : a ≡ b = cc in subst (λ x. IsMarked search (settled (owner_of sys x) Second) x) same mark;
-  group = λ t b m c v st ts leads.
-      let e = one_link sys lattice n constraint (Enter s u a) there is (Enter t u b) st in
-      let site : t ≡ s = cc in
-      let inner : b ≡ a = cc in
-      groups m c v (subst (λ x. Stands sys lattice m (Leave x c v)) site ts) (subst (λ x. Leads rows x c) inner leads);
+  group = λ t b m st.
+      let e = one_link sys lattice n constraint (Enter s u a) there is (Enter t w b) st in
+      let site : s ≡ t = cc in
+      let inner : a ≡ b = cc in
+      subst (λ x. IsRounded sys lattice rows search p x b m) site (subst (λ x. IsRounded sys lattice rows search p s x m) inner (groups m));
 }
 
 some_reached : {x y : Reached} → Some x ≡ Some y → x ≡ y

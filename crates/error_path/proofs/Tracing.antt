@@ -1,13 +1,15 @@
 -- A path that is followed back from a bound.
-use Rattle.std.proofs.Common.{◌≡◌, ℕ, max, false, inl, inr, ◌⊎◌, bit_or, IfSome, MatchOption, arith, List, [], ◌∷◌, ◌++◌, Option, Some, None, refl, sym, ◌∙◌, ap, subst}
+use Rattle.std.proofs.Common.{◌≡◌, ℕ, zero, suc, ◌<◌, length, max, true, false, slice_get, IfNone, IsSome, inl, inr, ◌⊎◌, bit_or, IfSome, MatchOption, arith, List, [], ◌∷◌, ◌++◌, Option, Some, None, refl, sym, ◌∙◌, ap, subst}
 use Rattle.std.specs.Int.{bit_at}
 use Rattle.std.proofs.lemmas.Bool.{cases_eq}
 use Rattle.std.proofs.lemmas.Nat.Bits.{bit_at_or}
 use Rattle.lattice_core.specs.Order.{Order, leq}
+use Rattle.lattice_core.specs.View.{LatticeView, orders_of}
+use Rattle.flow_graph.specs.declared.constraint.Limit.{Limit}
 use Rattle.flow_graph.specs.Paths.{Lead}
 use Rattle.flow_graph.specs.declared.constraint.Constraint.{Constraint}
 use Rattle.lattice_solver.specs.Phases.{set_of}
-use Rattle.lattice_solver.specs.Solution.{Solution, Exceeds, HasElement, IsSolved}
+use Rattle.lattice_solver.specs.Solution.{Solution, Exceeds, HasElement, IsSolved, IsUnder}
 use Rattle.flow_graph.specs.declared.constraint.Link.TheVariants.{Const, Bound, Leave}
 use Rattle.flow_graph.specs.declared.proof.PathStep.{PathStep}
 use Rattle.flow_graph.specs.declared.proof.PathStep.TheVariants.{Take, Sub}
@@ -115,6 +117,47 @@ bound_over sys solution order bound elem ex v limit st =
     let links : Bound ex.var solution.lattice ex.limit ≡ Bound v solution.lattice limit = sym ex.bound.link_is ∙ ap (λ (c : Constraint). c.link) same ∙ st.link_is in
     let limits : ex.limit ≡ limit = cc in
     subst (λ l. leq order elem l ≡ false) limits ex.over
+  where
+    same_constraint : {x y : Constraint} → Some x ≡ Some y → x ≡ y
+    same_constraint e = cc
+
+-- a list of lattices and that of their orders
+pub order_there : (views : List LatticeView) (n : ℕ) (view : LatticeView) → slice_get views n ≡ Some view → slice_get (orders_of views) n ≡ Some view.order
+order_there [] n view is = absurd cc
+order_there (x ∷ views) zero view is = let same : x ≡ view = some_view is in ap (λ (v : LatticeView). Some v.order) same
+  where
+    some_view : {a b : LatticeView} → Some a ≡ Some b → a ≡ b
+    some_view e = cc
+order_there (x ∷ views) (suc n) view is = order_there views n view is
+
+pub order_at : (views : List LatticeView) (n : ℕ) → n < length views → (order : Order) × (slice_get (orders_of views) n ≡ Some order)
+order_at [] n lt = absurd (omega (arith, lt))
+order_at (x ∷ views) zero lt = (x.order, refl)
+order_at (x ∷ views) (suc n) lt = order_at views n (omega (arith, lt))
+
+pub some_order : {x y : Order} → Some x ≡ Some y → x ≡ y
+some_order e = cc
+
+-- what is not as none would say is there
+pub some_if : (o : Option ℕ) (A : Type 0) → IfNone o A → (A → ⊥) → IsSome o
+some_if None A a not = absurd (not a)
+some_if (Some n) A a not = refl
+
+-- an element exceeds a bound where not all are below it
+pub not_under : (sys : System) (solution : Solution) (order : Order) (bound elem : ℕ) → Exceeds sys solution order bound elem → IsUnder sys solution order bound → ⊥
+not_under sys solution order bound elem ex under =
+    let is : true ≡ false = sym (under ex.var ex.limit elem ex.bound ex.reached) ∙ ex.over in cc
+
+pub limit_given : (A : Type 0) (B : Limit → Type 0) (o : Option Limit) (limit : Limit) → o ≡ Some limit → MatchOption o A B → B limit
+limit_given A B o limit is given = let Of : Option Limit → Type 0 = λ x. MatchOption x A B in subst Of is given
+
+-- a bound is at one variable
+pub bound_at : (sys : System) (lattice n : ℕ) (constraint : Constraint) (v b w d l : ℕ) → Stands sys lattice n (Bound v lattice b) → slice_get sys.constraints n ≡ Some constraint →
+    constraint.link ≡ Bound w l d → v ≡ w
+bound_at sys lattice n constraint v b w d l st there is =
+    let same : st.constraint ≡ constraint = same_constraint (sym st.there ∙ there) in
+    let links : Bound v lattice b ≡ Bound w l d = sym st.link_is ∙ ap (λ (c : Constraint). c.link) same ∙ is in
+    cc
   where
     same_constraint : {x y : Constraint} → Some x ≡ Some y → x ≡ y
     same_constraint e = cc

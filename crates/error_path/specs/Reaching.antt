@@ -1,12 +1,12 @@
 -- How a search reaches variables: a queue of those that were reached, each with how it was, and a mark for each of them.
-use Rattle.std.specs.Prelude.{◌≡◌, ℕ, ◌+◌, ◌<◌, ◌≤◌, List, ◌++◌, length, slice_get, Some}
+use Rattle.std.specs.Prelude.{◌≡◌, ℕ, ◌+◌, ◌<◌, ◌≤◌, List, ◌++◌, length, slice_get, Some, true}
 use Rattle.flow_graph.specs.declared.constraint.Link.TheVariants.{Le, Const, Enter, Leave}
 use Rattle.flow_graph.specs.System.{System, owner_of, Stands, AllBelow}
 use Rattle.match_summary.specs.declared.reason.Summary.{Summary}
 use Rattle.match_summary.specs.Summary.{Leads}
 use Rattle.flow_graph.specs.declared.phase.Phase.{Phase}
 use Rattle.flow_graph.specs.declared.phase.Phase.TheVariants.{First, Second}
-use Rattle.lattice_solver.specs.Phases.{HasIn, room_of, size_of}
+use Rattle.error_path.specs.Marks.{mark_of, size_of, free_of}
 use Rattle.error_path.specs.declared.search.Cause.{Cause}
 use Rattle.error_path.specs.declared.search.Cause.TheVariants.{Start, Step, Group}
 use Rattle.error_path.specs.declared.search.Reached.{Reached}
@@ -47,7 +47,7 @@ AreSound sys lattice elem rows queue = (n : ℕ) (r : Reached) → slice_get que
 
 -- a variable is marked in a phase
 abbrev pub IsMarked : Search → Phase → ℕ → Type 0
-IsMarked search p v = HasIn search.marks p v 0
+IsMarked search p v = mark_of search.marks p v ≡ true
 
 -- a variable stands in a queue with a phase
 pub record IsListed (queue : List Reached) (p : Phase) (v : ℕ) : Type 0 where
@@ -69,14 +69,19 @@ pub record Grows (old new : Search) : Type 0 where
   pub is : new.queue.items ≡ old.queue.items ++ more
   pub kept : (p : Phase) (v : ℕ) → IsMarked old p v → IsMarked new p v
   pub size : size_of new.marks ≡ size_of old.marks
-  pub room : room_of new.marks + length new.queue.items ≤ room_of old.marks + length old.queue.items
+  pub free : free_of new.marks + length new.queue.items ≤ free_of old.marks + length old.queue.items
+
+-- the group of an Enter of a site to a variable and of a constraint was followed in a phase
+abbrev pub IsRounded : System → ℕ → List Summary → Search → Phase → ℕ → ℕ → ℕ → Type 0
+IsRounded sys lattice rows search p site inner leave = (b v : ℕ) → Stands sys lattice leave (Leave site b v) → Leads rows inner b →
+    IsMarked search (settled (owner_of sys v) p) v
 
 -- all that a constraint leads to from a variable in a phase, by itself or as the first of a group, is marked
 pub record IsFollowed (sys : System) (lattice : ℕ) (rows : List Summary) (search : Search) (p : Phase) (u n : ℕ) : Type 0 where
   pub flow : (v : ℕ) → Stands sys lattice n (Le u v) → IsMarked search (settled (owner_of sys v) p) v
   pub back : (s v : ℕ) → p ≡ First → Stands sys lattice n (Leave s u v) → IsMarked search (settled (owner_of sys v) First) v
   pub call : (s a : ℕ) → Stands sys lattice n (Enter s u a) → IsMarked search (settled (owner_of sys a) Second) a
-  pub group : (s a m b v : ℕ) → Stands sys lattice n (Enter s u a) → Stands sys lattice m (Leave s b v) → Leads rows a b → IsMarked search (settled (owner_of sys v) p) v
+  pub group : (s a m : ℕ) → Stands sys lattice n (Enter s u a) → IsRounded sys lattice rows search p s a m
 
 -- all that the constraints lead to from a place of the queue is marked
 abbrev pub IsVisited : System → ℕ → List Summary → Search → ℕ → Type 0

@@ -7,9 +7,17 @@ use Rattle.flow_graph.specs.declared.proof.PathStep.TheVariants.{Take, Sub}
 use Rattle.flow_graph.specs.declared.proof.PathProof.{PathProof}
 use Rattle.flow_graph.specs.declared.place.Seen.TheVariants.{Through}
 use Rattle.flow_graph.specs.System.{System, Stands}
-use Rattle.flow_graph.specs.PathProofs.{first_of, last_of, line_of, look, span_of, steps_of}
+use Rattle.flow_graph.specs.PathProofs.{first_of, last_of, line_of, look, steps_of, AreApart}
 use Rattle.lattice_solver.specs.Solution.{Solution, Exceeds}
 use Rattle.flow_graph.specs.Parts.{AreSubs, IsPath}
+
+-- this holds of the order of a lattice of the list
+abbrev pub InLattice : List Order → ℕ → (Order → Type 0) → Type 0
+InLattice orders lattice Is = (order : Order) → slice_get orders lattice ≡ Some order → Is order
+
+-- some element exceeds the bound
+abbrev pub IsExceededBySome : System → Solution → Order → ℕ → Type 0
+IsExceededBySome sys solution order bound = (element : ℕ) × Exceeds sys solution order bound element
 
 -- the last step takes the bound
 abbrev pub EndsWith : ℕ → PathProof → Type 0

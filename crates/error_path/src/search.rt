@@ -1,20 +1,23 @@
 //! A breadth-first search over pairs of a variable and a phase, forwards from the constants of an element.
 
 ghost use Rattle.std.specs.Prelude.{◌≡◌, ◌≢◌, ℕ, ◌<◌, ◌↔◌, List, length, slice_get, Some, IsTrue, IfOk, IfSome, IfNone, OnOk};
-ghost use Rattle.flow_graph.specs.declared.constraint.Link.TheVariants.{Le, Const, Enter, Leave};
+ghost use Rattle.flow_graph.specs.Index.{IsIndexOf, IsKeyed, link_site};
+ghost use Rattle.flow_graph.specs.PathRules.{link_begins};
+ghost use Rattle.error_path.specs.Marks.{size_of};
+ghost use Rattle.flow_graph.specs.declared.constraint.Link.TheVariants.{Const, Enter};
 ghost use Rattle.flow_graph.specs.System.{System, AllBelow, Stands, owner_of};
 ghost use Rattle.flow_graph.specs.Paths.{Lead};
 ghost use Rattle.flow_graph.specs.declared.phase.Phase.TheVariants.{First, Second};
-ghost use Rattle.lattice_solver.specs.Phases.{size_of};
 ghost use Rattle.match_summary.specs.declared.reason.Summary.{Summary};
-ghost use Rattle.match_summary.specs.Summary.{Leads, Summarises};
+ghost use Rattle.match_summary.specs.Summary.{Summarises};
 ghost use Rattle.flow_graph.specs.Parts.{settled};
-ghost use Rattle.error_path.specs.Reaching.{AreStarted, ComesBy, Grows, IsClosed, IsFollowed, IsGood, IsMarked, IsReachedAt, StandsAt};
+ghost use Rattle.error_path.specs.Reaching.{AreStarted, ComesBy, Grows, IsClosed, IsFollowed, IsGood, IsMarked, IsReachedAt, IsRounded, StandsAt};
 
+use crate::marks::Marks;
+use flow_graph::adjacency::Adjacency;
 use flow_graph::constraint::Link;
 use flow_graph::graph::FlowGraph;
 use flow_graph::phase::Phase;
-use lattice_solver::phases::Phases;
 use match_summary::summary::Summaries;
 use qual_base::faults::NoMemory;
 use qual_base::ids::{EdgeId, Elem, LatticeNo, Numbered, SiteId, VarId};
@@ -49,7 +52,7 @@ pub struct Reached {
 #[derive(Drop)]
 pub struct Search {
     queue: Vec<Reached>,
-    marks: Phases,
+    marks: Marks,
 }
 
 /// A search, and the place of its queue that is at its target.
@@ -76,13 +79,12 @@ struct Call {
 }
 
 impl Search {
-    /// A search that has reached nothing: 16 bytes for each variable.
+    /// A search that has reached nothing: 2 bytes for each variable.
     fn new(alloc: Global, graph: &FlowGraph) -> Result<Search, NoMemory>
         ensures good { IfOk result (λ search. (lattice elem : ℕ) (rows : List Summary) → IsGood graph.now lattice elem rows search) }
         ensures below { IfOk result (λ search. AllBelow graph.now (size_of search.marks)) }
     {
-        let mut marks = Phases::new(alloc, graph.vars())?;
-        marks.clear();
+        let marks = Marks::new(alloc, graph.vars())?;
         Ok(Search {
             queue: Vec::new(alloc),
             marks,
@@ -111,7 +113,7 @@ impl Search {
         ensures there { OnOk result (IsMarked self.new (settled (owner_of graph.now at) phase) at) }
     {
         let phase = settled(graph, at, phase);
-        if !self.marks.raise(phase, at, 1) {
+        if !self.marks.mark(phase, at) {
             return Ok(());
         }
         match self.queue.push(Reached { at, phase, cause }) {
@@ -160,16 +162,18 @@ impl Search {
         Ok(())
     }
 
-    /// Goes on along a constraint, and along the groups that begin with it, where it begins at the variable.
+    /// Goes on along a constraint that begins at the variable of a place, and along the groups that begin with it.
     fn follow(
         &mut self,
         graph: &FlowGraph,
+        index: &Adjacency,
         summaries: &Summaries,
         lattice: LatticeNo,
         origin: &Origin,
         edge: EdgeId,
     ) -> Result<(), NoMemory>
-        requires edge { edge < length graph.now.constraints }
+        requires begins { IsKeyed graph.now link_begins origin.now.at edge }
+        requires index { IsIndexOf graph.now index.now }
         requires lattice { lattice < 16 }
         requires below { AllBelow graph.now (size_of self.old.marks) }
         requires origin { StandsAt self.old origin.now.place origin.now.phase origin.now.at }
@@ -187,60 +191,54 @@ impl Search {
             edge,
         };
         match link {
-            Link::Le(from, to) => {
-                if from != origin.at {
-                    return Ok(());
-                }
-                self.note(graph, to, origin.phase, cause)
-            }
-            Link::Leave(_, from, to) => {
-                if from != origin.at || !is_returning(origin.phase) {
+            Link::Le(_, to) => self.note(graph, to, origin.phase, cause),
+            Link::Leave(_, _, to) => {
+                if !is_returning(origin.phase) {
                     return Ok(());
                 }
                 self.note(graph, to, Phase::First, cause)
             }
-            Link::Enter(site, from, inner) => {
-                if from != origin.at {
-                    return Ok(());
-                }
+            Link::Enter(site, _, inner) => {
                 self.note(graph, inner, Phase::Second, cause)?;
                 let call = Call {
                     enter: edge,
                     site,
                     inner,
                 };
-                self.follow_groups(graph, summaries, lattice, origin, &call)?;
+                self.follow_groups(graph, index, summaries, lattice, origin, &call)?;
                 Ok(())
             }
             _ => Ok(()),
         }
     }
 
-    /// Goes on along the groups of an `Enter`. Linear in the constraints.
+    /// Goes on along the groups of an `Enter`: a step for each `Enter` and `Leave` of its site.
     fn follow_groups(
         &mut self,
         graph: &FlowGraph,
+        index: &Adjacency,
         summaries: &Summaries,
         lattice: LatticeNo,
         origin: &Origin,
         call: &Call,
     ) -> Result<(), NoMemory>
+        requires index { IsIndexOf graph.now index.now }
         requires lattice { lattice < 16 }
         requires below { AllBelow graph.now (size_of self.old.marks) }
         requires origin { StandsAt self.old origin.now.place origin.now.phase origin.now.at }
         requires call { Stands graph.now lattice call.now.enter (Enter call.now.site origin.now.at call.now.inner) }
         ensures good { OnOk result ((elem : ℕ) → IsGood graph.now lattice elem summaries.now self.old → IsGood graph.now lattice elem summaries.now self.new) }
         ensures grows { OnOk result (Grows self.old self.new) }
-        ensures done { OnOk result ((m b v : ℕ) → Stands graph.now lattice m (Leave call.now.site b v) → Leads summaries.now call.now.inner b → IsMarked self.new (settled (owner_of graph.now v) origin.now.phase) v) }
+        ensures done { OnOk result ((m : ℕ) → IsRounded graph.now lattice summaries.now self.new origin.now.phase call.now.site call.now.inner m) }
     {
-        for n in 0..graph.len() {
-            self.follow_group(graph, summaries, lattice, origin, call, EdgeId::new(n))?;
+        for leave in index.of_site(call.site) {
+            self.follow_group(graph, summaries, lattice, origin, call, *leave)?;
         }
         Ok(())
     }
 
-    /// Goes on along the group of an `Enter` and a constraint, where that is a `Leave` of the same site to which nothing or
-    /// a summary leads.
+    /// Goes on along the group of an `Enter` and a constraint of its site, where that is a `Leave` to which nothing or a
+    /// summary leads.
     fn follow_group(
         &mut self,
         graph: &FlowGraph,
@@ -250,14 +248,14 @@ impl Search {
         call: &Call,
         leave: EdgeId,
     ) -> Result<(), NoMemory>
-        requires leave { leave < length graph.now.constraints }
+        requires site { IsKeyed graph.now link_site call.now.site leave }
         requires lattice { lattice < 16 }
         requires below { AllBelow graph.now (size_of self.old.marks) }
         requires origin { StandsAt self.old origin.now.place origin.now.phase origin.now.at }
         requires call { Stands graph.now lattice call.now.enter (Enter call.now.site origin.now.at call.now.inner) }
         ensures good { OnOk result ((elem : ℕ) → IsGood graph.now lattice elem summaries.now self.old → IsGood graph.now lattice elem summaries.now self.new) }
         ensures grows { OnOk result (Grows self.old self.new) }
-        ensures done { OnOk result ((b v : ℕ) → Stands graph.now lattice leave (Leave call.now.site b v) → Leads summaries.now call.now.inner b → IsMarked self.new (settled (owner_of graph.now v) origin.now.phase) v) }
+        ensures done { OnOk result (IsRounded graph.now lattice summaries.now self.new origin.now.phase call.now.site call.now.inner leave) }
     {
         let constraint = graph.constraint(leave);
         if !constraint.is_in(lattice) {
@@ -265,8 +263,8 @@ impl Search {
         }
         let link = constraint.link;
         match link {
-            Link::Leave(site, last, to) => {
-                if site != call.site || !summaries.leads(call.inner, last) {
+            Link::Leave(_, last, to) => {
+                if !summaries.leads(call.inner, last) {
                     return Ok(());
                 }
                 let cause = Cause::Group {
@@ -280,14 +278,16 @@ impl Search {
         }
     }
 
-    /// Goes on from a place of the queue along each constraint.
+    /// Goes on from a place of the queue along each constraint that begins at its variable.
     fn visit(
         &mut self,
         graph: &FlowGraph,
+        index: &Adjacency,
         summaries: &Summaries,
         lattice: LatticeNo,
         origin: &Origin,
     ) -> Result<(), NoMemory>
+        requires index { IsIndexOf graph.now index.now }
         requires lattice { lattice < 16 }
         requires below { AllBelow graph.now (size_of self.old.marks) }
         requires origin { StandsAt self.old origin.now.place origin.now.phase origin.now.at }
@@ -295,8 +295,8 @@ impl Search {
         ensures grows { OnOk result (Grows self.old self.new) }
         ensures done { OnOk result ((n : ℕ) → IsFollowed graph.now lattice summaries.now self.new origin.now.phase origin.now.at n) }
     {
-        for n in 0..graph.len() {
-            self.follow(graph, summaries, lattice, origin, EdgeId::new(n))?;
+        for edge in index.out(origin.at) {
+            self.follow(graph, index, summaries, lattice, origin, *edge)?;
         }
         Ok(())
     }
@@ -319,10 +319,12 @@ impl Search {
     fn run(
         &mut self,
         graph: &FlowGraph,
+        index: &Adjacency,
         summaries: &Summaries,
         lattice: LatticeNo,
         target: VarId,
     ) -> Result<Option<usize>, NoMemory>
+        requires index { IsIndexOf graph.now index.now }
         requires lattice { lattice < 16 }
         requires below { AllBelow graph.now (size_of self.old.marks) }
         ensures good { OnOk result ((elem : ℕ) → IsGood graph.now lattice elem summaries.now self.old → IsGood graph.now lattice elem summaries.now self.new) }
@@ -336,7 +338,7 @@ impl Search {
             if origin.at == target {
                 return Ok(Some(place));
             }
-            self.visit(graph, summaries, lattice, &origin)?;
+            self.visit(graph, index, summaries, lattice, &origin)?;
             place += 1;
         }
         Ok(None)
@@ -367,16 +369,19 @@ fn settled(graph: &FlowGraph, at: VarId, phase: Phase) -> Phase
 /// Reaches variables from the constants of an element until one is the target: the search and the place of its queue. None
 /// where no path leads there.
 ///
-/// For each variable that it reaches it goes over all constraints, and for each `Enter` from it once more. An index of the
-/// constraints by their first variables takes its place where systems are large.
+/// It takes each variable once in each phase, with a step for each constraint that begins there, and for each `Enter` one
+/// for each `Enter` and `Leave` of the same site; before that it goes once over all constraints. 2 bytes for each variable,
+/// and an item of the queue for each variable and phase that it reaches.
 pub fn reach(
     alloc: Global,
     graph: &FlowGraph,
+    index: &Adjacency,
     summaries: &Summaries,
     lattice: LatticeNo,
     elem: Elem,
     target: VarId,
 ) -> Result<Found, NoMemory>
+    requires index { IsIndexOf graph.now index.now }
     requires lattice { lattice < 16 }
     ensures good { IfOk result (λ found. IsGood graph.now lattice elem summaries.now found.search) }
     ensures found { IfOk result (λ found. IfSome found.place (λ n. IsReachedAt found.search n target)) }
@@ -384,6 +389,6 @@ pub fn reach(
 {
     let mut search = Search::new(alloc, graph)?;
     search.start(graph, lattice, elem)?;
-    let place = search.run(graph, summaries, lattice, target)?;
+    let place = search.run(graph, index, summaries, lattice, target)?;
     Ok(Found { search, place })
 }

@@ -1,34 +1,33 @@
 //! The path proof of an exceeded bound.
 
-ghost use Rattle.std.specs.Prelude.{◌≡◌, ℕ, ◌<◌, List, length, slice_get, Some, None, IfOk, IfSome, OnOk, MatchOption, reverse};
-ghost use Rattle.lattice_core.specs.Order.{Order};
+ghost use Rattle.std.specs.Prelude.{◌≡◌, ℕ, ◌<◌, List, length, slice_get, IfOk, IfSome, OnOk, MatchOption, Some, reverse};
+ghost use Rattle.lattice_core.specs.View.{orders_of};
 ghost use Rattle.flow_graph.specs.declared.constraint.Link.TheVariants.{Bound};
-ghost use Rattle.flow_graph.specs.declared.proof.PathStep.TheVariants.{Sub};
-ghost use Rattle.flow_graph.specs.declared.place.Seen.TheVariants.{Through};
-ghost use Rattle.flow_graph.specs.System.{Has, IsWellOwned, Stands};
-ghost use Rattle.flow_graph.specs.Unfolding.{IsExceeded, NamesElementsIn};
+ghost use Rattle.flow_graph.specs.Index.{IsIndexOf};
+ghost use Rattle.flow_graph.specs.System.{IsWellOwned, Stands};
+ghost use Rattle.flow_graph.specs.Unfolding.{NamesElementsIn};
 ghost use Rattle.flow_graph.specs.Paths.{Lead};
-ghost use Rattle.flow_graph.specs.PathProofs.{look, steps_of, Holds, AreApart};
+ghost use Rattle.flow_graph.specs.PathProofs.{steps_of, Holds, AreApart};
 ghost use Rattle.flow_graph.specs.declared.phase.Phase.{Phase};
-ghost use Rattle.lattice_solver.specs.Solution.{IsSolved};
+ghost use Rattle.lattice_solver.specs.Solution.{Exceeds, IsSolved};
 ghost use Rattle.match_summary.specs.Summary.{Leads, Summarises};
 ghost use Rattle.error_path.specs.declared.search.Reached.{Reached};
 ghost use Rattle.flow_graph.specs.Parts.{IsPath, Onward};
 ghost use Rattle.error_path.specs.Made.{subs_in, Extends, IsMade};
 ghost use Rattle.error_path.specs.Reaching.{AreSound, ComesBy, Earlier};
-ghost use Rattle.error_path.specs.Shown.{BeginsOver, EndsWith, HasNoLines, IsJoinedBy, IsShown};
+ghost use Rattle.error_path.specs.Shown.{BeginsOver, EndsWith, HasNoLines, InLattice, IsExceededBySome, IsJoinedBy, IsShown};
 
 use crate::search::{Cause, Reached, reach};
 use crate::steps::{Pair, inner_ends, push_group, push_take};
 use crate::sub_paths::SubPaths;
-use flow_graph::constraint::Link;
+use flow_graph::adjacency::Adjacency;
 use flow_graph::graph::FlowGraph;
 use flow_graph::proof::{PathProof, PathStep};
-use lattice_core::Lattice;
+use lattice_core::Lattices;
 use lattice_solver::solver::Solver;
 use match_summary::summary::Summaries;
 use qual_base::faults::NoMemory;
-use qual_base::ids::{EdgeId, Elem, LatticeNo, Numbered, VarId};
+use qual_base::ids::{EdgeId, Elem, LatticeNo, VarId};
 use std::alloc::Global;
 
 /// The number of a group's sub-path, which is made where it is not there. None where the group is empty.
@@ -117,50 +116,43 @@ fn trace(
     }
 }
 
-/// A bound's variable and lattice.
+/// A bound of a lattice with its variable, and an element that leads to the variable.
 #[derive(Clone, Copy)]
-struct Limit {
-    at: VarId,
+struct Target {
     lattice: LatticeNo,
+    elem: Elem,
+    at: VarId,
+    bound: EdgeId,
 }
 
-/// The variable and the lattice of a bound.
-fn limit_of(graph: &FlowGraph, bound: EdgeId) -> Limit
-    requires { bound < length graph.now.constraints }
-    ensures at { (v l e : ℕ) → Has graph.now bound (Bound v l e) → result.at ≡ v }
-    ensures low { result.lattice < 16 }
-    ensures lattice { (v l e : ℕ) → Has graph.now bound (Bound v l e) → result.lattice ≡ l }
-{
-    let link = graph.constraint(bound).link;
-    match link {
-        Link::Bound(at, lattice, _) => Limit { at, lattice },
-        _ => Limit {
-            at: VarId::new(0),
-            lattice: LatticeNo::new(0),
-        },
-    }
-}
-
-/// A path proof that leads from a constant of an element to a bound in a lattice.
+/// A path proof that leads from a constant of an element to a bound.
 fn show_from(
     alloc: Global,
     graph: &FlowGraph,
+    index: &Adjacency,
     summaries: &Summaries,
-    elem: Elem,
-    bound: EdgeId,
-    limit: &Limit,
+    target: &Target,
 ) -> Result<PathProof, NoMemory>
-    requires lattice { limit.now.lattice < 16 }
-    requires summaries { Summarises graph.now limit.now.lattice summaries.now }
-    requires bound { (e : ℕ) × Stands graph.now limit.now.lattice bound (Bound limit.now.at limit.now.lattice e) }
-    requires lead { Lead graph.now limit.now.lattice elem limit.now.at }
-    ensures { IfOk result (λ proof. IsShown graph.now limit.now.lattice elem bound proof) }
+    requires index { IsIndexOf graph.now index.now }
+    requires lattice { target.now.lattice < 16 }
+    requires summaries { Summarises graph.now target.now.lattice summaries.now }
+    requires bound { (e : ℕ) × Stands graph.now target.now.lattice target.now.bound (Bound target.now.at target.now.lattice e) }
+    requires lead { Lead graph.now target.now.lattice target.now.elem target.now.at }
+    ensures { IfOk result (λ proof. IsShown graph.now target.now.lattice target.now.elem target.now.bound proof) }
 {
-    let found = reach(alloc, graph, summaries, limit.lattice, elem, limit.at)?;
+    let found = reach(
+        alloc,
+        graph,
+        index,
+        summaries,
+        target.lattice,
+        target.elem,
+        target.at,
+    )?;
     let place = found.place.unwrap();
-    let mut subs = SubPaths::new(alloc, limit.lattice);
+    let mut subs = SubPaths::new(alloc, target.lattice);
     let mut steps = Vec::new(alloc);
-    push_take(&mut steps, bound)?;
+    push_take(&mut steps, target.bound)?;
     trace(
         alloc,
         graph,
@@ -178,32 +170,58 @@ fn show_from(
     })
 }
 
-/// A path proof of an exceeded bound: it leads from a constant of an element that exceeds the bound to the bound, and names
-/// each sub-path once. All lines are 0. Fails for want of memory alone.
+/// A path proof of a bound that an element exceeds: it leads from a constant of such an element to the bound, and names each
+/// sub-path once. All lines are 0. Fails for want of memory alone.
 ///
-/// The search takes time in the number of constraints for each variable that it reaches, and for each `Enter` from it; the
-/// sub-paths are made from the reasons of the summaries, in time linear in what is made. The solver keeps no reasons.
+/// The search takes each variable once in each phase, with a step for each constraint that begins there, and for each
+/// `Enter` one for each `Enter` and `Leave` of the same site; before that it goes once over all constraints. It takes 2
+/// bytes for each variable, and an item for each variable and phase that it reaches. The sub-paths are made from the reasons
+/// of the summaries, each pair once, in time and memory linear in the steps that are made.
 pub fn show(
     alloc: Global,
     graph: &FlowGraph,
     summaries: &Summaries,
     solver: &Solver,
-    lattice: &Lattice,
+    lattices: &Lattices,
     bound: EdgeId,
 ) -> Result<PathProof, NoMemory>
-    requires owned { IsWellOwned graph.now }
     requires solved { IsSolved graph.now solver.now }
     requires summaries { Summarises graph.now solver.now.lattice summaries.now }
-    requires named { NamesElementsIn graph.now solver.now.lattice lattice.now.order }
+    requires lattice { solver.now.lattice < length lattices.now }
+    requires named { InLattice (orders_of lattices.now) solver.now.lattice (NamesElementsIn graph.now solver.now.lattice) }
     requires bound { bound < length graph.now.constraints }
-    requires exceeded { IsExceeded graph.now solver.now.lattice lattice.now.order bound }
-    ensures holds { IfOk result (λ proof. (orders : List Order) → slice_get orders solver.now.lattice ≡ Some lattice.now.order → Holds graph.now orders proof) }
+    requires exceeded { InLattice (orders_of lattices.now) solver.now.lattice (λ order. IsExceededBySome graph.now solver.now order bound) }
+    ensures holds { IfOk result (λ proof. IsWellOwned graph.now → Holds graph.now (orders_of lattices.now) proof) }
     ensures ends { IfOk result (EndsWith bound) }
-    ensures begins { IfOk result (BeginsOver graph.now solver.now lattice.now.order bound) }
+    ensures begins { IfOk result (λ proof. InLattice (orders_of lattices.now) solver.now.lattice (λ order. BeginsOver graph.now solver.now order bound proof)) }
     ensures apart { IfOk result (λ proof. AreApart graph.now (steps_of proof.subs.items)) }
     ensures lines { IfOk result HasNoLines }
 {
+    let target = target_of(graph, solver, lattices, bound);
+    show_from(alloc, graph, solver.index(), summaries, &target)
+}
+
+/// The bound with an element that exceeds it.
+fn target_of(graph: &FlowGraph, solver: &Solver, lattices: &Lattices, bound: EdgeId) -> Target
+    requires solved { IsSolved graph.now solver.now }
+    requires lattice { solver.now.lattice < length lattices.now }
+    requires named { InLattice (orders_of lattices.now) solver.now.lattice (NamesElementsIn graph.now solver.now.lattice) }
+    requires bound { bound < length graph.now.constraints }
+    requires exceeded { InLattice (orders_of lattices.now) solver.now.lattice (λ order. IsExceededBySome graph.now solver.now order bound) }
+    ensures lattice { result.lattice ≡ solver.now.lattice }
+    ensures bound { result.bound ≡ bound }
+    ensures low { result.lattice < 16 }
+    ensures stands { (e : ℕ) × Stands graph.now solver.now.lattice bound (Bound result.at solver.now.lattice e) }
+    ensures lead { Lead graph.now solver.now.lattice result.elem result.at }
+    ensures exceeds { InLattice (orders_of lattices.now) solver.now.lattice (λ order. Exceeds graph.now solver.now order bound result.elem) }
+{
+    let lattice = lattices.get(solver.lattice());
     let elem = solver.exceeded(graph, lattice, bound).unwrap();
-    let limit = limit_of(graph, bound);
-    show_from(alloc, graph, summaries, elem, bound, &limit)
+    let limit = graph.constraint(bound).bound_in(solver.lattice()).unwrap();
+    Target {
+        lattice: solver.lattice(),
+        elem,
+        at: limit.at,
+        bound,
+    }
 }

@@ -2,10 +2,8 @@
 
 ghost use Rattle.std.specs.Prelude.{◌≡◌, ◌<◌, [], ◌∷◌, ◌++◌, OnOk, length};
 ghost use Rattle.flow_graph.specs.declared.proof.PathStep.TheVariants.{Take};
-ghost use Rattle.flow_graph.specs.PathRules.{link_ends};
-ghost use Rattle.error_path.specs.Made.{first_variable, group_steps, Fronts, IsInner};
+ghost use Rattle.error_path.specs.Made.{group_steps, Fronts, IsInner};
 
-use flow_graph::constraint::Link;
 use flow_graph::graph::FlowGraph;
 use flow_graph::proof::PathStep;
 use qual_base::faults::NoMemory;
@@ -59,42 +57,15 @@ fn push_through(steps: &mut Vec<PathStep>, enter: EdgeId, number: u32) -> Result
     push_take(steps, enter)
 }
 
-/// The variable where a link begins, and that of a constant.
-fn begin_of(link: Link) -> VarId
-    ensures { result ≡ first_variable link }
-{
-    match link {
-        Link::Le(from, _) => from,
-        Link::Const(_, _, at) => at,
-        Link::Bound(at, _, _) => at,
-        Link::Enter(_, from, _) => from,
-        Link::Leave(_, from, _) => from,
-    }
-}
-
-/// The variable where a link ends.
-fn end_of(link: Link) -> VarId
-    ensures { result ≡ link_ends link }
-{
-    match link {
-        Link::Le(_, to) => to,
-        Link::Const(_, _, at) => at,
-        Link::Bound(at, _, _) => at,
-        Link::Enter(_, _, to) => to,
-        Link::Leave(_, _, to) => to,
-    }
-}
-
 /// The variables inside a group: where its `Enter` ends and where its `Leave` begins.
 pub fn inner_ends(graph: &FlowGraph, enter: EdgeId, leave: EdgeId) -> Pair
     requires enter { enter < length graph.now.constraints }
     requires leave { leave < length graph.now.constraints }
     ensures { IsInner graph.now enter leave result }
 {
-    let first = graph.constraint(enter).link;
-    let last = graph.constraint(leave).link;
-    Pair {
-        from: end_of(first),
-        to: begin_of(last),
-    }
+    let first = graph.constraint(enter);
+    let last = graph.constraint(leave);
+    let from = first.link.end();
+    let to = last.link.begin().unwrap_or(from);
+    Pair { from, to }
 }

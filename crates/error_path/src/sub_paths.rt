@@ -1,20 +1,21 @@
 //! Sub-paths that are made from the reasons of summaries, each pair of variables once.
 
-ghost use Rattle.std.specs.Prelude.{◌≡◌, ℕ, ◌<◌, ◌≤◌, [], ◌∷◌, ◌++◌, Some, None, OnOk, IfOk, length, reverse};
-ghost use Rattle.flow_graph.specs.declared.constraint.Link.TheVariants.{Enter, Leave};
+ghost use Rattle.std.specs.Prelude.{◌≡◌, ◌≢◌, ℕ, ◌<◌, [], ◌∷◌, ◌++◌, Some, None, OnOk, IfOk, IfNone, IfSome, length, reverse};
+ghost use Rattle.flow_graph.specs.declared.proof.PathStep.{PathStep};
 ghost use Rattle.flow_graph.specs.declared.proof.PathStep.TheVariants.{Sub};
 ghost use Rattle.flow_graph.specs.declared.place.Seen.TheVariants.{Through};
-ghost use Rattle.flow_graph.specs.System.{System, Stands};
+ghost use Rattle.flow_graph.specs.System.{System};
 ghost use Rattle.flow_graph.specs.PathProofs.{look};
 ghost use Rattle.match_summary.specs.declared.reason.Summary.{Summary};
-ghost use Rattle.match_summary.specs.Summary.{AreOfOne, HasPair, Leads, Summarises};
+ghost use Rattle.match_summary.specs.Summary.{HasPair, Summarises};
 ghost use Rattle.flow_graph.specs.Parts.{IsSub};
-ghost use Rattle.error_path.specs.Made.{number_in, place_of, subs_in, Adds, AllJoined, Extends, IsMade};
+ghost use Rattle.error_path.specs.Drafts.{AddsGroup, AreDrafts, IsDraft, IsMissing, IsWritten};
+ghost use Rattle.error_path.specs.Made.{number_in, place_of, subs_in, Extends, IsInner, IsMade};
 
+use crate::places::Places;
 use crate::steps::{Pair, inner_ends, push_group, push_take};
 use flow_graph::graph::FlowGraph;
 use flow_graph::proof::{PathStep, SubPath};
-use match_summary::places::Places;
 use match_summary::reason::Reason;
 use match_summary::summary::Summaries;
 use qual_base::faults::NoMemory;
@@ -32,12 +33,27 @@ pub struct SubPaths {
     places: Places,
 }
 
-/// The steps of a sub-path from its end to its beginning, and the pairs of its groups that have no sub-path yet. Where
-/// there are such the steps are not all there.
+/// The steps of a sub-path that are written, from its end towards its beginning, and the variable where they begin.
 #[derive(Drop)]
-struct Draft {
+pub struct Draft {
+    pair: Pair,
+    at: VarId,
     steps: Vec<PathStep>,
-    missing: Vec<Pair>,
+}
+
+impl Draft {
+    /// No steps. Takes no memory.
+    fn new(alloc: Global, pair: Pair) -> Self
+        ensures pair { result.pair ≡ pair }
+        ensures at { result.at ≡ pair.to }
+        ensures steps { result.steps.items ≡ [] }
+    {
+        Draft {
+            pair,
+            at: pair.to,
+            steps: Vec::new(alloc),
+        }
+    }
 }
 
 impl SubPaths {
@@ -68,6 +84,8 @@ impl SubPaths {
     fn push(&mut self, pair: Pair, steps: Vec<PathStep>) -> Result<(), NoMemory>
         ensures made { OnOk result ((sys : System) → IsMade sys self.old → IsSub sys self.old.lattice (subs_in self.old) pair.from pair.to steps.items → place_of self.old pair.from pair.to ≡ None → IsMade sys self.new) }
         ensures extends { OnOk result (Extends self.old self.new) }
+        ensures here { OnOk result (place_of self.new pair.from pair.to ≡ Some (length self.old.paths.items)) }
+        ensures others { (u v : ℕ) → (u ≡ pair.from → v ≢ pair.to) → place_of self.new u v ≡ place_of self.old u v }
     {
         let at = self.paths.len();
         if at >= MOST_SUB_PATHS {
@@ -81,7 +99,7 @@ impl SubPaths {
     }
 
     /// The number of the sub-path from a variable to another, which is made if it is not there, and those that it rests on
-    /// before it. Takes time linear in the steps that are made.
+    /// before it. Takes time and memory linear in the steps that are made.
     pub fn make(
         &mut self,
         alloc: Global,
@@ -97,131 +115,162 @@ impl SubPaths {
         ensures number { IfOk result (λ k. look graph.now (subs_in self.new) (Sub k 0) ≡ Through pair.now.from pair.now.to) }
     {
         let mut waiting = Vec::new(alloc);
-        for _ in 0..u64::MAX {
+        loop {
             if let Some(number) = self.number(pair) {
                 return Ok(number);
             }
-            let next = next_of(&mut waiting, pair);
-            self.make_next(alloc, graph, summaries, &mut waiting, &next)?;
-        }
-        Err(NoMemory)
-    }
-
-    /// Makes the sub-path of a pair, where it is not there and all that it rests on are. Else the pair and those that are
-    /// missing wait, the missing ones before it.
-    fn make_next(
-        &mut self,
-        alloc: Global,
-        graph: &FlowGraph,
-        summaries: &Summaries,
-        waiting: &mut Vec<Pair>,
-        pair: &Pair,
-    ) -> Result<(), NoMemory>
-        requires made { IsMade graph.now self.old }
-        requires summaries { Summarises graph.now self.old.lattice summaries.now }
-        requires joined { HasPair summaries.now pair.now.from pair.now.to }
-        requires waiting { AllJoined summaries.now waiting.old.items }
-        ensures made { OnOk result (IsMade graph.now self.new) }
-        ensures extends { OnOk result (Extends self.old self.new) }
-        ensures waiting { OnOk result (AllJoined summaries.now waiting.new.items) }
-    {
-        if self.number(pair).is_some() {
-            return Ok(());
-        }
-        let Draft { steps, missing } = self.follow(alloc, graph, summaries, pair)?;
-        if missing.is_empty() {
+            let Draft { pair, steps, .. } = self.finish(
+                alloc,
+                graph,
+                summaries,
+                &mut waiting,
+                pair,
+            )?;
             let mut steps = steps;
             steps.reverse();
-            self.push(*pair, steps)
-        } else {
-            wait_for(waiting, *pair, missing.as_slice())
+            self.push(pair, steps)?;
         }
     }
 
-    /// Writes the steps of a pair from its last variable to its first.
-    fn follow(
+    /// Finishes a draft of which all that it rests on is made: the last that waits, or that of a pair itself where none
+    /// does, or one that these rest on. Those that rest on another wait, each before the one that it rests on.
+    fn finish(
         &self,
         alloc: Global,
         graph: &FlowGraph,
         summaries: &Summaries,
+        waiting: &mut Vec<Draft>,
         pair: &Pair,
     ) -> Result<Draft, NoMemory>
         requires made { IsMade graph.now self.now }
         requires summaries { Summarises graph.now self.now.lattice summaries.now }
         requires joined { HasPair summaries.now pair.now.from pair.now.to }
-        ensures sub { IfOk result (λ draft. draft.missing.items ≡ [] → IsSub graph.now self.now.lattice (subs_in self.now) pair.now.from pair.now.to (reverse draft.steps.items)) }
-        ensures missing { IfOk result (λ draft. AllJoined summaries.now draft.missing.items) }
+        requires free { place_of self.now pair.now.from pair.now.to ≡ None }
+        requires waiting { AreDrafts graph.now self.now.lattice summaries.now (subs_in self.now) waiting.old.items }
+        ensures waiting { OnOk result (AreDrafts graph.now self.now.lattice summaries.now (subs_in self.now) waiting.new.items) }
+        ensures sub { IfOk result (λ draft. IsSub graph.now self.now.lattice (subs_in self.now) draft.pair.from draft.pair.to (reverse draft.steps.items)) }
+        ensures joined { IfOk result (λ draft. HasPair summaries.now draft.pair.from draft.pair.to) }
+        ensures free { IfOk result (λ draft. place_of self.now draft.pair.from draft.pair.to ≡ None) }
     {
-        let mut draft = Draft {
-            steps: Vec::new(alloc),
-            missing: Vec::new(alloc),
-        };
-        let mut at = pair.to;
-        for _ in 0..u64::MAX {
-            let before = self.add_part(graph, summaries, pair.from, at, &mut draft)?;
-            if before == pair.from {
-                return Ok(draft);
+        let mut draft = self.last_waiting(alloc, waiting, pair);
+        loop {
+            match self.write(graph, summaries, &mut draft)? {
+                None => return Ok(draft),
+                Some(missing) => {
+                    keep(waiting, draft)?;
+                    draft = Draft::new(alloc, missing);
+                }
             }
-            at = before;
         }
-        Err(NoMemory)
     }
 
-    /// Writes the last part of a path from a variable to another, or notes the pair inside it. Answers where the part begins.
+    /// Takes the last waiting draft of a pair that has no sub-path, or else a new one of another pair. Drafts of pairs that
+    /// have one by now are let go.
+    fn last_waiting(&self, alloc: Global, waiting: &mut Vec<Draft>, pair: &Pair) -> Draft
+        requires made { (sys : System) × IsMade sys self.now }
+        requires free { place_of self.now pair.now.from pair.now.to ≡ None }
+        ensures waiting { (sys : System) (lattice : ℕ) (rows : Rattle.std.specs.Prelude.List Summary) (subs : Rattle.std.specs.Prelude.List (Rattle.std.specs.Prelude.List PathStep)) → AreDrafts sys lattice rows subs waiting.old.items → AreDrafts sys lattice rows subs waiting.new.items }
+        ensures draft { (sys : System) (lattice : ℕ) (rows : Rattle.std.specs.Prelude.List Summary) (subs : Rattle.std.specs.Prelude.List (Rattle.std.specs.Prelude.List PathStep)) → AreDrafts sys lattice rows subs waiting.old.items → HasPair rows pair.now.from pair.now.to → IsDraft sys lattice rows subs result }
+        ensures free { place_of self.now result.pair.from result.pair.to ≡ None }
+    {
+        while let Some(draft) = waiting.pop() {
+            if self.number(&draft.pair).is_none() {
+                return draft;
+            }
+        }
+        Draft::new(alloc, *pair)
+    }
+
+    /// Writes a draft on to its beginning. Answers none, or the pair of a group that has no sub-path yet.
+    fn write(
+        &self,
+        graph: &FlowGraph,
+        summaries: &Summaries,
+        draft: &mut Draft,
+    ) -> Result<Option<Pair>, NoMemory>
+        requires made { IsMade graph.now self.now }
+        requires summaries { Summarises graph.now self.now.lattice summaries.now }
+        requires draft { IsDraft graph.now self.now.lattice summaries.now (subs_in self.now) draft.old }
+        ensures pair { OnOk result (draft.new.pair ≡ draft.old.pair) }
+        ensures whole { IfOk result (λ missing. IfNone missing (IsSub graph.now self.now.lattice (subs_in self.now) draft.old.pair.from draft.old.pair.to (reverse draft.new.steps.items))) }
+        ensures draft { IfOk result (λ missing. IfSome missing (λ pair. IsDraft graph.now self.now.lattice summaries.now (subs_in self.now) draft.new)) }
+        ensures missing { IfOk result (λ missing. IfSome missing (IsMissing summaries.now self.now draft.old)) }
+    {
+        loop {
+            if let Some(missing) = self.add_part(graph, summaries, draft)? {
+                return Ok(Some(missing));
+            }
+            if draft.at == draft.pair.from {
+                return Ok(None);
+            }
+        }
+    }
+
+    /// Writes the part that ends where the steps of a draft begin. Answers none, or the pair inside it where that has no
+    /// sub-path yet; then nothing is written.
     fn add_part(
         &self,
         graph: &FlowGraph,
         summaries: &Summaries,
-        from: VarId,
-        to: VarId,
         draft: &mut Draft,
-    ) -> Result<VarId, NoMemory>
+    ) -> Result<Option<Pair>, NoMemory>
         requires made { IsMade graph.now self.now }
         requires summaries { Summarises graph.now self.now.lattice summaries.now }
-        requires joined { HasPair summaries.now from to }
-        ensures one { OnOk result (AreOfOne graph.now from to) }
-        ensures front { IfOk result (λ before. Leads summaries.now from before) }
-        ensures adds { IfOk result (λ before. Adds graph.now self.now.lattice (subs_in self.now) before to draft.old draft.new) }
-        ensures missing { OnOk result (AllJoined summaries.now draft.old.missing.items → AllJoined summaries.now draft.new.missing.items) }
+        requires joined { HasPair summaries.now draft.old.pair.from draft.old.at }
+        ensures pair { OnOk result (draft.new.pair ≡ draft.old.pair) }
+        ensures written { IfOk result (λ missing. IfNone missing (IsWritten graph.now self.now.lattice summaries.now (subs_in self.now) draft.old draft.new)) }
+        ensures same { IfOk result (λ missing. IfSome missing (λ pair. (draft.new.at ≡ draft.old.at) × (draft.new.steps.items ≡ draft.old.steps.items))) }
+        ensures missing { IfOk result (λ missing. IfSome missing (IsMissing summaries.now self.now draft.old)) }
     {
-        let why = summaries.why(from, to).unwrap();
+        let why = summaries.why(draft.pair.from, draft.at).unwrap();
         match why {
             Reason::Last(edge, before) => {
                 push_take(&mut draft.steps, edge)?;
-                Ok(before)
+                draft.at = before;
+                Ok(None)
             }
             Reason::Group {
                 before,
                 enter,
                 leave,
             } => {
-                self.add_group(graph, enter, leave, draft)?;
-                Ok(before)
+                match self.add_group(graph, enter, leave, &mut draft.steps)? {
+                    Some(inner) => Ok(Some(inner)),
+                    None => {
+                        draft.at = before;
+                        Ok(None)
+                    }
+                }
             }
         }
     }
 
-    /// Writes a group, or notes the pair inside it where that has no sub-path.
+    /// Writes a group. Answers none, or the pair inside it where that has no sub-path yet; then nothing is written.
     fn add_group(
         &self,
         graph: &FlowGraph,
         enter: EdgeId,
         leave: EdgeId,
-        draft: &mut Draft,
-    ) -> Result<(), NoMemory>
+        steps: &mut Vec<PathStep>,
+    ) -> Result<Option<Pair>, NoMemory>
         requires made { IsMade graph.now self.now }
         requires enter { enter < length graph.now.constraints }
         requires leave { leave < length graph.now.constraints }
-        ensures adds { OnOk result ((s u a b v : ℕ) → Stands graph.now self.now.lattice enter (Enter s u a) → Stands graph.now self.now.lattice leave (Leave s b v) → Adds graph.now self.now.lattice (subs_in self.now) u v draft.old draft.new) }
-        ensures missing { OnOk result ((rows : Rattle.std.specs.Prelude.List Summary) (s u a b v : ℕ) → Stands graph.now self.now.lattice enter (Enter s u a) → Stands graph.now self.now.lattice leave (Leave s b v) → Leads rows a b → AllJoined rows draft.old.missing.items → AllJoined rows draft.new.missing.items) }
+        ensures written { IfOk result (λ missing. IfNone missing (AddsGroup graph.now self.now.lattice (subs_in self.now) enter leave steps.old.items steps.new.items)) }
+        ensures same { IfOk result (λ missing. IfSome missing (λ pair. steps.new.items ≡ steps.old.items)) }
+        ensures missing { IfOk result (λ missing. IfSome missing (λ pair. IsInner graph.now enter leave pair × (pair.from ≢ pair.to) × (place_of self.now pair.from pair.to ≡ None))) }
     {
         let inner = inner_ends(graph, enter, leave);
         if inner.from == inner.to {
-            return push_group(&mut draft.steps, enter, None, leave);
+            push_group(steps, enter, None, leave)?;
+            return Ok(None);
         }
         match self.number(&inner) {
-            Some(number) => push_group(&mut draft.steps, enter, Some(number), leave),
-            None => wait(&mut draft.missing, inner),
+            Some(number) => {
+                push_group(steps, enter, Some(number), leave)?;
+                Ok(None)
+            }
+            None => Ok(Some(inner)),
         }
     }
 
@@ -233,34 +282,12 @@ impl SubPaths {
     }
 }
 
-/// Adds a pair to those that wait.
-fn wait(waiting: &mut Vec<Pair>, pair: Pair) -> Result<(), NoMemory>
-    ensures { OnOk result (waiting.new.items ≡ waiting.old.items ++ pair ∷ []) }
+/// Adds a draft to those that wait.
+fn keep(waiting: &mut Vec<Draft>, draft: Draft) -> Result<(), NoMemory>
+    ensures { OnOk result (waiting.new.items ≡ waiting.old.items ++ draft ∷ []) }
 {
-    match waiting.push(pair) {
+    match waiting.push(draft) {
         Ok(()) => Ok(()),
         Err(_) => Err(NoMemory),
-    }
-}
-
-/// Adds a pair, and those that it waits for behind it.
-fn wait_for(waiting: &mut Vec<Pair>, pair: Pair, missing: &[Pair]) -> Result<(), NoMemory>
-    ensures { OnOk result ((rows : Rattle.std.specs.Prelude.List Summary) → HasPair rows pair.from pair.to → AllJoined rows missing.now → AllJoined rows waiting.old.items → AllJoined rows waiting.new.items) }
-{
-    wait(waiting, pair)?;
-    for other in missing {
-        wait(waiting, *other)?;
-    }
-    Ok(())
-}
-
-/// Takes the last of the pairs that wait, or else another.
-fn next_of(waiting: &mut Vec<Pair>, pair: &Pair) -> Pair
-    ensures next { (rows : Rattle.std.specs.Prelude.List Summary) → HasPair rows pair.now.from pair.now.to → AllJoined rows waiting.old.items → HasPair rows result.from result.to }
-    ensures waiting { (rows : Rattle.std.specs.Prelude.List Summary) → AllJoined rows waiting.old.items → AllJoined rows waiting.new.items }
-{
-    match waiting.pop() {
-        Some(next) => next,
-        None => *pair,
     }
 }

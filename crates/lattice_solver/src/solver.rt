@@ -83,6 +83,12 @@ impl Solver {
         saturate(&mut self.work, &flows);
     }
 
+    pub fn lattice(&self) -> LatticeNo
+        ensures { result ≡ self.now.lattice }
+    {
+        self.lattice
+    }
+
     /// Where the constraints begin and end.
     pub fn index(&self) -> &Adjacency
         ensures { result.now ≡ self.now.index }

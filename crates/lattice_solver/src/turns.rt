@@ -168,11 +168,11 @@ fn pass_group(work: &mut Work, flows: &Flows, taken: &Taken, call: &Crossing, le
     ensures sound { StaySound flows.now taken.now work.old.sets work.new.sets }
     ensures passed { IsPassed flows.now.graph.now flows.now.lattice flows.now.summaries.now (had_of taken.now) work.new.sets call.now.site call.now.to leave }
 {
-    let constraint = flows.graph.constraint(leave);
-    if !constraint.is_in(flows.lattice) {
+    let back = flows.graph.constraint(leave);
+    if !back.is_in(flows.lattice) {
         return;
     }
-    let link = constraint.link;
+    let link = back.link;
     match link {
         Link::Leave(_, last, to) => {
             if joins(flows.graph, flows.summaries, call.to, last) {

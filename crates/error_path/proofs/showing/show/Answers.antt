@@ -1,87 +1,89 @@
 use Rattle.std.proofs.Common.{ℕ, sym, subst}
 use Rattle.std.proofs.lemmas.Result.{IfOk-weaker}
+use Rattle.lattice_core.specs.View.{orders_of}
 use Rattle.flow_graph.specs.declared.constraint.Link.TheVariants.{Bound}
+use Rattle.flow_graph.specs.declared.proof.PathProof.{PathProof}
+use Rattle.flow_graph.specs.Index.{IsIndexOf}
 use Rattle.flow_graph.specs.System.{Stands}
 use Rattle.flow_graph.specs.Paths.{Lead}
 use Rattle.flow_graph.specs.PathProofs.{steps_of}
 use Rattle.match_summary.specs.Summary.{Summarises}
 use Rattle.error_path.specs.Shown.{IsShown}
 use Rattle.error_path.proofs.Holding.{path_first, path_holds, path_last, path_lines, subs_lines}
-use Rattle.error_path.proofs.Resting.{has_of}
-use Rattle.error_path.proofs.Tracing.{bound_over, reached_leads, some_given}
+use Rattle.error_path.proofs.Tracing.{bound_over, order_at}
 use Rattle.error_path.proofs.showing.show.Goals as goal
 
-pub show_from-requires-clause-lattice : goal.show_from-requires-clause-lattice
-show_from-requires-clause-lattice c = c.limit_of-limit.ensures.low
+pub show_from-requires-clause-index : goal.show_from-requires-clause-index
+show_from-requires-clause-index c = subst (IsIndexOf c.args.graph.now) (sym c.index.ensures) c.requires.solved.fits.indexed
 
 pub show_from-requires-clause-summaries : goal.show_from-requires-clause-summaries
 show_from-requires-clause-summaries c =
-    let ex = some_given _ c.exceeded.result c.unwrap-elem.result c.unwrap-elem.ensures c.exceeded.ensures.element in
-    let lat = c.limit_of-limit.ensures.lattice ex.var c.args.solver.now.lattice ex.limit (has_of c.args.graph.now c.args.solver.now.lattice c.args.bound _ ex.bound) in
-    let Of : ℕ → Type 0 = λ l. Summarises c.args.graph.now l c.args.summaries.now in
-    subst Of (sym lat) c.requires.summaries
+    let Of : ℕ → Type 0 = λ l. Summarises c.args.graph.now l c.args.summaries.now in subst Of (sym c.target_of-target.ensures.lattice) c.requires.summaries
 
 pub show_from-requires-clause-bound : goal.show_from-requires-clause-bound
 show_from-requires-clause-bound c =
-    let ex = some_given _ c.exceeded.result c.unwrap-elem.result c.unwrap-elem.ensures c.exceeded.ensures.element in
-    let has = has_of c.args.graph.now c.args.solver.now.lattice c.args.bound _ ex.bound in
-    let lat = c.limit_of-limit.ensures.lattice ex.var c.args.solver.now.lattice ex.limit has in
-    let at = c.limit_of-limit.ensures.at ex.var c.args.solver.now.lattice ex.limit has in
-    let Of : ℕ → Type 0 = λ l. Stands c.args.graph.now l c.args.bound (Bound ex.var l ex.limit) in
-    let At : ℕ → Type 0 = λ v. Stands c.args.graph.now c.limit_of-limit.result.lattice c.args.bound (Bound v c.limit_of-limit.result.lattice ex.limit) in
-    (ex.limit, subst At (sym at) (subst Of (sym lat) ex.bound))
+    let target = c.target_of-target.ensures in
+    let at = c.target_of-target.result.at in
+    let Of : ℕ → Type 0 = λ l. Stands c.args.graph.now l c.args.bound (Bound at l target.stands.0) in
+    let Bounds : ℕ → Type 0 = λ n. Stands c.args.graph.now c.target_of-target.result.lattice n (Bound at c.target_of-target.result.lattice target.stands.0) in
+    (target.stands.0, subst Bounds (sym target.bound) (subst Of (sym target.lattice) target.stands.1))
 
 pub show_from-requires-clause-lead : goal.show_from-requires-clause-lead
 show_from-requires-clause-lead c =
-    let ex = some_given _ c.exceeded.result c.unwrap-elem.result c.unwrap-elem.ensures c.exceeded.ensures.element in
-    let has = has_of c.args.graph.now c.args.solver.now.lattice c.args.bound _ ex.bound in
-    let lat = c.limit_of-limit.ensures.lattice ex.var c.args.solver.now.lattice ex.limit has in
-    let at = c.limit_of-limit.ensures.at ex.var c.args.solver.now.lattice ex.limit has in
-    let Of : ℕ → Type 0 = λ l. Lead c.args.graph.now l c.unwrap-elem.result ex.var in
-    let At : ℕ → Type 0 = λ v. Lead c.args.graph.now c.limit_of-limit.result.lattice c.unwrap-elem.result v in
-    subst At (sym at) (subst Of (sym lat) (reached_leads c.args.graph.now c.args.solver.now c.requires.solved ex.var c.unwrap-elem.result ex.reached))
+    let Of : ℕ → Type 0 = λ l. Lead c.args.graph.now l c.target_of-target.result.elem c.target_of-target.result.at in subst Of (sym c.target_of-target.ensures.lattice) c.target_of-target.ensures.lead
+
+-- what was shown is shown of the solver's lattice and the bound
+shown : (c : goal.After-show_from) (proof : PathProof) → IsShown c.args.graph.now c.target_of-target.result.lattice c.target_of-target.result.elem c.target_of-target.result.bound proof →
+    IsShown c.args.graph.now c.args.solver.now.lattice c.target_of-target.result.elem c.args.bound proof
+shown c proof is =
+    let Of : ℕ → Type 0 = λ l. IsShown c.args.graph.now l c.target_of-target.result.elem c.target_of-target.result.bound proof in
+    let Bounds : ℕ → Type 0 = λ n. IsShown c.args.graph.now c.args.solver.now.lattice c.target_of-target.result.elem n proof in
+    subst Bounds c.target_of-target.ensures.bound (subst Of c.target_of-target.ensures.lattice is)
 
 pub returns-clause-holds : goal.returns-clause-holds
 returns-clause-holds c =
-    let ex = some_given _ c.exceeded.result c.unwrap-elem.result c.unwrap-elem.ensures c.exceeded.ensures.element in
-    let lat = c.limit_of-limit.ensures.lattice ex.var c.args.solver.now.lattice ex.limit (has_of c.args.graph.now c.args.solver.now.lattice c.args.bound _ ex.bound) in
+    let orders = orders_of c.args.lattices.now in
+    let elem = c.target_of-target.result.elem in
+    let order = order_at c.args.lattices.now c.args.solver.now.lattice c.requires.lattice in
     IfOk-weaker c.show_from.result _ _
-    (λ proof is orders there.
-    let Of : ℕ → Type 0 = λ l. IsShown c.args.graph.now l c.unwrap-elem.result c.args.bound proof in
-    let shown = subst Of lat is in
-    path_holds c.args.graph.now c.args.solver.now.lattice (steps_of proof.subs.items) c.args.bound orders c.args.lattice.now.order c.unwrap-elem.result there c.requires.owned shown.subs
-    (bound_over c.args.graph.now c.args.solver.now c.args.lattice.now.order c.args.bound c.unwrap-elem.result ex) proof.main.items proof.end shown.path)
+    (λ proof is owned.
+    let path = shown c proof is in
+    path_holds c.args.graph.now c.args.solver.now.lattice (steps_of proof.subs.items) c.args.bound orders order.0 elem order.1 owned path.subs
+    (bound_over c.args.graph.now c.args.solver.now order.0 c.args.bound elem (c.target_of-target.ensures.exceeds order.0 order.1)) proof.main.items proof.end path.path)
     c.show_from.ensures
 
 pub returns-clause-ends : goal.returns-clause-ends
 returns-clause-ends c =
     IfOk-weaker c.show_from.result _ _
-    (λ proof is. path_last c.args.graph.now c.limit_of-limit.result.lattice (steps_of proof.subs.items) c.args.bound c.unwrap-elem.result proof.main.items is.path) c.show_from.ensures
+    (λ proof is.
+    let path = shown c proof is in
+    path_last c.args.graph.now c.args.solver.now.lattice (steps_of proof.subs.items) c.args.bound c.target_of-target.result.elem proof.main.items path.path)
+    c.show_from.ensures
 
 pub returns-clause-begins : goal.returns-clause-begins
 returns-clause-begins c =
-    let ex = some_given _ c.exceeded.result c.unwrap-elem.result c.unwrap-elem.ensures c.exceeded.ensures.element in
-    let lat = c.limit_of-limit.ensures.lattice ex.var c.args.solver.now.lattice ex.limit (has_of c.args.graph.now c.args.solver.now.lattice c.args.bound _ ex.bound) in
+    let elem = c.target_of-target.result.elem in
     IfOk-weaker c.show_from.result _ _
-    (λ proof is.
-    let Of : ℕ → Type 0 = λ l. IsShown c.args.graph.now l c.unwrap-elem.result c.args.bound proof in
-    let shown = subst Of lat is in
+    (λ proof is order there.
+    let path = (shown c proof is).path in
     record {
-      element = c.unwrap-elem.result;
-      exceeds = ex;
-      number = shown.path.start;
-      var = shown.path.from;
-      constant = shown.path.constant;
-      first = path_first c.args.graph.now c.args.solver.now.lattice (steps_of proof.subs.items) c.args.bound c.unwrap-elem.result proof.main.items shown.path;
+      element = elem;
+      exceeds = c.target_of-target.ensures.exceeds order there;
+      number = path.start;
+      var = path.from;
+      constant = path.constant;
+      first = path_first c.args.graph.now c.args.solver.now.lattice (steps_of proof.subs.items) c.args.bound elem proof.main.items path;
     })
     c.show_from.ensures
 
 pub returns-clause-lines : goal.returns-clause-lines
 returns-clause-lines c =
     IfOk-weaker c.show_from.result _ _
-    (λ proof is. record {
-      main = path_lines c.args.graph.now c.limit_of-limit.result.lattice (steps_of proof.subs.items) c.unwrap-elem.result c.args.bound proof.main.items is.path;
-      subs = subs_lines c.args.graph.now c.limit_of-limit.result.lattice (steps_of proof.subs.items) is.subs;
-      end = is.end;
+    (λ proof is.
+    let path = shown c proof is in
+    record {
+      main = path_lines c.args.graph.now c.args.solver.now.lattice (steps_of proof.subs.items) c.target_of-target.result.elem c.args.bound proof.main.items path.path;
+      subs = subs_lines c.args.graph.now c.args.solver.now.lattice (steps_of proof.subs.items) path.subs;
+      end = path.end;
     })
     c.show_from.ensures

@@ -23,35 +23,35 @@ trace-requires-clause-place c =
 
 pub trace-requires-clause-sound : goal.trace-requires-clause-sound
 trace-requires-clause-sound c =
-    let Of : ℕ → Type 0 = λ l. AreSound c.args.graph.now l c.args.elem c.args.summaries.now c.in_ok-found.found.search.queue.items in
-    let At : List Reached → Type 0 = λ xs. AreSound c.args.graph.now c.new-subs.result.lattice c.args.elem c.args.summaries.now xs in
-    (c.args.elem, subst At (sym c.reached.ensures) (subst Of (sym c.new-subs.ensures.lattice) c.in_ok-found.ensures.good.sound))
+    let Of : ℕ → Type 0 = λ l. AreSound c.args.graph.now l c.args.target.now.elem c.args.summaries.now c.in_ok-found.found.search.queue.items in
+    let At : List Reached → Type 0 = λ xs. AreSound c.args.graph.now c.new-subs.result.lattice c.args.target.now.elem c.args.summaries.now xs in
+    (c.args.target.now.elem, subst At (sym c.reached.ensures) (subst Of (sym c.new-subs.ensures.lattice) c.in_ok-found.ensures.good.sound))
 
 pub returns : goal.returns
 returns c =
     let sys = c.args.graph.now in
-    let to = c.args.limit.now.lattice in
+    let to = c.args.target.now.lattice in
     let from = c.new-subs.result.lattice in
     let at = some_given _ c.in_ok-found.found.place c.unwrap-place.result c.unwrap-place.ensures c.in_ok-found.ensures.found in
-    let Of : ℕ → Type 0 = λ l. AreSound sys l c.args.elem c.args.summaries.now c.in_ok-found.found.search.queue.items in
-    let At : List Reached → Type 0 = λ xs. AreSound sys from c.args.elem c.args.summaries.now xs in
+    let Of : ℕ → Type 0 = λ l. AreSound sys l c.args.target.now.elem c.args.summaries.now c.in_ok-found.found.search.queue.items in
+    let At : List Reached → Type 0 = λ xs. AreSound sys from c.args.target.now.elem c.args.summaries.now xs in
     let sound = subst At (sym c.reached.ensures) (subst Of (sym c.new-subs.ensures.lattice) c.in_ok-found.ensures.good.sound) in
     let there = ap (λ xs. slice_get xs c.unwrap-place.result) c.reached.ensures ∙ at.1 in
-    let Var : ℕ → Type 0 = λ v. Stands sys to c.args.bound (Bound v to c.requires.bound.0) in
-    let first : Onward sys to (subs_in c.new-subs.result) c.args.bound at.0.phase at.0.at (Take c.args.bound 0 ∷ []) = Ends at.0.phase at.0.at c.requires.bound.0 (subst Var (sym at.2) c.requires.bound.1) in
-    let steps : reverse c.push_take.new.steps.items ≡ Take c.args.bound 0 ∷ [] = c.in_ok-push_take.ensures ∙ ap (λ xs. Take c.args.bound 0 ∷ reverse xs) c.new-steps.ensures.items in
-    let In : ℕ → Type 0 = λ l. Onward sys l (subs_in c.new-subs.result) c.args.bound at.0.phase at.0.at (Take c.args.bound 0 ∷ []) in
-    let Steps : List PathStep → Type 0 = λ xs. Onward sys from (subs_in c.new-subs.result) c.args.bound at.0.phase at.0.at xs in
+    let Var : ℕ → Type 0 = λ v. Stands sys to c.args.target.now.bound (Bound v to c.requires.bound.0) in
+    let first : Onward sys to (subs_in c.new-subs.result) c.args.target.now.bound at.0.phase at.0.at (Take c.args.target.now.bound 0 ∷ []) = Ends at.0.phase at.0.at c.requires.bound.0 (subst Var (sym at.2) c.requires.bound.1) in
+    let steps : reverse c.push_take.new.steps.items ≡ Take c.args.target.now.bound 0 ∷ [] = c.in_ok-push_take.ensures ∙ ap (λ xs. Take c.args.target.now.bound 0 ∷ reverse xs) c.new-steps.ensures.items in
+    let In : ℕ → Type 0 = λ l. Onward sys l (subs_in c.new-subs.result) c.args.target.now.bound at.0.phase at.0.at (Take c.args.target.now.bound 0 ∷ []) in
+    let Steps : List PathStep → Type 0 = λ xs. Onward sys from (subs_in c.new-subs.result) c.args.target.now.bound at.0.phase at.0.at xs in
     let on = subst Steps (sym steps) (subst In (sym c.new-subs.ensures.lattice) first) in
-    let path = c.in_ok-trace.ensures.path c.args.elem c.args.bound at.0 sound there on in
+    let path = c.in_ok-trace.ensures.path c.args.target.now.elem c.args.target.now.bound at.0 sound there on in
     let made = c.in_ok-trace.ensures.made in
     let same : steps_of c.into_paths.result.items ≡ subs_in c.trace.new.subs = ap steps_of c.into_paths.ensures in
     let Good : ℕ → Type 0 = λ l. AreSubs sys l (subs_in c.trace.new.subs) in
     let Subs : List (List PathStep) → Type 0 = λ xs. AreSubs sys to xs in
     let Apart : List (List PathStep) → Type 0 = λ xs. AreApart sys xs in
-    let Lat : ℕ → Type 0 = λ l. IsPath sys l (subs_in c.trace.new.subs) c.args.elem c.args.bound (reverse c.trace.new.steps.items) in
-    let Over : List (List PathStep) → Type 0 = λ xs. IsPath sys to xs c.args.elem c.args.bound (reverse c.trace.new.steps.items) in
-    let Main : List PathStep → Type 0 = λ xs. IsPath sys to (steps_of c.into_paths.result.items) c.args.elem c.args.bound xs in
+    let Lat : ℕ → Type 0 = λ l. IsPath sys l (subs_in c.trace.new.subs) c.args.target.now.elem c.args.target.now.bound (reverse c.trace.new.steps.items) in
+    let Over : List (List PathStep) → Type 0 = λ xs. IsPath sys to xs c.args.target.now.elem c.args.target.now.bound (reverse c.trace.new.steps.items) in
+    let Main : List PathStep → Type 0 = λ xs. IsPath sys to (steps_of c.into_paths.result.items) c.args.target.now.elem c.args.target.now.bound xs in
     record {
       subs = subst Subs (sym same) (subst Good (c.in_ok-trace.ensures.lattice ∙ c.new-subs.ensures.lattice) made.good);
       path = subst Main (sym c.reverse.ensures.items) (subst Over (sym same) (subst Lat c.new-subs.ensures.lattice path));

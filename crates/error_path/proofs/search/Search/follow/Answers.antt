@@ -1,32 +1,32 @@
-use Rattle.std.proofs.Common.{◌≡◌, ℕ, ◌≤◌, refl, sym, ◌∙◌, ap, subst, arith}
+use Rattle.std.proofs.Common.{◌≡◌, ℕ, ◌≤◌, refl, sym, subst, arith}
 use Rattle.std.proofs.lemmas.Result.{on_ok_weaker}
-use Rattle.flow_graph.specs.declared.constraint.Link.{Link}
 use Rattle.flow_graph.specs.declared.constraint.Link.TheVariants.{Le, Enter, Leave}
+use Rattle.flow_graph.specs.PathRules.{link_begins}
 use Rattle.flow_graph.specs.System.{Stands, owner_of, vars_of_link}
 use Rattle.flow_graph.specs.declared.phase.Phase.{Phase}
 use Rattle.flow_graph.specs.declared.phase.Phase.TheVariants.{First}
-use Rattle.lattice_solver.specs.Phases.{size_of}
+use Rattle.error_path.specs.Marks.{size_of}
 use Rattle.flow_graph.specs.Parts.{settled}
 use Rattle.error_path.specs.Reaching.{LeadsBy, ByFlow, ByLeave, ByEnter}
-use Rattle.error_path.proofs.Searching.{below_on, stands_on, comes_step, enter_followed, low_of, same_number, stands_in}
+use Rattle.error_path.proofs.Searching.{below_on, stands_on, comes_step, enter_followed, key_of_link, low_of, some_number, stands_in}
 use Rattle.error_path.proofs.search.Search.follow.Goals as goal
 
 pub note-requires : goal.note-requires
 note-requires c =
-    let low : vars_of_link (Le c.in-Le.from c.in-Le.to) ≤ size_of c.args.self.now.marks =
-    low_of c.args.graph.now c.args.lattice c.args.edge c.constraint-constraint.result (Le c.in-Le.from c.in-Le.to) c.constraint-constraint.ensures.there c.in-Le.is _ c.requires.below in
+    let low : vars_of_link (Le c.in-Le.field-0 c.in-Le.to) ≤ size_of c.args.self.now.marks =
+    low_of c.args.graph.now c.args.lattice c.args.edge c.constraint-constraint.result (Le c.in-Le.field-0 c.in-Le.to) c.constraint-constraint.ensures.there c.in-Le.is _ c.requires.below in
     omega arith
 
 pub note-requires-in-Leave : goal.note-requires-in-Leave
 note-requires-in-Leave c =
-    let low : vars_of_link (Leave c.in-Leave.field-0 c.in-Leave.from c.in-Leave.to) ≤ size_of c.args.self.now.marks =
-    low_of c.args.graph.now c.args.lattice c.args.edge c.constraint-constraint.result (Leave c.in-Leave.field-0 c.in-Leave.from c.in-Leave.to) c.constraint-constraint.ensures.there c.in-Leave.is _ c.requires.below in
+    let low : vars_of_link (Leave c.in-Leave.field-0 c.in-Leave.field-1 c.in-Leave.to) ≤ size_of c.args.self.now.marks =
+    low_of c.args.graph.now c.args.lattice c.args.edge c.constraint-constraint.result (Leave c.in-Leave.field-0 c.in-Leave.field-1 c.in-Leave.to) c.constraint-constraint.ensures.there c.in-Leave.is _ c.requires.below in
     omega arith
 
 pub note-requires-in-Enter : goal.note-requires-in-Enter
 note-requires-in-Enter c =
-    let low : vars_of_link (Enter c.in-Enter.site c.in-Enter.from c.in-Enter.inner) ≤ size_of c.args.self.now.marks =
-    low_of c.args.graph.now c.args.lattice c.args.edge c.constraint-constraint.result (Enter c.in-Enter.site c.in-Enter.from c.in-Enter.inner) c.constraint-constraint.ensures.there c.in-Enter.is _ c.requires.below in
+    let low : vars_of_link (Enter c.in-Enter.site c.in-Enter.field-1 c.in-Enter.inner) ≤ size_of c.args.self.now.marks =
+    low_of c.args.graph.now c.args.lattice c.args.edge c.constraint-constraint.result (Enter c.in-Enter.site c.in-Enter.field-1 c.in-Enter.inner) c.constraint-constraint.ensures.there c.in-Enter.is _ c.requires.below in
     omega arith
 
 pub follow_groups-requires-clause-below : goal.follow_groups-requires-clause-below
@@ -36,11 +36,11 @@ pub follow_groups-requires-clause-origin : goal.follow_groups-requires-clause-or
 follow_groups-requires-clause-origin c =
     stands_on c.args.self.now c.note-in-Enter.new.self c.args.origin.now.place c.args.origin.now.phase c.args.origin.now.at c.in_ok-note-in-Enter.ensures.grows c.requires.origin
 
-pub returns-else-ne-clause-good : goal.returns-else-ne-clause-good
-returns-else-ne-clause-good c =
-    let from : c.in-Le.from ≡ c.args.origin.now.at = same_number c.in-Le.from c.args.origin.now.at (sym c.if-ne.ensures) in
+pub returns-in-Le-clause-good : goal.returns-in-Le-clause-good
+returns-in-Le-clause-good c =
+    let from : c.in-Le.field-0 ≡ c.args.origin.now.at = some_number (key_of_link c.args.graph.now c.args.lattice c.args.edge c.constraint-constraint.result (Le c.in-Le.field-0 c.in-Le.to) c.constraint-constraint.ensures.there c.in-Le.is link_begins c.args.origin.now.at c.requires.begins) in
     let At : ℕ → Type 0 = λ u. Stands c.args.graph.now c.args.lattice c.args.edge (Le u c.in-Le.to) in
-    let st = subst At from (stands_in c.args.graph.now c.args.lattice c.args.edge c.constraint-constraint.result (Le c.in-Le.from c.in-Le.to) c.constraint-constraint.ensures.there c.in-Le.is (c.if-not-is_in.ensures.0 refl)) in
+    let st = subst At from (stands_in c.args.graph.now c.args.lattice c.args.edge c.constraint-constraint.result (Le c.in-Le.field-0 c.in-Le.to) c.constraint-constraint.ensures.there c.in-Le.is (c.if-not-is_in.ensures.0 refl)) in
     on_ok_weaker c.note.result
     (λ on elem good. on c.args.graph.now c.args.lattice elem c.args.summaries.now
     (comes_step c.args.graph.now c.args.lattice elem c.args.summaries.now c.args.self.now c.args.origin.now.place c.args.origin.now.phase c.args.origin.now.at c.requires.origin
@@ -49,9 +49,9 @@ returns-else-ne-clause-good c =
 
 pub returns-else-not-is_returning-clause-good : goal.returns-else-not-is_returning-clause-good
 returns-else-not-is_returning-clause-good c =
-    let from : c.in-Leave.from ≡ c.args.origin.now.at = same_number c.in-Leave.from c.args.origin.now.at (sym c.if-ne-2.ensures) in
+    let from : c.in-Leave.field-1 ≡ c.args.origin.now.at = some_number (key_of_link c.args.graph.now c.args.lattice c.args.edge c.constraint-constraint.result (Leave c.in-Leave.field-0 c.in-Leave.field-1 c.in-Leave.to) c.constraint-constraint.ensures.there c.in-Leave.is link_begins c.args.origin.now.at c.requires.begins) in
     let At : ℕ → Type 0 = λ u. Stands c.args.graph.now c.args.lattice c.args.edge (Leave c.in-Leave.field-0 u c.in-Leave.to) in
-    let st = subst At from (stands_in c.args.graph.now c.args.lattice c.args.edge c.constraint-constraint.result (Leave c.in-Leave.field-0 c.in-Leave.from c.in-Leave.to) c.constraint-constraint.ensures.there c.in-Leave.is (c.if-not-is_in.ensures.0 refl)) in
+    let st = subst At from (stands_in c.args.graph.now c.args.lattice c.args.edge c.constraint-constraint.result (Leave c.in-Leave.field-0 c.in-Leave.field-1 c.in-Leave.to) c.constraint-constraint.ensures.there c.in-Leave.is (c.if-not-is_in.ensures.0 refl)) in
     let first = c.if-not-is_returning.ensures.0 refl in
     let In : Phase → Type 0 = λ p. LeadsBy c.args.graph.now c.args.lattice c.args.edge p c.args.origin.now.at (settled (owner_of c.args.graph.now c.in-Leave.to) First) c.in-Leave.to in
     on_ok_weaker c.note-in-Leave.result
@@ -62,9 +62,9 @@ returns-else-not-is_returning-clause-good c =
 
 pub returns-in_ok-follow_groups-in-Enter-clause-good : goal.returns-in_ok-follow_groups-in-Enter-clause-good
 returns-in_ok-follow_groups-in-Enter-clause-good c =
-    let from : c.in-Enter.from ≡ c.args.origin.now.at = same_number c.in-Enter.from c.args.origin.now.at (sym c.if-ne-3.ensures) in
+    let from : c.in-Enter.field-1 ≡ c.args.origin.now.at = some_number (key_of_link c.args.graph.now c.args.lattice c.args.edge c.constraint-constraint.result (Enter c.in-Enter.site c.in-Enter.field-1 c.in-Enter.inner) c.constraint-constraint.ensures.there c.in-Enter.is link_begins c.args.origin.now.at c.requires.begins) in
     let At : ℕ → Type 0 = λ u. Stands c.args.graph.now c.args.lattice c.args.edge (Enter c.in-Enter.site u c.in-Enter.inner) in
-    let st = subst At from (stands_in c.args.graph.now c.args.lattice c.args.edge c.constraint-constraint.result (Enter c.in-Enter.site c.in-Enter.from c.in-Enter.inner) c.constraint-constraint.ensures.there c.in-Enter.is (c.if-not-is_in.ensures.0 refl)) in
+    let st = subst At from (stands_in c.args.graph.now c.args.lattice c.args.edge c.constraint-constraint.result (Enter c.in-Enter.site c.in-Enter.field-1 c.in-Enter.inner) c.constraint-constraint.ensures.there c.in-Enter.is (c.if-not-is_in.ensures.0 refl)) in
     λ elem good. c.in_ok-follow_groups-in-Enter.ensures.good elem
     (c.in_ok-note-in-Enter.ensures.good c.args.graph.now c.args.lattice elem c.args.summaries.now
     (comes_step c.args.graph.now c.args.lattice elem c.args.summaries.now c.args.self.now c.args.origin.now.place c.args.origin.now.phase c.args.origin.now.at c.requires.origin
@@ -72,8 +72,5 @@ returns-in_ok-follow_groups-in-Enter-clause-good c =
 
 pub returns-in_ok-follow_groups-in-Enter-clause-done : goal.returns-in_ok-follow_groups-in-Enter-clause-done
 returns-in_ok-follow_groups-in-Enter-clause-done c =
-    let from : c.in-Enter.from ≡ c.args.origin.now.at = same_number c.in-Enter.from c.args.origin.now.at (sym c.if-ne-3.ensures) in
-    let is : c.constraint-constraint.result.link ≡ Enter c.in-Enter.site c.args.origin.now.at c.in-Enter.inner =
-    c.in-Enter.is ∙ ap (λ x. let l : Link = Enter c.in-Enter.site x c.in-Enter.inner in l) from in
-    enter_followed c.args.graph.now c.args.lattice c.args.summaries.now c.follow_groups.new.self c.args.origin.now.phase c.args.edge c.constraint-constraint.result c.in-Enter.site c.args.origin.now.at c.in-Enter.inner
-    c.constraint-constraint.ensures.there is (c.in_ok-follow_groups-in-Enter.ensures.grows.kept _ c.in-Enter.inner c.in_ok-note-in-Enter.ensures.there) c.in_ok-follow_groups-in-Enter.ensures.done
+    enter_followed c.args.graph.now c.args.lattice c.args.summaries.now c.follow_groups.new.self c.args.origin.now.phase c.args.edge c.constraint-constraint.result c.in-Enter.site c.in-Enter.field-1 c.in-Enter.inner
+    c.args.origin.now.at c.constraint-constraint.ensures.there c.in-Enter.is (c.in_ok-follow_groups-in-Enter.ensures.grows.kept _ c.in-Enter.inner c.in_ok-note-in-Enter.ensures.there) c.in_ok-follow_groups-in-Enter.ensures.done

@@ -1,14 +1,10 @@
-use Rattle.std.proofs.Common.{ℕ, ◌<◌}
-use Rattle.flow_graph.specs.declared.constraint.Link.TheVariants.{Leave}
-use Rattle.flow_graph.specs.System.{Stands, owner_of}
-use Rattle.match_summary.specs.Summary.{Leads}
-use Rattle.flow_graph.specs.Parts.{settled}
-use Rattle.error_path.specs.Reaching.{Grows, IsGood, IsMarked}
+use Rattle.std.proofs.Common.{ℕ, ◌<◌, get_or}
+use Rattle.error_path.specs.Reaching.{Grows, IsGood, IsRounded}
 use Rattle.error_path.proofs.search.Search.follow_groups.Given as goal
 
-abbrev pub invariant-loop-n : goal.invariant-loop-n
-invariant-loop-n l = record {
+abbrev pub invariant-loop-leave : goal.invariant-loop-leave
+invariant-loop-leave l = record {
   good : (elem : ℕ) → IsGood l.graph l.lattice elem l.summaries l.fn.self → IsGood l.graph l.lattice elem l.summaries l.self;
   grows : Grows l.fn.self l.self;
-  done : (k b v : ℕ) → k < l.n → Stands l.graph l.lattice k (Leave l.call.site b v) → Leads l.summaries l.call.inner b → IsMarked l.self (settled (owner_of l.graph v) l.origin.phase) v;
+  done : (k : ℕ) → k < l.leave-index → (other : ℕ) → IsRounded l.graph l.lattice l.summaries l.self l.origin.phase l.call.site l.call.inner (get_or l.leave-items k other);
 }

@@ -1,23 +1,22 @@
-use Rattle.std.proofs.Common.{◌≡◌, ℕ, ◌+◌, List, [], ◌∷◌, length, sym, ◌∙◌, ap, subst, arith}
+use Rattle.std.proofs.Common.{◌≡◌, ℕ, ◌+◌, List, [], ◌∷◌, length, true, sym, ◌∙◌, ap, subst, arith}
 use Rattle.std.proofs.lemmas.List.{length-append}
 use Rattle.flow_graph.specs.declared.phase.Phase.{Phase}
-use Rattle.lattice_solver.specs.PhaseSets.{PhaseSets}
-use Rattle.lattice_solver.specs.Phases.{HasIn}
+use Rattle.error_path.specs.Marks.{PhaseMarks, mark_of}
 use Rattle.flow_graph.specs.System.{AllBelow}
 use Rattle.error_path.specs.declared.search.Reached.{Reached}
 use Rattle.error_path.specs.Reaching.{AreSound, ComesBy, IsGood, IsListed}
-use Rattle.error_path.proofs.Searching.{sound_push, listed_push, mark_here, mark_cases, mark_kept}
+use Rattle.error_path.proofs.Searching.{sound_push, listed_push, mark_cases, mark_kept}
 use Rattle.error_path.proofs.search.Search.note.Goals as goal
 
-pub returns-then-not-raise-clause-good : goal.returns-then-not-raise-clause-good
-returns-then-not-raise-clause-good c = λ sys lattice elem rows comes good.
-    let Of : PhaseSets → Type 0 = λ m. IsGood sys lattice elem rows (record { queue = c.args.self.now.queue; marks = m }) in
-    subst Of (sym c.if-not-raise.ensures.moves.same) good
+pub returns-then-not-mark-clause-good : goal.returns-then-not-mark-clause-good
+returns-then-not-mark-clause-good c = λ sys lattice elem rows comes good.
+    let Of : PhaseMarks → Type 0 = λ m. IsGood sys lattice elem rows (record { queue = c.args.self.now.queue; marks = m }) in
+    subst Of (sym c.if-not-mark.ensures.marking.same) good
 
-pub returns-then-not-raise-clause-there : goal.returns-then-not-raise-clause-there
-returns-then-not-raise-clause-there c =
-    let Of : Phase → Type 0 = λ p. HasIn c.raise.new.self p c.args.at 0 in
-    subst Of c.settled-phase.ensures (mark_here c.args.self.now.marks c.raise.new.self c.settled-phase.result c.args.at c.raise.ensures.here)
+pub returns-then-not-mark-clause-there : goal.returns-then-not-mark-clause-there
+returns-then-not-mark-clause-there c =
+    let Of : Phase → Type 0 = λ p. mark_of c.mark.new.self p c.args.at ≡ true in
+    subst Of c.settled-phase.ensures c.mark.ensures.here
 
 pub returns-in-Ok-clause-good : goal.returns-in-Ok-clause-good
 returns-in-Ok-clause-good c = λ sys lattice elem rows comes good.
@@ -25,29 +24,29 @@ returns-in-Ok-clause-good c = λ sys lattice elem rows comes good.
     let queue = c.args.self.now.queue.items in
     let By : Phase → Type 0 = λ p. ComesBy sys lattice elem rows queue (length queue) p c.args.at c.args.cause in
     let Sound : List Reached → Type 0 = λ xs. AreSound sys lattice elem rows xs in
-    let Listed : List Reached → Type 0 = λ xs. (p : Phase) (v : ℕ) → HasIn c.raise.new.self p v 0 → IsListed xs p v in
+    let Listed : List Reached → Type 0 = λ xs. (p : Phase) (v : ℕ) → mark_of c.mark.new.self p v ≡ true → IsListed xs p v in
     let Below : ℕ → Type 0 = λ k. AllBelow sys k in
     record {
       sound = subst Sound (sym c.in-Ok.ensures.items) (sound_push sys lattice elem rows queue r good.sound (subst By (sym c.settled-phase.ensures) comes));
-      listed = subst Listed (sym c.in-Ok.ensures.items) (listed_push c.args.self.now.marks c.raise.new.self queue r
-          (mark_cases c.args.self.now.marks c.raise.new.self c.settled-phase.result c.args.at c.raise.ensures.others) good.listed);
-      below = subst Below (sym c.raise.ensures.moves.size) good.below;
+      listed = subst Listed (sym c.in-Ok.ensures.items) (listed_push c.args.self.now.marks c.mark.new.self queue r
+          (mark_cases c.args.self.now.marks c.mark.new.self c.settled-phase.result c.args.at c.mark.ensures.others) good.listed);
+      below = subst Below (sym c.mark.ensures.marking.size) good.below;
     }
 
 pub returns-in-Ok-clause-grows : goal.returns-in-Ok-clause-grows
 returns-in-Ok-clause-grows c =
     let r : Reached = record { at = c.args.at; phase = c.settled-phase.result; cause = c.args.cause } in
     let longer : length c.push.new.self.items ≡ length c.args.self.now.queue.items + 1 = ap length c.in-Ok.ensures.items ∙ length-append c.args.self.now.queue.items (r ∷ []) in
-    let less = c.if-not-raise.ensures.moves.less in
+    let less = c.if-not-mark.ensures.marking.less in
     record {
       more = r ∷ [];
       is = c.in-Ok.ensures.items;
-      kept = mark_kept c.args.self.now.marks c.raise.new.self c.settled-phase.result c.args.at c.raise.ensures.here c.raise.ensures.others;
-      size = c.raise.ensures.moves.size;
-      room = omega (arith, longer, less);
+      kept = mark_kept c.args.self.now.marks c.mark.new.self c.settled-phase.result c.args.at c.mark.ensures.here c.mark.ensures.others;
+      size = c.mark.ensures.marking.size;
+      free = omega (arith, longer, less);
     }
 
 pub returns-in-Ok-clause-there : goal.returns-in-Ok-clause-there
 returns-in-Ok-clause-there c =
-    let Of : Phase → Type 0 = λ p. HasIn c.raise.new.self p c.args.at 0 in
-    subst Of c.settled-phase.ensures (mark_here c.args.self.now.marks c.raise.new.self c.settled-phase.result c.args.at c.raise.ensures.here)
+    let Of : Phase → Type 0 = λ p. mark_of c.mark.new.self p c.args.at ≡ true in
+    subst Of c.settled-phase.ensures c.mark.ensures.here

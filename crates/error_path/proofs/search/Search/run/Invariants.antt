@@ -1,5 +1,5 @@
 use Rattle.std.proofs.Common.{◌≡◌, ℕ, ◌+◌, ◌-◌, ◌<◌, ◌≤◌, length, slice_get, Some}
-use Rattle.lattice_solver.specs.Phases.{room_of}
+use Rattle.error_path.specs.Marks.{free_of}
 use Rattle.error_path.specs.declared.search.Reached.{Reached}
 use Rattle.error_path.specs.Reaching.{Grows, IsGood, IsVisited}
 use Rattle.error_path.proofs.search.Search.run.Given as goal
@@ -14,4 +14,4 @@ invariant-loop-place l = record {
 }
 
 abbrev pub decreases-loop-place : goal.decreases-loop-place
-decreases-loop-place l = (room_of l.self.marks + length l.self.queue.items) - l.place
+decreases-loop-place l = (free_of l.self.marks + length l.self.queue.items) - l.place

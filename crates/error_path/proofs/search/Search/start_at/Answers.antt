@@ -4,7 +4,7 @@ use Rattle.std.proofs.lemmas.Result.{on_ok_weaker}
 use Rattle.flow_graph.specs.declared.constraint.Link.{Link}
 use Rattle.flow_graph.specs.declared.constraint.Link.TheVariants.{Const}
 use Rattle.flow_graph.specs.System.{vars_of_link}
-use Rattle.lattice_solver.specs.Phases.{size_of}
+use Rattle.error_path.specs.Marks.{size_of}
 use Rattle.error_path.proofs.Searching.{low_of}
 use Rattle.error_path.proofs.search.Search.start_at.Goals as goal
 
