@@ -1,4 +1,4 @@
-use Rattle.std.proofs.Common.{◌≡◌, length, slice_get, Some, sym, ◌∙◌, ap, arith}
+use Rattle.std.proofs.Common.{slice_get, sym, ◌∙◌, ap, arith}
 use Rattle.path_checker.proofs.Ordered.{one_more, all_below}
 use Rattle.path_checker.proofs.checking.are_orders.Goals as goal
 
