@@ -14,7 +14,7 @@ use crate::paths::put_proof;
 use crate::places::put;
 use crate::solving::{Solved, solved_of};
 use crate::texts::{Scene, put_error, put_value};
-use error_path::showing::show;
+use error_path::show;
 use flow_graph::constraint::{Constraint, Link};
 use flow_graph::graph::FlowGraph;
 use flow_graph::proof::PathStep;
@@ -167,6 +167,7 @@ fn put_exceeded(
     bound: EdgeId,
 ) -> Result<(), NoMemory>
     requires shown { IsShown scene.now graph.now }
+    requires owned { IsWellOwned graph.now }
     requires exceeds { IsOverIn scene.now.lattices.now graph.now solved.now bound }
     ensures { OnOk result ((error : List ℕ) × (out.new.items ≡ out.old.items ++ error) × IsError (scene_of scene.now) graph.now bound error) }
 {
