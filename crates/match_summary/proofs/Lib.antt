@@ -2,7 +2,7 @@ mod Chaining
 mod Counting
 mod Followed
 mod Growth
+mod Hashing
 mod Matched
-mod Placing
 mod Done
 mod Turns

@@ -1,6 +1,6 @@
+pub mod Buckets
 pub mod Chained
 pub mod Closing
-pub mod Placed
 pub mod Places
 pub mod Reason
 pub mod Summary

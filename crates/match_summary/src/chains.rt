@@ -1,6 +1,6 @@
 //! Places of a list, chained by a key of each.
 
-ghost use Rattle.std.specs.Prelude.{◌≡◌, ℕ, ◌≤◌, List, [], ◌∷◌, ◌++◌, length, slice_get, slice_index, Some, OnOk};
+ghost use Rattle.std.specs.Prelude.{◌≡◌, ℕ, ◌≤◌, List, [], ◌∷◌, ◌++◌, length, slice_get, slice_index, Some, OnOk, OnErr};
 ghost use Rattle.match_summary.specs.Chained.{AreChained, IsLink, link_of};
 
 use qual_base::faults::NoMemory;
@@ -48,7 +48,8 @@ impl Chains {
     /// Chains one place more. Constant time but for growth, and 4 bytes; the first place of a key takes 4 bytes for each key
     /// up to it.
     pub fn push(&mut self, key: u32) -> Result<(), NoMemory>
-        ensures { OnOk result ((keys : List ℕ) → AreChained keys self.old → AreChained (keys ++ key ∷ []) self.new) }
+        ensures ok { OnOk result ((keys : List ℕ) → AreChained keys self.old → AreChained (keys ++ key ∷ []) self.new) }
+        ensures err { OnErr result ((keys : List ℕ) → AreChained keys self.old → AreChained keys self.new) }
     {
         let Ok(at) = u32::try_from(self.before.len() + 1) else {
             return Err(NoMemory);
@@ -74,7 +75,7 @@ fn place(link: u32) -> Option<usize>
 /// Gives at least so many keys a link, at first to no place.
 fn make_room(links: &mut Vec<u32>, count: usize) -> Result<(), NoMemory>
     ensures room { OnOk result (count ≤ length links.new.items) }
-    ensures same { OnOk result ((key : ℕ) → slice_index links.new.items key ≡ slice_index links.old.items key) }
+    ensures same { (key : ℕ) → slice_index links.new.items key ≡ slice_index links.old.items key }
 {
     if count > links.len() {
         links.resize(count, 0)?;

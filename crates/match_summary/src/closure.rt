@@ -45,8 +45,9 @@ struct Premises<'a> {
 /// Rehof and Fähndrich (POPL 2001), found as Horwitz, Reps and Sagiv find theirs (FSE 1995).
 ///
 /// Each pair is looked at once, and for each pair each constraint that begins where it ends; a call or a return is looked
-/// at with those of its site, and a return with the pairs that lead to where each call of the site begins. The index of
-/// the constraints and the marks of variables are let go.
+/// at with those of its site, and a return with the pairs that lead to where each call of the site begins. Memory: 28 bytes
+/// a pair and 8 to 12 for its place, 12 a constraint, 13 to 17 a variable and 4 a site, of which the pairs with their places
+/// stay; the tables of pairs double, so that they may have room for twice as many.
 pub fn summarise(
     alloc: Global,
     graph: &FlowGraph,

@@ -1,6 +1,7 @@
 //! Which variables of a function matched paths join: the closure of the constraints under calls whose returns match.
 #![tactic(auto)]
 
+mod buckets;
 mod chains;
 mod closure;
 mod found;

@@ -4,18 +4,18 @@ ghost use Rattle.std.specs.Prelude.{◌≡◌, ℕ, ◌+◌, ◌<◌, ◌^◌, �
 ghost use Rattle.std.specs.List.{Contains};
 ghost use Rattle.match_summary.specs.Summary.{HasPair, Leads};
 
-use crate::places::Places;
+use crate::buckets::Buckets;
 use crate::reason::{Reason, Summary};
 use qual_base::faults::NoMemory;
 use qual_base::ids::VarId;
 use std::alloc::Global;
 use std::marker::Model;
 
-/// A list of summaries, in the order in which they were found.
+/// A list of summaries, in the order in which they were found: 24 bytes each, and 8 to 12 for its place.
 #[derive(Drop)]
 pub struct Summaries {
     rows: Vec<Summary>,
-    places: Places,
+    places: Buckets,
 }
 
 impl Model for Summaries {
@@ -26,10 +26,9 @@ impl Model for Summaries {
 
     ghost view = { λ s. s.rows.items };
 
-    ghost use Rattle.match_summary.specs.Placed.{ArePlaced};
-    ghost use Rattle.match_summary.specs.Places.{place_in};
+    ghost use Rattle.match_summary.specs.Buckets.{AreHashed};
 
-    ghost invariant = { λ s. ArePlaced s.rows.items (place_in s.places.map) };
+    ghost invariant = { λ s. AreHashed s.rows.items s.places };
 }
 
 impl Summaries {
@@ -39,7 +38,7 @@ impl Summaries {
     {
         Summaries {
             rows: Vec::new(alloc),
-            places: Places::new(alloc),
+            places: Buckets::new(alloc),
         }
     }
 
@@ -63,12 +62,13 @@ impl Summaries {
         ensures ok { OnOk result (self.new ≡ self.old ++ record { from = from; to = to; why = why } ∷ []) }
         ensures err { OnErr result (self.new ≡ self.old) }
     {
+        self.places.widen(self.rows.as_slice())?;
         let at = self.rows.len();
         match self.rows.push(Summary { from, to, why }) {
             Ok(()) => {}
             Err(_) => return Err(NoMemory),
         }
-        match self.places.insert(from, to, at) {
+        match self.places.push(from, to) {
             Ok(()) => Ok(()),
             Err(NoMemory) => {
                 self.rows.truncate(at);
@@ -78,12 +78,12 @@ impl Summaries {
     }
 
     /// The last part of a matched path from one variable to another. Any variables are taken. Takes no memory, and
-    /// constant time.
+    /// constant time but for pairs with one hash.
     pub fn why(&self, from: VarId, to: VarId) -> Option<Reason>
         ensures reason { IfSome result (λ why. Contains self.now (record { from = from; to = to; why = why })) }
         ensures there { IsSome result ↔ HasPair self.now from to }
     {
-        match self.places.get(from, to) {
+        match self.places.find(self.rows.as_slice(), from, to) {
             Some(at) => Some(self.rows[at].why),
             None => None,
         }
@@ -98,7 +98,7 @@ impl Summaries {
     }
 
     /// Whether the variables are one, or a matched path is known to lead from one to the other. Takes no memory, and
-    /// constant time.
+    /// constant time but for pairs with one hash.
     pub fn leads(&self, from: VarId, to: VarId) -> bool
         ensures { IsTrue result ↔ Leads self.now from to }
     {

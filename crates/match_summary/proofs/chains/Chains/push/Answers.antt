@@ -3,8 +3,8 @@ use Rattle.std.proofs.lemmas.List.{get_or_read}
 use Rattle.match_summary.proofs.Chaining.{chained_push}
 use Rattle.match_summary.proofs.chains.Chains.push.Goals as goal
 
-pub returns : goal.returns
-returns c = λ keys are.
+pub returns-clause-ok : goal.returns-clause-ok
+returns-clause-ok c = λ keys are.
     let room = c.in_ok-make_room.ensures in
     let within : c.args.key < length c.make_room.new.links.items = let least = room.room in omega (arith, least) in
     let place : c.in-Ok.at ≡ length keys + 1 = c.in-Ok.ensures.1 ∙ ap (λ n. n + 1) (c.len.ensures ∙ (c.args.self.now.before.ok).0 ∙ are.size) in
