@@ -124,19 +124,19 @@ bound_over sys solution order bound elem ex v limit st =
 -- a list of lattices and that of their orders
 pub order_there : (views : List LatticeView) (n : ℕ) (view : LatticeView) → slice_get views n ≡ Some view → slice_get (orders_of views) n ≡ Some view.order
 order_there [] n view is = absurd cc
-order_there (x ∷ views) zero view is = let same : x ≡ view = some_view is in ap (λ (v : LatticeView). Some v.order) same
+order_there (x ∷ views) zero view is = let same : x ≡ view = same_view is in ap (λ (v : LatticeView). Some v.order) same
   where
-    some_view : {a b : LatticeView} → Some a ≡ Some b → a ≡ b
-    some_view e = cc
+    same_view : {a b : LatticeView} → Some a ≡ Some b → a ≡ b
+    same_view e = cc
 order_there (x ∷ views) (suc n) view is = order_there views n view is
 
-pub order_at : (views : List LatticeView) (n : ℕ) → n < length views → (order : Order) × (slice_get (orders_of views) n ≡ Some order)
-order_at [] n lt = absurd (omega (arith, lt))
-order_at (x ∷ views) zero lt = (x.order, refl)
-order_at (x ∷ views) (suc n) lt = order_at views n (omega (arith, lt))
+pub view_at : (views : List LatticeView) (n : ℕ) → n < length views → (view : LatticeView) × (slice_get views n ≡ Some view)
+view_at [] n lt = absurd (omega (arith, lt))
+view_at (x ∷ views) zero lt = (x, refl)
+view_at (x ∷ views) (suc n) lt = view_at views n (omega (arith, lt))
 
-pub some_order : {x y : Order} → Some x ≡ Some y → x ≡ y
-some_order e = cc
+pub some_view : {x y : LatticeView} → Some x ≡ Some y → x ≡ y
+some_view e = cc
 
 -- what is not as none would say is there
 pub some_if : (o : Option ℕ) (A : Type 0) → IfNone o A → (A → ⊥) → IsSome o

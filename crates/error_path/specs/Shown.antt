@@ -1,6 +1,7 @@
 -- What is promised of a path proof that is made.
 use Rattle.std.specs.Prelude.{◌≡◌, ℕ, List, [], ◌∷◌, slice_get, Option, Some, None}
 use Rattle.lattice_core.specs.Order.{Order}
+use Rattle.lattice_core.specs.View.{LatticeView}
 use Rattle.flow_graph.specs.declared.constraint.Link.TheVariants.{Const}
 use Rattle.flow_graph.specs.declared.proof.PathStep.{PathStep}
 use Rattle.flow_graph.specs.declared.proof.PathStep.TheVariants.{Take, Sub}
@@ -12,8 +13,8 @@ use Rattle.lattice_solver.specs.Solution.{Solution, Exceeds}
 use Rattle.flow_graph.specs.Parts.{AreSubs, IsPath}
 
 -- this holds of the order of a lattice of the list
-abbrev pub InLattice : List Order → ℕ → (Order → Type 0) → Type 0
-InLattice orders lattice Is = (order : Order) → slice_get orders lattice ≡ Some order → Is order
+abbrev pub InLattice : List LatticeView → ℕ → (Order → Type 0) → Type 0
+InLattice lattices number Is = (lattice : LatticeView) → slice_get lattices number ≡ Some lattice → Is lattice.order
 
 -- some element exceeds the bound
 abbrev pub IsExceededBySome : System → Solution → Order → ℕ → Type 0

@@ -257,11 +257,11 @@ impl Search {
         ensures grows { OnOk result (Grows self.old self.new) }
         ensures done { OnOk result (IsRounded graph.now lattice summaries.now self.new origin.now.phase call.now.site call.now.inner leave) }
     {
-        let constraint = graph.constraint(leave);
-        if !constraint.is_in(lattice) {
+        let back = graph.constraint(leave);
+        if !back.is_in(lattice) {
             return Ok(());
         }
-        let link = constraint.link;
+        let link = back.link;
         match link {
             Link::Leave(_, last, to) => {
                 if !summaries.leads(call.inner, last) {

@@ -188,12 +188,12 @@ pub fn show(
     requires solved { IsSolved graph.now solver.now }
     requires summaries { Summarises graph.now solver.now.lattice summaries.now }
     requires lattice { solver.now.lattice < length lattices.now }
-    requires named { InLattice (orders_of lattices.now) solver.now.lattice (NamesElementsIn graph.now solver.now.lattice) }
+    requires named { InLattice lattices.now solver.now.lattice (NamesElementsIn graph.now solver.now.lattice) }
     requires bound { bound < length graph.now.constraints }
-    requires exceeded { InLattice (orders_of lattices.now) solver.now.lattice (λ order. IsExceededBySome graph.now solver.now order bound) }
+    requires exceeded { InLattice lattices.now solver.now.lattice (λ order. IsExceededBySome graph.now solver.now order bound) }
     ensures holds { IfOk result (λ proof. IsWellOwned graph.now → Holds graph.now (orders_of lattices.now) proof) }
     ensures ends { IfOk result (EndsWith bound) }
-    ensures begins { IfOk result (λ proof. InLattice (orders_of lattices.now) solver.now.lattice (λ order. BeginsOver graph.now solver.now order bound proof)) }
+    ensures begins { IfOk result (λ proof. InLattice lattices.now solver.now.lattice (λ order. BeginsOver graph.now solver.now order bound proof)) }
     ensures apart { IfOk result (λ proof. AreApart graph.now (steps_of proof.subs.items)) }
     ensures lines { IfOk result HasNoLines }
 {
@@ -205,15 +205,15 @@ pub fn show(
 fn target_of(graph: &FlowGraph, solver: &Solver, lattices: &Lattices, bound: EdgeId) -> Target
     requires solved { IsSolved graph.now solver.now }
     requires lattice { solver.now.lattice < length lattices.now }
-    requires named { InLattice (orders_of lattices.now) solver.now.lattice (NamesElementsIn graph.now solver.now.lattice) }
+    requires named { InLattice lattices.now solver.now.lattice (NamesElementsIn graph.now solver.now.lattice) }
     requires bound { bound < length graph.now.constraints }
-    requires exceeded { InLattice (orders_of lattices.now) solver.now.lattice (λ order. IsExceededBySome graph.now solver.now order bound) }
+    requires exceeded { InLattice lattices.now solver.now.lattice (λ order. IsExceededBySome graph.now solver.now order bound) }
     ensures lattice { result.lattice ≡ solver.now.lattice }
     ensures bound { result.bound ≡ bound }
     ensures low { result.lattice < 16 }
     ensures stands { (e : ℕ) × Stands graph.now solver.now.lattice bound (Bound result.at solver.now.lattice e) }
     ensures lead { Lead graph.now solver.now.lattice result.elem result.at }
-    ensures exceeds { InLattice (orders_of lattices.now) solver.now.lattice (λ order. Exceeds graph.now solver.now order bound result.elem) }
+    ensures exceeds { InLattice lattices.now solver.now.lattice (λ order. Exceeds graph.now solver.now order bound result.elem) }
 {
     let lattice = lattices.get(solver.lattice());
     let elem = solver.exceeded(graph, lattice, bound).unwrap();

@@ -10,7 +10,7 @@ use Rattle.flow_graph.specs.PathProofs.{steps_of}
 use Rattle.match_summary.specs.Summary.{Summarises}
 use Rattle.error_path.specs.Shown.{IsShown}
 use Rattle.error_path.proofs.Holding.{path_first, path_holds, path_last, path_lines, subs_lines}
-use Rattle.error_path.proofs.Tracing.{bound_over, order_at}
+use Rattle.error_path.proofs.Tracing.{bound_over, order_there, view_at}
 use Rattle.error_path.proofs.showing.show.Goals as goal
 
 pub show_from-requires-clause-index : goal.show_from-requires-clause-index
@@ -44,12 +44,14 @@ pub returns-clause-holds : goal.returns-clause-holds
 returns-clause-holds c =
     let orders = orders_of c.args.lattices.now in
     let elem = c.target_of-target.result.elem in
-    let order = order_at c.args.lattices.now c.args.solver.now.lattice c.requires.lattice in
+    let view = view_at c.args.lattices.now c.args.solver.now.lattice c.requires.lattice in
+    let order = view.0.order in
+    let there = order_there c.args.lattices.now c.args.solver.now.lattice view.0 view.1 in
     IfOk-weaker c.show_from.result _ _
     (λ proof is owned.
     let path = shown c proof is in
-    path_holds c.args.graph.now c.args.solver.now.lattice (steps_of proof.subs.items) c.args.bound orders order.0 elem order.1 owned path.subs
-    (bound_over c.args.graph.now c.args.solver.now order.0 c.args.bound elem (c.target_of-target.ensures.exceeds order.0 order.1)) proof.main.items proof.end path.path)
+    path_holds c.args.graph.now c.args.solver.now.lattice (steps_of proof.subs.items) c.args.bound orders order elem there owned path.subs
+    (bound_over c.args.graph.now c.args.solver.now order c.args.bound elem (c.target_of-target.ensures.exceeds view.0 view.1)) proof.main.items proof.end path.path)
     c.show_from.ensures
 
 pub returns-clause-ends : goal.returns-clause-ends
@@ -64,11 +66,11 @@ pub returns-clause-begins : goal.returns-clause-begins
 returns-clause-begins c =
     let elem = c.target_of-target.result.elem in
     IfOk-weaker c.show_from.result _ _
-    (λ proof is order there.
+    (λ proof is view there.
     let path = (shown c proof is).path in
     record {
       element = elem;
-      exceeds = c.target_of-target.ensures.exceeds order there;
+      exceeds = c.target_of-target.ensures.exceeds view there;
       number = path.start;
       var = path.from;
       constant = path.constant;

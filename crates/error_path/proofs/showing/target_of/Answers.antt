@@ -1,18 +1,17 @@
 use Rattle.std.proofs.Common.{◌≡◌, Some, slice_get, sym, ◌∙◌, ap, subst}
-use Rattle.lattice_core.specs.Order.{Order}
-use Rattle.lattice_core.specs.View.{orders_of}
+use Rattle.lattice_core.specs.View.{LatticeView}
 use Rattle.flow_graph.specs.Paths.{Lead}
 use Rattle.lattice_solver.specs.Solution.{Exceeds}
-use Rattle.error_path.proofs.Tracing.{bound_at, limit_given, not_under, order_there, reached_leads, some_given, some_if, some_order}
+use Rattle.error_path.proofs.Tracing.{bound_at, limit_given, not_under, reached_leads, some_given, some_if, some_view}
 use Rattle.error_path.proofs.showing.target_of.Goals as goal
 
--- the order of the solver's lattice
-there : (c : goal.After-exceeded) → slice_get (orders_of c.args.lattices.now) c.args.solver.now.lattice ≡ Some c.get-lattice.result.now.order
-there c = order_there c.args.lattices.now c.args.solver.now.lattice c.get-lattice.result.now (ap (λ n. slice_get c.args.lattices.now n) (sym c.lattice.ensures) ∙ c.get-lattice.ensures)
+-- the solver's lattice
+there : (c : goal.After-exceeded) → slice_get c.args.lattices.now c.args.solver.now.lattice ≡ Some c.get-lattice.result.now
+there c = ap (λ n. slice_get c.args.lattices.now n) (sym c.lattice.ensures) ∙ c.get-lattice.ensures
 
 pub unwrap-elem-requires : goal.unwrap-elem-requires
 unwrap-elem-requires c =
-    let over = c.requires.exceeded c.get-lattice.result.now.order (there c) in
+    let over = c.requires.exceeded c.get-lattice.result.now (there c) in
     some_if c.exceeded.result _ c.exceeded.ensures.none (not_under c.args.graph.now c.args.solver.now c.get-lattice.result.now.order c.args.bound over.0 over.1)
 
 pub returns-clause-lead : goal.returns-clause-lead
@@ -24,8 +23,8 @@ returns-clause-lead c =
     (reached_leads c.args.graph.now c.args.solver.now c.requires.solved ex.var c.unwrap-elem.result ex.reached)
 
 pub returns-clause-exceeds : goal.returns-clause-exceeds
-returns-clause-exceeds c = λ order is.
+returns-clause-exceeds c = λ view is.
     let ex = some_given _ c.exceeded.result c.unwrap-elem.result c.unwrap-elem.ensures c.exceeded.ensures.element in
-    let at = order_there c.args.lattices.now c.args.solver.now.lattice c.get-lattice.result.now (ap (λ n. slice_get c.args.lattices.now n) (sym c.lattice.ensures) ∙ c.get-lattice.ensures) in
-    let Of : Order → Type 0 = λ o. Exceeds c.args.graph.now c.args.solver.now o c.args.bound c.unwrap-elem.result in
-    subst Of (some_order (sym at ∙ is)) ex
+    let at : slice_get c.args.lattices.now c.args.solver.now.lattice ≡ Some c.get-lattice.result.now = ap (λ n. slice_get c.args.lattices.now n) (sym c.lattice.ensures) ∙ c.get-lattice.ensures in
+    let Of : LatticeView → Type 0 = λ v. Exceeds c.args.graph.now c.args.solver.now v.order c.args.bound c.unwrap-elem.result in
+    subst Of (some_view (sym at ∙ is)) ex

@@ -10,14 +10,14 @@ use Rattle.error_path.proofs.search.Search.follow_group.Goals as goal
 pub note-requires : goal.note-requires
 note-requires c =
     let low : vars_of_link (Leave c.in-Leave.field-0 c.in-Leave.last c.in-Leave.to) ≤ size_of c.args.self.now.marks =
-    low_of c.args.graph.now c.args.lattice c.args.leave c.constraint-constraint.result (Leave c.in-Leave.field-0 c.in-Leave.last c.in-Leave.to) c.constraint-constraint.ensures.there c.in-Leave.is _ c.requires.below in
+    low_of c.args.graph.now c.args.lattice c.args.leave c.constraint-back.result (Leave c.in-Leave.field-0 c.in-Leave.last c.in-Leave.to) c.constraint-back.ensures.there c.in-Leave.is _ c.requires.below in
     omega arith
 
 pub returns-else-not-leads-clause-good : goal.returns-else-not-leads-clause-good
 returns-else-not-leads-clause-good c =
-    let site : c.in-Leave.field-0 ≡ c.args.call.now.site = some_number (key_of_link c.args.graph.now c.args.lattice c.args.leave c.constraint-constraint.result (Leave c.in-Leave.field-0 c.in-Leave.last c.in-Leave.to) c.constraint-constraint.ensures.there c.in-Leave.is link_site c.args.call.now.site c.requires.site) in
+    let site : c.in-Leave.field-0 ≡ c.args.call.now.site = some_number (key_of_link c.args.graph.now c.args.lattice c.args.leave c.constraint-back.result (Leave c.in-Leave.field-0 c.in-Leave.last c.in-Leave.to) c.constraint-back.ensures.there c.in-Leave.is link_site c.args.call.now.site c.requires.site) in
     let At : ℕ → Type 0 = λ s. Stands c.args.graph.now c.args.lattice c.args.leave (Leave s c.in-Leave.last c.in-Leave.to) in
-    let leaves = subst At site (stands_in c.args.graph.now c.args.lattice c.args.leave c.constraint-constraint.result (Leave c.in-Leave.field-0 c.in-Leave.last c.in-Leave.to) c.constraint-constraint.ensures.there c.in-Leave.is (c.if-not-is_in.ensures.0 refl)) in
+    let leaves = subst At site (stands_in c.args.graph.now c.args.lattice c.args.leave c.constraint-back.result (Leave c.in-Leave.field-0 c.in-Leave.last c.in-Leave.to) c.constraint-back.ensures.there c.in-Leave.is (c.if-not-is_in.ensures.0 refl)) in
     on_ok_weaker c.note.result
     (λ on elem good. on c.args.graph.now c.args.lattice elem c.args.summaries.now
     (comes_around c.args.graph.now c.args.lattice elem c.args.summaries.now c.args.self.now c.args.origin.now.place c.args.origin.now.phase c.args.origin.now.at c.requires.origin
