@@ -124,23 +124,22 @@ fn are(list: &[EdgeId], numbers: &[u32]) -> bool {
     list.len() == numbers.len() && list.iter().zip(numbers).all(|(at, n)| at.number() == *n)
 }
 
+/// Whether the constraints that begin at a variable and those that lead to it are these.
+fn lists(index: &Adjacency, at: u32, out: &[u32], into: &[u32]) -> bool {
+    let at = VarId::new(at);
+    are(index.out(at), out) && are(index.into(at), into)
+}
+
 #[test]
 fn each_constraint_is_listed_where_it_begins_leads_and_calls(rt: HostRuntime) -> Result<(), Fail> {
     let graph = of_each_kind(&rt, rt.alloc())?;
-    let built = Adjacency::build(rt.alloc(), &graph)?;
-    let index = &built;
-    let rows: [(u32, &[u32], &[u32]); 6] = [
-        (0, &[], &[]),
-        (1, &[0, 5], &[1, 3]),
-        (2, &[], &[]),
-        (3, &[2, 4, 6], &[0, 6]),
-        (4, &[3], &[2, 5]),
-        (4_000_000_000, &[], &[]),
-    ];
-    for (v, out, into) in rows {
-        assert!(rt; are(index.out(VarId::new(v)), out), "from variable {v}");
-        assert!(rt; are(index.into(VarId::new(v)), into), "to variable {v}");
-    }
+    let index = Adjacency::build(rt.alloc(), &graph)?;
+    assert!(rt; lists(&index, 0, &[], &[]));
+    assert!(rt; lists(&index, 1, &[0, 5], &[1, 3]));
+    assert!(rt; lists(&index, 2, &[], &[]));
+    assert!(rt; lists(&index, 3, &[2, 4, 6], &[0, 6]));
+    assert!(rt; lists(&index, 4, &[3], &[2, 5]));
+    assert!(rt; lists(&index, 4_000_000_000, &[], &[]));
     assert!(rt; are(index.of_site(SiteId::new(0)), &[2, 3]));
     assert!(rt; are(index.of_site(SiteId::new(1)), &[5]));
     assert!(rt; are(index.of_site(SiteId::new(2)), &[]));
