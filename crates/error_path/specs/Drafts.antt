@@ -28,6 +28,16 @@ pub record IsDraft (sys : System) (lattice : ℕ) (rows : List Summary) (subs : 
 abbrev pub AreDrafts : System → ℕ → List Summary → List (List PathStep) → List Draft → Type 0
 AreDrafts sys lattice rows subs drafts = (draft : Draft) → Contains drafts draft → IsDraft sys lattice rows subs draft
 
+-- what waits in the end waited before
+abbrev pub StayDrafts : List Draft → List Draft → Type 0
+StayDrafts old new = (sys : System) (lattice : ℕ) (rows : List Summary) (subs : List (List PathStep)) → AreDrafts sys lattice rows subs old →
+    AreDrafts sys lattice rows subs new
+
+-- it is one of these drafts, or a draft of the pair
+abbrev pub IsDraftAfter : List Draft → Pair → Draft → Type 0
+IsDraftAfter drafts pair draft = (sys : System) (lattice : ℕ) (rows : List Summary) (subs : List (List PathStep)) → AreDrafts sys lattice rows subs drafts →
+    HasPair rows pair.from pair.to → IsDraft sys lattice rows subs draft
+
 -- One more part was written, to a variable that the pair's first one is or to which an earlier summary joins it.
 pub record IsWritten (sys : System) (lattice : ℕ) (rows : List Summary) (subs : List (List PathStep)) (old new : Draft) : Type 0 where
   pub front : List PathStep

@@ -1,15 +1,13 @@
 //! Sub-paths that are made from the reasons of summaries, each pair of variables once.
 
 ghost use Rattle.std.specs.Prelude.{◌≡◌, ◌≢◌, ℕ, ◌<◌, [], ◌∷◌, ◌++◌, Some, None, OnOk, IfOk, IfNone, IfSome, length, reverse};
-ghost use Rattle.flow_graph.specs.declared.proof.PathStep.{PathStep};
 ghost use Rattle.flow_graph.specs.declared.proof.PathStep.TheVariants.{Sub};
 ghost use Rattle.flow_graph.specs.declared.place.Seen.TheVariants.{Through};
 ghost use Rattle.flow_graph.specs.System.{System};
 ghost use Rattle.flow_graph.specs.PathProofs.{look};
-ghost use Rattle.match_summary.specs.declared.reason.Summary.{Summary};
 ghost use Rattle.match_summary.specs.Summary.{HasPair, Summarises};
 ghost use Rattle.flow_graph.specs.Parts.{IsSub};
-ghost use Rattle.error_path.specs.Drafts.{AddsGroup, AreDrafts, IsDraft, IsMissing, IsWritten};
+ghost use Rattle.error_path.specs.Drafts.{AddsGroup, AreDrafts, IsDraft, IsDraftAfter, IsMissing, IsWritten, StayDrafts};
 ghost use Rattle.error_path.specs.Made.{number_in, place_of, subs_in, Extends, IsInner, IsMade};
 
 use crate::places::Places;
@@ -164,13 +162,13 @@ impl SubPaths {
         }
     }
 
-    /// Takes the last waiting draft of a pair that has no sub-path, or else a new one of another pair. Drafts of pairs that
-    /// have one by now are let go.
+    /// Takes the last waiting draft, or else a new one of a pair. A draft of a pair that has a sub-path by now is let go; there
+    /// is none, as each that waits rests on those behind it, but nothing has to show that.
     fn last_waiting(&self, alloc: Global, waiting: &mut Vec<Draft>, pair: &Pair) -> Draft
         requires made { (sys : System) × IsMade sys self.now }
         requires free { place_of self.now pair.now.from pair.now.to ≡ None }
-        ensures waiting { (sys : System) (lattice : ℕ) (rows : Rattle.std.specs.Prelude.List Summary) (subs : Rattle.std.specs.Prelude.List (Rattle.std.specs.Prelude.List PathStep)) → AreDrafts sys lattice rows subs waiting.old.items → AreDrafts sys lattice rows subs waiting.new.items }
-        ensures draft { (sys : System) (lattice : ℕ) (rows : Rattle.std.specs.Prelude.List Summary) (subs : Rattle.std.specs.Prelude.List (Rattle.std.specs.Prelude.List PathStep)) → AreDrafts sys lattice rows subs waiting.old.items → HasPair rows pair.now.from pair.now.to → IsDraft sys lattice rows subs result }
+        ensures waiting { StayDrafts waiting.old.items waiting.new.items }
+        ensures draft { IsDraftAfter waiting.old.items pair.now result }
         ensures free { place_of self.now result.pair.from result.pair.to ≡ None }
     {
         while let Some(draft) = waiting.pop() {

@@ -1,19 +1,19 @@
 //! The path proof of each exceeded bound, judged by the checker, and for worked systems beside its steps.
 
 ghost use Rattle.std.specs.Prelude.{◌≡◌, ◌<◌, length};
-ghost use Rattle.flow_graph.specs.System.{IsWellOwned};
-ghost use Rattle.flow_graph.specs.Unfolding.{IsExceeded, NamesElementsIn};
+ghost use Rattle.flow_graph.specs.Unfolding.{NamesElementsIn};
 ghost use Rattle.match_summary.specs.Summary.{Summarises};
 ghost use Rattle.lattice_solver.specs.Solution.{IsSolved};
+ghost use Rattle.error_path.specs.Shown.{InLattice};
 
 use crate::building::{graph_of, lattice_of};
 use crate::case::Case;
 use flow_graph::conditions::{is_well_owned, names_elements};
 use crate::{drawn_five, drawn_four, drawn_three, drawn_two, worked};
-use error_path::showing::show;
+use error_path::show;
 use flow_graph::graph::FlowGraph;
 use flow_graph::proof::{PathProof, PathStep};
-use lattice_core::{Lattice, Lattices};
+use lattice_core::Lattices;
 use lattice_solver::solver::Solver;
 use match_summary::summarise;
 use match_summary::summary::Summaries;
@@ -146,20 +146,19 @@ fn judge_bounds(
     graph: &FlowGraph,
     summaries: &Summaries,
     solver: &Solver,
-    lattice: &Lattice,
+    lattices: &Lattices,
 ) -> Result<usize, Fail>
-    requires owned { IsWellOwned graph.now }
     requires solved { IsSolved graph.now solver.now }
     requires summaries { Summarises graph.now solver.now.lattice summaries.now }
-    requires named { NamesElementsIn graph.now solver.now.lattice lattice.now.order }
+    requires lattice { solver.now.lattice < length lattices.now }
+    requires named { InLattice lattices.now solver.now.lattice (NamesElementsIn graph.now solver.now.lattice) }
 {
-    let mut lattices = Lattices::new(alloc);
-    lattices.push(lattice_of(rt, alloc, &case.shape)?)?;
+    let lattice = lattices.get(solver.lattice());
     let mut worked: usize = 0;
     for n in 0..graph.len() {
         if solver.exceeded(graph, lattice, EdgeId::new(n)).is_some() {
-            let proof = show(alloc, graph, summaries, solver, lattice, EdgeId::new(n))?;
-            assert_eq!(rt; check(graph, &lattices, &proof), Ok(()), "{}", case.name);
+            let proof = show(alloc, graph, summaries, solver, lattices, EdgeId::new(n))?;
+            assert_eq!(rt; check(graph, lattices, &proof), Ok(()), "{}", case.name);
             let last = proof.main.last().map(number_of);
             assert_eq!(rt; last, Some(Step::Take(n)), "{}", case.name);
             worked = worked.wrapping_add(compare_worked(rt, case.name, &proof));
@@ -173,13 +172,15 @@ fn judge(rt: &impl Abort, alloc: Global, cases: &[Case]) -> Result<usize, Fail> 
     let mut worked: usize = 0;
     for case in cases {
         let graph = graph_of(rt, alloc, case)?;
-        let lattice = lattice_of(rt, alloc, &case.shape)?;
+        let mut lattices = Lattices::new(alloc);
+        lattices.push(lattice_of(rt, alloc, &case.shape)?)?;
         let summaries = summarise(alloc, &graph, LatticeNo::new(0))?;
         let mut solver = Solver::new(alloc, &graph, &summaries, LatticeNo::new(0))?;
         solver.run(&graph, &summaries);
         assert!(rt; is_well_owned(&graph));
-        assert!(rt; names_elements(&graph, LatticeNo::new(0), &lattice));
-        let count = judge_bounds(rt, alloc, case, &graph, &summaries, &solver, &lattice)?;
+        assert!(rt; lattices.len() == 1);
+        assert!(rt; names_elements(&graph, LatticeNo::new(0), lattices.get(LatticeNo::new(0))));
+        let count = judge_bounds(rt, alloc, case, &graph, &summaries, &solver, &lattices)?;
         worked = worked.wrapping_add(count);
     }
     Ok(worked)
