@@ -6,7 +6,7 @@ use Rattle.std.specs.Option.{option_map}
 use Rattle.std.proofs.lemmas.Option.{slice_get-map, slice_get-get_or}
 use Rattle.qual_base.specs.declared.places.Spot.{Spot}
 use Rattle.c_lexer.specs.declared.token.Token.{Token}
-use Rattle.c_lexer.specs.declared.kinds.TokenKind.TheVariants.{End}
+use Rattle.c_words.specs.declared.kinds.TokenKind.TheVariants.{End}
 use Rattle.c_lexer.specs.Places.{IsSpot}
 use Rattle.c_lexer.specs.Reading.{Meanings, Front, Reaches}
 use Rattle.c_lexer.specs.Reading.Reaches.{begins, skips, takes}
