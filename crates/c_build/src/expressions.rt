@@ -9,11 +9,11 @@ ghost use Rattle.c_tree.specs.Tree as trees;
 ghost use Rattle.c_tree.specs.Unit.{spec_words_from};
 ghost use Rattle.c_tree.specs.View.{expr_of};
 
-use c_words::kinds::Punct;
 use c_syntax::declarator::TypeName;
 use c_syntax::expression::Expr;
-use c_tree::making;
 use c_syntax::parts::{Identifier, Marked, Word};
+use c_tree::making;
+use c_words::kinds::Punct;
 use qual_base::faults::NoMemory;
 use qual_base::ids::{NameId, TokenId};
 use std::alloc::Global;

@@ -9,9 +9,9 @@ ghost use Rattle.c_grammar.specs.Specifying.{name_at, tag_at, spelled_name};
 ghost use Rattle.c_grammar.specs.Expressing.{is_text};
 
 use crate::fault::{Fault, ReadError, refused};
-use c_words::kinds::{Punct, TokenKind};
-use c_tree::lexeme::Lexeme;
 use c_syntax::parts::Identifier;
+use c_tree::lexeme::Lexeme;
+use c_words::kinds::{Punct, TokenKind};
 use qual_base::ids::NameId;
 
 /// Whether a token of a kind is `(`.

@@ -16,7 +16,9 @@ use c_syntax::declarator::{ArraySize, Declr, Param, TypeName};
 use c_syntax::expression::Expr;
 use c_syntax::initialiser::{Desig, Init, InitItem, InitList};
 use c_syntax::parts::{AsmLabel, Attr, Listed, Marked, PointerWord};
-use c_syntax::specifier::{Enum, Enumerator, MemDeclr, Member, SpecWord, Specs, Struct, StructItem};
+use c_syntax::specifier::{
+    Enum, Enumerator, MemDeclr, Member, SpecWord, Specs, Struct, StructItem,
+};
 use c_syntax::statement::{BlockItem, ForStart, Stmt};
 
 /// One more, at most the greatest number.

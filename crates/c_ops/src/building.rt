@@ -29,7 +29,12 @@ pub enum OpsFault {
 }
 
 /// Reads an operator and the operand behind it: answers the operand, with what waits for it.
-fn step(alloc: Global, waiting: &mut Vec<Waiting>, last: Box<Expr>, next: Row) -> Result<Box<Expr>, OpsFault>
+fn step(
+    alloc: Global,
+    waiting: &mut Vec<Waiting>,
+    last: Box<Expr>,
+    next: Row,
+) -> Result<Box<Expr>, OpsFault>
     requires operators { AreOperators (stack_of waiting.old.items) }
     requires operator { IsOperator (operator_of next.op) }
     ensures { IsStep (stack_of waiting.old.items) (expr_of last.value) (entry_of next) result (stack_of waiting.new.items) }

@@ -162,7 +162,12 @@ impl OpList {
     ///
     /// Where memory is wanting the operand comes back and the list is as before. Amortised time linear in what is joined
     /// before the operator and in the nodes of the last operand and of the operator's middle.
-    pub fn push(&mut self, token: TokenId, op: Op, operand: Box<Expr>) -> Result<(), (Box<Expr>, NoMemory)>
+    pub fn push(
+        &mut self,
+        token: TokenId,
+        op: Op,
+        operand: Box<Expr>,
+    ) -> Result<(), (Box<Expr>, NoMemory)>
         requires operator { IsOperator (operator_of op) }
         requires operand { 13 ≤ expr_level (expr_of operand.value) }
         ensures pushed { OnOk result (operations_of self.new ≡ appended (operations_of self.old) (record { operator = operator_of op; token = token; operand = expr_of operand.value } ∷ [])) }

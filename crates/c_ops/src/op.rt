@@ -8,8 +8,8 @@ ghost use Rattle.c_ops.specs.Op.{operator_of};
 ghost use Rattle.c_ops.specs.Operations.{begins_side};
 
 use c_height::of_expr;
-use c_words::kinds::Punct;
 use c_syntax::expression::Expr;
+use c_words::kinds::Punct;
 use qual_base::ids::TokenId;
 
 /// An operator between two operands.

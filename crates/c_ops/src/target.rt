@@ -35,8 +35,8 @@ pub(crate) fn is_unary(e: &Expr) -> bool
 }
 
 /// Whether an operator assigns to what is no unary form.
-pub(crate) fn is_untargeted(op: &Op, left: &Expr) -> bool
-    ensures { result ≡ is_untargeted (operator_of op.now) (expr_of left.now) }
+pub(crate) fn is_untargeted(op: &Op, left: &Box<Expr>) -> bool
+    ensures { result ≡ is_untargeted (operator_of op.now) (expr_of left.now.value) }
 {
     match op {
         Op::Assign(_) => !is_unary(left),

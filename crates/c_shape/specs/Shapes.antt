@@ -1,5 +1,4 @@
 -- The tree of a shape.
-use Rattle.c_syntax.specs.declared.expression.Expr as rust_expr
 use Rattle.c_tree.specs.Tree.{Expr, operation, cast, prefix, sizeof_value, sizeof_type, extension, index, call, dot, arrow, post, compound, name_use, number_use, char_use, text_use, paren, statement_expr, va_arg, va_start, va_copy, offset, Operator, comma, assign, cond, binary, SpecWords, SomeDeclr, init_list}
 use Rattle.c_tree.specs.Lists.{exprs_from, some_expr_from, some_declr_from, desigs_from, init_items_from}
 use Rattle.c_tree.specs.Unit.{spec_words_from, block_items_from}

@@ -21,6 +21,7 @@ use c_grammar::fault::{Fault, ReadError, number_at, refused};
 use c_grammar::inside::expr_inside;
 use c_grammar::kinds::{Closing, Reach, closing_at};
 use c_grammar::laws::loops_step;
+use c_height::of_expr;
 use c_syntax::expression::Expr;
 use c_tree::lexeme::Lexeme;
 use qual_base::ids::TokenId;

@@ -1,13 +1,13 @@
 //! Worked values: words of which C99 lists the mixes (6.7.1 and 6.7.2), and others.
 
-use c_specs::mix::{Mix, class_of};
-use c_specs::reading::{SpecFault, read_specs};
-use c_words::kinds::{Keyword, TokenKind};
 use c_lexer::lex::lex;
 use c_lexer::tokens::Tokens;
+use c_specs::mix::{Mix, class_of};
+use c_specs::reading::{SpecFault, read_specs};
 use c_syntax::parts::{Attr, Group, Identifier, Qual, Word};
 use c_syntax::specifier::{SpecWord, TypedefName};
 use c_tree::making;
+use c_words::kinds::{Keyword, TokenKind};
 use qual_base::ids::{Elem, LatticeNo, Numbered, TokenId, UnitNo};
 use qual_base::words::QualWords;
 use std::alloc::{AllocError, Global};

@@ -2,12 +2,12 @@
 
 use c_build::expressions as nodes;
 use c_height::of_expr;
-use c_words::kinds::{Keyword, Punct};
 use c_syntax::declarator::TypeName;
 use c_syntax::expression::Expr;
 use c_syntax::parts::{Identifier, Word};
 use c_syntax::specifier::Specs;
 use c_tree::ends;
+use c_words::kinds::{Keyword, Punct};
 use qual_base::faults::NoMemory;
 use qual_base::ids::{NameId, Numbered, TokenId};
 use std::alloc::Global;

@@ -1,9 +1,9 @@
 //! Worked values: sources with their trees, and sources that have none.
 
-use c_parser::parsing::{ParseFault, parse};
 use crate::shown::unit_text;
 use crate::sources::{DECLARATIONS, EXPRESSIONS, LATTICE_WORDS, NAMES, NO_SIZES, NO_UNITS};
 use c_lexer::lex::lex;
+use c_parser::parsing::{ParseFault, parse};
 use qual_base::ids::{Elem, LatticeNo, Numbered, UnitNo};
 use qual_base::words::QualWords;
 use std::alloc::{AllocError, Global};
