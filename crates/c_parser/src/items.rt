@@ -1,13 +1,14 @@
 //! Declarations and the items of a unit (C99, 6.7 and 6.9).
 
-ghost use Rattle.std.specs.Prelude.{◌≡◌, List, [], ◌∷◌, ◌++◌, map, option_map};
+ghost use Rattle.std.specs.Prelude.{◌≡◌, List, [], ◌∷◌, ◌++◌, map, option_map, IfOk};
 ghost use Rattle.c_syntax.specs.declared.declaration.InitDeclr.{InitDeclr};
 ghost use Rattle.c_syntax.specs.declared.parts.Listed.{Listed};
 ghost use Rattle.c_tree.specs.Specifiers.{storage_words};
 ghost use Rattle.c_tree.specs.View.{spec_word_of};
 ghost use Rattle.c_tree.specs.Lists.{some_declr_from, init_declrs_from};
 ghost use Rattle.c_tree.specs.View.{declr_of, declaration_of};
-ghost use Rattle.c_tree.specs.Unit.{spec_words_from, item_of};
+ghost use Rattle.c_tree.specs.Tree.{decl_declaration};
+ghost use Rattle.c_tree.specs.Unit.{spec_words_from, item_of, decl_item};
 ghost use Rattle.c_grammar.specs.Declaring.{spec_words_of_quals};
 ghost use Rattle.c_grammar.specs.Gives.{Gives, TurnGives};
 ghost use Rattle.c_grammar.specs.Kinds.{role_of, mode_of};
@@ -31,6 +32,7 @@ use c_tree::lexeme::Lexeme;
 use c_tree::making;
 use c_words::kinds::Keyword;
 use declr_reader::parameters::declare_named;
+use qual_base::faults::NoMemory;
 use std::alloc::Global;
 use typedef_scope::kind::Kind;
 use typedef_scope::scopes::Scopes;
@@ -263,6 +265,15 @@ where
     ))
 }
 
+/// A declaration as an item.
+fn declared(alloc: Global, found: Declaration) -> Result<Item, NoMemory>
+    ensures { IfOk result (λ item. item_of item ≡ decl_item (decl_declaration (declaration_of found))) }
+{
+    let found = Box::new(alloc, found)?;
+    let found = Box::new(alloc, Decl::Declaration(found))?;
+    Ok(Item::Decl(found))
+}
+
 /// A declaration, or a semicolon alone.
 #[tactic(auto, unfolding(c_grammar::specs::Items::item_with))]
 fn item<'a, S, D>(
@@ -301,9 +312,7 @@ where
         }
         _ => {
             let (found, rest) = declaration(specs, declr, alloc, scopes, tokens, depth)?;
-            let found = Box::new(alloc, found)?;
-            let found = Box::new(alloc, Decl::Declaration(found))?;
-            Ok((Item::Decl(found), rest))
+            Ok((declared(alloc, found)?, rest))
         }
     }
 }
