@@ -9,11 +9,11 @@ ghost use Rattle.c_tree.specs.Tree as trees;
 ghost use Rattle.c_tree.specs.Unit.{spec_words_from};
 ghost use Rattle.c_tree.specs.View.{expr_of};
 
-use c_lexer::kinds::Punct;
-use c_tree::declarator::TypeName;
-use c_tree::expression::Expr;
+use c_syntax::declarator::TypeName;
+use c_syntax::expression::Expr;
+use c_syntax::parts::{Identifier, Marked, Word};
 use c_tree::making;
-use c_tree::parts::{Identifier, Marked, Word};
+use c_words::kinds::Punct;
 use qual_base::faults::NoMemory;
 use qual_base::ids::{NameId, TokenId};
 use std::alloc::Global;
@@ -265,12 +265,9 @@ pub fn push(list: &mut Vec<Expr>, next: Box<Expr>) -> Result<(), NoMemory>
 }
 
 /// An expression with the sign before it.
-pub fn marked(token: TokenId, part: Box<Expr>) -> Marked<Expr>
+pub fn marked(token: TokenId, part: Box<Expr>) -> Marked<Box<Expr>>
     ensures token { result.token ≡ token }
-    ensures part { result.part ≡ part.value }
+    ensures part { result.part ≡ part }
 {
-    Marked {
-        token,
-        part: Box::into_inner(part),
-    }
+    Marked { token, part }
 }

@@ -1,11 +1,11 @@
 -- The text of a declarator, before tokens that do not go on with it, is read as this declarator.
 use Rattle.std.proofs.Common.{◌≡◌, ℕ, suc, ◌≤◌, Bool, true, false, not, ◌&&◌, ◌||◌, is_some, if◌then◌else◌, List, [], ◌∷◌, Option, Some, None, Ok, All, refl, sym, ◌∙◌, ap, arith}
 use Rattle.std.proofs.lemmas.Bool.{le-leb}
-use Rattle.c_lexer.specs.declared.kinds.Punct.TheVariants as puncts
+use Rattle.c_words.specs.declared.kinds.Punct.TheVariants as puncts
 use Rattle.c_tree.specs.declared.lexeme.Lexeme.{Lexeme}
-use Rattle.c_tree.specs.declared.parts.Attr.{Attr}
-use Rattle.c_tree.specs.declared.parts.PointerWord.{PointerWord}
-use Rattle.c_tree.specs.declared.parts.ArrayWord.{ArrayWord}
+use Rattle.c_syntax.specs.declared.parts.Attr.{Attr}
+use Rattle.c_syntax.specs.declared.parts.PointerWord.{PointerWord}
+use Rattle.c_syntax.specs.declared.parts.ArrayWord.{ArrayWord}
 use Rattle.c_tree.specs.Tree.{Expr, SpecWords, Declr, pointer, declr_name, declr_paren, array, params, abs_pointer, abs_paren, abs_array, abs_params, SomeDeclr, no_declr, some_declr, SomeSize, Params, no_params, more_params, Dots}
 use Rattle.c_tree.specs.Text.{sign_text, name_text, spec_words_text, declr_text, some_declr_text, some_size_text, params_text, other_params_text, dots_text, attrs_text, array_words_text, pointer_words_text}
 use Rattle.c_tree.specs.Height.{declr_height, some_declr_height, some_size_height, params_height}

@@ -2,9 +2,9 @@
 use Rattle.std.proofs.Common.{◌≡◌, ℕ, suc, nat_le, ◌≤◌, ◌<◌, Bool, true, false, if◌then◌else◌, List, [], ◌∷◌, ◌++◌, length, Option, Some, None, Ok, refl, sym, ◌∙◌, ap, subst, arith}
 use Rattle.std.specs.Prelude.{◌&&◌}
 use Rattle.c_tree.specs.declared.lexeme.Lexeme.{Lexeme}
-use Rattle.c_lexer.specs.declared.kinds.TokenKind.{TokenKind}
-use Rattle.c_tree.specs.declared.parts.Qual.{Qual}
-use Rattle.c_tree.specs.declared.parts.ArrayWord.{ArrayWord}
+use Rattle.c_words.specs.declared.kinds.TokenKind.{TokenKind}
+use Rattle.c_syntax.specs.declared.parts.Qual.{Qual}
+use Rattle.c_syntax.specs.declared.parts.ArrayWord.{ArrayWord}
 use Rattle.c_tree.specs.Tree.{Expr, SpecWords, no_words, declr_name, SomeDeclr, no_declr, some_declr, SomeSize, no_size, some_size, size_value, size_star, Params, no_params, Dots}
 use Rattle.c_tree.specs.Height.{some_declr_height}
 use Rattle.typedef_scope.specs.declared.kind.Kind.{Kind}

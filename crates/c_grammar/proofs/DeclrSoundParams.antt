@@ -1,10 +1,10 @@
 -- Parameters, and what stands behind an opening parenthesis: what is read is spelled so, obeys the rules and gives these scopes.
 use Rattle.std.proofs.Common.{◌≡◌, ℕ, ◌<◌, Bool, true, false, if◌then◌else◌, List, [], ◌∷◌, length, All, Option, Some, None, Ok, refl, sym, ◌∙◌, ap, subst, arith}
 use Rattle.std.proofs.lemmas.List.Elements.{All-nil, All-head, All-tail}
-use Rattle.c_lexer.specs.declared.kinds.TokenKind.TheVariants as kinds
-use Rattle.c_lexer.specs.declared.kinds.Punct.TheVariants.{CloseParen, Comma, Ellipsis}
+use Rattle.c_words.specs.declared.kinds.TokenKind.TheVariants as kinds
+use Rattle.c_words.specs.declared.kinds.Punct.TheVariants.{CloseParen, Comma, Ellipsis}
 use Rattle.c_tree.specs.declared.lexeme.Lexeme.{Lexeme}
-use Rattle.c_tree.specs.declared.parts.Qual.{Qual}
+use Rattle.c_syntax.specs.declared.parts.Qual.{Qual}
 use Rattle.c_tree.specs.Tree.{Expr, SpecWords, no_words, SomeDeclr, some_declr, Params, no_params, more_params, Dots}
 use Rattle.c_tree.specs.Text.{sign_text, separated, qual_text, quals_text, attrs_text, dots_text, spec_words_text, some_declr_text, params_text, other_params_text}
 use Rattle.c_tree.specs.WellFormed.{IsQual, AreSpecWords, IsSomeDeclr, AreParams, IsEllipsis}

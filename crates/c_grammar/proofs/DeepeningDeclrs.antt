@@ -2,7 +2,7 @@
 use Rattle.std.proofs.Common.{ℕ, suc, nat_le, ◌≤◌, List, [], ◌∷◌, length, Option, Some, None, arith}
 use Rattle.std.specs.Prelude.{◌&&◌}
 use Rattle.c_tree.specs.declared.lexeme.Lexeme.{Lexeme}
-use Rattle.c_tree.specs.declared.parts.Qual.{Qual}
+use Rattle.c_syntax.specs.declared.parts.Qual.{Qual}
 use Rattle.c_tree.specs.Tree.{Expr, SpecWords, no_words, SomeDeclr, no_declr, some_declr, Params, no_params, Dots}
 use Rattle.c_tree.specs.Height.{some_declr_height}
 use Rattle.typedef_scope.specs.declared.kind.Kind.{Kind}

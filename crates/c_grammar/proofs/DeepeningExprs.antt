@@ -2,7 +2,7 @@
 use Rattle.std.proofs.Common.{ℕ, suc, ◌≤◌, List, [], ◌∷◌, length, arith}
 use Rattle.std.specs.Prelude.{nat_le, ◌&&◌}
 use Rattle.c_tree.specs.declared.lexeme.Lexeme.{Lexeme}
-use Rattle.c_tree.specs.declared.parts.Word.{Word}
+use Rattle.c_syntax.specs.declared.parts.Word.{Word}
 use Rattle.c_tree.specs.Tree.{Expr, name_use, number_use, char_use, text_use, paren, Exprs, Operator, comma, assign, cond, binary, SpecWords, SomeDeclr}
 use Rattle.c_tree.specs.Height.{expr_height}
 use Rattle.c_ops.specs.Operations.{Operations}

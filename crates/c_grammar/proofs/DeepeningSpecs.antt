@@ -1,9 +1,9 @@
 -- The readers of specifiers leave no fewer scopes open than they are given.
 use Rattle.std.proofs.Common.{ℕ, ◌≤◌, Bool, List, [], ◌∷◌, length, Option, Some, None, arith}
-use Rattle.c_lexer.specs.declared.kinds.TokenKind.{TokenKind}
+use Rattle.c_words.specs.declared.kinds.TokenKind.{TokenKind}
 use Rattle.c_tree.specs.declared.lexeme.Lexeme.{Lexeme}
-use Rattle.c_tree.specs.declared.parts.Identifier.{Identifier}
-use Rattle.c_tree.specs.declared.parts.Word.{Word}
+use Rattle.c_syntax.specs.declared.parts.Identifier.{Identifier}
+use Rattle.c_syntax.specs.declared.parts.Word.{Word}
 use Rattle.c_tree.specs.Tree.{Expr, SpecWords, MemDeclrs, StructItems, Enumerators, no_enumerators, Declr}
 use Rattle.c_specs.specs.Mix.{goes_on, is_whole_mix}
 use Rattle.typedef_scope.specs.declared.kind.Kind.TheVariants.{Constant}

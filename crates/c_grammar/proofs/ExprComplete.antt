@@ -2,7 +2,7 @@
 use Rattle.std.proofs.Common.{◌≡◌, ℕ, suc, ◌≤◌, Bool, true, false, List, [], ◌∷◌, ◌++◌, Option, Some, None, Ok, Err, refl, sym, ◌∙◌, ap, arith, append_assoc}
 use Rattle.std.specs.Prelude.{not, ◌&&◌, if◌then◌else◌}
 use Rattle.std.proofs.lemmas.Bool.{le-leb}
-use Rattle.c_lexer.specs.declared.kinds.Punct.TheVariants.{Colon}
+use Rattle.c_words.specs.declared.kinds.Punct.TheVariants.{Colon}
 use Rattle.c_tree.specs.declared.lexeme.Lexeme.{Lexeme}
 use Rattle.c_tree.specs.Tree.{Expr, operation, cast, extension, Operator, comma, assign, cond, binary, SomeExpr, no_expr, some_expr, SpecWords, SomeDeclr}
 use Rattle.c_tree.specs.Text.{expr_text, some_expr_text, operator_text, sign_text}

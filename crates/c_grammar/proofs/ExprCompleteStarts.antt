@@ -1,12 +1,12 @@
 -- What the text of an expression begins with, and what the tables of its signs say.
 use Rattle.std.proofs.Common.{◌≡◌, ◌≤◌, Bool, true, false, List, [], ◌∷◌, Option, Some, None, refl, arith}
 use Rattle.std.specs.Prelude.{not, ◌&&◌}
-use Rattle.c_lexer.specs.declared.kinds.TokenKind.{TokenKind}
-use Rattle.c_lexer.specs.declared.kinds.TokenKind.TheVariants as kinds
-use Rattle.c_lexer.specs.declared.kinds.Punct.{Punct}
-use Rattle.c_lexer.specs.declared.kinds.Punct.TheVariants.{PlusPlus, MinusMinus, Ampersand, Star, Plus, Minus, Tilde, Bang, BarBar, AmpersandAmpersand, Bar, Caret, EqualEqual, BangEqual, Less, Greater, LessEqual, GreaterEqual, ShiftLeft, ShiftRight, Slash, Percent, Equal, StarEqual, SlashEqual, PercentEqual, PlusEqual, MinusEqual, ShiftLeftEqual, ShiftRightEqual, AmpersandEqual, CaretEqual, BarEqual, CloseParen, Colon}
-use Rattle.c_lexer.specs.declared.kinds.Keyword.{Keyword}
-use Rattle.c_lexer.specs.declared.kinds.Keyword.TheVariants.{Sizeof, Alignof}
+use Rattle.c_words.specs.declared.kinds.TokenKind.{TokenKind}
+use Rattle.c_words.specs.declared.kinds.TokenKind.TheVariants as kinds
+use Rattle.c_words.specs.declared.kinds.Punct.{Punct}
+use Rattle.c_words.specs.declared.kinds.Punct.TheVariants.{PlusPlus, MinusMinus, Ampersand, Star, Plus, Minus, Tilde, Bang, BarBar, AmpersandAmpersand, Bar, Caret, EqualEqual, BangEqual, Less, Greater, LessEqual, GreaterEqual, ShiftLeft, ShiftRight, Slash, Percent, Equal, StarEqual, SlashEqual, PercentEqual, PlusEqual, MinusEqual, ShiftLeftEqual, ShiftRightEqual, AmpersandEqual, CaretEqual, BarEqual, CloseParen, Colon}
+use Rattle.c_words.specs.declared.kinds.Keyword.{Keyword}
+use Rattle.c_words.specs.declared.kinds.Keyword.TheVariants.{Sizeof, Alignof}
 use Rattle.c_tree.specs.declared.lexeme.Lexeme.{Lexeme}
 use Rattle.c_tree.specs.Tree.{Expr, operation, cast, prefix, sizeof_value, sizeof_type, index, call, dot, arrow, post, name_use, number_use, char_use, text_use, paren, Operator, comma, assign, cond, binary, SpecWords, no_words, more_words}
 use Rattle.c_tree.specs.Text.{expr_text, operator_text}

@@ -3,10 +3,10 @@ use Rattle.std.proofs.Common.{◌≡◌, ℕ, suc, ◌≤◌, Bool, true, false,
 use Rattle.std.specs.Prelude.{nat_le, not, ◌&&◌}
 use Rattle.std.proofs.lemmas.List.{append-nil}
 use Rattle.std.proofs.lemmas.Bool.{le-leb}
-use Rattle.c_lexer.specs.declared.kinds.TokenKind.TheVariants as kinds
-use Rattle.c_lexer.specs.declared.kinds.Punct.TheVariants.{OpenParen, CloseParen, OpenBracket, CloseBracket, Dot, Arrow}
+use Rattle.c_words.specs.declared.kinds.TokenKind.TheVariants as kinds
+use Rattle.c_words.specs.declared.kinds.Punct.TheVariants.{OpenParen, CloseParen, OpenBracket, CloseBracket, Dot, Arrow}
 use Rattle.c_tree.specs.declared.lexeme.Lexeme.{Lexeme}
-use Rattle.c_tree.specs.declared.parts.Word.{Word}
+use Rattle.c_syntax.specs.declared.parts.Word.{Word}
 use Rattle.c_tree.specs.Tree.{Expr, operation, cast, prefix, sizeof_value, sizeof_type, extension, index, call, dot, arrow, post, name_use, number_use, char_use, text_use, paren, Exprs, no_exprs, more_exprs, SpecWords, SomeDeclr}
 use Rattle.c_tree.specs.Text.{expr_text, exprs_text, other_exprs_text, texts_text, spec_words_text, some_declr_text, sign_text, identifier_text, separated}
 use Rattle.c_tree.specs.Height.{expr_height, exprs_height}

@@ -1,9 +1,9 @@
 -- What a reader of expressions reads takes a token at least.
 use Rattle.std.proofs.Common.{◌≡◌, ℕ, suc, ◌≤◌, ◌<◌, Bool, true, false, List, [], ◌∷◌, ◌++◌, length, Option, Some, None, Ok, sym, ap, arith}
 use Rattle.std.specs.Prelude.{nat_le, if◌then◌else◌, ◌&&◌}
-use Rattle.c_lexer.specs.declared.kinds.TokenKind.{TokenKind}
+use Rattle.c_words.specs.declared.kinds.TokenKind.{TokenKind}
 use Rattle.c_tree.specs.declared.lexeme.Lexeme.{Lexeme}
-use Rattle.c_tree.specs.declared.parts.Word.{Word}
+use Rattle.c_syntax.specs.declared.parts.Word.{Word}
 use Rattle.c_tree.specs.Tree.{Expr, cast, prefix, sizeof_value, sizeof_type, index, call, dot, arrow, post, name_use, number_use, char_use, text_use, paren, Operator, comma, assign, cond, binary, no_expr, some_expr, no_exprs, more_exprs, SpecWords, SomeDeclr}
 use Rattle.c_tree.specs.Height.{expr_height}
 use Rattle.c_ops.specs.Operations.{Operations}

@@ -1,10 +1,10 @@
 -- What is read as arguments, a postfix form, a unary form or a cast is spelled so, and well formed.
 use Rattle.std.proofs.Common.{◌≡◌, ◌≢◌, ℕ, suc, ◌≤◌, ◌<◌, Bool, true, false, if◌then◌else◌, List, [], ◌∷◌, ◌++◌, length, Some, None, Ok, refl, sym, ◌∙◌, ap, subst, arith}
 use Rattle.std.specs.Prelude.{nat_le, ◌&&◌, not}
-use Rattle.c_lexer.specs.declared.kinds.TokenKind.TheVariants as kinds
-use Rattle.c_lexer.specs.declared.kinds.Punct.TheVariants as puncts
+use Rattle.c_words.specs.declared.kinds.TokenKind.TheVariants as kinds
+use Rattle.c_words.specs.declared.kinds.Punct.TheVariants as puncts
 use Rattle.c_tree.specs.declared.lexeme.Lexeme.{Lexeme}
-use Rattle.c_tree.specs.declared.parts.Word.{Word}
+use Rattle.c_syntax.specs.declared.parts.Word.{Word}
 use Rattle.c_tree.specs.Tree.{Expr, cast, prefix, sizeof_value, sizeof_type, index, call, dot, arrow, post, name_use, number_use, char_use, text_use, paren, SomeExpr, no_expr, some_expr, Exprs, no_exprs, more_exprs, SpecWords, SomeDeclr}
 use Rattle.c_tree.specs.Text.{expr_text, exprs_text, other_exprs_text, some_expr_text, separated, sign_text, plain_text, texts_text, word_text, identifier_text}
 use Rattle.c_tree.specs.Height.{expr_height}

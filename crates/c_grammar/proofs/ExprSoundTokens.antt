@@ -1,10 +1,10 @@
 -- The kinds of the tokens that begin forms of expressions, and what a reader of one sign takes.
 use Rattle.std.proofs.Common.{◌≡◌, ℕ, zero, suc, ◌≤◌, ◌<◌, Bool, true, false, if◌then◌else◌, List, [], ◌∷◌, length, Option, Some, None, Ok, refl, ◌∙◌, ap, subst, arith}
-use Rattle.c_lexer.specs.declared.kinds.TokenKind.{TokenKind}
-use Rattle.c_lexer.specs.declared.kinds.TokenKind.TheVariants as kinds
-use Rattle.c_lexer.specs.declared.kinds.Punct.{Punct}
-use Rattle.c_lexer.specs.declared.kinds.Punct.TheVariants as puncts
-use Rattle.c_lexer.specs.declared.kinds.Keyword.TheVariants.{Sizeof, Alignof}
+use Rattle.c_words.specs.declared.kinds.TokenKind.{TokenKind}
+use Rattle.c_words.specs.declared.kinds.TokenKind.TheVariants as kinds
+use Rattle.c_words.specs.declared.kinds.Punct.{Punct}
+use Rattle.c_words.specs.declared.kinds.Punct.TheVariants as puncts
+use Rattle.c_words.specs.declared.kinds.Keyword.TheVariants.{Sizeof, Alignof}
 use Rattle.c_tree.specs.declared.lexeme.Lexeme.{Lexeme}
 use Rattle.c_tree.specs.Text.{sign_text, plain_text, separated}
 use Rattle.c_tree.specs.Levels.{binary_level, is_assignment}

@@ -3,12 +3,12 @@ use Rattle.std.proofs.Common.{◌≡◌, ℕ, suc, max, Bool, true, false, if◌
 use Rattle.std.proofs.Math.Nat.{le-max_left, le-max_right}
 use Rattle.std.proofs.lemmas.List.Elements.{All-head, All-tail}
 use Rattle.std.specs.Prelude.{All, is_some}
-use Rattle.c_lexer.specs.declared.kinds.Punct.TheVariants.{Semicolon}
-use Rattle.c_lexer.specs.declared.kinds.TokenKind.{TokenKind}
-use Rattle.c_lexer.specs.declared.kinds.TokenKind.TheVariants as kinds
+use Rattle.c_words.specs.declared.kinds.Punct.TheVariants.{Semicolon}
+use Rattle.c_words.specs.declared.kinds.TokenKind.{TokenKind}
+use Rattle.c_words.specs.declared.kinds.TokenKind.TheVariants as kinds
 use Rattle.c_tree.specs.declared.lexeme.Lexeme.{Lexeme}
-use Rattle.c_tree.specs.declared.parts.Attr.{Attr}
-use Rattle.c_tree.specs.declared.parts.AsmLabel.{AsmLabel}
+use Rattle.c_syntax.specs.declared.parts.Attr.{Attr}
+use Rattle.c_syntax.specs.declared.parts.AsmLabel.{AsmLabel}
 use Rattle.c_tree.specs.Tree.{SpecWords, no_words, Declr, pointer, declr_name, declr_paren, array, params, SomeDeclr, some_declr, SomeInit, no_init, some_init, InitDeclrs, no_init_declrs, more_init_declrs, Declaration, declaration, decl_declaration, decl_assert}
 use Rattle.c_tree.specs.Text.{sign_text, separated, declr_text, init_declrs_text, other_init_declrs_text, declaration_text}
 use Rattle.c_tree.specs.Height.{specs_height, declr_height, init_declrs_height, declaration_height}

@@ -1,8 +1,8 @@
 -- Lists of declarators and of items with one more at the end: their texts, rules and scopes.
 use Rattle.std.proofs.Common.{◌≡◌, ℕ, Bool, true, false, if◌then◌else◌, List, [], ◌∷◌, ◌++◌, length, ◌≤◌, ◌<◌, Option, Some, None, Ok, refl, ◌∙◌, ap, subst, arith}
-use Rattle.c_lexer.specs.declared.kinds.Punct.TheVariants.{Comma}
-use Rattle.c_lexer.specs.declared.kinds.TokenKind.{TokenKind}
-use Rattle.c_lexer.specs.declared.kinds.TokenKind.TheVariants as kinds
+use Rattle.c_words.specs.declared.kinds.Punct.TheVariants.{Comma}
+use Rattle.c_words.specs.declared.kinds.TokenKind.{TokenKind}
+use Rattle.c_words.specs.declared.kinds.TokenKind.TheVariants as kinds
 use Rattle.c_tree.specs.declared.lexeme.Lexeme.{Lexeme}
 use Rattle.c_tree.specs.Tree.{Declr, SomeDeclr, no_declr, some_declr, no_init, some_init, InitDeclrs, no_init_declrs, more_init_declrs}
 use Rattle.c_tree.specs.Text.{separated, attrs_text, label_text, some_init_text, declr_text, init_declrs_text, other_init_declrs_text}

@@ -1,10 +1,10 @@
 -- How tightly what is read as a unary form or a cast holds together, and which operators are read.
 use Rattle.std.proofs.Common.{◌≡◌, ℕ, suc, ◌≤◌, List, [], ◌∷◌, Ok, subst, arith}
 use Rattle.std.specs.Prelude.{nat_le, ◌&&◌}
-use Rattle.c_lexer.specs.declared.kinds.TokenKind.{TokenKind}
-use Rattle.c_lexer.specs.declared.kinds.Punct.{Punct}
+use Rattle.c_words.specs.declared.kinds.TokenKind.{TokenKind}
+use Rattle.c_words.specs.declared.kinds.Punct.{Punct}
 use Rattle.c_tree.specs.declared.lexeme.Lexeme.{Lexeme}
-use Rattle.c_tree.specs.declared.parts.Word.{Word}
+use Rattle.c_syntax.specs.declared.parts.Word.{Word}
 use Rattle.c_tree.specs.Tree.{Expr, cast, prefix, sizeof_value, sizeof_type, index, call, dot, arrow, post, name_use, number_use, char_use, text_use, paren, assign, binary, SpecWords, SomeDeclr}
 use Rattle.c_tree.specs.Height.{expr_height}
 use Rattle.c_tree.specs.Levels.{IsOperator, expr_level}

@@ -1,7 +1,7 @@
 -- How far qualifiers go rests on the tokens up to the first that is none.
 use Rattle.std.proofs.Common.{◌≡◌, ◌<◌, List, [], ◌∷◌, ◌++◌, length, drop, ◌⊎◌, inl, inr, Option, Some, None, Ok, refl, subst, arith}
 use Rattle.c_tree.specs.declared.lexeme.Lexeme.{Lexeme}
-use Rattle.c_tree.specs.declared.parts.Qual.{Qual}
+use Rattle.c_syntax.specs.declared.parts.Qual.{Qual}
 use Rattle.c_grammar.specs.Reading.{Read, first, ends}
 use Rattle.c_grammar.specs.Declaring.{qual_at, quals_by, quals_turn, quals_at}
 use Rattle.c_grammar.specs.Local.{Local, IsLocal}

@@ -1,8 +1,8 @@
 -- A token of the kind of a sign is this sign.
 use Rattle.std.proofs.Common.{◌≡◌, true, refl, ap}
-use Rattle.c_lexer.specs.declared.kinds.TokenKind.{TokenKind}
-use Rattle.c_lexer.specs.declared.kinds.TokenKind.TheVariants as kinds
-use Rattle.c_lexer.specs.declared.kinds.Punct.TheVariants.{CloseParen, CloseBracket, CloseBrace, Colon, Semicolon}
+use Rattle.c_words.specs.declared.kinds.TokenKind.{TokenKind}
+use Rattle.c_words.specs.declared.kinds.TokenKind.TheVariants as kinds
+use Rattle.c_words.specs.declared.kinds.Punct.TheVariants.{CloseParen, CloseBracket, CloseBrace, Colon, Semicolon}
 use Rattle.c_tree.specs.declared.lexeme.Lexeme.{Lexeme}
 use Rattle.c_grammar.specs.Eating.{sign, is_close_paren, is_close_bracket, is_close_brace, is_colon, is_semicolon}
 

@@ -1,9 +1,9 @@
 -- Bodies of enums are read as the trees whose text they are.
 use Rattle.std.proofs.Common.{◌≡◌, ℕ, ◌≤◌, true, false, List, [], ◌∷◌, Option, Some, None, Ok, refl, sym, ◌∙◌, ap, arith}
 use Rattle.std.specs.Prelude.{is_some}
-use Rattle.c_lexer.specs.declared.kinds.Punct.TheVariants.{CloseBrace, Comma, Equal}
+use Rattle.c_words.specs.declared.kinds.Punct.TheVariants.{CloseBrace, Comma, Equal}
 use Rattle.c_tree.specs.declared.lexeme.Lexeme.{Lexeme}
-use Rattle.c_tree.specs.declared.parts.Identifier.{Identifier}
+use Rattle.c_syntax.specs.declared.parts.Identifier.{Identifier}
 use Rattle.c_tree.specs.Tree.{Expr, SpecWords, SomeValue, no_value, some_value, enum_type, enum_of, SomeEnumBody, no_enum_body, some_enum_body, Enumerators, no_enumerators, more_enumerators, Declr}
 use Rattle.c_tree.specs.Text.{sign_text, some_sign_text, separated, identifier_text, tag_text, some_value_text, some_enum_body_text, other_enumerators_text}
 use Rattle.c_tree.specs.Height.{some_value_height, some_enum_body_height, enumerators_height}

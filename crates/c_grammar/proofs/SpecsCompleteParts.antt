@@ -1,15 +1,15 @@
 -- Members of structs and unions are read as the trees whose text they are.
 use Rattle.std.proofs.Common.{◌≡◌, ℕ, ◌≤◌, Bool, true, false, List, [], ◌∷◌, ◌++◌, Option, Some, None, Result, Ok, refl, sym, ◌∙◌, ap, subst, arith}
 use Rattle.std.specs.Prelude.{not, ◌&&◌}
-use Rattle.c_lexer.specs.declared.kinds.TokenKind.{TokenKind}
-use Rattle.c_lexer.specs.declared.kinds.TokenKind.TheVariants as kinds
-use Rattle.c_lexer.specs.declared.kinds.Punct.{Punct}
-use Rattle.c_lexer.specs.declared.kinds.Punct.TheVariants.{OpenParen, CloseBrace, Colon, Semicolon, Star}
+use Rattle.c_words.specs.declared.kinds.TokenKind.{TokenKind}
+use Rattle.c_words.specs.declared.kinds.TokenKind.TheVariants as kinds
+use Rattle.c_words.specs.declared.kinds.Punct.{Punct}
+use Rattle.c_words.specs.declared.kinds.Punct.TheVariants.{OpenParen, CloseBrace, Colon, Semicolon, Star}
 use Rattle.c_tree.specs.declared.lexeme.Lexeme.{Lexeme}
-use Rattle.c_tree.specs.declared.parts.Identifier.{Identifier}
-use Rattle.c_tree.specs.declared.parts.Word.{Word}
-use Rattle.c_tree.specs.declared.parts.Attr.{Attr}
-use Rattle.c_tree.specs.declared.parts.Qual.TheVariants as quals
+use Rattle.c_syntax.specs.declared.parts.Identifier.{Identifier}
+use Rattle.c_syntax.specs.declared.parts.Word.{Word}
+use Rattle.c_syntax.specs.declared.parts.Attr.{Attr}
+use Rattle.c_syntax.specs.declared.parts.Qual.TheVariants as quals
 use Rattle.c_tree.specs.Tree.{Expr, SpecWords, no_words, more_words, SpecWord, storage, thread, inline_word, noreturn, qualifier, basic, struct_type, enum_type, typedef_name, attribute, enum_of, SomeBody, no_body, some_body, StructItems, no_struct_items, more_struct_items, StructItem, member, member_semi, member_assert, MemDeclrs, no_mem_declrs, more_mem_declrs, MemDeclr, named, unnamed, SomeValue, no_value, some_value, Declr, pointer, declr_name, declr_paren, array, params, abs_pointer, abs_paren, abs_array, abs_params}
 use Rattle.c_tree.specs.Text.{sign_text, separated, tag_text, expr_text, spec_words_text, spec_word_text, some_body_text, struct_items_text, struct_item_text, mem_declrs_text, other_mem_declrs_text, mem_declr_text, some_value_text, declr_text}
 use Rattle.c_tree.specs.Height.{expr_height, specs_height, some_body_height, struct_items_height, struct_item_height, mem_declrs_height, mem_declr_height, some_value_height, declr_height}

@@ -1,11 +1,11 @@
 -- What is read of specifiers is spelled so and obeys the rules: the words one after another.
 use Rattle.std.proofs.Common.{◌≡◌, ℕ, ◌<◌, ◌++◌, Bool, true, false, if◌then◌else◌, not, ◌&&◌, List, [], ◌∷◌, length, ◌⊎◌, inl, inr, Option, Some, None, Ok, refl, sym, ◌∙◌, ap, subst}
-use Rattle.c_lexer.specs.declared.kinds.TokenKind.{TokenKind}
-use Rattle.c_lexer.specs.declared.kinds.TokenKind.TheVariants as kinds
-use Rattle.c_lexer.specs.declared.kinds.Keyword.{Keyword}
-use Rattle.c_lexer.specs.declared.kinds.Keyword.TheVariants as keywords
+use Rattle.c_words.specs.declared.kinds.TokenKind.{TokenKind}
+use Rattle.c_words.specs.declared.kinds.TokenKind.TheVariants as kinds
+use Rattle.c_words.specs.declared.kinds.Keyword.{Keyword}
+use Rattle.c_words.specs.declared.kinds.Keyword.TheVariants as keywords
 use Rattle.c_tree.specs.declared.lexeme.Lexeme.{Lexeme}
-use Rattle.c_tree.specs.declared.parts.Qual.TheVariants as quals
+use Rattle.c_syntax.specs.declared.parts.Qual.TheVariants as quals
 use Rattle.c_tree.specs.Tree.{Expr, SpecWords, no_words, more_words, SpecWord, storage, thread, inline_word, noreturn, qualifier, basic, typedef_name, Declr, SomeDeclr, no_declr, some_declr}
 use Rattle.c_tree.specs.Text.{plain_text, tokens_between, spec_words_text, spec_word_text, declr_text, some_declr_text}
 use Rattle.c_tree.specs.WellFormed.{IsElementKind, IsElement, IsTypeWord, IsSpecWord, AreSpecWords, is_struct, is_storage, is_qual}

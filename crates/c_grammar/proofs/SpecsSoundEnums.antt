@@ -1,9 +1,9 @@
 -- What is read of an enum is spelled so and obeys the rules.
 use Rattle.std.proofs.Common.{◌≡◌, ◌≢◌, ℕ, true, false, List, [], ◌∷◌, ◌⊎◌, inl, inr, Option, Some, None, Ok, refl, sym, ◌∙◌, ap, subst}
-use Rattle.c_lexer.specs.declared.kinds.Punct.TheVariants.{CloseBrace, Comma, Equal, OpenBrace}
-use Rattle.c_lexer.specs.declared.kinds.Keyword.TheVariants.{Enum}
+use Rattle.c_words.specs.declared.kinds.Punct.TheVariants.{CloseBrace, Comma, Equal, OpenBrace}
+use Rattle.c_words.specs.declared.kinds.Keyword.TheVariants.{Enum}
 use Rattle.c_tree.specs.declared.lexeme.Lexeme.{Lexeme}
-use Rattle.c_tree.specs.declared.parts.Identifier.{Identifier}
+use Rattle.c_syntax.specs.declared.parts.Identifier.{Identifier}
 use Rattle.c_tree.specs.Tree.{Expr, SpecWords, SpecWord, enum_type, SomeValue, enum_of, SomeEnumBody, no_enum_body, some_enum_body, Enumerators, no_enumerators, more_enumerators, Declr}
 use Rattle.c_tree.specs.Text.{sign_text, some_sign_text, keyword_text, identifier_text, tag_text, attrs_text, separated, some_value_text, some_enum_body_text, enumerators_text, other_enumerators_text}
 use Rattle.c_tree.specs.WellFormed.{HasTagOrEnumBody, IsSomeValue, IsEnumBody, AreEnumerators}

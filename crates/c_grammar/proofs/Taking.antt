@@ -1,9 +1,9 @@
 -- What the readers of one token, of a name and of a tag take.
 use Rattle.std.proofs.Common.{◌≡◌, ℕ, Bool, true, false, if◌then◌else◌, List, [], ◌∷◌, Option, Some, None, Ok, refl, ◌∙◌, ap, subst}
-use Rattle.c_lexer.specs.declared.kinds.TokenKind.{TokenKind}
-use Rattle.c_lexer.specs.declared.kinds.TokenKind.TheVariants as kinds
+use Rattle.c_words.specs.declared.kinds.TokenKind.{TokenKind}
+use Rattle.c_words.specs.declared.kinds.TokenKind.TheVariants as kinds
 use Rattle.c_tree.specs.declared.lexeme.Lexeme.{Lexeme}
-use Rattle.c_tree.specs.declared.parts.Identifier.{Identifier}
+use Rattle.c_syntax.specs.declared.parts.Identifier.{Identifier}
 use Rattle.c_tree.specs.Text.{identifier_text, tag_text}
 use Rattle.c_grammar.specs.declared.fault.Fault.TheVariants.{Unexpected}
 use Rattle.c_grammar.specs.Reading.{Read, refuses, ends}

@@ -1,8 +1,8 @@
 -- The tree of the name of a type, what a declaration answers, and what turns and words are.
 use Rattle.std.specs.Prelude.{ℕ, List, Option, None, Some, Result, Ok, Err, option_map}
-use Rattle.c_lexer.specs.declared.kinds.Keyword.{Keyword}
-use Rattle.c_tree.specs.declared.declarator.TypeName.{TypeName}
-use Rattle.c_tree.specs.declared.parts.Ellipsis.{Ellipsis}
+use Rattle.c_words.specs.declared.kinds.Keyword.{Keyword}
+use Rattle.c_syntax.specs.declared.declarator.TypeName.{TypeName}
+use Rattle.c_syntax.specs.declared.parts.Ellipsis.{Ellipsis}
 use Rattle.c_tree.specs.Lists.{some_declr_from}
 use Rattle.c_tree.specs.Specifiers.{storage_words}
 use Rattle.c_tree.specs.Tree.{SpecWords, no_words, more_words, SpecWord, SomeDeclr, Dots}

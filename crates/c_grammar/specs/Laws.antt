@@ -1,9 +1,9 @@
 -- Laws of the readers of one token, of a name and of a tag: what they take is spelled so, what is spelled so they take, and
 -- what they answer rests on the tokens up to the next one alone.
 use Rattle.std.specs.Prelude.{◌≡◌, Bool, true, List, ◌∷◌, Option, Ok}
-use Rattle.c_lexer.specs.declared.kinds.TokenKind.{TokenKind}
+use Rattle.c_words.specs.declared.kinds.TokenKind.{TokenKind}
 use Rattle.c_tree.specs.declared.lexeme.Lexeme.{Lexeme}
-use Rattle.c_tree.specs.declared.parts.Identifier.{Identifier}
+use Rattle.c_syntax.specs.declared.parts.Identifier.{Identifier}
 use Rattle.c_tree.specs.Text.{identifier_text, tag_text}
 use Rattle.c_grammar.specs.Eating.{token_at}
 use Rattle.c_grammar.specs.Specifying.{name_at, tag_at}

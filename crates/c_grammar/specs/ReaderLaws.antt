@@ -1,7 +1,7 @@
 -- Laws of the readers of all nonterminals: which scopes they leave open, and the levels of the operands that they read.
 use Rattle.std.specs.Prelude.{◌≡◌, ℕ, ◌≤◌, List, length, Option, Ok}
-use Rattle.c_lexer.specs.declared.kinds.TokenKind.{TokenKind}
-use Rattle.c_lexer.specs.declared.kinds.Punct.{Punct}
+use Rattle.c_words.specs.declared.kinds.TokenKind.{TokenKind}
+use Rattle.c_words.specs.declared.kinds.Punct.{Punct}
 use Rattle.c_tree.specs.declared.lexeme.Lexeme.{Lexeme}
 use Rattle.c_tree.specs.Levels.{IsOperator, expr_level}
 use Rattle.c_tree.specs.Tree.{Expr, assign, binary, SpecWords}

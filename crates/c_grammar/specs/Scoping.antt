@@ -7,11 +7,11 @@
 -- Today's grammar has neither statements nor initialisers, nor assembler, assertions, attributes and the other forms of
 -- GNU C: a part with one of these has no scopes behind it.
 use Rattle.std.specs.Prelude.{ℕ, Bool, true, false, ◌&&◌, not, List, [], ◌∷◌, Option, None, Some, if◌then◌else◌}
-use Rattle.c_lexer.specs.declared.kinds.Keyword.{Keyword}
-use Rattle.c_lexer.specs.declared.kinds.Keyword.TheVariants.{Typedef as TypedefWord}
-use Rattle.c_tree.specs.declared.parts.AsmLabel.{AsmLabel}
-use Rattle.c_tree.specs.declared.parts.PointerWord.{PointerWord}
-use Rattle.c_tree.specs.declared.parts.PointerWord.TheVariants as pointer_words
+use Rattle.c_words.specs.declared.kinds.Keyword.{Keyword}
+use Rattle.c_words.specs.declared.kinds.Keyword.TheVariants.{Typedef as TypedefWord}
+use Rattle.c_syntax.specs.declared.parts.AsmLabel.{AsmLabel}
+use Rattle.c_syntax.specs.declared.parts.PointerWord.{PointerWord}
+use Rattle.c_syntax.specs.declared.parts.PointerWord.TheVariants as pointer_words
 use Rattle.c_tree.specs.Tree.{Expr, operation, cast, prefix, sizeof_value, sizeof_type, index, call, dot, arrow, post, name_use, number_use, char_use, text_use, paren, Operator, cond, SomeExpr, no_expr, some_expr, Exprs, no_exprs, more_exprs, SpecWords, no_words, more_words, SpecWord, struct_type, enum_type, typedef_name, attribute, SomeBody, no_body, some_body, StructItems, no_struct_items, more_struct_items, StructItem, member, member_semi, member_assert, MemDeclrs, no_mem_declrs, more_mem_declrs, MemDeclr, named, unnamed, SomeValue, no_value, some_value, EnumType, enum_of, SomeEnumBody, no_enum_body, some_enum_body, Enumerators, no_enumerators, more_enumerators, Declr, pointer, declr_name, declr_paren, array, params, abs_pointer, abs_paren, abs_array, abs_params, SomeDeclr, no_declr, some_declr, SomeSize, no_size, some_size, ArraySize, size_value, size_star, Params, no_params, more_params, no_init, some_init, InitDeclrs, no_init_declrs, more_init_declrs, declaration, Decl, decl_declaration, decl_assert}
 use Rattle.c_tree.specs.Specifiers.{storage_words}
 use Rattle.typedef_scope.specs.declared.kind.Kind.{Kind}

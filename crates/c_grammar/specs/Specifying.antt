@@ -1,13 +1,13 @@
 -- Readers of specifiers (C99, 6.7), over readers of the expressions, specifiers and declarators inside.
 use Rattle.std.specs.Prelude.{ℕ, Bool, true, false, ◌&&◌, not, List, [], ◌∷◌, Option, None, Some, Ok, Err, if◌then◌else◌}
-use Rattle.c_lexer.specs.declared.kinds.TokenKind.{TokenKind}
-use Rattle.c_lexer.specs.declared.kinds.TokenKind.TheVariants as kinds
-use Rattle.c_lexer.specs.declared.kinds.Keyword.{Keyword}
-use Rattle.c_lexer.specs.declared.kinds.Keyword.TheVariants as keywords
+use Rattle.c_words.specs.declared.kinds.TokenKind.{TokenKind}
+use Rattle.c_words.specs.declared.kinds.TokenKind.TheVariants as kinds
+use Rattle.c_words.specs.declared.kinds.Keyword.{Keyword}
+use Rattle.c_words.specs.declared.kinds.Keyword.TheVariants as keywords
 use Rattle.c_tree.specs.declared.lexeme.Lexeme.{Lexeme}
-use Rattle.c_tree.specs.declared.parts.Identifier.{Identifier}
-use Rattle.c_tree.specs.declared.parts.Word.{Word}
-use Rattle.c_tree.specs.declared.parts.Qual.TheVariants as quals
+use Rattle.c_syntax.specs.declared.parts.Identifier.{Identifier}
+use Rattle.c_syntax.specs.declared.parts.Word.{Word}
+use Rattle.c_syntax.specs.declared.parts.Qual.TheVariants as quals
 use Rattle.c_specs.specs.declared.mix.Class.{Class}
 use Rattle.c_specs.specs.declared.mix.Class.TheVariants as classes
 use Rattle.c_specs.specs.Mix.{goes_on, is_whole_mix}

@@ -2,16 +2,16 @@
 
 ghost use Rattle.std.specs.Prelude.{◌≡◌, ◌<◌, ◌≤◌, length, option_map, IfOk, IfSome, Ok};
 ghost use Rattle.c_grammar.specs.Gives.{Gives};
-ghost use Rattle.c_lexer.specs.declared.kinds.Punct.TheVariants.{CloseParen, CloseBracket, CloseBrace, Colon, Semicolon};
+ghost use Rattle.c_words.specs.declared.kinds.Punct.TheVariants.{CloseParen, CloseBracket, CloseBrace, Colon, Semicolon};
 ghost use Rattle.c_grammar.specs.Reading.{number_at};
 ghost use Rattle.c_grammar.specs.Eating.{token_at, sign, after, begins, is_open_paren, is_close_paren, is_open_bracket, is_close_bracket, is_open_brace, is_close_brace, is_colon, is_comma, is_dots, is_equal, is_semicolon, is_star, is_end, behind_end};
 ghost use Rattle.c_grammar.specs.Specifying.{name_at, tag_at, spelled_name};
 ghost use Rattle.c_grammar.specs.Expressing.{is_text};
 
 use crate::fault::{Fault, ReadError, refused};
-use c_lexer::kinds::{Punct, TokenKind};
+use c_syntax::parts::Identifier;
 use c_tree::lexeme::Lexeme;
-use c_tree::parts::Identifier;
+use c_words::kinds::{Punct, TokenKind};
 use qual_base::ids::NameId;
 
 /// Whether a token of a kind is `(`.

@@ -14,11 +14,11 @@ ghost use Rattle.c_grammar.specs.Knot.{expr_at, type_name_at, specs_at, declr_at
 
 use crate::fault::{Fault, ReadError, refused};
 use crate::kinds::{Mode, Reach, Role};
-use c_tree::declarator::{Declr, TypeName};
-use c_tree::expression::Expr;
+use c_syntax::declarator::{Declr, TypeName};
+use c_syntax::expression::Expr;
+use c_syntax::parts::Qual;
+use c_syntax::specifier::Specs;
 use c_tree::lexeme::Lexeme;
-use c_tree::parts::Qual;
-use c_tree::specifier::Specs;
 use std::alloc::Global;
 use typedef_scope::kind::Kind;
 use typedef_scope::scopes::Scopes;
@@ -115,7 +115,7 @@ pub fn named_inside<'a, D>(
     scopes: &mut Scopes,
     tokens: &'a [Lexeme],
     depth: u32,
-) -> Result<(Declr, &'a [Lexeme]), ReadError>
+) -> Result<(Box<Declr>, &'a [Lexeme]), ReadError>
 where
     D: Fn(
         Global,
@@ -126,11 +126,11 @@ where
     ) -> Result<(Option<Box<Declr>>, &'a [Lexeme]), ReadError>,
     requires declr_callable { D.IsAlwaysCallable declr.now }
     requires reads_declr { (a mode wanted s ts r after : _) → D.post declr.now a mode wanted s ts r after → Gives (λ x. ((some_declr_from x.0, after.now), x.1.now)) r (declr_at depth (mode_of mode) wanted s.now ts.now) }
-    ensures { Gives (λ x. ((declr_of x.0, scopes.new), x.1.now)) result (named_declr (declr_at depth) scopes.old tokens.now) }
+    ensures { Gives (λ x. ((declr_of x.0.value, scopes.new), x.1.now)) result (named_declr (declr_at depth) scopes.old tokens.now) }
 {
     let (found, rest) = declr_inside(declr, alloc, Mode::WithName, None, scopes, tokens, depth)?;
     match found {
-        Some(found) => Ok((Box::into_inner(found), rest)),
+        Some(found) => Ok((found, rest)),
         None => Err(refused(Fault::Unexpected, rest)),
     }
 }

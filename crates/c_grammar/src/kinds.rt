@@ -1,15 +1,15 @@
 //! What tokens are to the readers.
 
 ghost use Rattle.std.specs.Prelude.{◌≡◌, nat_lt};
-ghost use Rattle.c_lexer.specs.declared.kinds.TokenKind.TheVariants as kinds;
+ghost use Rattle.c_words.specs.declared.kinds.TokenKind.TheVariants as kinds;
 ghost use Rattle.c_tree.specs.Levels.{binary_level, is_assignment};
 ghost use Rattle.c_grammar.specs.Kinds.{start_of, closing_in, opening_in, between_in, option_reach_of};
 ghost use Rattle.c_grammar.specs.Scoping.{names_type};
 ghost use Rattle.c_grammar.specs.Specifying.{keyword_start, kind_start, typed_start, start_at, begins_specs, is_start};
 ghost use Rattle.c_grammar.specs.Expressing.{closing_of, opening_of, punct_between, between, prefix_reach};
 
-use c_lexer::kinds::{Keyword, Punct, TokenKind};
 use c_tree::lexeme::Lexeme;
+use c_words::kinds::{Keyword, Punct, TokenKind};
 use qual_base::ids::NameId;
 use typedef_scope::kind::Kind;
 use typedef_scope::scopes::Scopes;

@@ -7,9 +7,9 @@ use Rattle.qual_base.specs.Words.{meaning_of}
 use Rattle.c_lexer.specs.declared.gaps.Gap.{Gap}
 use Rattle.c_lexer.specs.declared.kinds.Word.{Word}
 use Rattle.c_lexer.specs.declared.kinds.Word.TheVariants.{Keyword as AsKeyword, Text as AsText}
-use Rattle.c_lexer.specs.declared.kinds.Punct.{Punct}
-use Rattle.c_lexer.specs.declared.kinds.TokenKind.{TokenKind}
-use Rattle.c_lexer.specs.declared.kinds.TokenKind.TheVariants.{Name, Keyword, Number, Char, Text, Punct as Sign, Qual, Index, End}
+use Rattle.c_words.specs.declared.kinds.Punct.{Punct}
+use Rattle.c_words.specs.declared.kinds.TokenKind.{TokenKind}
+use Rattle.c_words.specs.declared.kinds.TokenKind.TheVariants.{Name, Keyword, Number, Char, Text, Punct as Sign, Qual, Index, End}
 use Rattle.c_lexer.specs.declared.token.Token.{Token}
 use Rattle.c_lexer.specs.declared.places.Mark.{Mark}
 use Rattle.c_lexer.specs.declared.lex.LexFault.{LexFault}

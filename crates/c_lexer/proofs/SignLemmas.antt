@@ -4,7 +4,7 @@ use Rattle.std.specs.List.{list_all}
 use Rattle.std.proofs.lemmas.Bool.{and_parts, le-leb, leb-true, cases_lt}
 use Rattle.std.proofs.lemmas.Slice.Eq.{bytes_eq-Decides}
 use Rattle.std.proofs.lemmas.List.{length-take-le}
-use Rattle.c_lexer.specs.declared.kinds.Punct.{Punct}
+use Rattle.c_words.specs.declared.kinds.Punct.{Punct}
 use Rattle.c_lexer.specs.Words.{signs, sign_kind}
 use Rattle.c_lexer.specs.Spelling.{is_sign, is_letter, is_digit, begins_with, IsLongestOf, HasNone}
 

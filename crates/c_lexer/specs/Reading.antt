@@ -4,8 +4,8 @@ use Rattle.std.specs.List.{starts_with}
 use Rattle.qual_base.specs.Words.{meaning_of}
 use Rattle.c_lexer.specs.declared.gaps.Gap.{Gap}
 use Rattle.c_lexer.specs.declared.gaps.Gap.TheVariants.{SkippedLine}
-use Rattle.c_lexer.specs.declared.kinds.TokenKind.{TokenKind}
-use Rattle.c_lexer.specs.declared.kinds.TokenKind.TheVariants.{Name, Keyword, Number, Char, Text, Punct, Qual, Index, End}
+use Rattle.c_words.specs.declared.kinds.TokenKind.{TokenKind}
+use Rattle.c_words.specs.declared.kinds.TokenKind.TheVariants.{Name, Keyword, Number, Char, Text, Punct, Qual, Index, End}
 use Rattle.c_lexer.specs.declared.kinds.Word.TheVariants.{Keyword as AsKeyword, Text as AsText}
 use Rattle.c_lexer.specs.declared.token.Token.{Token}
 use Rattle.c_lexer.specs.declared.marks.Marker.{Marker}

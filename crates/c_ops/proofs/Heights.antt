@@ -20,10 +20,10 @@ use Rattle.c_ops.proofs.Settling.{settle-kept, settle-joins}
 use Rattle.c_ops.proofs.Lasts.{last_of-push, waits_behind-push, tree_from-ends, take_with, pushed_cases}
 
 abbrev waits_of : Rows → ℕ → Stack
-waits_of rows n = waits_at (expr_of rows.first) rows.rest n
+waits_of rows n = waits_at (expr_of rows.first.value) rows.rest n
 
 abbrev settled_of : Rows → ℕ → ℕ → Settled
-settled_of rows n level = settled_at (expr_of rows.first) rows.rest n level
+settled_of rows n level = settled_at (expr_of rows.first.value) rows.rest n level
 
 -- a row with what waits behind it
 waits_at-more : (first : Expr) (rows : List Row) (n : ℕ) (row : Row) → slice_get rows n ≡ Some row →
@@ -40,16 +40,16 @@ newest_is rows n count row k h e =
     let P : ℕ → Type 0 = λ m. IsNewest rows m row in
     subst P e (record {
       tree = l.tree;
-      waits = waits_at-more (expr_of rows.first) rows.rest n row h ∙ ap (λ (s : Stack). above s l) kept.below;
+      waits = waits_at-more (expr_of rows.first.value) rows.rest n row h ∙ ap (λ (s : Stack). above s l) kept.below;
       height = kept.height;
       fewer = omega (arith, kept.fewer);
     })
 
 -- behind all rows waits what waits behind the list
 settled_at-all : (rows : Rows) (level : ℕ) →
-    settled_of rows (length rows.rest) level ≡ settle_of level (waits_behind bottom (expr_of rows.first) (operations_of rows).rest) (last_of (expr_of rows.first) (operations_of rows).rest)
+    settled_of rows (length rows.rest) level ≡ settle_of level (waits_behind bottom (expr_of rows.first.value) (operations_of rows).rest) (last_of (expr_of rows.first.value) (operations_of rows).rest)
 settled_at-all rows level =
-    ap (λ (k : List Row). settle_of level (waits_behind bottom (expr_of rows.first) (map entry_of k)) (last_of (expr_of rows.first) (map entry_of k))) (take_all (length rows.rest) rows.rest (omega arith))
+    ap (λ (k : List Row). settle_of level (waits_behind bottom (expr_of rows.first.value) (map entry_of k)) (last_of (expr_of rows.first.value) (map entry_of k))) (take_all (length rows.rest) rows.rest (omega arith))
 
 -- what is joined before an operator of a level comes, so far: a tree behind what waits behind so many rows
 pub record IsJoining (rows : Rows) (level below height : ℕ) : Type 0 where
@@ -58,10 +58,10 @@ pub record IsJoining (rows : Rows) (level below height : ℕ) : Type 0 where
   pub same : settle_of level (waits_of rows below) tree ≡ settled_of rows (length rows.rest) level
   pub within : below ≤ length rows.rest
 
-pub joining_begins : (rows : Rows) (level height : ℕ) → height ≡ capped (expr_height (last_of (expr_of rows.first) (operations_of rows).rest)) → IsJoining rows level (length rows.rest) height
+pub joining_begins : (rows : Rows) (level height : ℕ) → height ≡ capped (expr_height (last_of (expr_of rows.first.value) (operations_of rows).rest)) → IsJoining rows level (length rows.rest) height
 joining_begins rows level height h = record {
-  tree = last_of (expr_of rows.first) (map entry_of (take (length rows.rest) rows.rest));
-  high = h ∙ ap (λ (k : List Row). capped (expr_height (last_of (expr_of rows.first) (map entry_of k)))) (sym (take_all (length rows.rest) rows.rest (omega arith)));
+  tree = last_of (expr_of rows.first.value) (map entry_of (take (length rows.rest) rows.rest));
+  high = h ∙ ap (λ (k : List Row). capped (expr_height (last_of (expr_of rows.first.value) (map entry_of k)))) (sym (take_all (length rows.rest) rows.rest (omega arith)));
   same = refl;
   within = omega arith;
 }
@@ -131,29 +131,29 @@ abbrev with_row : Rows → Row → Rows
 with_row rows row = record { first = rows.first; rest = rows.rest ++ row ∷ [] }
 
 pub operations-pushed : (rows : Rows) (row : Row) → operations_of (with_row rows row) ≡ appended (operations_of rows) (entry_of row ∷ [])
-operations-pushed rows row = ap (λ (k : List Entry). record { first = expr_of rows.first; rest = k }) (map_push entry_of rows.rest row)
+operations-pushed rows row = ap (λ (k : List Entry). record { first = expr_of rows.first.value; rest = k }) (map_push entry_of rows.rest row)
 
 pub kept-pushed : (rows : Rows) (row : Row) (joined : Joined) → AreKept rows → IsOperand (entry_of row) → IsJoined rows (operator_level (operator_of row.op)) joined →
     row.below ≡ joined.below → row.height ≡ capped (max (expr_height (settled_of rows (length rows.rest) (operator_level (operator_of row.op))).last) (operator_height (operator_of row.op))) → AreKept (with_row rows row)
 kept-pushed rows row joined k operand j below height = record {
   operands = record { first = k.operands.first; rest = rw (map_push entry_of rows.rest row) (all_operands-push (operations_of rows).rest (entry_of row) k.operands.rest operand) };
   kept = λ n other h. elim (pushed_cases rows.rest row n other h) [
-    | inl t ↦ kept-more (expr_of rows.first) rows.rest (row ∷ []) n other (omega (arith, t.1)) (k.kept n other t.0)
-    | inr t ↦ kept-more (expr_of rows.first) rows.rest (row ∷ []) n other (omega (arith, t.0)) (here n other t.0 t.1)
+    | inl t ↦ kept-more (expr_of rows.first.value) rows.rest (row ∷ []) n other (omega (arith, t.1)) (k.kept n other t.0)
+    | inr t ↦ kept-more (expr_of rows.first.value) rows.rest (row ∷ []) n other (omega (arith, t.0)) (here n other t.0 t.1)
   ];
 }
   where
-    kept_here : IsKept (expr_of rows.first) rows.rest (length rows.rest) row
+    kept_here : IsKept (expr_of rows.first.value) rows.rest (length rows.rest) row
     kept_here = record {
       height = height;
       below = j.below ∙ ap (λ (m : ℕ). waits_of rows m) (sym below);
       fewer = omega (arith, below, j.within);
     }
 
-    here : (n : ℕ) (other : Row) → n ≡ length rows.rest → row ≡ other → IsKept (expr_of rows.first) rows.rest n other
+    here : (n : ℕ) (other : Row) → n ≡ length rows.rest → row ≡ other → IsKept (expr_of rows.first.value) rows.rest n other
     here n other e f =
-        let P : ℕ → Type 0 = λ m. IsKept (expr_of rows.first) rows.rest m other in
-        let Q : Row → Type 0 = λ r. IsKept (expr_of rows.first) rows.rest (length rows.rest) r in
+        let P : ℕ → Type 0 = λ m. IsKept (expr_of rows.first.value) rows.rest m other in
+        let Q : Row → Type 0 = λ r. IsKept (expr_of rows.first.value) rows.rest (length rows.rest) r in
         subst P (sym e) (subst Q f kept_here)
 
 pub least_height_is : (rows : Rows) (op : _) (joined : Joined) (height whole : ℕ) → IsJoined rows (operator_level op) joined →

@@ -65,7 +65,7 @@ module _ {A : Type 0} where
 pub last_entry : (rows : List Row) (row : Row) → slice_get rows (length rows - 1) ≡ Some row → map entry_of rows ≡ map entry_of (take (length rows - 1) rows) ++ entry_of row ∷ []
 last_entry rows row h = ap (map entry_of) (with_last rows row h) ∙ map_push entry_of (take (length rows - 1) rows) row
 
-pub last_operand : (first : Expr) (rows : List Row) (row : Row) → slice_get rows (length rows - 1) ≡ Some row → expr_of row.operand ≡ last_of first (map entry_of rows)
+pub last_operand : (first : Expr) (rows : List Row) (row : Row) → slice_get rows (length rows - 1) ≡ Some row → expr_of row.operand.value ≡ last_of first (map entry_of rows)
 last_operand first rows row h = sym (ap (last_of first) (last_entry rows row h) ∙ last_of-push first (map entry_of (take (length rows - 1) rows)) (entry_of row))
 
 pub last_operator : (before : Option Operator) (rows : List Row) (row : Row) → slice_get rows (length rows - 1) ≡ Some row → Some (operator_of row.op) ≡ operator_before before (map entry_of rows)

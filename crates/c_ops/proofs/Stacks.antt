@@ -48,7 +48,7 @@ operator_taken ws vs w is h =
     subst Q (stack_of-push vs w) (subst P is h)
 
 pub settling_goes_on : (level : ℕ) (before : Stack) (e : Expr) (ws vs : List Waiting) (w : Waiting) (f g : Expr) → IsSettling level before e (stack_of ws) f →
-    ws ≡ vs ++ w ∷ [] → level < right_level (operator_of w.op) → g ≡ operation (expr_of w.tree) (operator_of w.op) w.token f → IsSettling level before e (stack_of vs) g
+    ws ≡ vs ++ w ∷ [] → level < right_level (operator_of w.op) → g ≡ operation (expr_of w.tree.value) (operator_of w.op) w.token f → IsSettling level before e (stack_of vs) g
 settling_goes_on level before e ws vs w f g h is lt made = record {
   same =
       ap (settle_of level (stack_of vs)) made
@@ -70,11 +70,11 @@ pub record IsBuilding (list : Operations) (s : Stack) (e : Expr) (rows : List Ro
 pub building_operators : (list : Operations) (s : Stack) (e : Expr) (rows : List Row) → IsBuilding list s e rows → AreOperators s
 building_operators list s e rows b = stack_operators s b.progress.good
 
-pub building_begins : (rows : Rows) → AreOperands (operations_of rows) → IsBuilding (operations_of rows) bottom (expr_of rows.first) rows.rest
+pub building_begins : (rows : Rows) → AreOperands (operations_of rows) → IsBuilding (operations_of rows) bottom (expr_of rows.first.value) rows.rest
 building_begins rows h = record { progress = begins (operations_of rows) h.first; operands = h.rest; tree = refl }
 
 pub building_goes_on : (list : Operations) (s : Stack) (e : Expr) (row : Row) (rows : List Row) (t : Stack) (f : Expr) → IsBuilding list s e (row ∷ rows) →
-    f ≡ expr_of row.operand → t ≡ waits_after (entry_of row) (settle_of (operator_level (operator_of row.op)) s e) →
+    f ≡ expr_of row.operand.value → t ≡ waits_after (entry_of row) (settle_of (operator_level (operator_of row.op)) s e) →
     is_untargeted (operator_of row.op) (settle_of (operator_level (operator_of row.op)) s e).last ≡ false → IsBuilding list t f rows
 building_goes_on list s e row rows t f b last waits targeted =
     let x = entry_of row in

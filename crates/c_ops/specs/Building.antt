@@ -1,9 +1,10 @@
 -- What is answered of a list, and the steps to it.
-use Rattle.std.specs.Prelude.{◌≡◌, ℕ, ◌<◌, true, false, List, [], ◌∷◌, ◌++◌, Option, None, Some, Result, Ok, Err}
+use Rattle.std.specs.Prelude.{◌≡◌, ℕ, ◌<◌, true, false, List, [], ◌∷◌, ◌++◌, Option, None, Some, Result, Ok, Err, Box}
+use Rattle.std.specs.Global.{Global}
 use Rattle.c_tree.specs.Tree.{Expr}
 use Rattle.c_tree.specs.View.{expr_of}
 use Rattle.c_tree.specs.Levels.{operator_level, right_level}
-use Rattle.c_tree.specs.declared.expression.Expr as rust_expr
+use Rattle.c_syntax.specs.declared.expression.Expr as rust_expr
 use Rattle.c_ops.specs.declared.building.OpsFault.{OpsFault}
 use Rattle.c_ops.specs.declared.building.OpsFault.TheVariants.{BadTarget, NoMemory}
 use Rattle.c_ops.specs.declared.waiting.Waiting.{Waiting}
@@ -14,7 +15,7 @@ use Rattle.c_ops.specs.Trees.{waits_after}
 
 -- a left operand that waits
 abbrev pub left_of : Waiting → Left
-left_of w = record { tree = expr_of w.tree; operator = operator_of w.op; token = w.token }
+left_of w = record { tree = expr_of w.tree.value; operator = operator_of w.op; token = w.token }
 
 -- those that wait, the newest last
 abbrev pub stack_from : Stack → List Waiting → Stack
@@ -35,7 +36,7 @@ IsFaultOf list (BadTarget token) = bad_target list ≡ Some token
 IsFaultOf list NoMemory = Unit {0}
 
 -- an operator joins what it ends, and waits with that for its right operand
-abbrev pub IsStep : Stack → Expr → Entry → Result rust_expr.Expr OpsFault → Stack → Type 0
-IsStep s e x (Ok last) t = (expr_of last ≡ x.operand) × (t ≡ waits_after x (settle_of (operator_level x.operator) s e)) × (is_untargeted x.operator (settle_of (operator_level x.operator) s e).last ≡ false)
+abbrev pub IsStep : Stack → Expr → Entry → Result (Box rust_expr.Expr Global) OpsFault → Stack → Type 0
+IsStep s e x (Ok last) t = (expr_of last.value ≡ x.operand) × (t ≡ waits_after x (settle_of (operator_level x.operator) s e)) × (is_untargeted x.operator (settle_of (operator_level x.operator) s e).last ≡ false)
 IsStep s e x (Err (BadTarget token)) t = (token ≡ x.token) × (is_untargeted x.operator (settle_of (operator_level x.operator) s e).last ≡ true)
 IsStep s e x (Err NoMemory) t = Unit {0}

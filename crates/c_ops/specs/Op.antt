@@ -1,7 +1,7 @@
 -- The operator of a value of the program.
 use Rattle.std.specs.Prelude.{Option, None, Some, Box}
 use Rattle.std.specs.Global.{Global}
-use Rattle.c_tree.specs.declared.expression.Expr as rust_expr
+use Rattle.c_syntax.specs.declared.expression.Expr as rust_expr
 use Rattle.c_tree.specs.Tree.{SomeExpr, no_expr, some_expr, Operator, comma, assign, cond, binary}
 use Rattle.c_tree.specs.View.{expr_of}
 use Rattle.c_ops.specs.declared.op.Op.{Op}

@@ -35,7 +35,7 @@ pub record IsKept (first : Expr) (rows : List Row) (n : ℕ) (row : Row) : Type 
 
 pub record AreKept (rows : Rows) : Type 0 where
   pub operands : AreOperands (operations_of rows)
-  pub kept : (n : ℕ) (row : Row) → slice_get rows.rest n ≡ Some row → IsKept (expr_of rows.first) rows.rest n row
+  pub kept : (n : ℕ) (row : Row) → slice_get rows.rest n ≡ Some row → IsKept (expr_of rows.first.value) rows.rest n row
 
 -- the height of the tree where an operator and an operand of one node come next
 abbrev pub IsLeastHeight : Operations → Operator → ℕ → Type 0
@@ -45,17 +45,17 @@ IsLeastHeight list op height = (token : ℕ) (leaf : Expr) → expr_height leaf 
 -- the last of the first so many rows is the newest that waits behind them
 pub record IsNewest (rows : Rows) (n : ℕ) (row : Row) : Type 0 where
   pub tree : Expr
-  pub waits : waits_at (expr_of rows.first) rows.rest n ≡ above (waits_at (expr_of rows.first) rows.rest row.below) (record { tree = tree; operator = operator_of row.op; token = row.token })
+  pub waits : waits_at (expr_of rows.first.value) rows.rest n ≡ above (waits_at (expr_of rows.first.value) rows.rest row.below) (record { tree = tree; operator = operator_of row.op; token = row.token })
   pub height : row.height ≡ capped (max (expr_height tree) (operator_height (operator_of row.op)))
   pub fewer : row.below < n
 
 -- the newest, where its right operand ends before an operator of a level
 abbrev pub IsEnded : Rows → ℕ → ℕ → Option Row → Type 0
-IsEnded rows n level None = Accepts (waits_at (expr_of rows.first) rows.rest n) level
+IsEnded rows n level None = Accepts (waits_at (expr_of rows.first.value) rows.rest n) level
 IsEnded rows n level (Some row) = IsNewest rows n row × (level < right_level (operator_of row.op))
 
 -- what is joined before an operator of a level comes behind all rows: its height, and behind how many rows the rest waits
 pub record IsJoined (rows : Rows) (level : ℕ) (joined : Joined) : Type 0 where
-  pub height : joined.height ≡ capped (expr_height (settled_at (expr_of rows.first) rows.rest (length rows.rest) level).last)
-  pub below : (settled_at (expr_of rows.first) rows.rest (length rows.rest) level).below ≡ waits_at (expr_of rows.first) rows.rest joined.below
+  pub height : joined.height ≡ capped (expr_height (settled_at (expr_of rows.first.value) rows.rest (length rows.rest) level).last)
+  pub below : (settled_at (expr_of rows.first.value) rows.rest (length rows.rest) level).below ≡ waits_at (expr_of rows.first.value) rows.rest joined.below
   pub within : joined.below ≤ length rows.rest

@@ -14,7 +14,7 @@ use crate::list::OpList;
 use crate::row::Row;
 use crate::target::is_untargeted;
 use crate::waiting::{Waiting, settle};
-use c_tree::expression::Expr;
+use c_syntax::expression::Expr;
 use qual_base::faults::NoMemory;
 use qual_base::ids::TokenId;
 use std::alloc::Global;
@@ -29,10 +29,15 @@ pub enum OpsFault {
 }
 
 /// Reads an operator and the operand behind it: answers the operand, with what waits for it.
-fn step(alloc: Global, waiting: &mut Vec<Waiting>, last: Expr, next: Row) -> Result<Expr, OpsFault>
+fn step(
+    alloc: Global,
+    waiting: &mut Vec<Waiting>,
+    last: Box<Expr>,
+    next: Row,
+) -> Result<Box<Expr>, OpsFault>
     requires operators { AreOperators (stack_of waiting.old.items) }
     requires operator { IsOperator (operator_of next.op) }
-    ensures { IsStep (stack_of waiting.old.items) (expr_of last) (entry_of next) result (stack_of waiting.new.items) }
+    ensures { IsStep (stack_of waiting.old.items) (expr_of last.value) (entry_of next) result (stack_of waiting.new.items) }
 {
     let Row {
         token,
@@ -56,8 +61,8 @@ fn step(alloc: Global, waiting: &mut Vec<Waiting>, last: Expr, next: Row) -> Res
 ///
 /// Linear in the operators, each of which is joined with its operands once. Answers `BadTarget` with the first assignment
 /// operator whose left side, what stands since the last comma or assignment, is not one unary form.
-pub fn build_ops(alloc: Global, flat: OpList) -> Result<Expr, OpsFault>
-    ensures tree { IfOk result (λ e. (bad_target (operations_of flat) ≡ None) × (expr_of e ≡ the_tree (operations_of flat)) × IsTheTreeOf (operations_of flat) (expr_of e)) }
+pub fn build_ops(alloc: Global, flat: OpList) -> Result<Box<Expr>, OpsFault>
+    ensures tree { IfOk result (λ e. (bad_target (operations_of flat) ≡ None) × (expr_of e.value ≡ the_tree (operations_of flat)) × IsTheTreeOf (operations_of flat) (expr_of e.value)) }
     ensures target { IfErr result (IsFaultOf (operations_of flat)) }
 {
     let OpList { first, rows } = flat;

@@ -7,8 +7,8 @@ ghost use Rattle.c_tree.specs.Levels.{binary_level, IsOperator};
 ghost use Rattle.c_ops.specs.Op.{operator_of, some_expr_in};
 
 use crate::op::{Op, level_of_binary};
-use c_lexer::kinds::Punct;
-use c_tree::expression::Expr;
+use c_syntax::expression::Expr;
+use c_words::kinds::Punct;
 use qual_base::ids::TokenId;
 
 /// `&&` or `||` with its operands.

@@ -8,6 +8,4 @@ pub mod list;
 pub mod op;
 mod row;
 mod target;
-#[cfg(test)]
-mod tests;
 mod waiting;

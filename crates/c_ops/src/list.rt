@@ -15,7 +15,8 @@ ghost use Rattle.c_ops.specs.Waits.{waits_at, IsNewest, IsEnded, IsJoined, IsLea
 use crate::op::Op;
 use crate::row::{Joined, Row, above_both, greater};
 use crate::target::is_unary;
-use c_tree::expression::Expr;
+use c_height::of_expr;
+use c_syntax::expression::Expr;
 use qual_base::faults::NoMemory;
 use qual_base::ids::TokenId;
 use std::alloc::Global;
@@ -27,13 +28,13 @@ use std::marker::Model;
 /// is linear in the operators.
 #[derive(Drop)]
 pub struct OpList {
-    pub(crate) first: Expr,
+    pub(crate) first: Box<Expr>,
     pub(crate) rows: Vec<Row>,
 }
 
 impl Model for OpList {
     ghost use Rattle.std.specs.Coded.{codes};
-    ghost use Rattle.c_tree.specs.contracts.expression.Expr as e;
+    ghost use Rattle.c_syntax.specs.contracts.expression.Expr as e;
     ghost use Rattle.c_ops.specs.Rows.{Rows};
     ghost use Rattle.c_ops.specs.Waits.{AreKept};
 
@@ -48,9 +49,9 @@ impl Model for OpList {
 
 impl OpList {
     /// A list of one operand. Takes no memory.
-    pub fn new(alloc: Global, first: Expr) -> Self
-        requires { 13 ≤ expr_level (expr_of first) }
-        ensures { operations_of result ≡ record { first = expr_of first; rest = [] } }
+    pub fn new(alloc: Global, first: Box<Expr>) -> Self
+        requires { 13 ≤ expr_level (expr_of first.value) }
+        ensures { operations_of result ≡ record { first = expr_of first.value; rest = [] } }
     {
         OpList {
             first,
@@ -66,8 +67,8 @@ impl OpList {
     }
 
     /// The last operand.
-    fn last(&self) -> &Expr
-        ensures { expr_of result.now ≡ last_of (operations_of self.now).first (operations_of self.now).rest }
+    fn last(&self) -> &Box<Expr>
+        ensures { expr_of result.now.value ≡ last_of (operations_of self.now).first (operations_of self.now).rest }
     {
         match self.rows.last() {
             Some(row) => &row.operand,
@@ -122,7 +123,7 @@ impl OpList {
     fn joined(&self, level: u8) -> Joined
         ensures { IsJoined self.now level result }
     {
-        let mut height = self.last().height();
+        let mut height = of_expr(self.last());
         let mut below = self.len();
         while let Some(row) = self.ended(below, level) {
             height = above_both(row.height, height);
@@ -134,7 +135,7 @@ impl OpList {
     /// The height of the tree where a last expression of a height ends what waits behind the first so many rows.
     fn whole(&self, count: usize, last: u32) -> u32
         requires { count ≤ length self.now.rest }
-        ensures { (e : _) → last ≡ capped (expr_height e) → result ≡ capped (expr_height (finished (waits_at (expr_of self.now.first) self.now.rest count) e)) }
+        ensures { (e : _) → last ≡ capped (expr_height e) → result ≡ capped (expr_height (finished (waits_at (expr_of self.now.first.value) self.now.rest count) e)) }
     {
         let mut height = last;
         let mut below = count;
@@ -161,10 +162,15 @@ impl OpList {
     ///
     /// Where memory is wanting the operand comes back and the list is as before. Amortised time linear in what is joined
     /// before the operator and in the nodes of the last operand and of the operator's middle.
-    pub fn push(&mut self, token: TokenId, op: Op, operand: Expr) -> Result<(), (Expr, NoMemory)>
+    pub fn push(
+        &mut self,
+        token: TokenId,
+        op: Op,
+        operand: Box<Expr>,
+    ) -> Result<(), (Box<Expr>, NoMemory)>
         requires operator { IsOperator (operator_of op) }
-        requires operand { 13 ≤ expr_level (expr_of operand) }
-        ensures pushed { OnOk result (operations_of self.new ≡ appended (operations_of self.old) (record { operator = operator_of op; token = token; operand = expr_of operand } ∷ [])) }
+        requires operand { 13 ≤ expr_level (expr_of operand.value) }
+        ensures pushed { OnOk result (operations_of self.new ≡ appended (operations_of self.old) (record { operator = operator_of op; token = token; operand = expr_of operand.value } ∷ [])) }
         ensures err { OnErr result (self.new ≡ self.old) }
         ensures back { IfErr result (λ e. e.0 ≡ operand) }
     {

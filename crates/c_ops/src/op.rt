@@ -7,8 +7,9 @@ ghost use Rattle.c_tree.specs.Capped.{capped};
 ghost use Rattle.c_ops.specs.Op.{operator_of};
 ghost use Rattle.c_ops.specs.Operations.{begins_side};
 
-use c_lexer::kinds::Punct;
-use c_tree::expression::Expr;
+use c_height::of_expr;
+use c_syntax::expression::Expr;
+use c_words::kinds::Punct;
 use qual_base::ids::TokenId;
 
 /// An operator between two operands.
@@ -27,7 +28,7 @@ pub enum Op {
 }
 
 /// The level of a binary operator, from 1 to 10, the loosest first; 0 for other signs.
-pub(crate) fn level_of_binary(sign: Punct) -> u8
+pub fn level_of_binary(sign: Punct) -> u8
     ensures { result ≡ binary_level sign }
 {
     match sign {
@@ -89,7 +90,7 @@ impl Op {
             Op::Cond {
                 middle: Some(middle),
                 ..
-            } => middle.height(),
+            } => of_expr(middle),
             Op::Cond { middle: None, .. } => 0,
             Op::Binary(_) | Op::Assign(_) | Op::Comma => 0,
         }

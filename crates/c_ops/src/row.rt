@@ -4,7 +4,7 @@ ghost use Rattle.std.specs.Prelude.{◌≡◌, ℕ, ◌+◌, max};
 ghost use Rattle.c_tree.specs.Capped.{capped};
 
 use crate::op::Op;
-use c_tree::expression::Expr;
+use c_syntax::expression::Expr;
 use qual_base::ids::TokenId;
 
 /// An operator with the operand behind it.
@@ -12,7 +12,7 @@ use qual_base::ids::TokenId;
 pub(crate) struct Row {
     pub(crate) token: TokenId,
     pub(crate) op: Op,
-    pub(crate) operand: Expr,
+    pub(crate) operand: Box<Expr>,
     /// The height of what the operator has on its left and in its middle.
     pub(crate) height: u32,
     /// Behind how many rows the rest waits, when the operator has joined what it ends.

@@ -7,7 +7,7 @@ ghost use Rattle.c_ops.specs.Op.{operator_of};
 ghost use Rattle.c_ops.specs.Operations.{is_assign, is_untargeted};
 
 use crate::op::Op;
-use c_tree::expression::Expr;
+use c_syntax::expression::Expr;
 
 /// Whether an expression is a unary form (C99, 6.5.3): no operator between operands, and no cast.
 pub(crate) fn is_unary(e: &Expr) -> bool
@@ -35,8 +35,8 @@ pub(crate) fn is_unary(e: &Expr) -> bool
 }
 
 /// Whether an operator assigns to what is no unary form.
-pub(crate) fn is_untargeted(op: &Op, left: &Expr) -> bool
-    ensures { result ≡ is_untargeted (operator_of op.now) (expr_of left.now) }
+pub(crate) fn is_untargeted(op: &Op, left: &Box<Expr>) -> bool
+    ensures { result ≡ is_untargeted (operator_of op.now) (expr_of left.now.value) }
 {
     match op {
         Op::Assign(_) => !is_unary(left),

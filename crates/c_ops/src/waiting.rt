@@ -10,7 +10,7 @@ ghost use Rattle.c_ops.specs.Building.{stack_of, IsTaken};
 
 use crate::joining::operated;
 use crate::op::Op;
-use c_tree::expression::Expr;
+use c_syntax::expression::Expr;
 use qual_base::faults::NoMemory;
 use qual_base::ids::TokenId;
 use std::alloc::Global;
@@ -18,20 +18,21 @@ use std::alloc::Global;
 /// A left operand with its operator.
 #[derive(Drop)]
 pub(crate) struct Waiting {
-    pub(crate) tree: Expr,
+    pub(crate) tree: Box<Expr>,
     pub(crate) op: Op,
     pub(crate) token: TokenId,
 }
 
 /// The operator with both its operands.
-fn join(alloc: Global, left: Waiting, right: Expr) -> Result<Expr, NoMemory>
+fn join(alloc: Global, left: Waiting, right: Box<Expr>) -> Result<Box<Expr>, NoMemory>
     requires { IsOperator (operator_of left.op) }
-    ensures { IfOk result (λ e. expr_of e ≡ operation (expr_of left.tree) (operator_of left.op) left.token (expr_of right)) }
+    ensures { IfOk result (λ e. expr_of e.value ≡ operation (expr_of left.tree.value) (operator_of left.op) left.token (expr_of right.value)) }
 {
     let Waiting { tree, op, token } = left;
-    let left = Box::new(alloc, tree)?;
-    let right = Box::new(alloc, right)?;
-    Ok(operated(left, token, op, right))
+    match Box::new(alloc, operated(tree, token, op, right)) {
+        Ok(tree) => Ok(tree),
+        Err(_) => Err(NoMemory),
+    }
 }
 
 /// Takes the newest, where its right operand ends before an operator of a level.
@@ -52,11 +53,11 @@ fn take_ended(waiting: &mut Vec<Waiting>, level: u8) -> Option<Waiting>
 pub(crate) fn settle(
     alloc: Global,
     waiting: &mut Vec<Waiting>,
-    last: Expr,
+    last: Box<Expr>,
     level: u8,
-) -> Result<Expr, NoMemory>
+) -> Result<Box<Expr>, NoMemory>
     requires { AreOperators (stack_of waiting.old.items) }
-    ensures { IfOk result (λ e. record { below = stack_of waiting.new.items; last = expr_of e } ≡ settle_of level (stack_of waiting.old.items) (expr_of last)) }
+    ensures { IfOk result (λ e. record { below = stack_of waiting.new.items; last = expr_of e.value } ≡ settle_of level (stack_of waiting.old.items) (expr_of last.value)) }
 {
     let mut last = last;
     while let Some(left) = take_ended(waiting, level) {

@@ -1,7 +1,7 @@
 -- Whether `typedef` stands among words, word by word.
 use Rattle.std.proofs.Common.{◌≡◌, ℕ, suc, ◌<◌, Bool, true, false, List, length, get_or, drop, refl, ap, ◌∙◌, drop-cons}
 use Rattle.std.specs.Prelude.{if◌then◌else◌}
-use Rattle.c_tree.specs.declared.specifier.SpecWord as rust_spec_word
+use Rattle.c_syntax.specs.declared.specifier.SpecWord as rust_spec_word
 use Rattle.c_tree.specs.Specifiers.{storage_words}
 use Rattle.c_tree.specs.Tree.{SpecWords, more_words, SpecWord, storage}
 use Rattle.c_tree.specs.Unit.{spec_words_from}

@@ -1,13 +1,14 @@
 //! Declarations and the items of a unit (C99, 6.7 and 6.9).
 
-ghost use Rattle.std.specs.Prelude.{◌≡◌, List, [], ◌∷◌, ◌++◌, map, option_map};
-ghost use Rattle.c_tree.specs.declared.declaration.InitDeclr.{InitDeclr};
-ghost use Rattle.c_tree.specs.declared.parts.Listed.{Listed};
+ghost use Rattle.std.specs.Prelude.{◌≡◌, List, [], ◌∷◌, ◌++◌, map, option_map, IfOk};
+ghost use Rattle.c_syntax.specs.declared.declaration.InitDeclr.{InitDeclr};
+ghost use Rattle.c_syntax.specs.declared.parts.Listed.{Listed};
 ghost use Rattle.c_tree.specs.Specifiers.{storage_words};
 ghost use Rattle.c_tree.specs.View.{spec_word_of};
 ghost use Rattle.c_tree.specs.Lists.{some_declr_from, init_declrs_from};
 ghost use Rattle.c_tree.specs.View.{declr_of, declaration_of};
-ghost use Rattle.c_tree.specs.Unit.{spec_words_from, item_of};
+ghost use Rattle.c_tree.specs.Tree.{decl_declaration};
+ghost use Rattle.c_tree.specs.Unit.{spec_words_from, item_of, decl_item};
 ghost use Rattle.c_grammar.specs.Declaring.{spec_words_of_quals};
 ghost use Rattle.c_grammar.specs.Gives.{Gives, TurnGives};
 ghost use Rattle.c_grammar.specs.Kinds.{role_of, mode_of};
@@ -23,14 +24,15 @@ use c_grammar::fault::{Fault, ReadError, number_at, refused};
 use c_grammar::inside::{declr_inside, specs_inside};
 use c_grammar::kinds::{Mode, Role};
 use c_grammar::laws::loops_step;
-use c_lexer::kinds::Keyword;
-use c_tree::declaration::{Decl, Declaration, InitDeclr, Item};
-use c_tree::declarator::Declr;
+use c_syntax::declaration::{Decl, Declaration, InitDeclr, Item};
+use c_syntax::declarator::Declr;
+use c_syntax::parts::{Listed, Qual, Semi};
+use c_syntax::specifier::{SpecWord, Specs};
 use c_tree::lexeme::Lexeme;
 use c_tree::making;
-use c_tree::parts::{Listed, Qual, Semi};
-use c_tree::specifier::{SpecWord, Specs};
+use c_words::kinds::Keyword;
 use declr_reader::parameters::declare_named;
+use qual_base::faults::NoMemory;
 use std::alloc::Global;
 use typedef_scope::kind::Kind;
 use typedef_scope::scopes::Scopes;
@@ -81,8 +83,8 @@ fn declared_kind(specs: &Specs) -> Kind
 
 /// A declarator of a declaration of today's grammar.
 #[tactic(auto, using(crate::proofs::Pushing::init_declrs_pushed))]
-fn listed(alloc: Global, declr: Declr) -> Listed<InitDeclr>
-    ensures { (ds : List (Listed InitDeclr)) → init_declrs_from (ds ++ result ∷ []) ≡ with_init_declr (init_declrs_from ds) (declr_of declr) }
+fn listed(alloc: Global, declr: Box<Declr>) -> Listed<InitDeclr>
+    ensures { (ds : List (Listed InitDeclr)) → init_declrs_from (ds ++ result ∷ []) ≡ with_init_declr (init_declrs_from ds) (declr_of declr.value) }
 {
     Listed {
         attrs: Vec::new(alloc),
@@ -124,7 +126,7 @@ where
         return Err(refused(Fault::Unexpected, rest));
     };
     declare_named(&found, kind, scopes)?;
-    declrs.push(listed(alloc, Box::into_inner(found)))?;
+    declrs.push(listed(alloc, found))?;
     Ok(rest)
 }
 
@@ -263,6 +265,15 @@ where
     ))
 }
 
+/// A declaration as an item.
+fn declared(alloc: Global, found: Declaration) -> Result<Item, NoMemory>
+    ensures { IfOk result (λ item. item_of item ≡ decl_item (decl_declaration (declaration_of found))) }
+{
+    let found = Box::new(alloc, found)?;
+    let found = Box::new(alloc, Decl::Declaration(found))?;
+    Ok(Item::Decl(found))
+}
+
 /// A declaration, or a semicolon alone.
 #[tactic(auto, unfolding(c_grammar::specs::Items::item_with))]
 fn item<'a, S, D>(
@@ -301,7 +312,7 @@ where
         }
         _ => {
             let (found, rest) = declaration(specs, declr, alloc, scopes, tokens, depth)?;
-            Ok((Item::Decl(Decl::Declaration(found)), rest))
+            Ok((declared(alloc, found)?, rest))
         }
     }
 }

@@ -13,11 +13,11 @@ ghost use Rattle.c_grammar.specs.Knot.{expr_at, type_name_at, specs_at, declr_at
 use c_grammar::fault::{Fault, ReadError, number_at, refused};
 use c_grammar::inside::type_name;
 use c_grammar::kinds::{Mode, Reach, Role};
-use c_tree::declarator::{Declr, TypeName};
-use c_tree::expression::Expr;
+use c_syntax::declarator::{Declr, TypeName};
+use c_syntax::expression::Expr;
+use c_syntax::parts::Qual;
+use c_syntax::specifier::Specs;
 use c_tree::lexeme::Lexeme;
-use c_tree::parts::Qual;
-use c_tree::specifier::Specs;
 use declr_reader::declarators::declarator;
 use expr_reader::operations::expression;
 use specs_reader::words::specifiers;

@@ -4,9 +4,3 @@
 mod items;
 mod knot;
 pub mod parsing;
-#[cfg(test)]
-mod shown;
-#[cfg(test)]
-mod sources;
-#[cfg(test)]
-mod tests;

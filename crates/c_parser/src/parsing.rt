@@ -18,10 +18,11 @@ use c_grammar::eating::end;
 use c_grammar::fault::{Fault, ReadError, number_at, refused};
 use c_grammar::kinds::{Mode, Role};
 use c_grammar::laws::{unit_is_well_formed, well_formed_is_read};
+use c_height::of_unit;
 use c_lexer::tokens::Tokens;
-use c_tree::declaration::Unit;
+use c_syntax::declaration::Unit;
+use c_syntax::parts::Qual;
 use c_tree::lexeme::Lexeme;
-use c_tree::parts::Qual;
 use qual_base::faults::NoMemory;
 use qual_base::ids::{Numbered, TokenId};
 use std::alloc::Global;
@@ -81,7 +82,7 @@ fn alone(found: Unit, tokens: &[Lexeme]) -> Result<(Unit, &[Lexeme]), ReadError>
     if !rest.is_empty() {
         return Err(refused(Fault::Unexpected, rest));
     }
-    if found.height() > MOST {
+    if of_unit(&found) > MOST {
         return Err(refused(Fault::TooDeep, tokens));
     }
     Ok((found, tokens))

@@ -2,8 +2,8 @@
 use Rattle.std.proofs.Common.{arith, ◌≡◌, ℕ, ◌+◌, ◌≤◌, nat_eq, Bool, true, false, List, [], ◌∷◌, ◌++◌, length, Option, Some, None, MatchOption, inl, inr, refl, sym, ◌∙◌, ap, subst, if◌then◌else◌}
 use Rattle.std.specs.Prelude.{IsPermutation}
 use Rattle.std.proofs.lemmas.List.Sorted.{sum_by-IsPermutation, IsPermutation-push_more, IsPermutation-refl, IsPermutation-insert, IsPermutation-middle, IsPermutation-append_right, IsPermutation-trans, IsPermutation-sym}
-use Rattle.c_lexer.specs.declared.kinds.Keyword.{Keyword}
-use Rattle.c_lexer.specs.declared.kinds.Keyword.TheVariants as words
+use Rattle.c_words.specs.declared.kinds.Keyword.{Keyword}
+use Rattle.c_words.specs.declared.kinds.Keyword.TheVariants as words
 use Rattle.c_tree.specs.Specifiers.{basic_types}
 use Rattle.c_specs.specs.declared.basic.Base.{Base}
 use Rattle.c_specs.specs.declared.basic.Mark.{Mark}

@@ -1,6 +1,6 @@
 -- Words that are read begin a mix.
 use Rattle.std.proofs.Common.{◌≡◌, true, refl, sym, ap, subst}
-use Rattle.c_lexer.specs.declared.kinds.Keyword.TheVariants as words
+use Rattle.c_words.specs.declared.kinds.Keyword.TheVariants as words
 use Rattle.c_tree.specs.Tree.{SpecWords, no_words, more_words, SpecWord, basic}
 use Rattle.c_tree.specs.Specifiers.{IsMix}
 use Rattle.c_specs.specs.declared.basic.Base.TheVariants as bases

@@ -1,6 +1,6 @@
 -- Numbers for the words of types and of storage.
 use Rattle.std.proofs.Common.{ℕ}
-use Rattle.c_lexer.specs.declared.kinds.Keyword.{Keyword}
+use Rattle.c_words.specs.declared.kinds.Keyword.{Keyword}
 use Rattle.c_specs.specs.declared.basic.Mark.TheVariants as marks
 use Rattle.c_specs.specs.declared.basic.Core.TheVariants as cores
 use Rattle.c_specs.specs.declared.basic.Part.{Part}

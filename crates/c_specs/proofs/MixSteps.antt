@@ -3,8 +3,8 @@ use Rattle.std.proofs.Common.{arith, ◌≡◌, ℕ, ◌+◌, ◌≤◌, List, [
 use Rattle.std.specs.Prelude.{Any, IsPermutation}
 use Rattle.std.proofs.lemmas.List.{append-nil}
 use Rattle.std.proofs.lemmas.List.Sorted.{length_permutation}
-use Rattle.c_lexer.specs.declared.kinds.Keyword.{Keyword}
-use Rattle.c_lexer.specs.declared.kinds.Keyword.TheVariants as words
+use Rattle.c_words.specs.declared.kinds.Keyword.{Keyword}
+use Rattle.c_words.specs.declared.kinds.Keyword.TheVariants as words
 use Rattle.c_tree.specs.Tree.{SpecWords, no_words, more_words, SpecWord, storage, thread, inline_word, noreturn, qualifier, basic, struct_type, enum_type, typedef_name, attribute}
 use Rattle.c_tree.specs.Specifiers.{type_words, type_count, storage_words, storages}
 use Rattle.c_specs.specs.declared.basic.Base.{Base}

@@ -2,8 +2,8 @@
 use Rattle.std.proofs.Common.{arith, ◌≡◌, ℕ, ◌+◌, nat_eq, false, List, [], ◌∷◌, ◌++◌, Option, Some, None, MatchOption, refl, sym, ◌∙◌, ap, subst, if◌then◌else◌}
 use Rattle.std.specs.Prelude.{Any, IsPermutation}
 use Rattle.std.proofs.lemmas.List.Sorted.{sum_by-IsPermutation, IsPermutation-push_more, IsPermutation-insert}
-use Rattle.c_lexer.specs.declared.kinds.Keyword.{Keyword}
-use Rattle.c_lexer.specs.declared.kinds.Keyword.TheVariants as words
+use Rattle.c_words.specs.declared.kinds.Keyword.{Keyword}
+use Rattle.c_words.specs.declared.kinds.Keyword.TheVariants as words
 use Rattle.c_tree.specs.Specifiers.{storages}
 use Rattle.c_specs.specs.declared.storage.Storage.{Storage}
 use Rattle.c_specs.specs.declared.storage.Storage.TheVariants.{Nothing, Typedef, Extern, Static, Auto, Register, Thread, ThreadStatic, ThreadExtern}

@@ -2,7 +2,7 @@
 use Rattle.std.proofs.Common.{arith, ◌≡◌, ℕ, ◌+◌, ◌≤◌, Bool, true, false, List, length, Some, refl}
 use Rattle.std.specs.Prelude.{IsPermutation}
 use Rattle.std.proofs.lemmas.List.Sorted.{length_permutation}
-use Rattle.c_lexer.specs.declared.kinds.Keyword.{Keyword}
+use Rattle.c_words.specs.declared.kinds.Keyword.{Keyword}
 use Rattle.c_tree.specs.Tree.{SpecWords, no_words, more_words, storage, thread, inline_word, noreturn, qualifier, basic, struct_type, enum_type, typedef_name, attribute}
 use Rattle.c_tree.specs.Specifiers.{type_words, type_count}
 use Rattle.c_specs.specs.declared.basic.Base.{Base}

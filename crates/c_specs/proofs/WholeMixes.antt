@@ -1,7 +1,7 @@
 -- Whether what stands is a whole mix.
 use Rattle.std.proofs.Common.{arith, ◌≡◌, ℕ, zero, suc, ◌<◌, ◌↔◌, Bool, true, false, List, [], ◌∷◌, length, slice_get, slice_index_or, Some, inl, inr, refl, subst}
 use Rattle.std.specs.Prelude.{Any, IsPermutation}
-use Rattle.c_lexer.specs.declared.kinds.Keyword.{Keyword}
+use Rattle.c_words.specs.declared.kinds.Keyword.{Keyword}
 use Rattle.c_tree.specs.Tree.{SpecWords}
 use Rattle.c_tree.specs.Specifiers.{type_words, type_count, storage_words, basic_types, storages, IsMix}
 use Rattle.c_specs.specs.declared.mix.Types.{Types}

@@ -1,7 +1,7 @@
 -- Words of the program, one by one.
 use Rattle.std.proofs.Common.{arith, ◌≡◌, ℕ, zero, suc, ◌+◌, ◌<◌, ◌≤◌, List, [], ◌∷◌, length, take, drop, get_or, sym, ap, subst}
 use Rattle.std.proofs.lemmas.List.{take_all}
-use Rattle.c_tree.specs.declared.specifier.SpecWord.{SpecWord}
+use Rattle.c_syntax.specs.declared.specifier.SpecWord.{SpecWord}
 use Rattle.c_tree.specs.Tree.{more_words, no_words}
 use Rattle.c_tree.specs.View.{spec_word_of}
 use Rattle.c_tree.specs.Unit.{spec_words_from}

@@ -1,7 +1,7 @@
 -- Why words are no mix.
 use Rattle.std.specs.Prelude.{◌≡◌, ℕ}
-use Rattle.c_tree.specs.declared.parts.Qual.{Qual}
-use Rattle.c_tree.specs.declared.parts.Qual.TheVariants as quals
+use Rattle.c_syntax.specs.declared.parts.Qual.{Qual}
+use Rattle.c_syntax.specs.declared.parts.Qual.TheVariants as quals
 use Rattle.c_tree.specs.Tree.{SpecWords, more_words, SpecWord, storage, thread, inline_word, noreturn, qualifier, basic, struct_type, enum_type, typedef_name, attribute, enum_of}
 use Rattle.c_tree.specs.Specifiers.{IsMix}
 use Rattle.c_specs.specs.declared.reading.SpecFault.{SpecFault}

@@ -1,6 +1,6 @@
 -- What stands of a mix, and one more word.
 use Rattle.std.specs.Prelude.{Bool, true, false, Option, None, Some, is_some, if◌then◌else◌}
-use Rattle.c_lexer.specs.declared.kinds.Keyword.TheVariants as words
+use Rattle.c_words.specs.declared.kinds.Keyword.TheVariants as words
 use Rattle.c_tree.specs.Tree.{SpecWords, no_words, more_words, SpecWord, storage, thread, basic, struct_type, enum_type, typedef_name}
 use Rattle.c_specs.specs.declared.basic.Base.{Base}
 use Rattle.c_specs.specs.declared.basic.Base.TheVariants as bases

@@ -1,6 +1,6 @@
 -- Words that begin a mix, and what stands after them.
 use Rattle.std.specs.Prelude.{◌≡◌, ℕ, ◌⊎◌, true, Any, List, [], IsPermutation}
-use Rattle.c_lexer.specs.declared.kinds.Keyword.{Keyword}
+use Rattle.c_words.specs.declared.kinds.Keyword.{Keyword}
 use Rattle.c_tree.specs.Tree.{SpecWords, no_words, more_words, SpecWord}
 use Rattle.c_tree.specs.Specifiers.{type_words, type_count, storage_words, basic_types, IsMix}
 use Rattle.c_specs.specs.declared.mix.Types.{Types}

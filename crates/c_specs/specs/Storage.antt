@@ -1,7 +1,7 @@
 -- The storage words that stand so far.
 use Rattle.std.specs.Prelude.{List, [], ◌∷◌, Option, None, Some}
-use Rattle.c_lexer.specs.declared.kinds.Keyword.{Keyword}
-use Rattle.c_lexer.specs.declared.kinds.Keyword.TheVariants as words
+use Rattle.c_words.specs.declared.kinds.Keyword.{Keyword}
+use Rattle.c_words.specs.declared.kinds.Keyword.TheVariants as words
 use Rattle.c_specs.specs.declared.storage.Storage.{Storage}
 use Rattle.c_specs.specs.declared.storage.Storage.TheVariants.{Nothing, Typedef, Extern, Static, Auto, Register, Thread, ThreadStatic, ThreadExtern}
 

@@ -6,5 +6,3 @@ pub mod laws;
 pub mod mix;
 pub mod reading;
 pub mod storage;
-#[cfg(test)]
-mod tests;

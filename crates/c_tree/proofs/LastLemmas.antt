@@ -1,21 +1,21 @@
 -- The text of each node ends with what comes after it, and that of an expression with its last token before that.
 use Rattle.std.proofs.Common.{◌≡◌, ℕ, ◌-◌, suc, List, [], ◌∷◌, ◌++◌, length, slice_get, Option, None, Some, refl, sym, ◌∙◌, ap, arith}
-use Rattle.c_lexer.specs.declared.kinds.Punct.{Punct}
-use Rattle.c_lexer.specs.declared.kinds.Punct.TheVariants.{CloseBrace, CloseBracket, CloseParen, Colon, Comma, Equal}
-use Rattle.c_lexer.specs.declared.kinds.TokenKind.TheVariants as kinds
+use Rattle.c_words.specs.declared.kinds.Punct.{Punct}
+use Rattle.c_words.specs.declared.kinds.Punct.TheVariants.{CloseBrace, CloseBracket, CloseParen, Colon, Comma, Equal}
+use Rattle.c_words.specs.declared.kinds.TokenKind.TheVariants as kinds
 use Rattle.c_tree.specs.declared.lexeme.Lexeme.{Lexeme}
-use Rattle.c_tree.specs.declared.parts.Identifier.{Identifier}
-use Rattle.c_tree.specs.declared.parts.Word.{Word}
-use Rattle.c_tree.specs.declared.parts.Group.{Group}
-use Rattle.c_tree.specs.declared.parts.Attr.{Attr}
-use Rattle.c_tree.specs.declared.parts.AsmLabel.{AsmLabel}
-use Rattle.c_tree.specs.declared.parts.Assert.{Assert}
-use Rattle.c_tree.specs.declared.parts.Qual.{Qual}
-use Rattle.c_tree.specs.declared.parts.PointerWord.{PointerWord}
-use Rattle.c_tree.specs.declared.parts.ArrayWord.{ArrayWord}
-use Rattle.c_tree.specs.declared.parts.Qual.TheVariants as quals
-use Rattle.c_tree.specs.declared.parts.PointerWord.TheVariants as pointer_words
-use Rattle.c_tree.specs.declared.parts.ArrayWord.TheVariants as array_words
+use Rattle.c_syntax.specs.declared.parts.Identifier.{Identifier}
+use Rattle.c_syntax.specs.declared.parts.Word.{Word}
+use Rattle.c_syntax.specs.declared.parts.Group.{Group}
+use Rattle.c_syntax.specs.declared.parts.Attr.{Attr}
+use Rattle.c_syntax.specs.declared.parts.AsmLabel.{AsmLabel}
+use Rattle.c_syntax.specs.declared.parts.Assert.{Assert}
+use Rattle.c_syntax.specs.declared.parts.Qual.{Qual}
+use Rattle.c_syntax.specs.declared.parts.PointerWord.{PointerWord}
+use Rattle.c_syntax.specs.declared.parts.ArrayWord.{ArrayWord}
+use Rattle.c_syntax.specs.declared.parts.Qual.TheVariants as quals
+use Rattle.c_syntax.specs.declared.parts.PointerWord.TheVariants as pointer_words
+use Rattle.c_syntax.specs.declared.parts.ArrayWord.TheVariants as array_words
 use Rattle.c_tree.specs.Tree.{Expr, operation, cast, prefix, sizeof_value, sizeof_type, extension, index, call, dot, arrow, post, compound, name_use, number_use, char_use, text_use, paren, statement_expr, va_arg, va_start, va_copy, offset, Operator, comma, assign, cond, binary, SomeExpr, no_expr, some_expr, Exprs, no_exprs, more_exprs, SpecWords, no_words, more_words, SpecWord, storage, thread, inline_word, noreturn, qualifier, basic, struct_type, enum_type, typedef_name, attribute, SomeBody, no_body, some_body, StructItems, no_struct_items, more_struct_items, StructItem, member, member_semi, member_assert, MemDeclrs, no_mem_declrs, more_mem_declrs, MemDeclr, named, unnamed, SomeValue, no_value, some_value, EnumType, enum_of, SomeEnumBody, no_enum_body, some_enum_body, Enumerators, no_enumerators, more_enumerators, Declr, pointer, declr_name, declr_paren, array, params, abs_pointer, abs_paren, abs_array, abs_params, SomeDeclr, no_declr, some_declr, SomeSize, no_size, some_size, ArraySize, size_value, size_star, Params, no_params, more_params, Init, init_value, init_braced, InitList, init_list, InitItems, no_init_items, more_init_items, Desigs, no_desigs, more_desigs, Desig, member_desig, index_desig, SomeInit, no_init, some_init, InitDeclrs, no_init_declrs, more_init_declrs, Declaration, declaration, Decl, decl_declaration, decl_assert, BlockItems, no_block_items, more_block_items, BlockItem, block_decl, block_stmt, Stmt, block, expr_stmt, attr_stmt, label, case_stmt, default_stmt, if_stmt, switch_stmt, while_stmt, do_stmt, for_stmt, goto_stmt, continue_stmt, break_stmt, return_stmt, asm_stmt, SomeElse, no_else, some_else, ForStart, start_declaration, start_value, Dots}
 use Rattle.c_tree.specs.Text.{sign_text, identifier_text, some_sign_text, tag_text, words_text, extensions_text, texts_text, tokens_between, group_text, attr_text, attrs_text, label_text, assert_text, qual_text, quals_text, pointer_words_text, array_words_text, dots_text, expr_text, operator_text, some_expr_text, exprs_text, other_exprs_text, spec_words_text, spec_word_text, some_body_text, struct_items_text, struct_item_text, mem_declrs_text, other_mem_declrs_text, mem_declr_text, some_value_text, enum_type_text, some_enum_body_text, enumerators_text, other_enumerators_text, declr_text, some_declr_text, some_size_text, array_size_text, params_text, other_params_text, init_text, init_list_text, init_items_text, other_init_items_text, desigs_text, desig_text, some_init_text, init_declrs_text, other_init_declrs_text, declaration_text, decl_text, block_items_text, block_item_text, stmt_text, some_else_text, for_start_text}
 use Rattle.c_tree.specs.WellFormed.{IsExpr}

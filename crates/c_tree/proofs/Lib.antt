@@ -1,5 +1,3 @@
 pub mod EndLemmas
-mod HeightLemmas
 mod LastLemmas
-mod ListHeights
 pub mod ViewLemmas

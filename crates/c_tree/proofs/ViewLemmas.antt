@@ -3,39 +3,39 @@
 -- Lists first: what is held as a row has the tree of its list of values. Then a lemma a node.
 use Rattle.std.proofs.Common.{◌≡◌, ℕ, Option, None, Some, option_map, Vec, Box, Global, refl, sym, ◌∙◌, ap}
 use mathlib.Core.Former.{Count}
-use Rattle.c_tree.specs.declared.parts.Attr.{Attr}
-use Rattle.c_tree.specs.declared.parts.ArrayWord.{ArrayWord}
-use Rattle.c_tree.specs.declared.parts.PointerWord.{PointerWord}
-use Rattle.c_tree.specs.declared.parts.Identifier.{Identifier}
-use Rattle.c_tree.specs.declared.parts.Word.{Word}
-use Rattle.c_tree.specs.declared.parts.Ellipsis.{Ellipsis}
-use Rattle.c_tree.specs.declared.parts.Marked.{Marked}
-use Rattle.c_tree.specs.declared.parts.Listed.{Listed}
-use Rattle.c_tree.specs.declared.parts.Braced.{Braced}
-use Rattle.c_tree.specs.declared.declaration.Decl.TheBlock as rows
-use Rattle.c_tree.specs.declared.declaration.Decl.TheViews as views
-use Rattle.c_tree.specs.declared.declaration.Declaration as rust_declaration
-use Rattle.c_tree.specs.declared.declaration.InitDeclr as rust_init_declr
-use Rattle.c_tree.specs.declared.declarator.ArraySize as rust_array_size
-use Rattle.c_tree.specs.declared.declarator.Declr as rust_declr
-use Rattle.c_tree.specs.declared.declarator.Param as rust_param
-use Rattle.c_tree.specs.declared.declarator.TypeName as rust_type_name
-use Rattle.c_tree.specs.declared.expression.Expr as rust_expr
-use Rattle.c_tree.specs.declared.initialiser.Desig as rust_desig
-use Rattle.c_tree.specs.declared.initialiser.InitItem as rust_init_item
-use Rattle.c_tree.specs.declared.initialiser.InitList as rust_init_list
-use Rattle.c_tree.specs.declared.specifier.Enum as rust_enum
-use Rattle.c_tree.specs.declared.specifier.Enumerator as rust_enumerator
-use Rattle.c_tree.specs.declared.specifier.MemDeclr as rust_mem_declr
-use Rattle.c_tree.specs.declared.specifier.Member as rust_member
-use Rattle.c_tree.specs.declared.specifier.SpecWord as rust_spec_word
-use Rattle.c_tree.specs.declared.specifier.Specs as rust_specs
-use Rattle.c_tree.specs.declared.specifier.Struct as rust_struct
-use Rattle.c_tree.specs.declared.specifier.StructItem as rust_struct_item
-use Rattle.c_tree.specs.declared.statement.Block as rust_block
-use Rattle.c_tree.specs.declared.statement.BlockItem as rust_block_item
-use Rattle.c_tree.specs.declared.statement.ForStart as rust_for_start
-use Rattle.c_tree.specs.declared.statement.Stmt as rust_stmt
+use Rattle.c_syntax.specs.declared.parts.Attr.{Attr}
+use Rattle.c_syntax.specs.declared.parts.ArrayWord.{ArrayWord}
+use Rattle.c_syntax.specs.declared.parts.PointerWord.{PointerWord}
+use Rattle.c_syntax.specs.declared.parts.Identifier.{Identifier}
+use Rattle.c_syntax.specs.declared.parts.Word.{Word}
+use Rattle.c_syntax.specs.declared.parts.Ellipsis.{Ellipsis}
+use Rattle.c_syntax.specs.declared.parts.Marked.{Marked}
+use Rattle.c_syntax.specs.declared.parts.Listed.{Listed}
+use Rattle.c_syntax.specs.declared.parts.Braced.{Braced}
+use Rattle.c_syntax.specs.declared.declaration.Decl.TheBlock as rows
+use Rattle.c_syntax.specs.declared.declaration.Decl.TheViews as views
+use Rattle.c_syntax.specs.declared.declaration.Declaration as rust_declaration
+use Rattle.c_syntax.specs.declared.declaration.InitDeclr as rust_init_declr
+use Rattle.c_syntax.specs.declared.declarator.ArraySize as rust_array_size
+use Rattle.c_syntax.specs.declared.declarator.Declr as rust_declr
+use Rattle.c_syntax.specs.declared.declarator.Param as rust_param
+use Rattle.c_syntax.specs.declared.declarator.TypeName as rust_type_name
+use Rattle.c_syntax.specs.declared.expression.Expr as rust_expr
+use Rattle.c_syntax.specs.declared.initialiser.Desig as rust_desig
+use Rattle.c_syntax.specs.declared.initialiser.InitItem as rust_init_item
+use Rattle.c_syntax.specs.declared.initialiser.InitList as rust_init_list
+use Rattle.c_syntax.specs.declared.specifier.Enum as rust_enum
+use Rattle.c_syntax.specs.declared.specifier.Enumerator as rust_enumerator
+use Rattle.c_syntax.specs.declared.specifier.MemDeclr as rust_mem_declr
+use Rattle.c_syntax.specs.declared.specifier.Member as rust_member
+use Rattle.c_syntax.specs.declared.specifier.SpecWord as rust_spec_word
+use Rattle.c_syntax.specs.declared.specifier.Specs as rust_specs
+use Rattle.c_syntax.specs.declared.specifier.Struct as rust_struct
+use Rattle.c_syntax.specs.declared.specifier.StructItem as rust_struct_item
+use Rattle.c_syntax.specs.declared.statement.Block as rust_block
+use Rattle.c_syntax.specs.declared.statement.BlockItem as rust_block_item
+use Rattle.c_syntax.specs.declared.statement.ForStart as rust_for_start
+use Rattle.c_syntax.specs.declared.statement.Stmt as rust_stmt
 use Rattle.c_tree.specs.Tree as tree
 use Rattle.c_tree.specs.View.{dots_of, expr_of, some_expr_of, exprs_of, spec_words_of, spec_word_of, some_body_of, struct_items_of, struct_item_of, mem_declrs_of, mem_declr_of, some_value_of, enum_type_of, some_enum_body_of, enumerators_of, declr_of, some_declr_of, some_size_of, params_of, init_of, init_list_of, init_items_of, desigs_of, desig_of, init_declrs_of, declaration_of, block_items_of, block_item_of, stmt_of, some_else_of, for_start_of}
 use Rattle.c_tree.specs.Unit.{spec_words_from, block_items_from}
@@ -63,7 +63,7 @@ mem_declrs_row n (rust_member.more_of-Member-declrs-2 attrs d rest) = ap (λ (ds
 enumerators_row : (n : Count) (row : rust_enum.Row_of-Enumerator n) → enumerators_of row ≡ enumerators_from (rust_enum.items-the_row-Enumerator n row)
 enumerators_row n rust_enum.end_of-Enumerator = refl
 enumerators_row n (rust_enum.more_of-Enumerator name attrs rust_mem_declr.MemDeclr-Named-1-None' rest) = ap (λ (es : tree.Enumerators). tree.more_enumerators name attrs.items tree.no_value es) (enumerators_row _ rest)
-enumerators_row n (rust_enum.more_of-Enumerator name attrs (rust_mem_declr.MemDeclr-Named-1-Some' token e) rest) =
+enumerators_row n (rust_enum.more_of-Enumerator name attrs (rust_mem_declr.MemDeclr-Named-1-Some' token p e) rest) =
     ap (λ (es : tree.Enumerators). tree.more_enumerators name attrs.items (tree.some_value token (expr_of e)) es) (enumerators_row _ rest)
 
 words_shown : (m : _) (row : _) → spec_words_of row ≡ spec_words_from (rows.shown-the_row-SpecWord-0 m row).items
@@ -90,9 +90,9 @@ init_items_row n (rust_init_list.more_of-InitItem m ds equal init rest) =
 
 init_declrs_row : (n : Count) (row : rust_declaration.Row_of-Declaration-declrs-2 n) → init_declrs_of row ≡ init_declrs_from (rust_declaration.items-the_row-Declaration-declrs-2 n row)
 init_declrs_row n rust_declaration.end_of-Declaration-declrs-2 = refl
-init_declrs_row n (rust_declaration.more_of-Declaration-declrs-2 attrs d asm attrs2 rust_init_declr.InitDeclr-init-None' rest) =
+init_declrs_row n (rust_declaration.more_of-Declaration-declrs-2 attrs p d asm attrs2 rust_init_declr.InitDeclr-init-None' rest) =
     ap (λ (ds : tree.InitDeclrs). tree.more_init_declrs attrs.items (declr_of d) asm attrs2.items tree.no_init ds) (init_declrs_row _ rest)
-init_declrs_row n (rust_declaration.more_of-Declaration-declrs-2 attrs d asm attrs2 (rust_init_declr.InitDeclr-init-Some' equal init) rest) =
+init_declrs_row n (rust_declaration.more_of-Declaration-declrs-2 attrs p d asm attrs2 (rust_init_declr.InitDeclr-init-Some' equal init) rest) =
     ap (λ (ds : tree.InitDeclrs). tree.more_init_declrs attrs.items (declr_of d) asm attrs2.items (tree.some_init equal (init_of init)) ds) (init_declrs_row _ rest)
 
 block_items_row : (n : Count) (row : rust_block.Row_of-BlockItem n) → block_items_of row ≡ block_items_from (rust_block.items-the_row-BlockItem n row)
@@ -140,7 +140,7 @@ size_held : (size : Option rust_array_size.ArraySize) → some_size_of (rows.bac
 size_held None = refl
 size_held (Some size) = refl
 
-value_held : (value : Option (Marked rust_expr.Expr)) → some_value_of (rows.back-MemDeclr-Named-1 value) ≡ some_value_from value
+value_held : (value : Option (Marked (Box rust_expr.Expr Global))) → some_value_of (rows.back-MemDeclr-Named-1 value) ≡ some_value_from value
 value_held None = refl
 value_held (Some value) = refl
 
@@ -192,14 +192,15 @@ offset_is keyword opening t separator name steps closing =
     both (λ (ws : tree.SpecWords) (d : tree.SomeDeclr). tree.offset keyword opening ws d separator name (desigs_of (rows.hidden-the_row-Desig-4 steps)) closing) (words_hidden t.specs.words) (declr_held t.declr) ∙
     ap (λ (ds : tree.Desigs). tree.offset keyword opening (spec_words_from t.specs.words.items) (some_declr_from t.declr) separator name ds closing) (desigs_hidden steps)
 
-pub struct_is : (s : rust_struct.Struct) → spec_word_of (rust_spec_word.Struct s) ≡ tree.struct_type s.keyword s.attrs.items s.tag (some_body_from s.body)
-struct_is s = ap (λ (body : tree.SomeBody). tree.struct_type s.keyword s.attrs.items s.tag body) (body_held s.body)
+pub struct_is : (s : Box rust_struct.Struct Global) → spec_word_of (rust_spec_word.Struct s) ≡ tree.struct_type s.value.keyword s.value.attrs.items s.value.tag (some_body_from s.value.body)
+struct_is s = ap (λ (body : tree.SomeBody). tree.struct_type s.value.keyword s.value.attrs.items s.value.tag body) (body_held s.value.body)
 
 pub member_is : (m : rust_member.Member) → struct_item_of (rust_struct_item.Member m) ≡ tree.member m.extensions.items (spec_words_from m.specs.words.items) (mem_declrs_from m.declrs.items) m.semi
 member_is m = both (λ (ws : tree.SpecWords) (ds : tree.MemDeclrs). tree.member m.extensions.items ws ds m.semi) (words_hidden m.specs.words) (mem_declrs_hidden m.declrs)
 
-pub named_is : (d : rust_declr.Declr) (width : Option (Marked rust_expr.Expr)) (attrs : Vec Attr Global) → mem_declr_of (rust_mem_declr.Named d width attrs) ≡ tree.named (declr_of d) (some_value_from width) attrs.items
-named_is d width attrs = ap (λ (value : tree.SomeValue). tree.named (declr_of d) value attrs.items) (value_held width)
+pub named_is : (d : Box rust_declr.Declr Global) (width : Option (Marked (Box rust_expr.Expr Global))) (attrs : Vec Attr Global) →
+    mem_declr_of (rust_mem_declr.Named d width attrs) ≡ tree.named (declr_of d.value) (some_value_from width) attrs.items
+named_is d width attrs = ap (λ (value : tree.SomeValue). tree.named (declr_of d.value) value attrs.items) (value_held width)
 
 pub enum_is : (e : rust_enum.Enum) →
     enum_type_of e ≡ tree.enum_of (views.out-Enum e).keyword (views.out-Enum e).attrs.items (views.out-Enum e).tag (some_enum_body_from (views.out-Enum e).body)
@@ -243,9 +244,9 @@ block_is block = ap (λ (items : tree.BlockItems). tree.block block.«open» ite
 pub expr_stmt_is : (e : Option (Box rust_expr.Expr Global)) (semi : ℕ) → stmt_of (rust_stmt.ExprStmt e semi) ≡ tree.expr_stmt (some_expr_from e) semi
 expr_stmt_is e semi = ap (λ (e : tree.SomeExpr). tree.expr_stmt e semi) (expr_held e)
 
-pub if_is : (keyword opening : ℕ) (e : rust_expr.Expr) (closing : ℕ) (s : Box rust_stmt.Stmt Global) (other : Option (Marked (Box rust_stmt.Stmt Global))) →
-    stmt_of (rust_stmt.If keyword opening e closing s other) ≡ tree.if_stmt keyword opening (expr_of e) closing (stmt_of s.value) (some_else_from other)
-if_is keyword opening e closing s other = ap (λ (other : tree.SomeElse). tree.if_stmt keyword opening (expr_of e) closing (stmt_of s.value) other) (else_held other)
+pub if_is : (keyword opening : ℕ) (e : Box rust_expr.Expr Global) (closing : ℕ) (s : Box rust_stmt.Stmt Global) (other : Option (Marked (Box rust_stmt.Stmt Global))) →
+    stmt_of (rust_stmt.If keyword opening e closing s other) ≡ tree.if_stmt keyword opening (expr_of e.value) closing (stmt_of s.value) (some_else_from other)
+if_is keyword opening e closing s other = ap (λ (other : tree.SomeElse). tree.if_stmt keyword opening (expr_of e.value) closing (stmt_of s.value) other) (else_held other)
 
 pub for_is : (keyword opening : ℕ) (start : rust_for_start.ForStart) (condition : Option (Box rust_expr.Expr Global)) (semi : ℕ) (step : Option (Box rust_expr.Expr Global)) (closing : ℕ) (s : Box rust_stmt.Stmt Global) →
     stmt_of (rust_stmt.For keyword opening start condition semi step closing s) ≡ tree.for_stmt keyword opening (for_start_of start) (some_expr_from condition) semi (some_expr_from step) closing (stmt_of s.value)

@@ -3,8 +3,8 @@
 -- 0 a comma, 1 an assignment, 2 a conditional, 3 to 12 the binary operators from `||` to `*`, 13 a cast, 14 a unary
 -- form, 15 a postfix form, 16 a primary expression.
 use Rattle.std.specs.Prelude.{◌≡◌, ℕ, ◌+◌, ◌≤◌, Bool, true, false}
-use Rattle.c_lexer.specs.declared.kinds.Punct.{Punct}
-use Rattle.c_lexer.specs.declared.kinds.Punct.TheVariants.{BarBar, AmpersandAmpersand, Bar, Caret, Ampersand, EqualEqual, BangEqual, Less, Greater, LessEqual, GreaterEqual, ShiftLeft, ShiftRight, Plus, Minus, Star, Slash, Percent, Equal, StarEqual, SlashEqual, PercentEqual, PlusEqual, MinusEqual, ShiftLeftEqual, ShiftRightEqual, AmpersandEqual, CaretEqual, BarEqual}
+use Rattle.c_words.specs.declared.kinds.Punct.{Punct}
+use Rattle.c_words.specs.declared.kinds.Punct.TheVariants.{BarBar, AmpersandAmpersand, Bar, Caret, Ampersand, EqualEqual, BangEqual, Less, Greater, LessEqual, GreaterEqual, ShiftLeft, ShiftRight, Plus, Minus, Star, Slash, Percent, Equal, StarEqual, SlashEqual, PercentEqual, PlusEqual, MinusEqual, ShiftLeftEqual, ShiftRightEqual, AmpersandEqual, CaretEqual, BarEqual}
 use Rattle.c_tree.specs.Tree.{Expr, operation, cast, prefix, sizeof_value, sizeof_type, extension, index, call, dot, arrow, post, compound, Operator, comma, assign, cond, binary}
 
 -- the level of a binary operator, from 1 to 10, the loosest first; 0 is no binary operator

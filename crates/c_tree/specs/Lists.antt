@@ -1,22 +1,22 @@
 -- The trees of the parts of nodes that are a `Vec` or an `Option`.
 use Rattle.std.specs.Prelude.{List, [], ◌∷◌, Option, None, Some, Box}
 use Rattle.std.specs.Global.{Global}
-use Rattle.c_tree.specs.declared.parts.Marked.{Marked}
-use Rattle.c_tree.specs.declared.parts.Listed.{Listed}
-use Rattle.c_tree.specs.declared.parts.Braced.{Braced}
-use Rattle.c_tree.specs.declared.parts.BracedList.{BracedList}
-use Rattle.c_tree.specs.declared.declaration.InitDeclr as rust_init_declr
-use Rattle.c_tree.specs.declared.declarator.ArraySize as rust_array_size
-use Rattle.c_tree.specs.declared.declarator.Declr as rust_declr
-use Rattle.c_tree.specs.declared.declarator.Param as rust_param
-use Rattle.c_tree.specs.declared.expression.Expr as rust_expr
-use Rattle.c_tree.specs.declared.initialiser.Desig as rust_desig
-use Rattle.c_tree.specs.declared.initialiser.Init as rust_init
-use Rattle.c_tree.specs.declared.initialiser.InitItem as rust_init_item
-use Rattle.c_tree.specs.declared.specifier.Enumerator as rust_enumerator
-use Rattle.c_tree.specs.declared.specifier.MemDeclr as rust_mem_declr
-use Rattle.c_tree.specs.declared.specifier.StructItem as rust_struct_item
-use Rattle.c_tree.specs.declared.statement.Stmt as rust_stmt
+use Rattle.c_syntax.specs.declared.parts.Marked.{Marked}
+use Rattle.c_syntax.specs.declared.parts.Listed.{Listed}
+use Rattle.c_syntax.specs.declared.parts.Braced.{Braced}
+use Rattle.c_syntax.specs.declared.parts.BracedList.{BracedList}
+use Rattle.c_syntax.specs.declared.declaration.InitDeclr as rust_init_declr
+use Rattle.c_syntax.specs.declared.declarator.ArraySize as rust_array_size
+use Rattle.c_syntax.specs.declared.declarator.Declr as rust_declr
+use Rattle.c_syntax.specs.declared.declarator.Param as rust_param
+use Rattle.c_syntax.specs.declared.expression.Expr as rust_expr
+use Rattle.c_syntax.specs.declared.initialiser.Desig as rust_desig
+use Rattle.c_syntax.specs.declared.initialiser.Init as rust_init
+use Rattle.c_syntax.specs.declared.initialiser.InitItem as rust_init_item
+use Rattle.c_syntax.specs.declared.specifier.Enumerator as rust_enumerator
+use Rattle.c_syntax.specs.declared.specifier.MemDeclr as rust_mem_declr
+use Rattle.c_syntax.specs.declared.specifier.StructItem as rust_struct_item
+use Rattle.c_syntax.specs.declared.statement.Stmt as rust_stmt
 use Rattle.c_tree.specs.Tree.{SomeExpr, no_expr, some_expr, Exprs, no_exprs, more_exprs, SomeBody, no_body, some_body, StructItems, no_struct_items, more_struct_items, MemDeclrs, no_mem_declrs, more_mem_declrs, SomeValue, no_value, some_value, SomeEnumBody, no_enum_body, some_enum_body, Enumerators, no_enumerators, more_enumerators, SomeDeclr, no_declr, some_declr, SomeSize, no_size, some_size, Params, no_params, more_params, InitItems, no_init_items, more_init_items, Desigs, no_desigs, more_desigs, SomeInit, no_init, some_init, InitDeclrs, no_init_declrs, more_init_declrs, SomeElse, no_else, some_else}
 use Rattle.c_tree.specs.View.{expr_of, struct_item_of, mem_declr_of, declr_of, array_size_of, init_of, desig_of, stmt_of}
 use Rattle.c_tree.specs.Unit.{spec_words_from}
@@ -41,9 +41,9 @@ abbrev pub mem_declrs_from : List (Listed rust_mem_declr.MemDeclr) → MemDeclrs
 mem_declrs_from [] = no_mem_declrs
 mem_declrs_from (d ∷ ds) = more_mem_declrs d.attrs.items (mem_declr_of d.item) (mem_declrs_from ds)
 
-abbrev pub some_value_from : Option (Marked rust_expr.Expr) → SomeValue
+abbrev pub some_value_from : Option (Marked (Box rust_expr.Expr Global)) → SomeValue
 some_value_from None = no_value
-some_value_from (Some value) = some_value value.token (expr_of value.part)
+some_value_from (Some value) = some_value value.token (expr_of value.part.value)
 
 abbrev pub enumerators_from : List rust_enumerator.Enumerator → Enumerators
 enumerators_from [] = no_enumerators
@@ -79,7 +79,7 @@ some_init_from (Some init) = some_init init.token (init_of init.part)
 
 abbrev pub init_declrs_from : List (Listed rust_init_declr.InitDeclr) → InitDeclrs
 init_declrs_from [] = no_init_declrs
-init_declrs_from (d ∷ ds) = more_init_declrs d.attrs.items (declr_of d.item.declr) d.item.label d.item.attrs.items (some_init_from d.item.init) (init_declrs_from ds)
+init_declrs_from (d ∷ ds) = more_init_declrs d.attrs.items (declr_of d.item.declr.value) d.item.label d.item.attrs.items (some_init_from d.item.init) (init_declrs_from ds)
 
 abbrev pub some_else_from : Option (Marked (Box rust_stmt.Stmt Global)) → SomeElse
 some_else_from None = no_else

@@ -1,7 +1,7 @@
 -- Which specifiers may stand together (C99, 6.7.1 and 6.7.2), in any order.
 use Rattle.std.specs.Prelude.{◌≡◌, ℕ, ◌+◌, ◌⊎◌, Any, List, [], ◌∷◌, ◌++◌, IsPermutation}
-use Rattle.c_lexer.specs.declared.kinds.Keyword.{Keyword}
-use Rattle.c_lexer.specs.declared.kinds.Keyword.TheVariants.{Auto, Char, Double, Extern, Float, Int, Long, Register, Short, Signed, Static, Typedef, Unsigned, Void, Bool, Complex, Thread, BaseWord, Int128}
+use Rattle.c_words.specs.declared.kinds.Keyword.{Keyword}
+use Rattle.c_words.specs.declared.kinds.Keyword.TheVariants.{Auto, Char, Double, Extern, Float, Int, Long, Register, Short, Signed, Static, Typedef, Unsigned, Void, Bool, Complex, Thread, BaseWord, Int128}
 use Rattle.c_tree.specs.Tree.{SpecWords, no_words, more_words, storage, thread, basic, struct_type, enum_type, typedef_name}
 
 -- the words of basic types

@@ -1,17 +1,17 @@
 -- Trees apart from where they lie in memory.
 use Rattle.std.specs.Prelude.{ℕ, List, Option}
-use Rattle.c_lexer.specs.declared.kinds.Punct.{Punct}
-use Rattle.c_tree.specs.declared.parts.Identifier.{Identifier}
-use Rattle.c_tree.specs.declared.parts.Word.{Word}
-use Rattle.c_tree.specs.declared.parts.Group.{Group}
-use Rattle.c_tree.specs.declared.parts.Attr.{Attr}
-use Rattle.c_tree.specs.declared.parts.AsmLabel.{AsmLabel}
-use Rattle.c_tree.specs.declared.parts.Semi.{Semi}
-use Rattle.c_tree.specs.declared.parts.Assert.{Assert}
-use Rattle.c_tree.specs.declared.parts.Qual.{Qual}
-use Rattle.c_tree.specs.declared.parts.PointerWord.{PointerWord}
-use Rattle.c_tree.specs.declared.parts.ArrayWord.{ArrayWord}
-use Rattle.c_tree.specs.declared.specifier.TypedefName.{TypedefName}
+use Rattle.c_words.specs.declared.kinds.Punct.{Punct}
+use Rattle.c_syntax.specs.declared.parts.Identifier.{Identifier}
+use Rattle.c_syntax.specs.declared.parts.Word.{Word}
+use Rattle.c_syntax.specs.declared.parts.Group.{Group}
+use Rattle.c_syntax.specs.declared.parts.Attr.{Attr}
+use Rattle.c_syntax.specs.declared.parts.AsmLabel.{AsmLabel}
+use Rattle.c_syntax.specs.declared.parts.Semi.{Semi}
+use Rattle.c_syntax.specs.declared.parts.Assert.{Assert}
+use Rattle.c_syntax.specs.declared.parts.Qual.{Qual}
+use Rattle.c_syntax.specs.declared.parts.PointerWord.{PointerWord}
+use Rattle.c_syntax.specs.declared.parts.ArrayWord.{ArrayWord}
+use Rattle.c_syntax.specs.declared.specifier.TypedefName.{TypedefName}
 
 -- `, qual* ...`
 pub record Dots : Type 0 where

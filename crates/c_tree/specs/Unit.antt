@@ -1,17 +1,17 @@
 -- Units: their tokens, their heights, and which are well formed, scopes of names aside.
 use Rattle.std.specs.Prelude.{◌≡◌, ℕ, ◌+◌, ◌≤◌, max, All, Contains, Bool, true, false, List, [], ◌∷◌, map}
-use Rattle.c_lexer.specs.declared.kinds.Punct.TheVariants.{OpenBrace, CloseBrace, Semicolon}
-use Rattle.c_lexer.specs.declared.kinds.Keyword.TheVariants.{Asm, Typedef}
-use Rattle.c_lexer.specs.declared.kinds.TokenKind.TheVariants as kinds
+use Rattle.c_words.specs.declared.kinds.Punct.TheVariants.{OpenBrace, CloseBrace, Semicolon}
+use Rattle.c_words.specs.declared.kinds.Keyword.TheVariants.{Asm, Typedef}
+use Rattle.c_words.specs.declared.kinds.TokenKind.TheVariants as kinds
 use Rattle.c_tree.specs.declared.lexeme.Lexeme.{Lexeme}
-use Rattle.c_tree.specs.declared.parts.Attr.{Attr}
-use Rattle.c_tree.specs.declared.parts.Group.{Group}
-use Rattle.c_tree.specs.declared.parts.Semi.{Semi}
-use Rattle.c_tree.specs.declared.specifier.SpecWord as rust_spec_word
-use Rattle.c_tree.specs.declared.statement.BlockItem as rust_block_item
-use Rattle.c_tree.specs.declared.declaration.Item as rust_item
-use Rattle.c_tree.specs.declared.declaration.Item.TheVariants as rust_items
-use Rattle.c_tree.specs.declared.declaration.Unit as rust_unit
+use Rattle.c_syntax.specs.declared.parts.Attr.{Attr}
+use Rattle.c_syntax.specs.declared.parts.Group.{Group}
+use Rattle.c_syntax.specs.declared.parts.Semi.{Semi}
+use Rattle.c_syntax.specs.declared.specifier.SpecWord as rust_spec_word
+use Rattle.c_syntax.specs.declared.statement.BlockItem as rust_block_item
+use Rattle.c_syntax.specs.declared.declaration.Item as rust_item
+use Rattle.c_syntax.specs.declared.declaration.Item.TheVariants as rust_items
+use Rattle.c_syntax.specs.declared.declaration.Unit as rust_unit
 use Rattle.c_tree.specs.Tree.{SpecWords, no_words, more_words, BlockItems, no_block_items, more_block_items, Decl, Declr, pointer, declr_name, declr_paren, array, params}
 use Rattle.c_tree.specs.View.{spec_word_of, declr_of, decl_of, block_item_of}
 use Rattle.c_tree.specs.Text.{sign_text, keyword_text, group_text, attrs_text, extensions_text, spec_words_text, declr_text, decl_text, block_items_text}
@@ -35,8 +35,8 @@ block_items_from [] = no_block_items
 block_items_from (item ∷ items) = more_block_items (block_item_of item) (block_items_from items)
 
 abbrev pub item_of : rust_item.Item → Item
-item_of (rust_items.Function exts specs d attrs body) = function_item exts.items (spec_words_from specs.words.items) (declr_of d) attrs.items body.«open» (block_items_from body.items.items) body.close
-item_of (rust_items.Decl d) = decl_item (decl_of d)
+item_of (rust_items.Function exts specs d attrs body) = function_item exts.items (spec_words_from specs.words.items) (declr_of d.value) attrs.items body.«open» (block_items_from body.items.items) body.close
+item_of (rust_items.Decl d) = decl_item (decl_of d.value)
 item_of (rust_items.AsmDecl keyword group semi) = asm_item keyword group semi
 item_of (rust_items.Semi semi) = semi_item semi
 

@@ -1,28 +1,28 @@
 -- The tree of a value of the program.
 use Rattle.std.specs.Prelude.{option_map}
-use Rattle.c_lexer.specs.declared.kinds.Punct.TheVariants as puncts
-use Rattle.c_tree.specs.declared.parts.Ellipsis.{Ellipsis}
-use Rattle.c_tree.specs.declared.declaration.Decl as rust_decl
-use Rattle.c_tree.specs.declared.declaration.Declaration as rust_declaration
-use Rattle.c_tree.specs.declared.declaration.InitDeclr as rust_init_declr
-use Rattle.c_tree.specs.declared.declarator.ArraySize as rust_array_size
-use Rattle.c_tree.specs.declared.declarator.Declr as rust_declr
-use Rattle.c_tree.specs.declared.expression.Expr as rust_expr
-use Rattle.c_tree.specs.declared.initialiser.Desig as rust_desig
-use Rattle.c_tree.specs.declared.initialiser.Init as rust_init
-use Rattle.c_tree.specs.declared.initialiser.InitItem as rust_init_item
-use Rattle.c_tree.specs.declared.initialiser.InitList as rust_init_list
-use Rattle.c_tree.specs.declared.specifier.Enum as rust_enum
-use Rattle.c_tree.specs.declared.specifier.MemDeclr as rust_mem_declr
-use Rattle.c_tree.specs.declared.specifier.Member as rust_member
-use Rattle.c_tree.specs.declared.specifier.SpecWord as rust_spec_word
-use Rattle.c_tree.specs.declared.specifier.Specs as rust_specs
-use Rattle.c_tree.specs.declared.specifier.Struct as rust_struct
-use Rattle.c_tree.specs.declared.specifier.StructItem as rust_struct_item
-use Rattle.c_tree.specs.declared.statement.Block as rust_block
-use Rattle.c_tree.specs.declared.statement.BlockItem as rust_block_item
-use Rattle.c_tree.specs.declared.statement.ForStart as rust_for_start
-use Rattle.c_tree.specs.declared.statement.Stmt as rust_stmt
+use Rattle.c_words.specs.declared.kinds.Punct.TheVariants as puncts
+use Rattle.c_syntax.specs.declared.parts.Ellipsis.{Ellipsis}
+use Rattle.c_syntax.specs.declared.declaration.Decl as rust_decl
+use Rattle.c_syntax.specs.declared.declaration.Declaration as rust_declaration
+use Rattle.c_syntax.specs.declared.declaration.InitDeclr as rust_init_declr
+use Rattle.c_syntax.specs.declared.declarator.ArraySize as rust_array_size
+use Rattle.c_syntax.specs.declared.declarator.Declr as rust_declr
+use Rattle.c_syntax.specs.declared.expression.Expr as rust_expr
+use Rattle.c_syntax.specs.declared.initialiser.Desig as rust_desig
+use Rattle.c_syntax.specs.declared.initialiser.Init as rust_init
+use Rattle.c_syntax.specs.declared.initialiser.InitItem as rust_init_item
+use Rattle.c_syntax.specs.declared.initialiser.InitList as rust_init_list
+use Rattle.c_syntax.specs.declared.specifier.Enum as rust_enum
+use Rattle.c_syntax.specs.declared.specifier.MemDeclr as rust_mem_declr
+use Rattle.c_syntax.specs.declared.specifier.Member as rust_member
+use Rattle.c_syntax.specs.declared.specifier.SpecWord as rust_spec_word
+use Rattle.c_syntax.specs.declared.specifier.Specs as rust_specs
+use Rattle.c_syntax.specs.declared.specifier.Struct as rust_struct
+use Rattle.c_syntax.specs.declared.specifier.StructItem as rust_struct_item
+use Rattle.c_syntax.specs.declared.statement.Block as rust_block
+use Rattle.c_syntax.specs.declared.statement.BlockItem as rust_block_item
+use Rattle.c_syntax.specs.declared.statement.ForStart as rust_for_start
+use Rattle.c_syntax.specs.declared.statement.Stmt as rust_stmt
 use Rattle.c_tree.specs.Tree.{Expr, operation, cast, prefix, sizeof_value, sizeof_type, extension, index, call, dot, arrow, post, compound, name_use, number_use, char_use, text_use, paren, statement_expr, va_arg, va_start, va_copy, offset, comma, assign, cond, binary, SomeExpr, no_expr, some_expr, Exprs, no_exprs, more_exprs, SpecWords, no_words, more_words, SpecWord, storage, thread, inline_word, noreturn, qualifier, basic, struct_type, enum_type, typedef_name, attribute, SomeBody, no_body, some_body, StructItems, no_struct_items, more_struct_items, StructItem, member, member_semi, member_assert, MemDeclrs, no_mem_declrs, more_mem_declrs, MemDeclr, named, unnamed, SomeValue, no_value, some_value, EnumType, enum_of, SomeEnumBody, no_enum_body, some_enum_body, Enumerators, no_enumerators, more_enumerators, Declr, pointer, declr_name, declr_paren, array, params, abs_pointer, abs_paren, abs_array, abs_params, SomeDeclr, no_declr, some_declr, SomeSize, no_size, some_size, ArraySize, size_value, size_star, Params, no_params, more_params, Init, init_value, init_braced, InitList, init_list, InitItems, no_init_items, more_init_items, Desigs, no_desigs, more_desigs, Desig, member_desig, index_desig, SomeInit, no_init, some_init, InitDeclrs, no_init_declrs, more_init_declrs, Declaration, declaration, Decl, decl_declaration, decl_assert, BlockItems, no_block_items, more_block_items, BlockItem, block_decl, block_stmt, Stmt, block, expr_stmt, attr_stmt, label, case_stmt, default_stmt, if_stmt, switch_stmt, while_stmt, do_stmt, for_stmt, goto_stmt, continue_stmt, break_stmt, return_stmt, asm_stmt, SomeElse, no_else, some_else, ForStart, start_declaration, start_value, Dots}
 
 abbrev pub dots_of : Ellipsis → Dots
@@ -92,8 +92,8 @@ abbrev mutual
   spec_word_of (rust_spec_word.Noreturn keyword) = noreturn keyword
   spec_word_of (rust_spec_word.Qual qual) = qualifier qual
   spec_word_of (rust_spec_word.«Type» word) = basic word
-  spec_word_of (rust_spec_word.Struct' word attrs tag body) = struct_type word attrs.items tag (some_body_of body)
-  spec_word_of (rust_spec_word.Enum enum) = enum_type (enum_type_of enum)
+  spec_word_of (rust_spec_word.Struct' _ word attrs tag body) = struct_type word attrs.items tag (some_body_of body)
+  spec_word_of (rust_spec_word.Enum' _ it) = enum_type (enum_type_of it)
   spec_word_of (rust_spec_word.TypedefName name) = typedef_name name
   spec_word_of (rust_spec_word.Attr attr) = attribute attr
 
@@ -115,12 +115,12 @@ abbrev mutual
   mem_declrs_of (rust_member.more_of-Member-declrs-2 attrs d ds) = more_mem_declrs attrs.items (mem_declr_of d) (mem_declrs_of ds)
 
   pub mem_declr_of : rust_mem_declr.MemDeclr → MemDeclr
-  mem_declr_of (rust_mem_declr.Named' d width attrs) = named (declr_of d) (some_value_of width) attrs.items
-  mem_declr_of (rust_mem_declr.Unnamed' colon e attrs) = unnamed colon (expr_of e) attrs.items
+  mem_declr_of (rust_mem_declr.Named' _ d width attrs) = named (declr_of d) (some_value_of width) attrs.items
+  mem_declr_of (rust_mem_declr.Unnamed' colon _ e attrs) = unnamed colon (expr_of e) attrs.items
 
   pub some_value_of : rust_mem_declr.Held-MemDeclr-Named-1 → SomeValue
   some_value_of rust_mem_declr.MemDeclr-Named-1-None' = no_value
-  some_value_of (rust_mem_declr.MemDeclr-Named-1-Some' token e) = some_value token (expr_of e)
+  some_value_of (rust_mem_declr.MemDeclr-Named-1-Some' token _ e) = some_value token (expr_of e)
 
   pub enum_type_of : rust_enum.Enum → EnumType
   enum_type_of (rust_enum.Enum' keyword attrs tag body) = enum_of keyword attrs.items tag (some_enum_body_of body)
@@ -161,7 +161,7 @@ abbrev mutual
   params_of (rust_declr.more_of-Param _ ws d attrs ps) = more_params (spec_words_of ws) (some_declr_of d) attrs.items (params_of ps)
 
   pub init_of : rust_init.Init → Init
-  init_of (rust_init.Value e) = init_value (expr_of e)
+  init_of (rust_init.Value' _ e) = init_value (expr_of e)
   init_of (rust_init.InitList list) = init_braced (init_list_of list)
 
   pub init_list_of : rust_init_list.InitList → InitList
@@ -177,7 +177,7 @@ abbrev mutual
 
   pub desig_of : rust_desig.Desig → Desig
   desig_of (rust_desig.Member token name) = member_desig token name
-  desig_of (rust_desig.Index opening e closing) = index_desig opening (expr_of e) closing
+  desig_of (rust_desig.Index' opening _ e closing) = index_desig opening (expr_of e) closing
 
   pub some_init_of : rust_init_declr.Held-InitDeclr-init → SomeInit
   some_init_of rust_init_declr.InitDeclr-init-None' = no_init
@@ -185,13 +185,13 @@ abbrev mutual
 
   pub init_declrs_of : {m : _} → rust_declaration.Row_of-Declaration-declrs-2 m → InitDeclrs
   init_declrs_of rust_declaration.end_of-Declaration-declrs-2 = no_init_declrs
-  init_declrs_of (rust_declaration.more_of-Declaration-declrs-2 attrs d asm_label attrs2 init ds) = more_init_declrs attrs.items (declr_of d) asm_label attrs2.items (some_init_of init) (init_declrs_of ds)
+  init_declrs_of (rust_declaration.more_of-Declaration-declrs-2 attrs _ d asm_label attrs2 init ds) = more_init_declrs attrs.items (declr_of d) asm_label attrs2.items (some_init_of init) (init_declrs_of ds)
 
   pub declaration_of : rust_declaration.Declaration → Declaration
   declaration_of (rust_declaration.Declaration' exts _ ws _ ds semi) = declaration exts.items (spec_words_of ws) (init_declrs_of ds) semi
 
   pub decl_of : rust_decl.Decl → Decl
-  decl_of (rust_decl.Declaration d) = decl_declaration (declaration_of d)
+  decl_of (rust_decl.Declaration' _ d) = decl_declaration (declaration_of d)
   decl_of (rust_decl.Assert it) = decl_assert it
 
   pub block_items_of : {m : _} → rust_block.Row_of-BlockItem m → BlockItems
@@ -199,20 +199,20 @@ abbrev mutual
   block_items_of (rust_block.more_of-BlockItem item items) = more_block_items (block_item_of item) (block_items_of items)
 
   pub block_item_of : rust_block_item.BlockItem → BlockItem
-  block_item_of (rust_block_item.Decl d) = block_decl (decl_of d)
-  block_item_of (rust_block_item.Stmt s) = block_stmt (stmt_of s)
+  block_item_of (rust_block_item.Decl' _ d) = block_decl (decl_of d)
+  block_item_of (rust_block_item.Stmt' _ s) = block_stmt (stmt_of s)
 
   pub stmt_of : rust_stmt.Stmt → Stmt
   stmt_of (rust_stmt.Block' opening _ items closing) = block opening (block_items_of items) closing
   stmt_of (rust_stmt.ExprStmt' e semi) = expr_stmt (some_expr_of e) semi
   stmt_of (rust_stmt.AttrStmt attrs semi) = attr_stmt attrs.items semi
   stmt_of (rust_stmt.Label' name colon attrs _ s) = label name colon attrs.items (stmt_of s)
-  stmt_of (rust_stmt.Case' keyword e colon _ s) = case_stmt keyword (expr_of e) colon (stmt_of s)
+  stmt_of (rust_stmt.Case' keyword _ e colon _ s) = case_stmt keyword (expr_of e) colon (stmt_of s)
   stmt_of (rust_stmt.Default' keyword colon _ s) = default_stmt keyword colon (stmt_of s)
-  stmt_of (rust_stmt.If' keyword opening e closing _ s other) = if_stmt keyword opening (expr_of e) closing (stmt_of s) (some_else_of other)
-  stmt_of (rust_stmt.Switch' keyword opening e closing _ s) = switch_stmt keyword opening (expr_of e) closing (stmt_of s)
-  stmt_of (rust_stmt.While' keyword opening e closing _ s) = while_stmt keyword opening (expr_of e) closing (stmt_of s)
-  stmt_of (rust_stmt.Do' keyword _ s keyword2 opening e closing semi) = do_stmt keyword (stmt_of s) keyword2 opening (expr_of e) closing semi
+  stmt_of (rust_stmt.If' keyword opening _ e closing _ s other) = if_stmt keyword opening (expr_of e) closing (stmt_of s) (some_else_of other)
+  stmt_of (rust_stmt.Switch' keyword opening _ e closing _ s) = switch_stmt keyword opening (expr_of e) closing (stmt_of s)
+  stmt_of (rust_stmt.While' keyword opening _ e closing _ s) = while_stmt keyword opening (expr_of e) closing (stmt_of s)
+  stmt_of (rust_stmt.Do' keyword _ s keyword2 opening _ e closing semi) = do_stmt keyword (stmt_of s) keyword2 opening (expr_of e) closing semi
   stmt_of (rust_stmt.For' keyword opening start e semi e2 closing _ s) = for_stmt keyword opening (for_start_of start) (some_expr_of e) semi (some_expr_of e2) closing (stmt_of s)
   stmt_of (rust_stmt.Goto keyword name semi) = goto_stmt keyword name semi
   stmt_of (rust_stmt.Continue keyword semi) = continue_stmt keyword semi
@@ -225,5 +225,5 @@ abbrev mutual
   some_else_of (rust_stmt.Stmt-If-5-Some' keyword _ s) = some_else keyword (stmt_of s)
 
   pub for_start_of : rust_for_start.ForStart → ForStart
-  for_start_of (rust_for_start.Declaration d) = start_declaration (declaration_of d)
+  for_start_of (rust_for_start.Declaration' _ d) = start_declaration (declaration_of d)
   for_start_of (rust_for_start.Value' e semi) = start_value (some_expr_of e) semi

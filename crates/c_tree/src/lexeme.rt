@@ -1,6 +1,6 @@
 //! A token as trees and their reader see it.
 
-use c_lexer::kinds::TokenKind;
+use c_words::kinds::TokenKind;
 use qual_base::ids::TokenId;
 
 /// A token with its number in the unit.

@@ -1,22 +1,10 @@
-//! The syntax tree of a preprocessed C source: C99 with the GNU forms that system headers use.
+//! What holds of syntax trees: their text, which are well formed, how high they are, and which tokens are their ends.
 //!
-//! A node has its parts as fields, in the order of its line of the grammar, which stands in its doc comment. In these
-//! lines `x*` is any number, `x+` at least one and `[x]` at most one. A token of a node is its number in the unit; the
-//! commas between the items of a list have none. Where a line leaves a choice of words or signs, the one that stands
-//! there is beside its token; where it has a name, the name's number is.
-//!
-//! Any value of these types is a tree. Which of them are well formed is said apart from the types.
+//! The definitions stand in `specs`; here are the functions and laws that need no height: nodes made of their parts, the
+//! first, the last and the key token of an expression.
 #![tactic(auto)]
 
-pub mod declaration;
-pub mod declarator;
 pub mod ends;
-pub mod expression;
-pub mod height;
-pub mod initialiser;
 pub mod laws;
 pub mod lexeme;
 pub mod making;
-pub mod parts;
-pub mod specifier;
-pub mod statement;

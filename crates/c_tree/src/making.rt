@@ -2,20 +2,24 @@
 //!
 //! A node whose parts are lists or may be missing is made here, so that its tree is known by theirs.
 
-ghost use Rattle.std.specs.Prelude.{◌≡◌, option_map};
+ghost use Rattle.std.specs.Prelude.{◌≡◌, option_map, IfOk};
 ghost use Rattle.c_tree.specs.Lists as lists;
 ghost use Rattle.c_tree.specs.Tree as trees;
 ghost use Rattle.c_tree.specs.Unit.{spec_words_from};
 ghost use Rattle.c_tree.specs.View.{expr_of, spec_word_of, struct_item_of, mem_declr_of, declr_of, declaration_of, dots_of};
 
-use crate::declaration::{Declaration, InitDeclr};
-use crate::declarator::{ArraySize, Declr, Param, TypeName};
-use crate::expression::Expr;
-use crate::parts::{
+use c_syntax::declaration::{Declaration, InitDeclr};
+use c_syntax::declarator::{ArraySize, Declr, Param, TypeName};
+use c_syntax::expression::Expr;
+use c_syntax::parts::{
     ArrayWord, Attr, Braced, BracedList, Ellipsis, Identifier, Listed, Marked, PointerWord, Word,
 };
-use crate::specifier::{Enum, Enumerator, MemDeclr, Member, SpecWord, Specs, Struct, StructItem};
+use c_syntax::specifier::{
+    Enum, Enumerator, MemDeclr, Member, SpecWord, Specs, Struct, StructItem,
+};
+use qual_base::faults::NoMemory;
 use qual_base::ids::TokenId;
+use std::alloc::Global;
 
 /// A cast.
 pub fn cast(open: TokenId, type_name: TypeName, close: TokenId, operand: Box<Expr>) -> Expr
@@ -55,36 +59,52 @@ pub fn call(callee: Box<Expr>, open: TokenId, arguments: Vec<Expr>, close: Token
 
 /// A struct or a union as a word of specifiers.
 pub fn struct_word(
+    alloc: Global,
     keyword: Word,
     attrs: Vec<Attr>,
     tag: Option<Identifier>,
     body: Option<Braced<StructItem>>,
-) -> SpecWord
-    ensures { spec_word_of result ≡ trees.struct_type keyword attrs.items tag (lists.some_body_from body) }
+) -> Result<SpecWord, NoMemory>
+    ensures { IfOk result (λ word. spec_word_of word ≡ trees.struct_type keyword attrs.items tag (lists.some_body_from body)) }
 {
-    SpecWord::Struct(Struct {
-        keyword,
-        attrs,
-        tag,
-        body,
-    })
+    let made = Box::new(
+        alloc,
+        Struct {
+            keyword,
+            attrs,
+            tag,
+            body,
+        },
+    );
+    match made {
+        Ok(made) => Ok(SpecWord::Struct(made)),
+        Err(_) => Err(NoMemory),
+    }
 }
 
 /// An enum as a word of specifiers.
 pub fn enum_word(
+    alloc: Global,
     keyword: TokenId,
     attrs: Vec<Attr>,
     tag: Option<Identifier>,
     body: Option<BracedList<Enumerator>>,
-) -> SpecWord
-    ensures { spec_word_of result ≡ trees.enum_type (trees.enum_of keyword attrs.items tag (lists.some_enum_body_from body)) }
+) -> Result<SpecWord, NoMemory>
+    ensures { IfOk result (λ word. spec_word_of word ≡ trees.enum_type (trees.enum_of keyword attrs.items tag (lists.some_enum_body_from body))) }
 {
-    SpecWord::Enum(Enum {
-        keyword,
-        attrs,
-        tag,
-        body,
-    })
+    let made = Box::new(
+        alloc,
+        Enum {
+            keyword,
+            attrs,
+            tag,
+            body,
+        },
+    );
+    match made {
+        Ok(made) => Ok(SpecWord::Enum(made)),
+        Err(_) => Err(NoMemory),
+    }
 }
 
 /// A member.
@@ -105,8 +125,8 @@ pub fn member(
 }
 
 /// A member's declarator with its width.
-pub fn named(declr: Declr, width: Option<Marked<Expr>>, attrs: Vec<Attr>) -> MemDeclr
-    ensures { mem_declr_of result ≡ trees.named (declr_of declr) (lists.some_value_from width) attrs.items }
+pub fn named(declr: Box<Declr>, width: Option<Marked<Box<Expr>>>, attrs: Vec<Attr>) -> MemDeclr
+    ensures { mem_declr_of result ≡ trees.named (declr_of declr.value) (lists.some_value_from width) attrs.items }
 {
     MemDeclr::Named {
         declr,

@@ -1,6 +1,6 @@
 -- The trees of lists with one more at the end.
 use Rattle.std.proofs.Common.{◌≡◌, List, [], ◌∷◌, ◌++◌, refl, ap}
-use Rattle.c_tree.specs.declared.declarator.Param.{Param}
+use Rattle.c_syntax.specs.declared.declarator.Param.{Param}
 use Rattle.c_tree.specs.Tree.{Params, more_params}
 use Rattle.c_tree.specs.Lists.{params_from, some_declr_from}
 use Rattle.c_tree.specs.Unit.{spec_words_from}

@@ -29,12 +29,13 @@ use c_grammar::inside::{declr_inside, expr_inside};
 use c_grammar::kinds::{Mode, Reach, Role, begins_specs};
 use c_grammar::laws::{loops_step, no_fewer_scopes};
 use c_grammar::quals::{array_words, pointer_words, qualifiers};
-use c_tree::declarator::{ArraySize, Declr, Param};
-use c_tree::expression::Expr;
+use c_height::of_declr;
+use c_syntax::declarator::{ArraySize, Declr, Param};
+use c_syntax::expression::Expr;
+use c_syntax::parts::{ArrayWord, Ellipsis, PointerWord, Qual};
+use c_syntax::specifier::Specs;
 use c_tree::lexeme::Lexeme;
 use c_tree::making;
-use c_tree::parts::{ArrayWord, Ellipsis, PointerWord, Qual};
-use c_tree::specifier::Specs;
 use qual_base::faults::NoMemory;
 use qual_base::ids::{NameId, TokenId};
 use std::alloc::Global;
@@ -306,7 +307,7 @@ fn is_lower(inner: &Option<Box<Declr>>, depth: u32) -> bool
     ensures { result ≡ nat_le (suc (some_declr_height (some_declr_from inner.now))) depth }
 {
     match inner {
-        Some(inner) => inner.height() < depth,
+        Some(inner) => of_declr(inner) < depth,
         None => 0 < depth,
     }
 }

@@ -1,6 +1,6 @@
 -- The trees of lists with one more at the end.
 use Rattle.std.proofs.Common.{◌≡◌, List, [], ◌∷◌, ◌++◌, refl, ap}
-use Rattle.c_tree.specs.declared.expression.Expr.{Expr as RustExpr}
+use Rattle.c_syntax.specs.declared.expression.Expr.{Expr as RustExpr}
 use Rattle.c_tree.specs.Tree.{Exprs, more_exprs}
 use Rattle.c_tree.specs.Lists.{exprs_from}
 use Rattle.c_tree.specs.View.{expr_of}

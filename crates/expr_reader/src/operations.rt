@@ -22,13 +22,14 @@ use c_grammar::fault::{Fault, ReadError, number_at, refused};
 use c_grammar::inside::expr_inside;
 use c_grammar::kinds::{Between, Reach, between_at};
 use c_grammar::laws::{loops_step, operands_are_tight};
-use c_lexer::kinds::Punct;
+use c_height::of_expr;
 use c_ops::building::{OpsFault, build_ops};
 use c_ops::list::OpList;
 use c_ops::op::Op;
-use c_tree::declarator::TypeName;
-use c_tree::expression::Expr;
+use c_syntax::declarator::TypeName;
+use c_syntax::expression::Expr;
 use c_tree::lexeme::Lexeme;
+use c_words::kinds::Punct;
 use qual_base::ids::TokenId;
 use std::alloc::Global;
 use typedef_scope::scopes::Scopes;
@@ -79,7 +80,7 @@ where
     ensures clean { OnOk result (bad_target (operations_of list.new) ≡ None) }
 {
     let (operand, rest) = castable(expr, type_name, alloc, scopes, tokens, depth)?;
-    match list.push(token, op, Box::into_inner(operand)) {
+    match list.push(token, op, operand) {
         Ok(()) => Ok(rest),
         Err(_) => Err(ReadError::NoMemory),
     }
@@ -320,7 +321,7 @@ where
     ensures clean { IfOk result (λ x. bad_target (operations_of x.0) ≡ None) }
 {
     let (first, rest) = castable(expr, type_name, alloc, scopes, tokens, depth)?;
-    let mut list = OpList::new(alloc, Box::into_inner(first));
+    let mut list = OpList::new(alloc, first);
     let rest = more_operations(
         expr, type_name, alloc, reach, &mut list, scopes, rest, depth,
     )?;
@@ -333,7 +334,7 @@ fn has_room(found: &Expr, depth: u32) -> bool
     requires below_most { depth < 4294967295 }
     ensures { result ≡ nat_le (expr_height (expr_of found.now)) depth }
 {
-    found.height() <= depth
+    of_expr(found) <= depth
 }
 
 /// The tree of operands and operators.
@@ -359,7 +360,7 @@ where
 {
     let (list, rest) = operations(expr, type_name, alloc, reach, scopes, tokens, depth)?;
     let found = match build_ops(alloc, list) {
-        Ok(found) => Box::new(alloc, found)?,
+        Ok(found) => found,
         Err(OpsFault::BadTarget(_)) => unreachable!(),
         Err(OpsFault::NoMemory) => return Err(ReadError::NoMemory),
     };

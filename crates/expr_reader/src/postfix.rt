@@ -21,7 +21,8 @@ use c_grammar::fault::{Fault, ReadError, number_at, refused};
 use c_grammar::inside::expr_inside;
 use c_grammar::kinds::{Closing, Reach, closing_at};
 use c_grammar::laws::loops_step;
-use c_tree::expression::Expr;
+use c_height::of_expr;
+use c_syntax::expression::Expr;
 use c_tree::lexeme::Lexeme;
 use qual_base::ids::TokenId;
 use std::alloc::Global;
@@ -191,7 +192,7 @@ where
 fn is_lower(base: &Box<Expr>, depth: u32) -> bool
     ensures { result ≡ nat_le (suc (expr_height (expr_of base.now.value))) depth }
 {
-    base.height() < depth
+    of_expr(base) < depth
 }
 
 /// Whether nothing that goes on with a postfix form stands behind it.

@@ -3,10 +3,10 @@ use Rattle.std.proofs.Common.{◌≡◌, ℕ, zero, suc, ◌+◌, ◌*◌, ◌<�
 use Rattle.std.proofs.lemmas.List.{append-nil, map-append}
 use Rattle.std.proofs.lemmas.Option.{slice_get_within, get_or_from_slice_get}
 use Rattle.c_lexer.specs.declared.token.Token.{Token}
-use Rattle.c_lexer.specs.declared.kinds.TokenKind.{TokenKind}
-use Rattle.c_lexer.specs.declared.kinds.TokenKind.TheVariants.{Name, Keyword, Punct, End}
-use Rattle.c_lexer.specs.declared.kinds.Keyword.TheVariants.{Int, Void}
-use Rattle.c_lexer.specs.declared.kinds.Punct.TheVariants.{CloseBrace, Semicolon}
+use Rattle.c_words.specs.declared.kinds.TokenKind.{TokenKind}
+use Rattle.c_words.specs.declared.kinds.TokenKind.TheVariants.{Name, Keyword, Punct, End}
+use Rattle.c_words.specs.declared.kinds.Keyword.TheVariants.{Int, Void}
+use Rattle.c_words.specs.declared.kinds.Punct.TheVariants.{CloseBrace, Semicolon}
 use Rattle.second_form.specs.Source.{AssignView, ItemView, Object, Function, Scope, no_names, Declares, is_word, kind_at, Is, IsNewName, IsObject, AreWords, IsAssign, AreAssigns, IsInt, IsHead, IsItem, AreItems, name_number, declared_with, end_of}
 use Rattle.second_form.specs.Reading.{AreAllWords, IsNamedInt}
 

@@ -19,9 +19,9 @@ use Rattle.flow_graph.specs.declared.constraint.Constraint.{Constraint}
 use Rattle.flow_graph.specs.System.{System, Has, Stands, IsWellOwned}
 use Rattle.flow_graph.specs.Unfolding.{NamesElementsIn}
 use Rattle.c_lexer.specs.declared.token.Token.{Token}
-use Rattle.c_lexer.specs.declared.kinds.TokenKind.{TokenKind}
-use Rattle.c_lexer.specs.declared.kinds.TokenKind.TheVariants.{End, Punct}
-use Rattle.c_lexer.specs.declared.kinds.Punct.TheVariants.{Semicolon}
+use Rattle.c_words.specs.declared.kinds.TokenKind.{TokenKind}
+use Rattle.c_words.specs.declared.kinds.TokenKind.TheVariants.{End, Punct}
+use Rattle.c_words.specs.declared.kinds.Punct.TheVariants.{Semicolon}
 use Rattle.c_lexer.specs.Tokens.{Lexed, IsSpelled, mark_of_kind}
 use Rattle.c_lexer.specs.Reading.{Meanings}
 use Rattle.c_lexer.proofs.ReachLemmas.{reaches-kept}

@@ -16,7 +16,7 @@ use Rattle.flow_graph.specs.declared.constraint.Link.TheVariants.{Le, Const, Bou
 use Rattle.flow_graph.specs.declared.constraint.Constraint.{Constraint}
 use Rattle.flow_graph.specs.System.{System}
 use Rattle.c_lexer.specs.Tokens.{Lexed, mark_of_kind}
-use Rattle.c_lexer.specs.declared.kinds.TokenKind.{TokenKind}
+use Rattle.c_words.specs.declared.kinds.TokenKind.{TokenKind}
 use Rattle.second_form.specs.Source.{AssignView, ItemView, Object, Function, kind_at}
 
 -- the variable of the reference that an object's name is, and that of what the object holds

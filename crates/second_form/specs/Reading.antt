@@ -1,10 +1,10 @@
 -- Parts of a declaration of an object: its words, and what stands behind them.
 use Rattle.std.specs.Prelude.{◌≡◌, ℕ, ◌+◌, ◌≤◌, true, List, length}
 use Rattle.c_lexer.specs.declared.token.Token.{Token}
-use Rattle.c_lexer.specs.declared.kinds.TokenKind.{TokenKind}
-use Rattle.c_lexer.specs.declared.kinds.TokenKind.TheVariants.{Keyword, Punct}
-use Rattle.c_lexer.specs.declared.kinds.Keyword.TheVariants.{Int}
-use Rattle.c_lexer.specs.declared.kinds.Punct.TheVariants.{Semicolon}
+use Rattle.c_words.specs.declared.kinds.TokenKind.{TokenKind}
+use Rattle.c_words.specs.declared.kinds.TokenKind.TheVariants.{Keyword, Punct}
+use Rattle.c_words.specs.declared.kinds.Keyword.TheVariants.{Int}
+use Rattle.c_words.specs.declared.kinds.Punct.TheVariants.{Semicolon}
 use Rattle.second_form.specs.Source.{Scope, AreWords, Is, IsNewName, is_word}
 
 -- each token from one place to before another is a qualifier word, and the token there is none

@@ -3,10 +3,10 @@
 use Rattle.std.specs.Prelude.{◌≡◌, ℕ, ◌+◌, ◌*◌, ◌<◌, ◌≤◌, Bool, true, false, ◌⊎◌, List, [], ◌∷◌, ◌++◌, length, Option, Some, None, slice_get, map, Contains}
 use Rattle.std.specs.Option.{option_map}
 use Rattle.c_lexer.specs.declared.token.Token.{Token}
-use Rattle.c_lexer.specs.declared.kinds.TokenKind.{TokenKind}
-use Rattle.c_lexer.specs.declared.kinds.TokenKind.TheVariants.{Name, Keyword, Punct, Qual, End}
-use Rattle.c_lexer.specs.declared.kinds.Keyword.TheVariants.{Const, Volatile, Restrict, Int, Void}
-use Rattle.c_lexer.specs.declared.kinds.Punct.TheVariants.{OpenParen, CloseParen, OpenBrace, CloseBrace, Semicolon, Equal}
+use Rattle.c_words.specs.declared.kinds.TokenKind.{TokenKind}
+use Rattle.c_words.specs.declared.kinds.TokenKind.TheVariants.{Name, Keyword, Punct, Qual, End}
+use Rattle.c_words.specs.declared.kinds.Keyword.TheVariants.{Const, Volatile, Restrict, Int, Void}
+use Rattle.c_words.specs.declared.kinds.Punct.TheVariants.{OpenParen, CloseParen, OpenBrace, CloseBrace, Semicolon, Equal}
 
 -- a statement `target = value;`: the tokens of its two names, and the numbers of the objects that they name
 pub record AssignView : Type 0 where

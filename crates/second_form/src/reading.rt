@@ -1,10 +1,10 @@
 //! Reading the items of a source.
 
 ghost use Rattle.std.specs.Prelude.{◌≡◌, ◌<◌, ◌≤◌, ◌+◌, ◌^◌, ◌↔◌, IsTrue, true, length, List, ℕ, Some, IfOk, IfSome, OnOk, MatchOption, map};
-ghost use Rattle.c_lexer.specs.declared.kinds.TokenKind.{TokenKind as KindView};
-ghost use Rattle.c_lexer.specs.declared.kinds.TokenKind.TheVariants.{Name};
-ghost use Rattle.c_lexer.specs.declared.kinds.Keyword.TheVariants.{Int, Void};
-ghost use Rattle.c_lexer.specs.declared.kinds.Punct.TheVariants.{OpenParen, CloseParen, OpenBrace, CloseBrace, Semicolon, Equal};
+ghost use Rattle.c_words.specs.declared.kinds.TokenKind.{TokenKind as KindView};
+ghost use Rattle.c_words.specs.declared.kinds.TokenKind.TheVariants.{Name};
+ghost use Rattle.c_words.specs.declared.kinds.Keyword.TheVariants.{Int, Void};
+ghost use Rattle.c_words.specs.declared.kinds.Punct.TheVariants.{OpenParen, CloseParen, OpenBrace, CloseBrace, Semicolon, Equal};
 ghost use Rattle.second_form.specs.Source.{AssignView, ItemView, Scope, no_names, Declares, Is, IsNewName, IsObject, IsAssign, AreAssigns, IsInt, IsHead, IsItem, AreItems, IsSource, declared_with, end_of};
 ghost use Rattle.second_form.specs.View.{assign_of, item_of, items_of};
 ghost use Rattle.second_form.specs.Reading.{AreAllWords, IsNamedInt};

@@ -3,7 +3,7 @@ use Rattle.std.proofs.Common.{◌≡◌, List, [], ◌∷◌, Option, Some, refl
 use Rattle.c_specs.specs.declared.mix.Mix.{Mix}
 use Rattle.c_specs.specs.declared.mix.Class.{Class}
 use Rattle.c_specs.specs.Mix.{class_of, no_mix, then_class, mix_from, mix_of, with_class}
-use Rattle.c_tree.specs.declared.parts.Qual.{Qual}
+use Rattle.c_syntax.specs.declared.parts.Qual.{Qual}
 use Rattle.c_tree.specs.Tree.{SpecWords, no_words, more_words, SpecWord}
 use Rattle.c_grammar.specs.Specifying.{with_word}
 use Rattle.c_grammar.specs.Declaring.{spec_words_of_quals}

@@ -1,12 +1,12 @@
 -- The trees of lists with one more at the end.
 use Rattle.std.proofs.Common.{◌≡◌, List, [], ◌∷◌, ◌++◌, map, refl, ap}
-use Rattle.c_tree.specs.declared.parts.Listed.{Listed}
-use Rattle.c_tree.specs.declared.parts.Qual.{Qual}
-use Rattle.c_tree.specs.declared.specifier.Enumerator.{Enumerator}
-use Rattle.c_tree.specs.declared.specifier.MemDeclr.{MemDeclr as RustMemDeclr}
-use Rattle.c_tree.specs.declared.specifier.SpecWord.{SpecWord as RustSpecWord}
-use Rattle.c_tree.specs.declared.specifier.SpecWord.TheVariants as rust_words
-use Rattle.c_tree.specs.declared.specifier.StructItem.{StructItem as RustStructItem}
+use Rattle.c_syntax.specs.declared.parts.Listed.{Listed}
+use Rattle.c_syntax.specs.declared.parts.Qual.{Qual}
+use Rattle.c_syntax.specs.declared.specifier.Enumerator.{Enumerator}
+use Rattle.c_syntax.specs.declared.specifier.MemDeclr.{MemDeclr as RustMemDeclr}
+use Rattle.c_syntax.specs.declared.specifier.SpecWord.{SpecWord as RustSpecWord}
+use Rattle.c_syntax.specs.declared.specifier.SpecWord.TheVariants as rust_words
+use Rattle.c_syntax.specs.declared.specifier.StructItem.{StructItem as RustStructItem}
 use Rattle.c_tree.specs.Tree.{MemDeclrs, more_mem_declrs, StructItems, more_struct_items, Enumerators, more_enumerators, SpecWords, more_words, qualifier}
 use Rattle.c_tree.specs.Lists.{mem_declrs_from, struct_items_from, enumerators_from, some_value_from}
 use Rattle.c_tree.specs.Unit.{spec_words_from}

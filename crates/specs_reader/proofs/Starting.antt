@@ -2,7 +2,7 @@
 use Rattle.std.proofs.Common.{◌≡◌, ℕ, suc, ◌-◌, ◌≤◌, true, List, [], ◌∷◌, length, get_or, take, drop, Option, Some, None, Ok, refl, arith}
 use Rattle.std.proofs.lemmas.List.{take_all}
 use Rattle.c_tree.specs.declared.lexeme.Lexeme.{Lexeme}
-use Rattle.c_tree.specs.declared.parts.Identifier.{Identifier}
+use Rattle.c_syntax.specs.declared.parts.Identifier.{Identifier}
 use Rattle.c_tree.specs.Tree.{Expr, SpecWords, Declr, Enumerators, no_enumerators, some_enum_body, StructItems, no_struct_items, some_body}
 use Rattle.typedef_scope.specs.Scopes.{Scopes}
 use Rattle.c_grammar.specs.declared.fault.ReadError.{ReadError}

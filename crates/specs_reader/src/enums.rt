@@ -27,11 +27,11 @@ use c_grammar::fault::{Fault, ReadError, number_at, refused};
 use c_grammar::inside::expr_inside;
 use c_grammar::kinds::Reach;
 use c_grammar::laws::loops_step;
-use c_tree::expression::Expr;
+use c_syntax::expression::Expr;
+use c_syntax::parts::{BracedList, Identifier, Marked};
+use c_syntax::specifier::{Enumerator, SpecWord};
 use c_tree::lexeme::Lexeme;
 use c_tree::making;
-use c_tree::parts::{BracedList, Identifier, Marked};
-use c_tree::specifier::{Enumerator, SpecWord};
 use qual_base::ids::{NameId, TokenId};
 use std::alloc::Global;
 use typedef_scope::kind::{Kind, ScopeFault};
@@ -45,7 +45,7 @@ pub(crate) fn value<'a, E>(
     scopes: &mut Scopes,
     tokens: &'a [Lexeme],
     depth: u32,
-) -> Result<(Option<Marked<Expr>>, &'a [Lexeme]), ReadError>
+) -> Result<(Option<Marked<Box<Expr>>>, &'a [Lexeme]), ReadError>
 where
     E: Fn(Global, Reach, &mut Scopes, &'a [Lexeme]) -> Result<(Box<Expr>, &'a [Lexeme]), ReadError>,
     requires expr_callable { E.IsAlwaysCallable expr.now }
@@ -278,5 +278,6 @@ where
 {
     let (tag, rest) = tag(tokens);
     let (body, rest) = enum_body(expr, alloc, &tag, scopes, rest, depth)?;
-    Ok((making::enum_word(keyword, Vec::new(alloc), tag, body), rest))
+    let word = making::enum_word(alloc, keyword, Vec::new(alloc), tag, body)?;
+    Ok((word, rest))
 }

@@ -25,12 +25,12 @@ use c_grammar::fault::{Fault, ReadError, number_at, refused};
 use c_grammar::inside::{expr_inside, named_inside, specs_inside};
 use c_grammar::kinds::{Mode, Reach, Role};
 use c_grammar::laws::loops_step;
-use c_tree::declarator::Declr;
-use c_tree::expression::Expr;
+use c_syntax::declarator::Declr;
+use c_syntax::expression::Expr;
+use c_syntax::parts::{Braced, Identifier, Listed, Marked, Qual, Semi, Word};
+use c_syntax::specifier::{MemDeclr, SpecWord, Specs, StructItem};
 use c_tree::lexeme::Lexeme;
 use c_tree::making;
-use c_tree::parts::{Braced, Identifier, Listed, Marked, Qual, Semi, Word};
-use c_tree::specifier::{MemDeclr, SpecWord, Specs, StructItem};
 use qual_base::ids::TokenId;
 use std::alloc::Global;
 use typedef_scope::kind::Kind;
@@ -44,7 +44,7 @@ fn width<'a, E>(
     scopes: &mut Scopes,
     tokens: &'a [Lexeme],
     depth: u32,
-) -> Result<(Option<Marked<Expr>>, &'a [Lexeme]), ReadError>
+) -> Result<(Option<Marked<Box<Expr>>>, &'a [Lexeme]), ReadError>
 where
     E: Fn(Global, Reach, &mut Scopes, &'a [Lexeme]) -> Result<(Box<Expr>, &'a [Lexeme]), ReadError>,
     requires expr_callable { E.IsAlwaysCallable expr.now }
@@ -545,8 +545,6 @@ where
 {
     let (tag, rest) = tag(tokens);
     let (body, rest) = body(expr, specs, declr, alloc, &tag, scopes, rest, depth)?;
-    Ok((
-        making::struct_word(keyword, Vec::new(alloc), tag, body),
-        rest,
-    ))
+    let word = making::struct_word(alloc, keyword, Vec::new(alloc), tag, body)?;
+    Ok((word, rest))
 }

@@ -1,6 +1,6 @@
 use Rattle.std.proofs.Common.{◌∙◌, ◌++◌, ◌∷◌, [], List, length, sym, ap, subst}
 use Rattle.c_lexer.specs.declared.token.Token.{Token}
-use Rattle.c_lexer.specs.declared.kinds.TokenKind.TheVariants.{End}
+use Rattle.c_words.specs.declared.kinds.TokenKind.TheVariants.{End}
 use Rattle.c_lexer.specs.Tokens.{Lexed, IsSpelled}
 use Rattle.c_lexer.proofs.ReachLemmas.{sound-end, spells-end}
 use Rattle.c_lexer.proofs.lex.finish.Goals as goal

@@ -6,7 +6,7 @@ use Rattle.c_ops.proofs.Stacks.{IsBuilding}
 use Rattle.c_ops.proofs.building.build_ops.Given as goal
 
 abbrev pub invariant-loop-row : goal.invariant-loop-row
-invariant-loop-row l = IsBuilding (operations_of l.fn.flat) (stack_of l.waiting.items) (expr_of l.last) (into_iter_items l.rows)
+invariant-loop-row l = IsBuilding (operations_of l.fn.flat) (stack_of l.waiting.items) (expr_of l.last.value) (into_iter_items l.rows)
 
 abbrev pub decreases-loop-row : goal.decreases-loop-row
 decreases-loop-row l = into_iter_len l.rows

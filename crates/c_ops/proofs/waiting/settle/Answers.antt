@@ -8,5 +8,5 @@ join-requires c = (operator_taken c.loop-left.waiting.items c.take_ended.new.wai
 
 pub loop-left-preserved : goal.loop-left-preserved
 loop-left-preserved c =
-    settling_goes_on c.args.level (stack_of c.args.waiting.now.items) (expr_of c.args.last) c.loop-left.waiting.items c.take_ended.new.waiting.items c.in-Some.left (expr_of c.loop-left.last) (expr_of c.in_ok-last.last)
+    settling_goes_on c.args.level (stack_of c.args.waiting.now.items) (expr_of c.args.last.value) c.loop-left.waiting.items c.take_ended.new.waiting.items c.in-Some.left (expr_of c.loop-left.last.value) (expr_of c.in_ok-last.last.value)
     c.loop-left.invariant c.in-Some.ensures.0 c.in-Some.ensures.1 c.in_ok-last.ensures

@@ -5,7 +5,7 @@ use Rattle.c_ops.proofs.Stacks.{IsSettling}
 use Rattle.c_ops.proofs.waiting.settle.Given as goal
 
 abbrev pub invariant-loop-left : goal.invariant-loop-left
-invariant-loop-left l = IsSettling l.level (stack_of l.initial.waiting.items) (expr_of l.initial.last) (stack_of l.waiting.items) (expr_of l.last)
+invariant-loop-left l = IsSettling l.level (stack_of l.initial.waiting.items) (expr_of l.initial.last.value) (stack_of l.waiting.items) (expr_of l.last.value)
 
 abbrev pub decreases-loop-left : goal.decreases-loop-left
 decreases-loop-left l = vec_len l.waiting

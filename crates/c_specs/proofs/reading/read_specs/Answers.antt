@@ -1,5 +1,5 @@
 use Rattle.std.proofs.Common.{List, subst}
-use Rattle.c_tree.specs.declared.specifier.SpecWord.{SpecWord}
+use Rattle.c_syntax.specs.declared.specifier.SpecWord.{SpecWord}
 use Rattle.c_tree.specs.Unit.{spec_words_from}
 use Rattle.c_specs.specs.Faults.{IsFault}
 use Rattle.c_specs.proofs.reading.read_specs.Goals as goal

@@ -1,6 +1,6 @@
 use Rattle.std.proofs.Common.{◌≡◌, refl}
-use Rattle.c_tree.specs.declared.initialiser.InitList as rust_init_list
-use Rattle.c_tree.specs.declared.declaration.Decl.TheViews as views
+use Rattle.c_syntax.specs.declared.initialiser.InitList as rust_init_list
+use Rattle.c_syntax.specs.declared.declaration.Decl.TheViews as views
 use Rattle.c_tree.specs.View.{init_list_of}
 use Rattle.c_tree.specs.Ends.{list_end}
 use Rattle.c_tree.proofs.ends.end_of.Goals as goal

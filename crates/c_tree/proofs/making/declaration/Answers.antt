@@ -2,7 +2,7 @@ use Rattle.std.proofs.Common.{◌∙◌, ap}
 use Rattle.c_tree.specs.Tree as tree
 use Rattle.c_tree.specs.Unit.{spec_words_from}
 use Rattle.c_tree.specs.Lists.{init_declrs_from}
-use Rattle.c_tree.specs.declared.declaration.Decl.TheViews as views
+use Rattle.c_syntax.specs.declared.declaration.Decl.TheViews as views
 use Rattle.c_tree.proofs.ViewLemmas.{declaration_is}
 use Rattle.c_tree.proofs.making.declaration.Goals as goal
 

@@ -1,5 +1,5 @@
 use Rattle.std.proofs.lemmas.Result.{err_from_is_err_and}
-use Rattle.c_lexer.specs.declared.kinds.Punct.TheVariants.{CloseBrace}
+use Rattle.c_words.specs.declared.kinds.Punct.TheVariants.{CloseBrace}
 use Rattle.c_tree.specs.Lists.{struct_items_from}
 use Rattle.c_tree.specs.Tree.{no_words}
 use Rattle.c_grammar.specs.Eating.{sign}

@@ -1,7 +1,7 @@
 use Rattle.std.proofs.Common.{◌≡◌, ◌∙◌, map, take, refl, arith}
 use Rattle.std.proofs.lemmas.List.{take_all}
-use Rattle.c_tree.specs.declared.parts.Qual.{Qual}
-use Rattle.c_tree.specs.declared.specifier.SpecWord.TheVariants as rust_words
+use Rattle.c_syntax.specs.declared.parts.Qual.{Qual}
+use Rattle.c_syntax.specs.declared.specifier.SpecWord.TheVariants as rust_words
 use Rattle.specs_reader.proofs.Pushing.{words_are_quals}
 use Rattle.specs_reader.proofs.words.words_of_quals.Goals as goal
 

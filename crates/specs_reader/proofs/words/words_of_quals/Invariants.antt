@@ -1,6 +1,6 @@
 use Rattle.std.proofs.Common.{◌≡◌, map, take}
-use Rattle.c_tree.specs.declared.parts.Qual.{Qual}
-use Rattle.c_tree.specs.declared.specifier.SpecWord.TheVariants as rust_words
+use Rattle.c_syntax.specs.declared.parts.Qual.{Qual}
+use Rattle.c_syntax.specs.declared.specifier.SpecWord.TheVariants as rust_words
 use Rattle.specs_reader.proofs.words.words_of_quals.Given as goal
 
 abbrev pub invariant-loop-qual : goal.invariant-loop-qual

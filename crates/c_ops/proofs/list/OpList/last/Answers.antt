@@ -7,4 +7,4 @@ pub returns-in-Some : goal.returns-in-Some
 returns-in-Some c =
     let rows = c.self.inside.rows.items in
     let last = read_last rows c.deref.result.now c.last.result c.in-Some.row c.deref.ensures.value c.last.ensures.value c.in-Some.is in
-    rw (sym c.self.view_is) (last_operand (expr_of c.self.inside.first) rows c.in-Some.row.now last)
+    rw (sym c.self.view_is) (last_operand (expr_of c.self.inside.first.value) rows c.in-Some.row.now last)

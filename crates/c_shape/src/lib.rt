@@ -1,0 +1,9 @@
+//! The forms of expressions, as walks see them.
+//!
+//! A walk that matches an expression itself pays for its forty variants, and for what is known of each part that is a list
+//! or may be missing. One that matches its shape has twenty-two forms, whose tree is known at once.
+#![tactic(auto)]
+
+mod shape;
+
+pub use shape::{Between, Shape, TypeShape, shape_of};
