@@ -1,12 +1,12 @@
-//! The graph and the lattice of a system.
+//! The graph and the lattices of a system.
 
-ghost use Rattle.std.specs.Prelude.{◌<◌};
+ghost use Rattle.std.specs.Prelude.{◌<◌, ℕ};
 ghost use Rattle.flow_graph.specs.System.{IsWithin};
 
 use crate::case::{Case, Row, Shape};
 use flow_graph::constraint::{Constraint, Link, Site};
 use flow_graph::graph::FlowGraph;
-use lattice_core::{Entry, Lattice, Level, Name, Pair, Sign};
+use lattice_core::{Entry, Lattice, Lattices, Level, Name, Pair, Sign};
 use qual_base::ids::{Elem, FuncId, LatticeNo, Numbered, SiteId, TokenId, UnitNo, VarId};
 use qual_base::places::{Owner, Span};
 use std::alloc::{AllocError, Global};
@@ -29,20 +29,42 @@ fn var(rt: &impl Abort, number: u32) -> VarId
     VarId::new(number)
 }
 
-/// A link of the first lattice.
+/// An element of one of the lattices that there may be.
+fn elem(rt: &impl Abort, lattice: u8, elem: u8) -> (LatticeNo, Elem)
+    ensures lattice { result.0 < 16 }
+    ensures elem { result.1 < 64 }
+{
+    assert!(rt; lattice < 16);
+    assert!(rt; elem < 64);
+    (LatticeNo::new(lattice), Elem::new(elem))
+}
+
+/// A constant.
+fn const_of(rt: &impl Abort, lattice: u8, e: u8, v: u32) -> Link
+    ensures { (sites : ℕ) → IsWithin sites result }
+{
+    let (lattice, e) = elem(rt, lattice, e);
+    Link::Const(lattice, e, var(rt, v))
+}
+
+/// A bound.
+fn bound_of(rt: &impl Abort, v: u32, lattice: u8, e: u8) -> Link
+    ensures { (sites : ℕ) → IsWithin sites result }
+{
+    let (lattice, e) = elem(rt, lattice, e);
+    Link::Bound(var(rt, v), lattice, e)
+}
+
+/// The link of a row.
 fn link_of(rt: &impl Abort, row: Row, sites: u32) -> Link
     ensures { IsWithin sites result }
 {
     match row {
         Row::Le(u, v) => Link::Le(var(rt, u), var(rt, v)),
-        Row::Const(e, v) => {
-            assert!(rt; e < 64);
-            Link::Const(LatticeNo::new(0), Elem::new(e), var(rt, v))
-        }
-        Row::Bound(v, e) => {
-            assert!(rt; e < 64);
-            Link::Bound(var(rt, v), LatticeNo::new(0), Elem::new(e))
-        }
+        Row::Const(e, v) => const_of(rt, 0, e, v),
+        Row::ConstIn(lattice, e, v) => const_of(rt, lattice, e, v),
+        Row::Bound(v, e) => bound_of(rt, v, 0, e),
+        Row::BoundIn(v, lattice, e) => bound_of(rt, v, lattice, e),
         Row::Enter(s, u, v) => {
             assert!(rt; s < sites);
             Link::Enter(SiteId::new(s), var(rt, u), var(rt, v))
@@ -70,11 +92,11 @@ pub fn graph_of(rt: &impl Abort, alloc: Global, case: &Case) -> Result<FlowGraph
             owner: owner_of(*owner),
         })?;
     }
-    for row in case.rows {
+    for (n, row) in case.rows.iter().enumerate() {
         let link = link_of(rt, *row, graph.sites());
         graph.add(Constraint {
             link,
-            lattices: 1,
+            lattices: case.masks.get(n).copied().unwrap_or(1),
             span: Span {
                 unit: UnitNo::new(1),
                 from: TokenId::new(0),
@@ -91,7 +113,7 @@ fn letter(alloc: Global, number: u8) -> Result<Name, AllocError> {
 }
 
 /// The lattice of a shape.
-pub fn lattice_of(rt: &impl Abort, alloc: Global, shape: &Shape) -> Result<Lattice, Fail> {
+fn lattice_of(rt: &impl Abort, alloc: Global, shape: &Shape) -> Result<Lattice, Fail> {
     let mut entries = Vec::new(alloc);
     for n in 0..shape.count {
         entries.push(Entry {
@@ -111,4 +133,14 @@ pub fn lattice_of(rt: &impl Abort, alloc: Global, shape: &Shape) -> Result<Latti
     }
     assert!(rt; !entries.is_empty());
     Ok(Lattice::build(alloc, entries, pairs.as_slice())?)
+}
+
+/// The lattices of a system.
+pub fn lattices_of(rt: &impl Abort, alloc: Global, case: &Case) -> Result<Lattices, Fail> {
+    let mut lattices = Lattices::new(alloc);
+    for shape in case.shapes {
+        assert!(rt; lattices.len() < 16);
+        lattices.push(lattice_of(rt, alloc, shape)?)?;
+    }
+    Ok(lattices)
 }

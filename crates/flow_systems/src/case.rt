@@ -1,11 +1,14 @@
-//! Systems of constraints in one lattice, written down with their answers.
+//! Systems of constraints in one or more lattices, written down with their answers.
 
-/// A constraint by plain numbers: sites, elements and variables as in `Link`.
+/// A constraint by plain numbers: sites, elements and variables as in `Link`. A `Const` and a `Bound` are of the first
+/// lattice; a `ConstIn` and a `BoundIn` name theirs before the element.
 #[derive(Clone, Copy)]
 pub enum Row {
     Le(u32, u32),
     Const(u8, u32),
+    ConstIn(u8, u8, u32),
     Bound(u32, u8),
+    BoundIn(u32, u8, u8),
     Enter(u32, u32, u32),
     Leave(u32, u32, u32),
 }
@@ -16,24 +19,32 @@ pub struct Shape {
     pub pairs: &'static [(u8, u8)],
 }
 
-/// A system with its answers.
+/// The answers for a system in one lattice.
 ///
-/// Each variable has its owner, and each site its target and its owner. The answers are, for each variable, the set of
-/// the elements that reach it (bit n for element n) and the least element at or above them; for each inner end of a call
-/// the variables that matched paths lead to from there; the bounds that are exceeded, in order, none where the system is
-/// accepted; and whether some assignment meets the unfolding at depths 0 to 3. Where a bound is exceeded, one of these
-/// depths is not met.
-pub struct Case {
-    pub name: &'static str,
-    pub shape: Shape,
-    pub owners: &'static [Option<u32>],
-    pub sites: &'static [(u32, Option<u32>)],
-    pub rows: &'static [Row],
+/// They are, for each variable, the set of the elements that reach it (bit n for element n) and the least element at or
+/// above them; for each inner end of a call the variables that matched paths lead to from there; the bounds that are
+/// exceeded, in order, none where the system is accepted; and whether some assignment meets the unfolding at depths 0 to
+/// 3. Where a bound is exceeded, one of these depths is not met.
+pub struct Answers {
     pub reached: &'static [u64],
     pub values: &'static [u8],
     pub matched: &'static [(u32, &'static [u32])],
     pub exceeded: &'static [u32],
     pub met: [bool; 4],
+}
+
+/// A system with its answers.
+///
+/// There is a shape for each lattice and as many answers. Each variable has its owner, and each site its target and its
+/// owner. The masks are those of the rows, in order; a row behind the last mask is in the first lattice alone.
+pub struct Case {
+    pub name: &'static str,
+    pub shapes: &'static [Shape],
+    pub owners: &'static [Option<u32>],
+    pub sites: &'static [(u32, Option<u32>)],
+    pub rows: &'static [Row],
+    pub masks: &'static [u16],
+    pub answers: &'static [Answers],
 }
 
 pub const NOBODY: Option<u32> = None;

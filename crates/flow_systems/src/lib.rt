@@ -1,8 +1,7 @@
-//! Systems of constraints with their answers, and the tests that the closure of matched paths, the solver and the
-//! unfolding give these answers.
+//! Systems of constraints with their answers, and the tests that the closure of matched paths, the solver, the unfolding
+//! and the maker of path proofs give these answers.
 //!
-//! Each system is written once, and is worked out by hand or was drawn at random and solved by two other programs. The
-//! library has the checks that a system must pass before a solver may name its exceeded bounds.
+//! Each system is written once, and is worked out by hand or was drawn at random and solved by other programs.
 #![tactic(auto)]
 
 #[cfg(test)]
@@ -10,18 +9,24 @@ mod building;
 #[cfg(test)]
 mod case;
 #[cfg(test)]
-mod drawn_five;
+mod comparing;
 #[cfg(test)]
-mod drawn_four;
-#[cfg(test)]
-mod drawn_three;
-#[cfg(test)]
-mod drawn_two;
+mod drawn_lattices;
 #[cfg(test)]
 mod nested;
 #[cfg(test)]
+mod no_recursion;
+#[cfg(test)]
+mod one_function;
+#[cfg(test)]
 mod paths;
 #[cfg(test)]
+mod several_lattices;
+#[cfg(test)]
 mod tests;
+#[cfg(test)]
+mod three_functions;
+#[cfg(test)]
+mod two_functions;
 #[cfg(test)]
 mod worked;

@@ -1,10 +1,9 @@
 //! A path proof whose calls nest in one another, beside the depths at which its system is met.
 
-use crate::building::{graph_of, lattice_of};
+use crate::building::{graph_of, lattices_of};
 use crate::case::Row::{Bound, Const, Enter, Le, Leave};
-use crate::case::{Case, F0, TWO};
+use crate::case::{Answers, Case, F0, TWO};
 use flow_unfolding::unfolding::is_met;
-use lattice_core::Lattices;
 use path_checker::{check, read_report};
 use qual_base::ids::LatticeNo;
 use std::test::Fail;
@@ -13,7 +12,7 @@ use std::test::Fail;
 // left as 12 and so on to 7. The path takes six calls that are open at once, and its main path has five steps.
 static NESTED: Case = Case {
     name: "calls nested in one another",
-    shape: TWO,
+    shapes: &[TWO],
     owners: &[F0; 14],
     sites: &[(0, F0)],
     rows: &[
@@ -33,11 +32,14 @@ static NESTED: Case = Case {
         Leave(0, 8, 7),
         Bound(7, 0),
     ],
-    reached: &[],
-    values: &[],
-    matched: &[],
-    exceeded: &[14],
-    met: [true, true, true, true],
+    masks: &[],
+    answers: &[Answers {
+        reached: &[],
+        values: &[],
+        matched: &[],
+        exceeded: &[14],
+        met: [true, true, true, true],
+    }],
 };
 
 // one step in the first of six sub-paths and three in each other, and five in the main path: 21 in all
@@ -79,12 +81,12 @@ fn a_path_proof_needs_the_depth_of_its_sub_paths(rt: HostRuntime) -> Result<(), 
     let graph = graph_of(&rt, alloc, &NESTED)?;
     let proofs = read_report(alloc, NESTED_PROOF.as_bytes(), graph.len())?;
     assert_eq!(rt; proofs.len(), 1);
-    let mut lattices = Lattices::new(alloc);
-    lattices.push(lattice_of(&rt, alloc, &TWO)?)?;
+    let lattices = lattices_of(&rt, alloc, &NESTED)?;
     assert!(rt; check(&graph, &lattices, &proofs[0]).is_ok());
-    let lattice = lattice_of(&rt, alloc, &TWO)?;
+    assert_eq!(rt; lattices.len(), 1);
+    let lattice = lattices.get(LatticeNo::new(0));
     for (depth, met) in [(0, true), (3, true), (5, true), (6, false), (21, false)] {
-        let found = is_met(alloc, &graph, LatticeNo::new(0), &lattice, depth)?;
+        let found = is_met(alloc, &graph, LatticeNo::new(0), lattice, depth)?;
         assert_eq!(rt; found, met, "at depth {depth}");
     }
     Ok(())

@@ -1,23 +1,21 @@
-//! The path proof of each exceeded bound, judged by the checker, and for worked systems beside its steps.
+//! The path proofs of worked systems, beside their steps.
 
-ghost use Rattle.std.specs.Prelude.{◌≡◌, ◌<◌, length};
+ghost use Rattle.std.specs.Prelude.{◌≡◌, Some, slice_get};
 ghost use Rattle.flow_graph.specs.Unfolding.{NamesElementsIn};
 ghost use Rattle.match_summary.specs.Summary.{Summarises};
 ghost use Rattle.lattice_solver.specs.Solution.{IsSolved};
-ghost use Rattle.error_path.specs.Shown.{InLattice};
 
-use crate::building::{graph_of, lattice_of};
+use crate::building::{graph_of, lattices_of};
 use crate::case::Case;
-use flow_graph::conditions::{is_well_owned, names_elements};
-use crate::{drawn_five, drawn_four, drawn_three, drawn_two, worked};
-use error_path::show;
+use crate::comparing::shown;
+use crate::worked;
+use flow_graph::conditions::names_elements;
 use flow_graph::graph::FlowGraph;
 use flow_graph::proof::{PathProof, PathStep};
-use lattice_core::Lattices;
+use lattice_core::{Lattice, Lattices};
 use lattice_solver::solver::Solver;
 use match_summary::summarise;
 use match_summary::summary::Summaries;
-use path_checker::check;
 use qual_base::ids::{EdgeId, LatticeNo, Numbered};
 use std::alloc::Global;
 use std::process::Abort;
@@ -139,48 +137,48 @@ fn compare_worked(rt: &impl Abort, name: &str, proof: &PathProof) -> usize {
 }
 
 /// Compares the path proofs of the exceeded bounds, and says how many were worked out.
-fn judge_bounds(
+fn compare_bounds(
     rt: &impl Abort,
     alloc: Global,
-    case: &Case,
+    name: &str,
     graph: &FlowGraph,
     summaries: &Summaries,
     solver: &Solver,
     lattices: &Lattices,
+    lattice: &Lattice,
 ) -> Result<usize, Fail>
     requires solved { IsSolved graph.now solver.now }
     requires summaries { Summarises graph.now solver.now.lattice summaries.now }
-    requires lattice { solver.now.lattice < length lattices.now }
-    requires named { InLattice lattices.now solver.now.lattice (NamesElementsIn graph.now solver.now.lattice) }
+    requires lattice { slice_get lattices.now solver.now.lattice ≡ Some lattice.now }
+    requires named { NamesElementsIn graph.now solver.now.lattice lattice.now.order }
 {
-    let lattice = lattices.get(solver.lattice());
     let mut worked: usize = 0;
     for n in 0..graph.len() {
-        if solver.exceeded(graph, lattice, EdgeId::new(n)).is_some() {
-            let proof = show(alloc, graph, summaries, solver, lattices, EdgeId::new(n))?;
-            assert_eq!(rt; check(graph, lattices, &proof), Ok(()), "{}", case.name);
-            let last = proof.main.last().map(number_of);
-            assert_eq!(rt; last, Some(Step::Take(n)), "{}", case.name);
-            worked = worked.wrapping_add(compare_worked(rt, case.name, &proof));
+        let at = EdgeId::new(n);
+        if let Some(elem) = solver.exceeded(graph, lattice, at) {
+            let proof = shown(alloc, graph, summaries, solver, lattices, lattice, at, elem)?;
+            worked = worked.wrapping_add(compare_worked(rt, name, &proof));
         }
     }
     Ok(worked)
 }
 
-/// Judges the path proofs of some systems, and says how many were worked out.
-fn judge(rt: &impl Abort, alloc: Global, cases: &[Case]) -> Result<usize, Fail> {
+/// Compares the path proofs of some systems in one lattice, and says how many were worked out.
+fn compare_paths(rt: &impl Abort, alloc: Global, cases: &[Case]) -> Result<usize, Fail> {
     let mut worked: usize = 0;
+    let at = LatticeNo::new(0);
     for case in cases {
         let graph = graph_of(rt, alloc, case)?;
-        let mut lattices = Lattices::new(alloc);
-        lattices.push(lattice_of(rt, alloc, &case.shape)?)?;
-        let summaries = summarise(alloc, &graph, LatticeNo::new(0))?;
-        let mut solver = Solver::new(alloc, &graph, &summaries, LatticeNo::new(0))?;
+        let lattices = lattices_of(rt, alloc, case)?;
+        assert_eq!(rt; lattices.len(), 1);
+        let lattice = lattices.get(at);
+        let summaries = summarise(alloc, &graph, at)?;
+        let mut solver = Solver::new(alloc, &graph, &summaries, at)?;
         solver.run(&graph, &summaries);
-        assert!(rt; is_well_owned(&graph));
-        assert!(rt; lattices.len() == 1);
-        assert!(rt; names_elements(&graph, LatticeNo::new(0), lattices.get(LatticeNo::new(0))));
-        let count = judge_bounds(rt, alloc, case, &graph, &summaries, &solver, &lattices)?;
+        assert!(rt; names_elements(&graph, at, lattice));
+        let count = compare_bounds(
+            rt, alloc, case.name, &graph, &summaries, &solver, &lattices, lattice,
+        )?;
         worked = worked.wrapping_add(count);
     }
     Ok(worked)
@@ -188,31 +186,9 @@ fn judge(rt: &impl Abort, alloc: Global, cases: &[Case]) -> Result<usize, Fail> 
 
 #[test]
 fn worked_systems_have_their_path_proofs(rt: HostRuntime) -> Result<(), Fail> {
-    let calls = judge(&rt, rt.alloc(), &worked::CALLS)?;
+    let calls = compare_paths(&rt, rt.alloc(), &worked::CALLS)?;
     assert_eq!(rt; calls, 2);
-    let shared = judge(&rt, rt.alloc(), &worked::SHARED)?;
+    let shared = compare_paths(&rt, rt.alloc(), &worked::SHARED)?;
     assert_eq!(rt; shared, 2);
-    Ok(())
-}
-
-#[test]
-fn path_proofs_of_drawn_systems_with_two_or_three_elements_hold(
-    rt: HostRuntime,
-) -> Result<(), Fail> {
-    judge(&rt, rt.alloc(), &drawn_two::FIRST)?;
-    judge(&rt, rt.alloc(), &drawn_two::SECOND)?;
-    judge(&rt, rt.alloc(), &drawn_three::FIRST)?;
-    judge(&rt, rt.alloc(), &drawn_three::SECOND)?;
-    Ok(())
-}
-
-#[test]
-fn path_proofs_of_drawn_systems_with_four_or_five_elements_hold(
-    rt: HostRuntime,
-) -> Result<(), Fail> {
-    judge(&rt, rt.alloc(), &drawn_four::FIRST)?;
-    judge(&rt, rt.alloc(), &drawn_four::SECOND)?;
-    judge(&rt, rt.alloc(), &drawn_five::FIRST)?;
-    judge(&rt, rt.alloc(), &drawn_five::SECOND)?;
     Ok(())
 }

@@ -1,35 +1,41 @@
 //! Systems worked out by hand, with two elements, 1 above 0.
 
 use crate::case::Row::{Bound, Const, Enter, Le, Leave};
-use crate::case::{Case, F0, F1, F2, F3, NOBODY, TWO};
+use crate::case::{Answers, Case, F0, F1, F2, F3, NOBODY, TWO};
 
 /// Systems where each call has its own copy.
 pub static CALLS: [Case; 4] = [
     // b = a; with 0 a, 1 b.
     Case {
         name: "a flow",
-        shape: TWO,
+        shapes: &[TWO],
         owners: &[],
         sites: &[],
         rows: &[Const(1, 0), Bound(1, 0), Le(0, 1)],
-        reached: &[2, 2],
-        values: &[1, 1],
-        matched: &[],
-        exceeded: &[1],
-        met: [false, false, false, false],
+        masks: &[],
+        answers: &[Answers {
+            reached: &[2, 2],
+            values: &[1, 1],
+            matched: &[],
+            exceeded: &[1],
+            met: [false, false, false, false],
+        }],
     },
     // A function with a constant calls a second one, and that a third one with the bound: two sites from depth 2 on.
     Case {
         name: "a call in a call",
-        shape: TWO,
+        shapes: &[TWO],
         owners: &[F0, F1, F2],
         sites: &[(1, F0), (2, F1)],
         rows: &[Const(1, 0), Enter(0, 0, 1), Enter(1, 1, 2), Bound(2, 0)],
-        reached: &[2, 2, 2],
-        values: &[1, 1, 1],
-        matched: &[(1, &[]), (2, &[])],
-        exceeded: &[3],
-        met: [true, true, false, false],
+        masks: &[],
+        answers: &[Answers {
+            reached: &[2, 2, 2],
+            values: &[1, 1, 1],
+            matched: &[(1, &[]), (2, &[])],
+            exceeded: &[3],
+            met: [true, true, false, false],
+        }],
     },
     // int id(int x) { return x; }   int c, d;
     // void f(void) { c = id(a); b = id(d); }
@@ -37,7 +43,7 @@ pub static CALLS: [Case; 4] = [
     // 9 to 12 and 13 to 16 are as 0 to 3 at the two sites. Each site has its own copy of id, so nothing comes to b.
     Case {
         name: "two calls of one function",
-        shape: TWO,
+        shapes: &[TWO],
         owners: &[
             F0, F0, F0, F0, F0, NOBODY, NOBODY, NOBODY, NOBODY, F1, F1, F1, F1, F1, F1, F1, F1,
         ],
@@ -60,18 +66,21 @@ pub static CALLS: [Case; 4] = [
             Le(8, 15),
             Le(16, 6),
         ],
-        reached: &[0, 0, 2, 2, 2, 2, 0, 2, 0, 0, 0, 2, 2, 0, 0, 0, 0],
-        values: &[0, 0, 1, 1, 1, 1, 0, 1, 0, 0, 0, 1, 1, 0, 0, 0, 0],
-        matched: &[(2, &[3, 4])],
-        exceeded: &[],
-        met: [true, true, true, true],
+        masks: &[],
+        answers: &[Answers {
+            reached: &[0, 0, 2, 2, 2, 2, 0, 2, 0, 0, 0, 2, 2, 0, 0, 0, 0],
+            values: &[0, 0, 1, 1, 1, 1, 0, 1, 0, 0, 0, 1, 1, 0, 0, 0, 0],
+            matched: &[(2, &[3, 4])],
+            exceeded: &[],
+            met: [true, true, true, true],
+        }],
     },
     // int r(int x, int y) { if (x) return r(y, x); return x; }   void f(void) { b = r(b, a); }
     // 0 to 4 r, its function, parameters and result; 5 x, 6 y; 7 to 11 r at its own site; 12 a, 13 b;
     // 14 to 18 r at its site in f. What comes in as y goes out in a call of depth 2.
     Case {
         name: "a flow through recursion",
-        shape: TWO,
+        shapes: &[TWO],
         owners: &[
             F0, F0, F0, F0, F0, F0, F0, F0, F0, F0, F0, F0, NOBODY, NOBODY, F1, F1, F1, F1, F1,
         ],
@@ -99,11 +108,14 @@ pub static CALLS: [Case; 4] = [
             Le(12, 17),
             Le(18, 13),
         ],
-        reached: &[0, 0, 2, 2, 2, 2, 2, 0, 0, 2, 2, 2, 2, 2, 0, 0, 2, 2, 2],
-        values: &[0, 0, 1, 1, 1, 1, 1, 0, 0, 1, 1, 1, 1, 1, 0, 0, 1, 1, 1],
-        matched: &[(2, &[4, 5, 10, 11]), (3, &[4, 6, 9, 11])],
-        exceeded: &[12],
-        met: [true, true, false, false],
+        masks: &[],
+        answers: &[Answers {
+            reached: &[0, 0, 2, 2, 2, 2, 2, 0, 0, 2, 2, 2, 2, 2, 0, 0, 2, 2, 2],
+            values: &[0, 0, 1, 1, 1, 1, 1, 0, 0, 1, 1, 1, 1, 1, 0, 0, 1, 1, 1],
+            matched: &[(2, &[4, 5, 10, 11]), (3, &[4, 6, 9, 11])],
+            exceeded: &[12],
+            met: [true, true, false, false],
+        }],
     },
 ];
 
@@ -115,7 +127,7 @@ pub static SHARED: [Case; 3] = [
     // 11 to 14 put at its site; 15 to 17 get at its site. Both sites meet the one copy of g, from depth 1 on.
     Case {
         name: "two functions that share a variable of nobody",
-        shape: TWO,
+        shapes: &[TWO],
         owners: &[
             F0, F0, F0, F0, F0, F1, F1, F1, NOBODY, NOBODY, NOBODY, F2, F2, F2, F2, F3, F3, F3,
         ],
@@ -136,11 +148,14 @@ pub static SHARED: [Case; 3] = [
             Leave(1, 7, 17),
             Le(17, 9),
         ],
-        reached: &[0, 0, 2, 0, 2, 0, 0, 2, 2, 2, 2, 0, 0, 2, 0, 0, 0, 2],
-        values: &[0, 0, 1, 0, 1, 0, 0, 1, 1, 1, 1, 0, 0, 1, 0, 0, 0, 1],
-        matched: &[(2, &[4])],
-        exceeded: &[1],
-        met: [true, false, false, false],
+        masks: &[],
+        answers: &[Answers {
+            reached: &[0, 0, 2, 0, 2, 0, 0, 2, 2, 2, 2, 0, 0, 2, 0, 0, 0, 2],
+            values: &[0, 0, 1, 0, 1, 0, 0, 1, 1, 1, 1, 0, 0, 1, 0, 0, 0, 1],
+            matched: &[(2, &[4])],
+            exceeded: &[1],
+            met: [true, false, false, false],
+        }],
     },
     // int id(int x) { return x; }   int (*fp)(int) = id;   int c;
     // void f(void) { c = fp(a); }   void h(void) { b = fp(1); }
@@ -148,7 +163,7 @@ pub static SHARED: [Case; 3] = [
     // 10 a, 11 b, 12 c; 13 to 16 id at file scope; 17 the number 1. Both calls go through one copy of id, from depth 1 on.
     Case {
         name: "a site that nobody owns",
-        shape: TWO,
+        shapes: &[TWO],
         owners: &[
             F0, F0, F0, F0, F0, NOBODY, NOBODY, NOBODY, NOBODY, NOBODY, NOBODY, NOBODY, NOBODY,
             NOBODY, NOBODY, NOBODY, NOBODY, F2,
@@ -175,16 +190,19 @@ pub static SHARED: [Case; 3] = [
             Le(17, 8),
             Le(9, 11),
         ],
-        reached: &[0, 0, 2, 2, 2, 0, 0, 0, 2, 2, 2, 2, 2, 0, 0, 2, 2, 0],
-        values: &[0, 0, 1, 1, 1, 0, 0, 0, 1, 1, 1, 1, 1, 0, 0, 1, 1, 0],
-        matched: &[(2, &[3, 4])],
-        exceeded: &[14],
-        met: [true, false, false, false],
+        masks: &[],
+        answers: &[Answers {
+            reached: &[0, 0, 2, 2, 2, 0, 0, 0, 2, 2, 2, 2, 2, 0, 0, 2, 2, 0],
+            values: &[0, 0, 1, 1, 1, 0, 0, 0, 1, 1, 1, 1, 1, 0, 0, 1, 1, 0],
+            matched: &[(2, &[3, 4])],
+            exceeded: &[14],
+            met: [true, false, false, false],
+        }],
     },
     // The same with c = id(a) in f: 18 to 21 id at its site in f, which has its own copy.
     Case {
         name: "a call beside a site that nobody owns",
-        shape: TWO,
+        shapes: &[TWO],
         owners: &[
             F0, F0, F0, F0, F0, NOBODY, NOBODY, NOBODY, NOBODY, NOBODY, NOBODY, NOBODY, NOBODY,
             NOBODY, NOBODY, NOBODY, NOBODY, F2, F1, F1, F1, F1,
@@ -215,14 +233,17 @@ pub static SHARED: [Case; 3] = [
             Le(17, 8),
             Le(9, 11),
         ],
-        reached: &[
-            0, 0, 2, 2, 2, 0, 0, 0, 0, 0, 2, 0, 2, 0, 0, 0, 0, 0, 0, 0, 2, 2,
-        ],
-        values: &[
-            0, 0, 1, 1, 1, 0, 0, 0, 0, 0, 1, 0, 1, 0, 0, 0, 0, 0, 0, 0, 1, 1,
-        ],
-        matched: &[(2, &[3, 4])],
-        exceeded: &[],
-        met: [true, true, true, true],
+        masks: &[],
+        answers: &[Answers {
+            reached: &[
+                0, 0, 2, 2, 2, 0, 0, 0, 0, 0, 2, 0, 2, 0, 0, 0, 0, 0, 0, 0, 2, 2,
+            ],
+            values: &[
+                0, 0, 1, 1, 1, 0, 0, 0, 0, 0, 1, 0, 1, 0, 0, 0, 0, 0, 0, 0, 1, 1,
+            ],
+            matched: &[(2, &[3, 4])],
+            exceeded: &[],
+            met: [true, true, true, true],
+        }],
     },
 ];

@@ -1,8 +1,8 @@
 -- One change more.
 use Rattle.std.proofs.Common.{◌≡◌, ℕ, ◌+◌, ◌<◌, List, [], ◌∷◌, ◌++◌, length, drop, get_or, cond, refl, sym, ◌∙◌, ap}
 use Rattle.std.proofs.lemmas.List.{at_drop_more}
-use Rattle.flow_unfolding.specs.declared.assigned.Change.{Change}
-use Rattle.flow_unfolding.specs.Assigned.{is_same, last_change}
+use Rattle.flow_unfolding.specs.declared.assignment.Change.{Change}
+use Rattle.flow_unfolding.specs.Assignment.{is_same, last_change}
 
 pub last-push : (cs : List Change) (c : Change) (other v : ℕ) (w : List ℕ) → last_change (cs ++ c ∷ []) other v w ≡ cond (is_same c.at c.sites v w) c.elem (last_change cs other v w)
 last-push [] c other v w = refl

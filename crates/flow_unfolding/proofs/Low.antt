@@ -13,7 +13,7 @@ use Rattle.flow_graph.specs.CallStrings.{either}
 use Rattle.flow_graph.specs.PathRules.{link_ends}
 use Rattle.flow_graph.specs.Unfolding.{Assignment, at, seen_from, Rises, Meets, NamesElementsIn}
 use Rattle.flow_unfolding.specs.Copies.{stands, behind}
-use Rattle.flow_unfolding.specs.Assigned.{is_same, changed, Raises}
+use Rattle.flow_unfolding.specs.Assignment.{is_same, changed, Raises}
 use Rattle.flow_unfolding.specs.Meeting.{begin_element, end_sites, AreElements, IsLow, IsOver, IsUnmet}
 use Rattle.flow_unfolding.proofs.CopyTests.{copy_is, entered_is, root_copy}
 

@@ -1,4 +1,4 @@
 pub mod Strings
 pub mod Copies
-pub mod Assigned
+pub mod Assignment
 pub mod Meeting

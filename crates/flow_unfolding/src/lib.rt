@@ -4,7 +4,7 @@
 //! definition of the unfolding alone, and on no law of paths.
 #![tactic(auto)]
 
-mod assigned;
+mod assignment;
 mod copies;
 mod strings;
 pub mod unfolding;

@@ -4,13 +4,13 @@ ghost use Rattle.std.specs.Prelude.{◌≡◌, ℕ, ◌<◌, length, IfOk, OnOk,
 ghost use Rattle.std.specs.Bool.{OnFalse};
 ghost use Rattle.lattice_core.specs.Order.{IsLattice};
 ghost use Rattle.flow_graph.specs.Unfolding;
-ghost use Rattle.flow_graph.specs.Unfolding.{Assignment, Meets, Rises, NamesElementsIn};
-ghost use Rattle.flow_unfolding.specs.Assigned.{map_of};
+ghost use Rattle.flow_graph.specs.Unfolding.{Meets, Rises, NamesElementsIn};
+ghost use Rattle.flow_unfolding.specs.Assignment.{map_of};
 ghost use Rattle.flow_unfolding.specs.Strings.{HasAll};
 ghost use Rattle.flow_unfolding.specs.Meeting;
 ghost use Rattle.flow_unfolding.specs.Meeting.{IsLow, AgreesAt, AgreesUpTo, AgreesBelow, AreElements, KeepsAt, KeepsUpTo, KeepsBelow, IsOver, IsUnmet};
 
-use crate::assigned::Assigned;
+use crate::assignment::Assignment;
 use crate::copies::{behind, is_copy, seen_from, stands};
 use crate::strings::{CallString, all_strings};
 use flow_graph::conditions::names_elements;
@@ -22,7 +22,7 @@ use qual_base::ids::{EdgeId, Elem, LatticeNo, Numbered, SiteId, VarId};
 use std::alloc::Global;
 
 /// The element of a variable as it is met from a copy of a function.
-fn element_at(map: &Assigned, graph: &FlowGraph, var: VarId, sites: &[SiteId]) -> Elem
+fn element_at(map: &Assignment, graph: &FlowGraph, var: VarId, sites: &[SiteId]) -> Elem
     ensures { result ≡ Unfolding.at graph.now (map_of map.now) var sites.now }
 {
     map.get(var, seen_from(graph.owner(var), sites))
@@ -42,7 +42,7 @@ fn end_sites(link: Link, sites: &[SiteId]) -> &[SiteId]
 }
 
 /// The element at which a link begins. A bound asks nothing of its variable but what that has.
-fn begin_element(map: &Assigned, graph: &FlowGraph, link: Link, sites: &[SiteId]) -> Elem
+fn begin_element(map: &Assignment, graph: &FlowGraph, link: Link, sites: &[SiteId]) -> Elem
     ensures { result ≡ Meeting.begin_element graph.now (map_of map.now) link sites.now }
 {
     match link {
@@ -63,7 +63,7 @@ fn step(
     depth: u32,
     at: EdgeId,
     sites: &[SiteId],
-    map: &mut Assigned,
+    map: &mut Assignment,
 ) -> Result<bool, NoMemory>
     requires lattice { lattice_no < 16 }
     requires order { IsLattice lattice.now.order }
@@ -96,7 +96,7 @@ fn turn_at(
     depth: u32,
     at: EdgeId,
     strings: &[CallString],
-    map: &mut Assigned,
+    map: &mut Assignment,
 ) -> Result<bool, NoMemory>
     requires lattice { lattice_no < 16 }
     requires order { IsLattice lattice.now.order }
@@ -133,7 +133,7 @@ fn turn(
     lattice: &Lattice,
     depth: u32,
     strings: &[CallString],
-    map: &mut Assigned,
+    map: &mut Assignment,
 ) -> Result<bool, NoMemory>
     requires lattice { lattice_no < 16 }
     requires order { IsLattice lattice.now.order }
@@ -169,7 +169,7 @@ fn raise_all(
     lattice: &Lattice,
     depth: u32,
     strings: &[CallString],
-    map: &mut Assigned,
+    map: &mut Assignment,
 ) -> Result<(), NoMemory>
     requires lattice { lattice_no < 16 }
     requires order { IsLattice lattice.now.order }
@@ -196,7 +196,7 @@ fn keeps_at(
     depth: u32,
     at: EdgeId,
     sites: &[SiteId],
-    map: &Assigned,
+    map: &Assignment,
 ) -> bool
     requires lattice { lattice_no < 16 }
     requires named { NamesElementsIn graph.now lattice_no lattice.now.order }
@@ -222,7 +222,7 @@ fn keeps_bound(
     depth: u32,
     at: EdgeId,
     strings: &[CallString],
-    map: &Assigned,
+    map: &Assignment,
 ) -> bool
     requires lattice { lattice_no < 16 }
     requires named { NamesElementsIn graph.now lattice_no lattice.now.order }
@@ -245,7 +245,7 @@ fn keeps_bounds(
     lattice: &Lattice,
     depth: u32,
     strings: &[CallString],
-    map: &Assigned,
+    map: &Assignment,
 ) -> bool
     requires lattice { lattice_no < 16 }
     requires named { NamesElementsIn graph.now lattice_no lattice.now.order }
@@ -286,14 +286,14 @@ pub fn is_met(
     depth: u32,
 ) -> Result<bool, NoMemory>
     requires { lattice_no < 16 }
-    ensures { IfOk result (λ met. MatchBool met ((map : Assignment) × Meets graph.now lattice_no lattice.now.order depth map) (IsUnmet graph.now lattice_no lattice.now.order depth)) }
+    ensures { IfOk result (λ met. MatchBool met ((map : Unfolding.Assignment) × Meets graph.now lattice_no lattice.now.order depth map) (IsUnmet graph.now lattice_no lattice.now.order depth)) }
 {
     lattice.law();
     if !names_elements(graph, lattice_no, lattice) {
         return Ok(false);
     }
     let strings = all_strings(alloc, graph.sites(), depth)?;
-    let mut map = Assigned::new(alloc, lattice.bottom());
+    let mut map = Assignment::new(alloc, lattice.bottom());
     raise_all(alloc, graph, lattice_no, lattice, depth, &strings, &mut map)?;
     Ok(keeps_bounds(graph, lattice_no, lattice, depth, &strings, &map))
 }

@@ -1,6 +1,6 @@
 use Rattle.std.proofs.Common.{◌≡◌, List, ℕ, length, true, false, refl}
 use Rattle.flow_graph.specs.Unfolding.{Assignment, Meets}
-use Rattle.flow_unfolding.specs.Assigned.{map_of}
+use Rattle.flow_unfolding.specs.Assignment.{map_of}
 use Rattle.flow_unfolding.specs.Strings.{HasAll}
 use Rattle.flow_unfolding.specs.Meeting.{KeepsBelow, IsOver, IsUnmet}
 use Rattle.flow_unfolding.proofs.Rising.{all_kept}

@@ -1,4 +1,4 @@
-use Rattle.flow_unfolding.specs.Assigned.{map_of}
+use Rattle.flow_unfolding.specs.Assignment.{map_of}
 use Rattle.flow_unfolding.specs.Meeting.{KeepsUpTo}
 use Rattle.flow_unfolding.proofs.unfolding.keeps_bound.Given as goal
 

@@ -1,14 +1,14 @@
 use Rattle.std.proofs.Common.{◌≡◌, length, sym, subst}
 use Rattle.std.proofs.lemmas.Bool.{OnFalse_at}
-use Rattle.flow_unfolding.specs.declared.assigned.Assigned.{Assigned}
-use Rattle.flow_unfolding.specs.Assigned.{map_of}
+use Rattle.flow_unfolding.specs.declared.assignment.Assignment.{Assignment}
+use Rattle.flow_unfolding.specs.Assignment.{map_of}
 use Rattle.flow_unfolding.specs.Meeting.{AgreesBelow}
 use Rattle.flow_unfolding.proofs.Rising.{all_rise}
 use Rattle.flow_unfolding.proofs.unfolding.raise_all.Goals as goal
 
 pub returns-then-not-grew-clause-rises : goal.returns-then-not-grew-clause-rises
 returns-then-not-grew-clause-rises c =
-    let Agrees : Assigned → Type 0 = λ k.
+    let Agrees : Assignment → Type 0 = λ k.
     AgreesBelow c.args.graph.now c.args.lattice_no c.args.lattice.now.order c.args.depth (map_of k) c.args.strings.now (length c.args.graph.now.constraints) in
     let same : c.turn.new.map ≡ c.loop.map = OnFalse_at c.if-not-grew.true c.in_ok-grew.ensures.same in
     let agrees : Agrees c.loop.map = OnFalse_at c.if-not-grew.true c.in_ok-grew.ensures.agrees in

@@ -1,7 +1,7 @@
 use Rattle.std.proofs.Common.{◌≡◌, true, refl, sym, subst}
 use Rattle.lattice_core.specs.Order.{leq}
-use Rattle.flow_unfolding.specs.declared.assigned.Assigned.{Assigned}
-use Rattle.flow_unfolding.specs.Assigned.{map_of, Raises}
+use Rattle.flow_unfolding.specs.declared.assignment.Assignment.{Assignment}
+use Rattle.flow_unfolding.specs.Assignment.{map_of, Raises}
 use Rattle.flow_unfolding.specs.Meeting.{IsLow}
 use Rattle.flow_unfolding.proofs.Low.{begins_inside, step_low, raised_both}
 use Rattle.flow_unfolding.proofs.unfolding.step.Goals as goal
@@ -14,7 +14,7 @@ raise-requires-clause-elem c =
 
 pub returns-clause-low : goal.returns-clause-low
 returns-clause-low c =
-    let Low : Assigned → Type 0 = λ k. IsLow c.args.graph.now c.args.lattice_no c.args.lattice.now.order c.args.depth (map_of k) in
+    let Low : Assignment → Type 0 = λ k. IsLow c.args.graph.now c.args.lattice_no c.args.lattice.now.order c.args.depth (map_of k) in
     raised_both c.raise.result
     (Raises c.args.lattice.now.order (map_of c.args.map.now) (map_of c.raise.new.self) c.end-end.result c.seen_from-copy.result.now c.begin_element-elem.result)
     (c.raise.new.self ≡ c.args.map.now)

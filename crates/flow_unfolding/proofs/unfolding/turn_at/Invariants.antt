@@ -1,6 +1,6 @@
 use Rattle.std.proofs.Common.{◌≡◌}
 use Rattle.std.specs.Bool.{OnFalse}
-use Rattle.flow_unfolding.specs.Assigned.{map_of}
+use Rattle.flow_unfolding.specs.Assignment.{map_of}
 use Rattle.flow_unfolding.specs.Meeting.{IsLow, AgreesUpTo}
 use Rattle.flow_unfolding.proofs.unfolding.turn_at.Given as goal
 

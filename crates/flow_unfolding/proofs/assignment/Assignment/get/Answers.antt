@@ -1,8 +1,8 @@
 use Rattle.std.proofs.Common.{ℕ, ◌+◌, ◌<◌, List, length, drop, get_or, sym, ◌∙◌, ap, subst}
-use Rattle.flow_unfolding.specs.declared.assigned.Change.{Change}
-use Rattle.flow_unfolding.specs.Assigned.{last_change}
+use Rattle.flow_unfolding.specs.declared.assignment.Change.{Change}
+use Rattle.flow_unfolding.specs.Assignment.{last_change}
 use Rattle.flow_unfolding.proofs.Changes.{last-step}
-use Rattle.flow_unfolding.proofs.assigned.Assigned.get.Goals as goal
+use Rattle.flow_unfolding.proofs.assignment.Assignment.get.Goals as goal
 
 pub loop-change-preserved : goal.loop-change-preserved
 loop-change-preserved c =

@@ -2,7 +2,7 @@
 
 ghost use Rattle.std.specs.Prelude.{◌≡◌, ℕ, ◌<◌, List, true, [], IfOk, OnOk, MatchBool, cond};
 ghost use Rattle.lattice_core.specs.Order.{size, leq};
-ghost use Rattle.flow_unfolding.specs.Assigned.{map_of, changed, is_same, Raises};
+ghost use Rattle.flow_unfolding.specs.Assignment.{map_of, changed, is_same, Raises};
 
 use crate::strings::{CallString, string_of};
 use lattice_core::Lattice;
@@ -33,17 +33,17 @@ impl Change {
 
 /// An element for each copy of each variable: the one that it was given last, or else the one at the start.
 #[derive(Drop)]
-pub struct Assigned {
+pub struct Assignment {
     pub start: Elem,
     pub changes: Vec<Change>,
 }
 
-impl Assigned {
+impl Assignment {
     /// One element everywhere. Takes no memory.
     pub fn new(alloc: Global, start: Elem) -> Self
         ensures { (v : ℕ) (w : List ℕ) → map_of result v w ≡ start }
     {
-        Assigned {
+        Assignment {
             start,
             changes: Vec::new(alloc),
         }
