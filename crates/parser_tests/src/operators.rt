@@ -239,9 +239,18 @@ static TREES: [(&[u8], &str); 46] = [
     (b"* a = b", "(*(a) = b)"),
     (b"(int) a * b", "(cast(int; a) * b)"),
     (b"a = (int) b + c", "(a = (cast(int; b) + c))"),
-    (b"a = b + c * d == e ? f : g , h", "((a = (((b + (c * d)) == e) ? f : g)) , h)"),
-    (b"a || b && c | d ^ e & f == g < h", "(a || (b && (c | (d ^ (e & (f == (g < h)))))))"),
-    (b"a * b + c << d < e == f & g ^ h", "(((((((a * b) + c) << d) < e) == f) & g) ^ h)"),
+    (
+        b"a = b + c * d == e ? f : g , h",
+        "((a = (((b + (c * d)) == e) ? f : g)) , h)",
+    ),
+    (
+        b"a || b && c | d ^ e & f == g < h",
+        "(a || (b && (c | (d ^ (e & (f == (g < h)))))))",
+    ),
+    (
+        b"a * b + c << d < e == f & g ^ h",
+        "(((((((a * b) + c) << d) < e) == f) & g) ^ h)",
+    ),
 ];
 
 static BAD: [(&[u8], &str); 8] = [

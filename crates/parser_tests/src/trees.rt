@@ -20,7 +20,12 @@ fn dollar_words(rt: &impl Abort, alloc: Global) -> QualWords {
 }
 
 /// The text of the tree of a source, and `none` where there is no tree.
-pub(crate) fn shown(rt: &impl Abort, alloc: Global, unit: u32, source: &[u8]) -> Result<String, AllocError> {
+pub(crate) fn shown(
+    rt: &impl Abort,
+    alloc: Global,
+    unit: u32,
+    source: &[u8],
+) -> Result<String, AllocError> {
     assert!(rt; source.len() < 10000);
     let words = dollar_words(rt, alloc);
     let tokens = lex(alloc, UnitNo::new(unit), source, &words).expect(rt, "tokens");
