@@ -5,7 +5,7 @@ use Rattle.flow_graph.specs.PathProofs.{first_of, steps_of}
 use Rattle.error_path.specs.Shown.{IsExceededBySome}
 use Rattle.cqual_tool.specs.Texts.{error_line, proof_text}
 use Rattle.cqual_tool.specs.Scenes.{scene_of}
-use Rattle.cqual_tool.proofs.LatticeLemmas.{in_lattice, order_there}
+use Rattle.cqual_tool.proofs.LatticeLemmas.{in_lattice}
 use Rattle.cqual_tool.proofs.ReportLemmas.{in_parts, limit_is, error_as, edge_within, start_link, element_is, entry_of}
 use Rattle.cqual_tool.proofs.reports.put_exceeded.Goals as goal
 
@@ -24,18 +24,18 @@ show-requires-clause-exceeded c =
 
 pub first_edge-requires : goal.first_edge-requires
 first_edge-requires c =
-    let b = c.in_ok-proof.ensures.begins c.requires.exceeds.view.order (order_there c.args.scene.now.lattices.now c.args.solved.now.solver.lattice c.requires.exceeds.view c.requires.exceeds.there) in
+    let b = c.in_ok-proof.ensures.begins c.requires.exceeds.view c.requires.exceeds.there in
     (b.number, 0, ap first_of c.deref.ensures.value ∙ b.first)
 
 pub constraint-start-requires : goal.constraint-start-requires
 constraint-start-requires c =
-    let b = c.in_ok-proof.ensures.begins c.requires.exceeds.view.order (order_there c.args.scene.now.lattices.now c.args.solved.now.solver.lattice c.requires.exceeds.view c.requires.exceeds.there) in
+    let b = c.in_ok-proof.ensures.begins c.requires.exceeds.view c.requires.exceeds.there in
     let edge = c.first_edge.ensures b.number 0 (ap first_of c.deref.ensures.value ∙ b.first) in
     edge_within c.args.graph.now c.args.solved.now.solver c.requires.exceeds.view.order c.args.bound c.in_ok-proof.proof b c.first_edge.result edge
 
 pub elem_of-elem-requires : goal.elem_of-elem-requires
 elem_of-elem-requires c =
-    let b = c.in_ok-proof.ensures.begins c.requires.exceeds.view.order (order_there c.args.scene.now.lattices.now c.args.solved.now.solver.lattice c.requires.exceeds.view c.requires.exceeds.there) in
+    let b = c.in_ok-proof.ensures.begins c.requires.exceeds.view c.requires.exceeds.there in
     let edge = c.first_edge.ensures b.number 0 (ap first_of c.deref.ensures.value ∙ b.first) in (
       c.args.solved.now.solver.lattice,
       b.element,
@@ -49,7 +49,7 @@ put_error-requires-clause-span c = c.requires.shown.spans c.args.bound c.constra
 pub put_error-requires-clause-elem : goal.put_error-requires-clause-elem
 put_error-requires-clause-elem c =
     let e = c.requires.exceeds in
-    let b = c.in_ok-proof.ensures.begins e.view.order (order_there c.args.scene.now.lattices.now c.args.solved.now.solver.lattice e.view e.there) in
+    let b = c.in_ok-proof.ensures.begins e.view e.there in
     let edge = c.first_edge.ensures b.number 0 (ap first_of c.deref.ensures.value ∙ b.first) in
     let limit = limit_is (scene_of c.args.scene.now) c.args.graph.now c.args.solved.now.solver e.view.order c.args.bound c.in_ok-proof.proof c.constraint-constraint.result c.constraint-constraint.ensures.there e.elem e.exceeds
     c.limit_of-limit.ensures.0 c.limit_of-limit.result.lattice c.limit_of-limit.result.elem c.limit_of-limit.ensures.1 in
@@ -62,7 +62,7 @@ pub returns : goal.returns
 returns c =
     let scene = scene_of c.args.scene.now in
     let e = c.requires.exceeds in
-    let b = c.in_ok-proof.ensures.begins e.view.order (order_there c.args.scene.now.lattices.now c.args.solved.now.solver.lattice e.view e.there) in
+    let b = c.in_ok-proof.ensures.begins e.view e.there in
     let edge = c.first_edge.ensures b.number 0 (ap first_of c.deref.ensures.value ∙ b.first) in
     let limit = limit_is scene c.args.graph.now c.args.solved.now.solver e.view.order c.args.bound c.in_ok-proof.proof c.constraint-constraint.result c.constraint-constraint.ensures.there e.elem e.exceeds
     c.limit_of-limit.ensures.0 c.limit_of-limit.result.lattice c.limit_of-limit.result.elem c.limit_of-limit.ensures.1 in
