@@ -12,8 +12,8 @@ use qual_base::places::Owner;
 /// How many variables a function has.
 const VARIABLES: u32 = 8;
 
-/// How many constants there are, and how many bounds.
-const ENDS: u32 = 8;
+/// For so many functions there is a constant, and a bound.
+const APART: u32 = 8;
 
 /// A linear congruential generator (Knuth's multiplier for 64 bits).
 #[derive(Drop)]
@@ -98,11 +98,16 @@ fn add_functions(graph: &mut FlowGraph, draws: &mut Draws, functions: u32) -> Re
     Ok(())
 }
 
-/// The first constraints: constants and bounds of drawn variables.
-fn add_ends(graph: &mut FlowGraph, draws: &mut Draws, functions: u32) -> Result<(), Fault>
+/// So many constants of drawn variables, and as many bounds.
+fn add_ends(
+    graph: &mut FlowGraph,
+    draws: &mut Draws,
+    functions: u32,
+    ends: u32,
+) -> Result<(), Fault>
     requires { 0 < functions }
 {
-    for _ in 0..ENDS {
+    for _ in 0..ends {
         let function = draws.below(functions);
         add(graph, constant(draws.variable(function)))?;
         let function = draws.below(functions);
@@ -111,15 +116,17 @@ fn add_ends(graph: &mut FlowGraph, draws: &mut Draws, functions: u32) -> Result<
     Ok(())
 }
 
-/// So many constraints, at least those that are constants and bounds. There is a function for each eight of them.
+/// So many constraints, or those that are constants and bounds where these are more. There is a function for each eight
+/// constraints, and a constant and a bound for each eight functions.
 pub fn add_random(graph: &mut FlowGraph, size: u32) -> Result<(), Fault>
     requires { size ≤ 1000000 }
 {
     let mut draws = Draws::new();
     let functions = size / VARIABLES + 1;
     add_functions(graph, &mut draws, functions)?;
-    add_ends(graph, &mut draws, functions)?;
-    for _ in 2 * ENDS..size {
+    let ends = functions / APART + 1;
+    add_ends(graph, &mut draws, functions, ends)?;
+    for _ in 2 * ends..size {
         let link = drawn(graph, &mut draws, functions)?;
         add(graph, link)?;
     }
