@@ -1,0 +1,16 @@
+use Rattle.std.proofs.lemmas.Option.{slice_get_within}
+use Rattle.flow_graph.specs.Unfolding.{NamesElementsIn}
+use Rattle.error_path.specs.Shown.{IsExceededBySome}
+use Rattle.flow_bench.proofs.InLattices.{in_lattice}
+use Rattle.flow_bench.proofs.counting.shown.Goals as goal
+
+pub show-requires-clause-lattice : goal.show-requires-clause-lattice
+show-requires-clause-lattice c = slice_get_within c.args.lattices.now c.args.solver.now.lattice c.args.lattice.now c.requires.lattice
+
+pub show-requires-clause-named : goal.show-requires-clause-named
+show-requires-clause-named c =
+    in_lattice c.args.lattices.now c.args.solver.now.lattice c.args.lattice.now c.requires.lattice (NamesElementsIn c.args.graph.now c.args.solver.now.lattice) c.requires.named
+
+pub show-requires-clause-exceeded : goal.show-requires-clause-exceeded
+show-requires-clause-exceeded c =
+    in_lattice c.args.lattices.now c.args.solver.now.lattice c.args.lattice.now c.requires.lattice (λ order. IsExceededBySome c.args.graph.now c.args.solver.now order c.args.bound) (c.args.elem, c.requires.exceeds)

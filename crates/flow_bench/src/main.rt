@@ -1,0 +1,67 @@
+//! A benchmark of the analysis: makes a system of constraints, closes and solves it, and prints counts.
+//!
+//! The words are `KIND N GOAL`. KIND is `chain`, `reversed`, `ring`, `fan` or `random`, N its size (at most 1,000,000), and
+//! GOAL is `closure`, `solve` or `show`. What does not fit, a failed write and want of memory end it with status 1.
+#![tactic(auto)]
+
+mod calls;
+mod counting;
+mod fan;
+mod fault;
+mod making;
+mod random;
+mod words;
+
+use counting::{Counts, count};
+use fault::Fault;
+use making::make;
+use std::alloc::Global;
+use std::env;
+use std::process::ExitCode;
+use words::meaning;
+
+/// The words after the program's name.
+fn words_of(rt: &HostRuntime, alloc: Global) -> Result<Vec<String>, Fault> {
+    let mut words = Vec::new(alloc);
+    match env::args(rt) {
+        Ok(args) => {
+            for word in args.skip(1) {
+                words.push(word)?;
+            }
+        }
+        Err(_) => return Err(Fault::Words),
+    }
+    Ok(words)
+}
+
+/// Makes the system that the words ask for, and counts what is found of it.
+fn run(alloc: Global, words: &[String]) -> Result<Counts, Fault> {
+    let wanted = meaning(words).ok_or(Fault::Words)?;
+    let graph = make(alloc, wanted.kind, wanted.size)?;
+    count(alloc, &graph, wanted.goal)
+}
+
+/// Prints the counts, a line each.
+fn print(rt: &impl Print, counts: &Counts) -> Result<(), Fault> {
+    println!(rt; "constraints {}", counts.constraints)?;
+    println!(rt; "variables {}", counts.variables)?;
+    println!(rt; "pairs {}", counts.pairs)?;
+    println!(rt; "exceeded {}", counts.exceeded)?;
+    println!(rt; "steps {}", counts.steps)?;
+    Ok(())
+}
+
+/// Counts what the words ask for and prints it.
+fn answer(rt: &HostRuntime) -> Result<(), Fault> {
+    let alloc = rt.alloc();
+    let words = words_of(rt, alloc)?;
+    let counts = run(alloc, &words)?;
+    print(rt, &counts)
+}
+
+fn main(rt: HostRuntime) -> ExitCode {
+    match answer(&rt) {
+        Ok(()) => ExitCode::SUCCESS,
+        Err(_) => ExitCode::FAILURE,
+    }
+}
