@@ -189,7 +189,7 @@ fn fault_text(alloc: Global, fault: OpsFault) -> Result<String, AllocError> {
 fn answer(rt: &impl Abort, alloc: Global, source: &[u8]) -> Result<String, AllocError> {
     let (list, _) = read(rt, alloc, source);
     match build_ops(alloc, list) {
-        Ok(_) => String::from_str(alloc, "a tree"),
+        Ok(_tree) => String::from_str(alloc, "a tree"),
         Err(fault) => fault_text(alloc, fault),
     }
 }
