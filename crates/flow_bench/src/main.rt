@@ -10,6 +10,8 @@ mod fan;
 mod fault;
 mod making;
 mod random;
+#[cfg(test)]
+mod tests;
 mod words;
 
 use counting::{Counts, count};
