@@ -2,7 +2,8 @@
 //!
 //! A walk that matches an expression itself pays for its forty variants, and for what is known of each part that is a list
 //! or may be missing. One that matches its shape has twenty-two forms, whose tree is known at once. The shapes of
-//! statements and declarators have the forms that these have, sixteen and nine.
+//! statements and declarators have the forms that these have, sixteen and nine. A recursion over shapes goes down by the
+//! height of the tree.
 #![tactic(auto)]
 
 mod declarator;
