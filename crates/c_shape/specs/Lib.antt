@@ -1,1 +1,3 @@
+pub mod Declarators
 pub mod Shapes
+pub mod Statements
