@@ -9,13 +9,9 @@ ghost use Rattle.c_tree.specs.Tree as trees;
 ghost use Rattle.c_tree.specs.Unit.{spec_words_from};
 ghost use Rattle.c_tree.specs.View.{expr_of};
 
-use c_syntax::declarator::TypeName;
-use c_syntax::expression::Expr;
-use c_syntax::parts::{Identifier, Marked, Word};
-use c_tree::making;
-use c_words::kinds::Punct;
-use qual_base::faults::NoMemory;
-use qual_base::ids::{NameId, TokenId};
+use c_syntax::{Expr, Identifier, Marked, TypeName, Word};
+use c_words::Punct;
+use qual_base::{NameId, NoMemory, TokenId};
 use std::alloc::Global;
 
 /// An index in brackets.
@@ -216,7 +212,7 @@ pub fn call(
 ) -> Result<Box<Expr>, NoMemory>
     ensures { IfOk result (λ made. expr_of made.value ≡ trees.call (expr_of callee.value) «open» (lists.exprs_from arguments.items) close) }
 {
-    match Box::new(alloc, making::call(callee, open, arguments, close)) {
+    match Box::new(alloc, c_tree::call(callee, open, arguments, close)) {
         Ok(made) => Ok(made),
         Err(_) => Err(NoMemory),
     }
@@ -232,7 +228,7 @@ pub fn sizeof_type(
 ) -> Result<Box<Expr>, NoMemory>
     ensures { IfOk result (λ made. expr_of made.value ≡ trees.sizeof_type keyword «open» (spec_words_from type_name.specs.words.items) (lists.some_declr_from type_name.declr) close) }
 {
-    match Box::new(alloc, making::sizeof_type(keyword, open, type_name, close)) {
+    match Box::new(alloc, c_tree::sizeof_type(keyword, open, type_name, close)) {
         Ok(made) => Ok(made),
         Err(_) => Err(NoMemory),
     }
@@ -248,7 +244,7 @@ pub fn cast(
 ) -> Result<Box<Expr>, NoMemory>
     ensures { IfOk result (λ made. expr_of made.value ≡ trees.cast «open» (spec_words_from type_name.specs.words.items) (lists.some_declr_from type_name.declr) close (expr_of operand.value)) }
 {
-    match Box::new(alloc, making::cast(open, type_name, close, operand)) {
+    match Box::new(alloc, c_tree::cast(open, type_name, close, operand)) {
         Ok(made) => Ok(made),
         Err(_) => Err(NoMemory),
     }

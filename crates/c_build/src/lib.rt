@@ -1,4 +1,9 @@
 //! Nodes of trees, made of boxed parts into a box.
 #![tactic(auto)]
 
-pub mod expressions;
+mod expressions;
+
+pub use expressions::{
+    arrow, call, cast, char_use, dot, index, marked, name_use, number_use, paren, post, prefix,
+    push, sizeof, sizeof_type, text_use,
+};

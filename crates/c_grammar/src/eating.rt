@@ -9,10 +9,10 @@ ghost use Rattle.c_grammar.specs.Specifying.{name_at, tag_at, spelled_name};
 ghost use Rattle.c_grammar.specs.Expressing.{is_text};
 
 use crate::fault::{Fault, ReadError, refused};
-use c_syntax::parts::Identifier;
-use c_tree::lexeme::Lexeme;
-use c_words::kinds::{Punct, TokenKind};
-use qual_base::ids::NameId;
+use c_syntax::Identifier;
+use c_tree::Lexeme;
+use c_words::{Punct, TokenKind};
+use qual_base::NameId;
 
 /// Whether a token of a kind is `(`.
 pub fn is_open_paren(kind: TokenKind) -> bool

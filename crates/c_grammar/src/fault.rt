@@ -5,8 +5,8 @@ ghost use Rattle.c_grammar.specs.Reading.{number_at};
 ghost use Rattle.c_grammar.specs.declared.fault.ReadError.TheVariants as errors;
 ghost use Rattle.c_grammar.specs.declared.fault.ReadError.TheVariants.{NoMemory};
 
-use c_tree::lexeme::Lexeme;
-use qual_base::ids::{Numbered, TokenId};
+use c_tree::Lexeme;
+use qual_base::{Numbered, TokenId};
 use std::alloc::{AllocError, AllocFailed};
 
 /// Why no well-formed unit goes on with a token.
@@ -39,10 +39,10 @@ impl From<AllocError> for ReadError {
     }
 }
 
-impl From<qual_base::faults::NoMemory> for ReadError {
+impl From<qual_base::NoMemory> for ReadError {
     ghost from_gives = { λ _ e. e ≡ NoMemory };
 
-    fn from(_error: qual_base::faults::NoMemory) -> ReadError {
+    fn from(_error: qual_base::NoMemory) -> ReadError {
         ReadError::NoMemory
     }
 }

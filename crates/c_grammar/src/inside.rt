@@ -14,14 +14,10 @@ ghost use Rattle.c_grammar.specs.Knot.{expr_at, type_name_at, specs_at, declr_at
 
 use crate::fault::{Fault, ReadError, refused};
 use crate::kinds::{Mode, Reach, Role};
-use c_syntax::declarator::{Declr, TypeName};
-use c_syntax::expression::Expr;
-use c_syntax::parts::Qual;
-use c_syntax::specifier::Specs;
-use c_tree::lexeme::Lexeme;
+use c_syntax::{Declr, Expr, Qual, Specs, TypeName};
+use c_tree::Lexeme;
 use std::alloc::Global;
-use typedef_scope::kind::Kind;
-use typedef_scope::scopes::Scopes;
+use typedef_scope::{Kind, Scopes};
 
 /// An expression inside.
 pub fn expr_inside<'a, E>(

@@ -8,11 +8,10 @@ ghost use Rattle.c_grammar.specs.Scoping.{names_type};
 ghost use Rattle.c_grammar.specs.Specifying.{keyword_start, kind_start, typed_start, start_at, begins_specs, is_start};
 ghost use Rattle.c_grammar.specs.Expressing.{closing_of, opening_of, punct_between, between, prefix_reach};
 
-use c_tree::lexeme::Lexeme;
-use c_words::kinds::{Keyword, Punct, TokenKind};
-use qual_base::ids::NameId;
-use typedef_scope::kind::Kind;
-use typedef_scope::scopes::Scopes;
+use c_tree::Lexeme;
+use c_words::{Keyword, Punct, TokenKind};
+use qual_base::NameId;
+use typedef_scope::{Kind, Scopes};
 
 /// How far an expression may go.
 #[derive(Clone, Copy, PartialEq, Eq, Debug)]

@@ -5,8 +5,8 @@ ghost use Rattle.c_grammar.specs.ReaderLaws.{NoFewerScopes, OperandsAreTight};
 ghost use Rattle.c_grammar.specs.LoopLaws.{LoopsStep};
 ghost use Rattle.c_grammar.specs.Laws.{TokenIsTaken, TokenIsFound, TokenIsLocal, NameIsTaken, NameIsFound, TagIsTaken, QualsAreLocal};
 
-use c_ops::laws::{no_tree_of_a_bad_target, the_tree_of_a_list};
-use c_specs::laws::{mixes_go_on, whole_are_mixes};
+use c_ops::{no_tree_of_a_bad_target, the_tree_of_a_list};
+use c_specs::{mixes_go_on, whole_are_mixes};
 
 /// The reader of one token takes the first token, and this passes the test.
 pub fn token_is_taken()

@@ -8,9 +8,9 @@ ghost use Rattle.c_grammar.specs.Specifying.{kind_start, typed_start};
 
 use crate::fault::{ReadError, number_at};
 use crate::kinds::{Start, kind_start};
-use c_syntax::parts::{ArrayWord, PointerWord, Qual, Word};
-use c_tree::lexeme::Lexeme;
-use c_words::kinds::{Keyword, TokenKind};
+use c_syntax::{ArrayWord, PointerWord, Qual, Word};
+use c_tree::Lexeme;
+use c_words::{Keyword, TokenKind};
 use std::alloc::Global;
 
 /// The qualifier that a first token is.

@@ -11,15 +11,11 @@ ghost use Rattle.c_tree.specs.View.{expr_of, spec_word_of, struct_item_of, mem_d
 ghost use Rattle.c_tree.specs.Unit.{spec_words_from, block_items_from, item_of, items_of, item_height, unit_height};
 ghost use Rattle.c_tree.specs.Lists.{exprs_from, some_expr_from, struct_items_from, some_body_from, mem_declrs_from, some_value_from, enumerators_from, some_declr_from, some_size_from, params_from, desigs_from, init_items_from, some_init_from, init_declrs_from, some_else_from};
 
-use c_syntax::declaration::{Decl, Declaration, InitDeclr, Item, Unit};
-use c_syntax::declarator::{ArraySize, Declr, Param, TypeName};
-use c_syntax::expression::Expr;
-use c_syntax::initialiser::{Desig, Init, InitItem, InitList};
-use c_syntax::parts::{AsmLabel, Attr, Listed, Marked, PointerWord};
-use c_syntax::specifier::{
-    Enum, Enumerator, MemDeclr, Member, SpecWord, Specs, Struct, StructItem,
+use c_syntax::{
+    ArraySize, AsmLabel, Attr, BlockItem, Decl, Declaration, Declr, Desig, Enum, Enumerator, Expr,
+    ForStart, Init, InitDeclr, InitItem, InitList, Item, Listed, Marked, MemDeclr, Member, Param,
+    PointerWord, SpecWord, Specs, Stmt, Struct, StructItem, TypeName, Unit,
 };
-use c_syntax::statement::{BlockItem, ForStart, Stmt};
 
 /// One more, at most the greatest number.
 fn above(part: u32) -> u32

@@ -12,8 +12,8 @@ use Rattle.c_words.specs.declared.kinds.TokenKind.{TokenKind}
 use Rattle.c_words.specs.declared.kinds.TokenKind.TheVariants.{Name, Keyword, Number, Char, Text, Punct as Sign, Qual, Index, End}
 use Rattle.c_lexer.specs.declared.token.Token.{Token}
 use Rattle.c_lexer.specs.declared.places.Mark.{Mark}
-use Rattle.c_lexer.specs.declared.lex.LexFault.{LexFault}
-use Rattle.c_lexer.specs.declared.lex.LexFault.TheVariants.{BadByte, Unended, UnknownQualifier, NoMemory}
+use Rattle.c_lexer.specs.declared.lexing.LexFault.{LexFault}
+use Rattle.c_lexer.specs.declared.lexing.LexFault.TheVariants.{BadByte, Unended, UnknownQualifier, NoMemory}
 use Rattle.c_lexer.specs.Tokens.{Lexed, IsSpelled}
 use Rattle.c_lexer.specs.Refusals.{IsRefusal, IsOnly}
 use Rattle.c_lexer.specs.Words.{word_kind, sign_kind}

@@ -1,7 +1,7 @@
 -- Why the bytes of a unit spell no tokens: at the first place where they stop, with all before it read.
 use Rattle.std.specs.Prelude.{◌≡◌, ℕ, true, false, List, drop, Result, Ok, Err}
-use Rattle.c_lexer.specs.declared.lex.LexFault.{LexFault}
-use Rattle.c_lexer.specs.declared.lex.LexFault.TheVariants.{BadByte, Unended, UnknownQualifier, NoMemory}
+use Rattle.c_lexer.specs.declared.lexing.LexFault.{LexFault}
+use Rattle.c_lexer.specs.declared.lexing.LexFault.TheVariants.{BadByte, Unended, UnknownQualifier, NoMemory}
 use Rattle.c_lexer.specs.declared.token.Token.{Token}
 use Rattle.c_lexer.specs.declared.places.Mark.{Mark}
 use Rattle.c_lexer.specs.Tokens.{Lexed}

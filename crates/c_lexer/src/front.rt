@@ -12,7 +12,7 @@ ghost use Rattle.std.specs.List.Sorted.{IsNonDecreasingBy};
 ghost use Rattle.c_lexer.specs.Places.{spot_at};
 
 use crate::gaps::{Gap, gap_in_front, is_fresh_behind};
-use crate::kinds::{TokenKind, Word};
+use crate::kinds::Word;
 use crate::longest::{Shape, longest_token};
 use crate::marks::marker_of;
 use crate::names::Names;
@@ -20,10 +20,8 @@ use crate::places::Mark;
 use crate::text::Text;
 use crate::token::Token;
 use crate::words::kind_of_word;
-use qual_base::faults::NoMemory as OutOfMemory;
-use qual_base::ids::{Numbered, UnitNo};
-use qual_base::places::Spot;
-use qual_base::words::QualWords;
+use c_words::TokenKind;
+use qual_base::{NoMemory as OutOfMemory, Numbered, QualWords, Spot, UnitNo};
 use std::alloc::Global;
 use std::marker::Model;
 

@@ -1,6 +1,6 @@
 //! What a token can be.
 
-pub use c_words::kinds::{Keyword, Punct, TokenKind};
+use c_words::Keyword;
 
 /// What a word is that is no name.
 #[derive(Clone, Copy, PartialEq, Eq, Debug)]

@@ -4,16 +4,21 @@
 mod front;
 mod fronts;
 mod gaps;
-pub mod kinds;
-pub mod lex;
+mod kinds;
+mod lexing;
 mod longest;
 mod marks;
 mod names;
-pub mod places;
+mod places;
 mod signs;
 #[cfg(test)]
 mod tests;
 mod text;
-pub mod token;
-pub mod tokens;
+mod token;
+mod tokens;
 mod words;
+
+pub use lexing::{LexFault, lex};
+pub use places::Mark;
+pub use token::Token;
+pub use tokens::Tokens;

@@ -5,8 +5,8 @@ ghost use Rattle.c_lexer.specs.Spelling.{is_letter, begins_with, is_token, IsLon
 ghost use Rattle.c_lexer.specs.Shapes.{HasShape};
 
 use crate::fronts::{char_len, dollar_len, is_letter_byte, number_len, text_len, word_len};
-use crate::kinds::Punct;
 use crate::signs::sign_in_front;
+use c_words::Punct;
 
 /// What the bytes of a token are, before words are looked up.
 #[derive(Clone, Copy)]

@@ -4,8 +4,7 @@ ghost use Rattle.std.specs.Prelude.{◌≡◌, ◌<◌, ◌^◌, [], length, IfO
 ghost use Rattle.c_lexer.specs.Names.{name_number, with_name};
 
 use indexmap::IndexSet;
-use qual_base::faults::NoMemory;
-use qual_base::ids::{NameId, Numbered};
+use qual_base::{NameId, NoMemory, Numbered};
 use std::alloc::Global;
 use std::marker::Model;
 

@@ -4,7 +4,7 @@ ghost use Rattle.std.specs.Prelude.{◌≡◌, ◌∷◌, [], length, take, nat_
 ghost use Rattle.c_lexer.specs.Words.{signs, sign_kind};
 ghost use Rattle.c_lexer.specs.Spelling.{is_sign, IsLongestOf, HasNone};
 
-use crate::kinds::Punct;
+use c_words::Punct;
 
 #[tactic(auto, unfolding(crate::specs::Words::signs, crate::specs::Words::sign_kind))]
 fn sign_of_one(byte: u8) -> Option<Punct>

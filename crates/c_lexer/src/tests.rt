@@ -1,11 +1,9 @@
 //! What no clause says: that calls succeed where there is memory, and worked values.
 
-use crate::kinds::TokenKind;
-use crate::lex::{LexFault, lex};
+use crate::lexing::{LexFault, lex};
 use crate::tokens::Tokens;
-use qual_base::ids::{Elem, LatticeNo, Numbered, TokenId, UnitNo};
-use qual_base::places::Spot;
-use qual_base::words::QualWords;
+use c_words::TokenKind;
+use qual_base::{Elem, LatticeNo, Numbered, QualWords, Spot, TokenId, UnitNo};
 use std::alloc::{AllocError, Global};
 use std::process::Abort;
 use std::test::Fail;

@@ -7,9 +7,7 @@ ghost use Rattle.c_lexer.specs.Places.{Governs, IsLineOf, IsSpot, spot_at};
 
 use crate::places::Mark;
 use memchr::memchr_iter;
-use qual_base::faults::NoMemory;
-use qual_base::ids::UnitNo;
-use qual_base::places::Spot;
+use qual_base::{NoMemory, Spot, UnitNo};
 use std::alloc::Global;
 use std::marker::Model;
 

@@ -1,6 +1,6 @@
 //! A token.
 
-use crate::kinds::TokenKind;
+use c_words::TokenKind;
 
 /// A token: its kind, and the byte range of the unit where it stands.
 #[derive(Clone, Copy, PartialEq, Eq, Debug)]

@@ -4,12 +4,11 @@ ghost use Rattle.std.specs.Prelude.{ℕ, ◌≡◌, ◌+◌, ◌-◌, ◌<◌, �
 ghost use Rattle.c_lexer.specs.Places.{IsSpot};
 ghost use Rattle.c_lexer.specs.Tokens.{Lexed, IsSound, keyword_meaning, mark_of_kind, start_of, token_spot};
 
-use crate::kinds::{Keyword, TokenKind};
 use crate::places::Mark;
 use crate::text::Text;
 use crate::token::Token;
-use qual_base::ids::{Elem, LatticeNo, Numbered, TokenId, UnitNo};
-use qual_base::places::Spot;
+use c_words::{Keyword, TokenKind};
+use qual_base::{Elem, LatticeNo, Numbered, Spot, TokenId, UnitNo};
 use std::marker::Model;
 
 /// What the keywords mean that a lattice may name.

@@ -3,7 +3,8 @@
 ghost use Rattle.std.specs.Prelude.{◌≡◌, map};
 ghost use Rattle.c_lexer.specs.Words.{words, kind_in, word_kind};
 
-use crate::kinds::{Keyword, Word};
+use crate::kinds::Word;
+use c_words::Keyword;
 
 /// The words that are no names, by length.
 static WORDS: [(&[u8], Word); 91] = [

@@ -14,9 +14,8 @@ use crate::list::OpList;
 use crate::row::Row;
 use crate::target::is_untargeted;
 use crate::waiting::{Waiting, settle};
-use c_syntax::expression::Expr;
-use qual_base::faults::NoMemory;
-use qual_base::ids::TokenId;
+use c_syntax::Expr;
+use qual_base::{NoMemory, TokenId};
 use std::alloc::Global;
 
 /// Why a list has no tree.

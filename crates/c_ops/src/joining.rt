@@ -7,9 +7,9 @@ ghost use Rattle.c_tree.specs.Levels.{binary_level, IsOperator};
 ghost use Rattle.c_ops.specs.Op.{operator_of, some_expr_in};
 
 use crate::op::{Op, level_of_binary};
-use c_syntax::expression::Expr;
-use c_words::kinds::Punct;
-use qual_base::ids::TokenId;
+use c_syntax::Expr;
+use c_words::Punct;
+use qual_base::TokenId;
 
 /// `&&` or `||` with its operands.
 fn logic_of(left: Box<Expr>, token: TokenId, sign: Punct, right: Box<Expr>) -> Expr

@@ -16,9 +16,8 @@ use crate::op::Op;
 use crate::row::{Joined, Row, above_both, greater};
 use crate::target::is_unary;
 use c_height::of_expr;
-use c_syntax::expression::Expr;
-use qual_base::faults::NoMemory;
-use qual_base::ids::TokenId;
+use c_syntax::Expr;
+use qual_base::{NoMemory, TokenId};
 use std::alloc::Global;
 use std::marker::Model;
 

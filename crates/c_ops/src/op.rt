@@ -8,9 +8,9 @@ ghost use Rattle.c_ops.specs.Op.{operator_of};
 ghost use Rattle.c_ops.specs.Operations.{begins_side};
 
 use c_height::of_expr;
-use c_syntax::expression::Expr;
-use c_words::kinds::Punct;
-use qual_base::ids::TokenId;
+use c_syntax::Expr;
+use c_words::Punct;
+use qual_base::TokenId;
 
 /// An operator between two operands.
 #[derive(Drop)]

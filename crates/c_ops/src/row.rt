@@ -4,8 +4,8 @@ ghost use Rattle.std.specs.Prelude.{◌≡◌, ℕ, ◌+◌, max};
 ghost use Rattle.c_tree.specs.Capped.{capped};
 
 use crate::op::Op;
-use c_syntax::expression::Expr;
-use qual_base::ids::TokenId;
+use c_syntax::Expr;
+use qual_base::TokenId;
 
 /// An operator with the operand behind it.
 #[derive(Drop)]

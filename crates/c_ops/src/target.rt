@@ -7,7 +7,7 @@ ghost use Rattle.c_ops.specs.Op.{operator_of};
 ghost use Rattle.c_ops.specs.Operations.{is_assign, is_untargeted};
 
 use crate::op::Op;
-use c_syntax::expression::Expr;
+use c_syntax::Expr;
 
 /// Whether an expression is a unary form (C99, 6.5.3): no operator between operands, and no cast.
 pub(crate) fn is_unary(e: &Expr) -> bool

@@ -10,9 +10,8 @@ ghost use Rattle.c_ops.specs.Building.{stack_of, IsTaken};
 
 use crate::joining::operated;
 use crate::op::Op;
-use c_syntax::expression::Expr;
-use qual_base::faults::NoMemory;
-use qual_base::ids::TokenId;
+use c_syntax::Expr;
+use qual_base::{NoMemory, TokenId};
 use std::alloc::Global;
 
 /// A left operand with its operator.

@@ -19,23 +19,17 @@ ghost use Rattle.c_grammar.specs.Inside.{storage_of};
 ghost use Rattle.c_grammar.specs.Items.{with_init_declr, init_declr_with, init_declr_turn, init_declrs_with, declaration_with, item_with, item_turn};
 ghost use Rattle.c_grammar.specs.Scoping.{is_typedef_word, has_typedef_word, declared_kind};
 
-use c_grammar::eating::{begins_end, begins_semicolon, comma, is_semicolon, semicolon};
-use c_grammar::fault::{Fault, ReadError, number_at, refused};
-use c_grammar::inside::{declr_inside, specs_inside};
-use c_grammar::kinds::{Mode, Role};
-use c_grammar::laws::loops_step;
-use c_syntax::declaration::{Decl, Declaration, InitDeclr, Item};
-use c_syntax::declarator::Declr;
-use c_syntax::parts::{Listed, Qual, Semi};
-use c_syntax::specifier::{SpecWord, Specs};
-use c_tree::lexeme::Lexeme;
-use c_tree::making;
-use c_words::kinds::Keyword;
-use declr_reader::parameters::declare_named;
-use qual_base::faults::NoMemory;
+use c_grammar::{
+    Fault, Mode, ReadError, Role, begins_end, begins_semicolon, comma, declr_inside, is_semicolon,
+    loops_step, number_at, refused, semicolon, specs_inside,
+};
+use c_syntax::{Decl, Declaration, Declr, InitDeclr, Item, Listed, Qual, Semi, SpecWord, Specs};
+use c_tree::Lexeme;
+use c_words::Keyword;
+use declr_reader::declare_named;
+use qual_base::NoMemory;
 use std::alloc::Global;
-use typedef_scope::kind::Kind;
-use typedef_scope::scopes::Scopes;
+use typedef_scope::{Kind, Scopes};
 
 /// Whether a word is `typedef`.
 fn is_typedef(word: &SpecWord) -> bool
@@ -260,7 +254,7 @@ where
     let semi = number_at(rest);
     let rest = semicolon(rest)?;
     Ok((
-        making::declaration(Vec::new(alloc), found, declrs, semi),
+        c_tree::declaration(Vec::new(alloc), found, declrs, semi),
         rest,
     ))
 }

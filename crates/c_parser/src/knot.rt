@@ -10,20 +10,14 @@ ghost use Rattle.c_grammar.specs.Inside.{type_name_from};
 ghost use Rattle.c_grammar.specs.Kinds.{reach_of, role_of, mode_of};
 ghost use Rattle.c_grammar.specs.Knot.{expr_at, type_name_at, specs_at, declr_at};
 
-use c_grammar::fault::{Fault, ReadError, number_at, refused};
-use c_grammar::inside::type_name;
-use c_grammar::kinds::{Mode, Reach, Role};
-use c_syntax::declarator::{Declr, TypeName};
-use c_syntax::expression::Expr;
-use c_syntax::parts::Qual;
-use c_syntax::specifier::Specs;
-use c_tree::lexeme::Lexeme;
-use declr_reader::declarators::declarator;
-use expr_reader::operations::expression;
-use specs_reader::words::specifiers;
+use c_grammar::{Fault, Mode, Reach, ReadError, Role, number_at, refused, type_name};
+use c_syntax::{Declr, Expr, Qual, Specs, TypeName};
+use c_tree::Lexeme;
+use declr_reader::declarator;
+use expr_reader::expression;
+use specs_reader::specifiers;
 use std::alloc::Global;
-use typedef_scope::kind::Kind;
-use typedef_scope::scopes::Scopes;
+use typedef_scope::{Kind, Scopes};
 
 /// An expression of a reach that is lower than `depth`.
 #[cycle(knot)]

@@ -3,4 +3,6 @@
 
 mod items;
 mod knot;
-pub mod parsing;
+mod parsing;
+
+pub use parsing::{ParseFault, parse};

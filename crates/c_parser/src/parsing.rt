@@ -14,20 +14,16 @@ ghost use Rattle.c_grammar.specs.Units.{IsWellFormed};
 
 use crate::items::items;
 use crate::knot::{read_declr, read_specs};
-use c_grammar::eating::end;
-use c_grammar::fault::{Fault, ReadError, number_at, refused};
-use c_grammar::kinds::{Mode, Role};
-use c_grammar::laws::{unit_is_well_formed, well_formed_is_read};
+use c_grammar::{
+    Fault, Mode, ReadError, Role, end, number_at, refused, unit_is_well_formed, well_formed_is_read,
+};
 use c_height::of_unit;
-use c_lexer::tokens::Tokens;
-use c_syntax::declaration::Unit;
-use c_syntax::parts::Qual;
-use c_tree::lexeme::Lexeme;
-use qual_base::faults::NoMemory;
-use qual_base::ids::{Numbered, TokenId};
+use c_lexer::Tokens;
+use c_syntax::{Qual, Unit};
+use c_tree::Lexeme;
+use qual_base::{NoMemory, Numbered, TokenId};
 use std::alloc::Global;
-use typedef_scope::kind::Kind;
-use typedef_scope::scopes::Scopes;
+use typedef_scope::{Kind, Scopes};
 
 /// Why a unit was not read.
 #[derive(Clone, Copy, PartialEq, Eq, Debug)]

@@ -4,9 +4,8 @@ ghost use Rattle.std.specs.Prelude.{◌≡◌};
 ghost use Rattle.c_tree.specs.View.{declr_of};
 ghost use Rattle.c_shape.specs.Declarators.{declarator_shaped};
 
-use c_syntax::declarator::{ArraySize, Declr, Param};
-use c_syntax::parts::{ArrayWord, Attr, Ellipsis, PointerWord};
-use qual_base::ids::{NameId, TokenId};
+use c_syntax::{ArraySize, ArrayWord, Attr, Declr, Ellipsis, Param, PointerWord};
+use qual_base::{NameId, TokenId};
 
 /// The forms of declarators, with a name or abstract, each with references to its parts.
 #[derive(Clone, Copy)]

@@ -5,14 +5,9 @@ ghost use Rattle.c_tree.specs.Tree.{operation, binary};
 ghost use Rattle.c_tree.specs.View.{expr_of};
 ghost use Rattle.c_shape.specs.Shapes.{shaped};
 
-use c_syntax::declarator::{Declr, TypeName};
-use c_syntax::expression::Expr;
-use c_syntax::initialiser::{Desig, InitItem};
-use c_syntax::parts::{Identifier, Word};
-use c_syntax::specifier::SpecWord;
-use c_syntax::statement::BlockItem;
-use c_words::kinds::Punct;
-use qual_base::ids::{NameId, TokenId};
+use c_syntax::{BlockItem, Declr, Desig, Expr, Identifier, InitItem, SpecWord, TypeName, Word};
+use c_words::Punct;
+use qual_base::{NameId, TokenId};
 
 /// What stands between two operands.
 #[derive(Clone, Copy)]

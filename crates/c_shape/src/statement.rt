@@ -4,11 +4,10 @@ ghost use Rattle.std.specs.Prelude.{◌≡◌};
 ghost use Rattle.c_tree.specs.View.{stmt_of, for_start_of};
 ghost use Rattle.c_shape.specs.Statements.{start_shaped, statement_shaped};
 
-use c_syntax::declaration::Declaration;
-use c_syntax::expression::Expr;
-use c_syntax::parts::{Attr, Group, Identifier, Marked, Word};
-use c_syntax::statement::{BlockItem, ForStart, Stmt};
-use qual_base::ids::TokenId;
+use c_syntax::{
+    Attr, BlockItem, Declaration, Expr, ForStart, Group, Identifier, Marked, Stmt, Word,
+};
+use qual_base::TokenId;
 
 /// How a `for` begins.
 #[derive(Clone, Copy)]

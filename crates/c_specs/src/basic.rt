@@ -4,7 +4,7 @@ ghost use Rattle.std.specs.Prelude.{◌≡◌, Some};
 ghost use Rattle.c_specs.specs.Basic.{part_of, join, fits, is_whole};
 ghost use Rattle.c_specs.specs.declared.basic.Base.TheVariants.{Nothing};
 
-use c_words::kinds::Keyword;
+use c_words::Keyword;
 
 /// The words of a basic type without a sign and `_Complex`, in whichever order they stand.
 #[derive(Clone, Copy, PartialEq, Eq, Debug)]

@@ -1,8 +1,16 @@
 //! Which declaration specifiers may stand together, read word by word (C99, 6.7.1 and 6.7.2).
 #![tactic(auto)]
 
-pub mod basic;
-pub mod laws;
-pub mod mix;
-pub mod reading;
-pub mod storage;
+mod basic;
+mod laws;
+mod mix;
+mod reading;
+mod storage;
+
+pub use basic::{Base, Core, Mark, Part};
+pub use laws::{
+    bad_tokens_begin, mixes_go_on, mixes_have_no_fault, one_fault_at_most, whole_are_mixes,
+};
+pub use mix::{Class, Mix, Types, class_of, words_begin_a_mix};
+pub use reading::{SpecFault, read_specs};
+pub use storage::Storage;

@@ -11,8 +11,8 @@ ghost use Rattle.c_specs.specs.Reading.{AreRead, Begins, pushed};
 
 use crate::basic::{Base, Core, Mark, Part, fits, is_whole, join, part_of};
 use crate::storage::{Storage, stored, storing};
-use c_syntax::specifier::SpecWord;
-use c_words::kinds::Keyword;
+use c_syntax::SpecWord;
+use c_words::Keyword;
 
 /// The type that stands so far: words of a basic type or none, or a struct, union, enum or typedef name.
 #[derive(Clone, Copy, PartialEq, Eq, Debug)]

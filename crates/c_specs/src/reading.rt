@@ -7,9 +7,8 @@ ghost use Rattle.c_tree.specs.Unit.{spec_words_from};
 ghost use Rattle.c_specs.specs.Faults.{qual_token, word_token, IsFault};
 
 use crate::mix::Mix;
-use c_syntax::parts::Qual;
-use c_syntax::specifier::{SpecWord, Specs};
-use qual_base::ids::TokenId;
+use c_syntax::{Qual, SpecWord, Specs};
+use qual_base::TokenId;
 
 /// Why words are no specifiers.
 #[derive(Clone, Copy, PartialEq, Eq, Debug)]

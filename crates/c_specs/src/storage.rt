@@ -3,7 +3,7 @@
 ghost use Rattle.std.specs.Prelude.{◌≡◌};
 ghost use Rattle.c_specs.specs.Storage.{stored, storing};
 
-use c_words::kinds::Keyword;
+use c_words::Keyword;
 
 /// The storage words that stand so far, in whichever order.
 #[derive(Clone, Copy, PartialEq, Eq, Debug)]

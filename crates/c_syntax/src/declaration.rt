@@ -5,7 +5,7 @@ use crate::initialiser::Init;
 use crate::parts::{AsmLabel, Assert, Attr, Group, Listed, Marked, Semi};
 use crate::specifier::Specs;
 use crate::statement::Block;
-use qual_base::ids::TokenId;
+use qual_base::TokenId;
 
 /// `Unit = item*`.
 #[derive(Drop)]

@@ -3,7 +3,7 @@
 use crate::expression::Expr;
 use crate::parts::{ArrayWord, Attr, Ellipsis, PointerWord};
 use crate::specifier::Specs;
-use qual_base::ids::{NameId, TokenId};
+use qual_base::{NameId, TokenId};
 
 /// The nodes of `declr = Pointer | direct`, with `direct = DeclName | DeclParen | Array | Params`, and of
 /// `absdeclr = AbsPointer | absdirect`, with `absdirect = AbsParen | AbsArray | AbsParams`.

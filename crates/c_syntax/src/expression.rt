@@ -4,8 +4,8 @@ use crate::declarator::TypeName;
 use crate::initialiser::{Desig, InitList};
 use crate::parts::{Identifier, Word};
 use crate::statement::Block;
-use c_words::kinds::Punct;
-use qual_base::ids::{NameId, TokenId};
+use c_words::Punct;
+use qual_base::{NameId, TokenId};
 
 /// The nodes of `expr`. The binary operators are left associative, and each has a node of its own.
 #[cycle(tree)]

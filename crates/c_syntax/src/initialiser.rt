@@ -2,7 +2,7 @@
 
 use crate::expression::Expr;
 use crate::parts::Identifier;
-use qual_base::ids::TokenId;
+use qual_base::TokenId;
 
 /// `init = assign | InitList`.
 #[cycle(tree)]

@@ -10,10 +10,23 @@
 //! that grows with what each holds.
 #![tactic(auto)]
 
-pub mod declaration;
-pub mod declarator;
-pub mod expression;
-pub mod initialiser;
-pub mod parts;
-pub mod specifier;
-pub mod statement;
+mod declaration;
+mod declarator;
+mod expression;
+mod initialiser;
+mod parts;
+mod specifier;
+mod statement;
+
+pub use declaration::{Decl, Declaration, InitDeclr, Item, Unit};
+pub use declarator::{ArraySize, Declr, Param, TypeName};
+pub use expression::Expr;
+pub use initialiser::{Desig, Init, InitItem, InitList};
+pub use parts::{
+    ArrayWord, AsmLabel, Assert, Attr, Braced, BracedList, Ellipsis, Group, Identifier, Listed,
+    Marked, PointerWord, Qual, Semi, Word,
+};
+pub use specifier::{
+    Enum, Enumerator, MemDeclr, Member, SpecWord, Specs, Struct, StructItem, TypedefName,
+};
+pub use statement::{Block, BlockItem, ForStart, Stmt};

@@ -1,7 +1,7 @@
 //! The parts of nodes that hold no other node.
 
-use c_words::kinds::Keyword;
-use qual_base::ids::{NameId, TokenId};
+use c_words::Keyword;
+use qual_base::{NameId, TokenId};
 
 /// A name where it stands.
 #[derive(Clone, Copy, PartialEq, Eq, Debug)]

@@ -5,7 +5,7 @@ use crate::expression::Expr;
 use crate::parts::{
     Assert, Attr, Braced, BracedList, Identifier, Listed, Marked, Qual, Semi, Word,
 };
-use qual_base::ids::{NameId, TokenId};
+use qual_base::{NameId, TokenId};
 
 /// `Specs = spec+`, in the order of the words.
 #[cycle(tree)]

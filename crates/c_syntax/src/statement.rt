@@ -3,7 +3,7 @@
 use crate::declaration::{Decl, Declaration};
 use crate::expression::Expr;
 use crate::parts::{Attr, Group, Identifier, Marked, Word};
-use qual_base::ids::TokenId;
+use qual_base::TokenId;
 
 /// `Block = { (decl | stmt)* }`.
 #[cycle(tree)]

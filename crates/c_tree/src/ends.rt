@@ -4,9 +4,8 @@ ghost use Rattle.std.specs.Prelude.{◌≡◌};
 ghost use Rattle.c_tree.specs.View.{expr_of, init_list_of};
 ghost use Rattle.c_tree.specs.Ends.{first_token, last_token, key_token, first_text, last_text, list_end};
 
-use c_syntax::expression::Expr;
-use c_syntax::initialiser::InitList;
-use qual_base::ids::{Numbered, TokenId};
+use c_syntax::{Expr, InitList};
+use qual_base::{Numbered, TokenId};
 
 /// The first of adjacent texts. Token 0 where there are none, as in no well formed expression.
 fn first_of(texts: &[TokenId]) -> TokenId

@@ -1,7 +1,7 @@
 //! A token as trees and their reader see it.
 
-use c_words::kinds::TokenKind;
-use qual_base::ids::TokenId;
+use c_words::TokenKind;
+use qual_base::TokenId;
 
 /// A token with its number in the unit.
 #[derive(Clone, Copy, PartialEq, Eq, Debug)]

@@ -4,7 +4,15 @@
 //! first, the last and the key token of an expression.
 #![tactic(auto)]
 
-pub mod ends;
-pub mod laws;
-pub mod lexeme;
-pub mod making;
+mod ends;
+mod laws;
+mod lexeme;
+mod making;
+
+pub use ends::{first, key, last};
+pub use laws::{first_begins, last_ends, operands_hold_tighter};
+pub use lexeme::Lexeme;
+pub use making::{
+    abs_array, abs_params, abs_pointer, array, call, cast, declaration, enum_word, member, named,
+    params, sizeof_type, struct_word,
+};

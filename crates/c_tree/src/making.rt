@@ -8,17 +8,12 @@ ghost use Rattle.c_tree.specs.Tree as trees;
 ghost use Rattle.c_tree.specs.Unit.{spec_words_from};
 ghost use Rattle.c_tree.specs.View.{expr_of, spec_word_of, struct_item_of, mem_declr_of, declr_of, declaration_of, dots_of};
 
-use c_syntax::declaration::{Declaration, InitDeclr};
-use c_syntax::declarator::{ArraySize, Declr, Param, TypeName};
-use c_syntax::expression::Expr;
-use c_syntax::parts::{
-    ArrayWord, Attr, Braced, BracedList, Ellipsis, Identifier, Listed, Marked, PointerWord, Word,
+use c_syntax::{
+    ArraySize, ArrayWord, Attr, Braced, BracedList, Declaration, Declr, Ellipsis, Enum, Enumerator,
+    Expr, Identifier, InitDeclr, Listed, Marked, MemDeclr, Member, Param, PointerWord, SpecWord,
+    Specs, Struct, StructItem, TypeName, Word,
 };
-use c_syntax::specifier::{
-    Enum, Enumerator, MemDeclr, Member, SpecWord, Specs, Struct, StructItem,
-};
-use qual_base::faults::NoMemory;
-use qual_base::ids::TokenId;
+use qual_base::{NoMemory, TokenId};
 use std::alloc::Global;
 
 /// A cast.

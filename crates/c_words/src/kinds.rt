@@ -1,6 +1,6 @@
 //! What a token can be.
 
-use qual_base::ids::{Elem, LatticeNo, NameId};
+use qual_base::{Elem, LatticeNo, NameId};
 
 /// A keyword as the grammar reads it: the words of C99 (6.4.1), and those of the GNU dialect that system headers use.
 ///

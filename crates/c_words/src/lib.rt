@@ -1,4 +1,6 @@
 //! Keywords, signs and the kinds of tokens of C sources (C99, 6.4).
 #![tactic(auto)]
 
-pub mod kinds;
+mod kinds;
+
+pub use kinds::{Keyword, Punct, TokenKind};

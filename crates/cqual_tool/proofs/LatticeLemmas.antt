@@ -10,7 +10,6 @@ use Rattle.flow_graph.specs.declared.constraint.Link.TheVariants.{Bound}
 use Rattle.flow_graph.specs.System.{System, Stands}
 use Rattle.flow_graph.specs.Unfolding.{IsAccepted, IsAcceptedIn, IsExceeded}
 use Rattle.lattice_solver.specs.Solution.{IsKept}
-use Rattle.error_path.specs.Shown.{InLattice}
 use Rattle.cqual_tool.specs.Texts.{Scene}
 use Rattle.cqual_tool.specs.declared.solving.Solved.{Solved}
 use Rattle.cqual_tool.specs.declared.texts.Scene.{Scene as Lent}
@@ -43,13 +42,6 @@ pub view_of : (lattices : List LatticeView) (n : ℕ) (order : Order) → slice_
 view_of [] n order is = absurd cc
 view_of (x ∷ xs) zero order is = record { view = x; there = refl; order_is = some_order is }
 view_of (x ∷ xs) (suc n) order is = let rest = view_of xs n order is in record { view = rest.view; there = rest.there; order_is = rest.order_is }
-
-view_there : {x y : LatticeView} → Some x ≡ Some y → x ≡ y
-view_there e = cc
-
--- what holds of the order of a lattice holds in it
-pub in_lattice : (lattices : List LatticeView) (n : ℕ) (view : LatticeView) → slice_get lattices n ≡ Some view → (Is : Order → Type 0) → Is view.order → InLattice lattices n Is
-in_lattice lattices n view there Is own other is = let Has : LatticeView → Type 0 = λ v. Is v.order in subst Has (view_there (sym there ∙ is)) own
 
 -- a program that keeps the bounds of each lattice is accepted
 pub accepted_all : (sys : System) (lattices : List LatticeView) (solutions : List Solved) → AreSolutions sys lattices solutions → AreKept sys lattices solutions → IsAccepted sys (orders_of lattices)

@@ -5,8 +5,8 @@ use Rattle.lattice_core.specs.declared.LatticeFault.{LatticeFault}
 use Rattle.lattice_core.specs.declared.LatticeFault.TheVariants.{TooMany, Repeated, UnknownName, LevelMix, Cycle, NotALattice, NoMemory}
 use Rattle.lattice_file.specs.declared.reading.LatticeFileFault.{LatticeFileFault}
 use Rattle.lattice_file.specs.declared.reading.LatticeFileFault.TheVariants.{Block, Grammar, TooManyLattices, SharedName, NoMemory as OutOfMemory}
-use Rattle.c_lexer.specs.declared.lex.LexFault.{LexFault}
-use Rattle.c_lexer.specs.declared.lex.LexFault.TheVariants.{BadByte, Unended, UnknownQualifier, NoMemory as NoRoom}
+use Rattle.c_lexer.specs.declared.lexing.LexFault.{LexFault}
+use Rattle.c_lexer.specs.declared.lexing.LexFault.TheVariants.{BadByte, Unended, UnknownQualifier, NoMemory as NoRoom}
 use Rattle.cqual_tool.specs.Texts.{line, malformed_line, at_text, spot_text}
 
 -- a fault at a place that is written already

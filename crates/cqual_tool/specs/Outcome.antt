@@ -10,8 +10,8 @@ use Rattle.qual_base.specs.Words.{MeansTheSame}
 use Rattle.c_lexer.specs.Reading.{Meanings}
 use Rattle.c_lexer.specs.Tokens.{Lexed, IsMarkedBy}
 use Rattle.c_lexer.specs.Refusals.{IsRefusal}
-use Rattle.c_lexer.specs.declared.lex.LexFault.{LexFault}
-use Rattle.c_lexer.specs.declared.lex.LexFault.TheVariants.{NoMemory as NoRoom}
+use Rattle.c_lexer.specs.declared.lexing.LexFault.{LexFault}
+use Rattle.c_lexer.specs.declared.lexing.LexFault.TheVariants.{NoMemory as NoRoom}
 use Rattle.flow_graph.specs.System.{most_constraints, most_variables}
 use Rattle.cqual_tool.specs.declared.status.Status.{Status}
 use Rattle.cqual_tool.specs.declared.status.Status.TheVariants.{Accepted, Rejected, NotYet, Malformed, BadWords, ReadFault, WriteFault, NoMemory}

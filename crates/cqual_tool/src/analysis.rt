@@ -17,13 +17,11 @@ use crate::reports::{accepted, rejected};
 use crate::solving::{Solved, solve_all, solved_of};
 use crate::status::Status;
 use crate::texts::Scene;
-use c_lexer::tokens::Tokens;
-use flow_graph::graph::{FlowGraph, GraphFault};
+use c_lexer::Tokens;
+use flow_graph::{FlowGraph, GraphFault};
 use lattice_core::Lattices;
-use qual_base::faults::NoMemory;
-use qual_base::ids::LatticeNo;
-use second_form::generating::{generate, object_tokens};
-use second_form::source_form::Item;
+use qual_base::{LatticeNo, NoMemory};
+use second_form::{Item, generate, object_tokens};
 use std::alloc::Global;
 
 /// Whether a bound of some lattice is exceeded. Linear in the constraints and the lattices.

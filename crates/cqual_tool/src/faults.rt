@@ -2,18 +2,17 @@
 
 ghost use Rattle.std.specs.Prelude.{◌≡◌, ◌≢◌, ◌++◌, OnOk, IfOk, codes};
 ghost use Rattle.lattice_file.specs.declared.reading.LatticeFileFault.TheVariants as Faults;
-ghost use Rattle.c_lexer.specs.declared.lex.LexFault.TheVariants as Stops;
+ghost use Rattle.c_lexer.specs.declared.lexing.LexFault.TheVariants as Stops;
 ghost use Rattle.cqual_tool.specs.declared.status.Status.TheVariants as Statuses;
 ghost use Rattle.cqual_tool.specs.Texts.{spot_text, at_text};
 ghost use Rattle.cqual_tool.specs.Faults.{block_code, named_code, block_text, lattice_line, lex_line, placed_line};
 
 use crate::answer::{Answer, malformed, placed};
 use crate::places::{put, put_at, put_decimal, put_spot};
-use c_lexer::lex::LexFault;
+use c_lexer::LexFault;
 use lattice_core::{LatticeFault, Name};
 use lattice_file::LatticeFileFault;
-use qual_base::faults::NoMemory;
-use qual_base::places::Spot;
+use qual_base::{NoMemory, Spot};
 use std::alloc::{AllocError, Global};
 
 /// A code and the number of a block.

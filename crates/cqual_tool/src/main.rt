@@ -17,7 +17,7 @@ mod tests;
 mod texts;
 mod words;
 
-use qual_base::host::{HostFiles, HostSink};
+use qual_base::{HostFiles, HostSink};
 use running::run;
 use status::Status;
 use std::env;

@@ -8,10 +8,8 @@ ghost use Rattle.cqual_tool.specs.Scenes.{scene_of, IsShown};
 
 use crate::places::{put, put_decimal};
 use crate::texts::{Scene, put_constraint};
-use flow_graph::constraint::Constraint;
-use flow_graph::graph::FlowGraph;
-use flow_graph::proof::{PathProof, PathStep, SubPath};
-use qual_base::ids::{EdgeId, Numbered};
+use flow_graph::{Constraint, FlowGraph, PathProof, PathStep, SubPath};
+use qual_base::{EdgeId, Numbered};
 use std::alloc::AllocError;
 
 /// A constraint by its number, none past the last.

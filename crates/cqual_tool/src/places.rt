@@ -4,7 +4,7 @@ ghost use Rattle.std.specs.Prelude.{◌≡◌, ◌++◌, OnOk, slice_range, code
 ghost use Rattle.std.specs.Fmt.{decimal};
 ghost use Rattle.cqual_tool.specs.Texts.{at_text, file_text, spot_text};
 
-use qual_base::places::Spot;
+use qual_base::Spot;
 use std::alloc::AllocError;
 
 /// Puts bytes behind a text.

@@ -13,15 +13,11 @@ use crate::analysis::analyse;
 use crate::answer::{Answer, malformed, not_yet};
 use crate::faults::{lattice_refused, source_refused};
 use crate::words::Named;
-use c_lexer::lex::lex;
-use c_lexer::tokens::Tokens;
+use c_lexer::{Tokens, lex};
 use lattice_core::Lattices;
 use lattice_file::read_lattices;
-use qual_base::faults::NoMemory;
-use qual_base::ids::{Numbered, UnitNo};
-use qual_base::outside::Files;
-use qual_base::taking::{TakeFault, take_all};
-use second_form::reading::read_items;
+use qual_base::{Files, NoMemory, Numbered, TakeFault, UnitNo, take_all};
+use second_form::read_items;
 use std::alloc::Global;
 
 /// The most bytes that a lattice file may have.

@@ -15,13 +15,10 @@ use crate::places::put;
 use crate::solving::{Solved, solved_of};
 use crate::texts::{Scene, put_error, put_value};
 use error_path::show;
-use flow_graph::constraint::{Constraint, Link};
-use flow_graph::graph::FlowGraph;
-use flow_graph::proof::PathStep;
-use flow_laws::laws::exceeded_is_refuted;
-use lattice_solver::solver::Solver;
-use qual_base::faults::NoMemory;
-use qual_base::ids::{EdgeId, Elem, LatticeNo, Numbered, VarId};
+use flow_graph::{Constraint, FlowGraph, Link, PathStep};
+use flow_laws::exceeded_is_refuted;
+use lattice_solver::Solver;
+use qual_base::{EdgeId, Elem, LatticeNo, NoMemory, Numbered, VarId};
 use std::alloc::{AllocError, Global};
 
 /// The line of a variable in a lattice, unless its least element is the bottom.

@@ -13,7 +13,7 @@ use crate::reading::{Stop, answer};
 use crate::sending::send;
 use crate::status::Status;
 use crate::words::meaning;
-use qual_base::outside::{Files, Sink};
+use qual_base::{Files, Sink};
 use std::alloc::Global;
 
 /// What is written for words without a meaning.

@@ -3,13 +3,11 @@
 ghost use Rattle.std.specs.Prelude.{◌≡◌, ◌<◌, IfOk, Some, length, slice_get};
 ghost use Rattle.cqual_tool.specs.Scenes.{IsSolution, AreSolutions};
 
-use flow_graph::graph::FlowGraph;
+use flow_graph::FlowGraph;
 use lattice_core::Lattices;
-use lattice_solver::solver::Solver;
-use match_summary::summarise;
-use match_summary::summary::Summaries;
-use qual_base::faults::NoMemory;
-use qual_base::ids::LatticeNo;
+use lattice_solver::Solver;
+use match_summary::{Summaries, summarise};
+use qual_base::{LatticeNo, NoMemory};
 use std::alloc::Global;
 
 /// What is found of a lattice: the matched paths inside functions, and the constants that reach each variable.

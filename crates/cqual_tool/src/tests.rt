@@ -2,7 +2,7 @@
 
 use crate::running::run;
 use crate::status::Status;
-use qual_base::memory::{MemFiles, MemSink};
+use qual_base::{MemFiles, MemSink};
 use std::alloc::{AllocError, Global};
 use std::test::Fail;
 

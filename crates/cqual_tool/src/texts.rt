@@ -6,13 +6,12 @@ ghost use Rattle.cqual_tool.specs.Texts.{place_text, name_text, step_mark, marks
 ghost use Rattle.cqual_tool.specs.Scenes.{scene_of, HasVar, HasElem, HasLink, HasSpan, HasToken};
 
 use crate::places::{put, put_decimal, put_spot};
-use c_lexer::tokens::Tokens;
-use flow_graph::constraint::{Constraint, Link};
+use c_lexer::Tokens;
+use flow_graph::{Constraint, Link};
 use lattice_core::Lattices;
-use qual_base::ids::{EdgeId, Elem, LatticeNo, Numbered, TokenId, VarId};
-use qual_base::places::Span;
-use qual_types::position::Step;
-use second_form::positions::position_of;
+use qual_base::{EdgeId, Elem, LatticeNo, Numbered, Span, TokenId, VarId};
+use qual_types::Step;
+use second_form::position_of;
 use std::alloc::AllocError;
 
 /// What the lines name: the source's file name and tokens, the lattices, and the token of each object's name.

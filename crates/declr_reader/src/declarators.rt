@@ -19,28 +19,19 @@ ghost use Rattle.c_grammar.specs.Eating.{is_open_bracket, is_open_paren};
 ghost use Rattle.c_grammar.specs.Declaring.{spec_words_of_quals, takes_name, takes_nothing, may_declare, with_pointer, with_paren, with_array, with_params, size_value_with, size_with, array_with, prototype_with, suffix_turn, declr_name_by, paren_with, opens_params, core_with, direct_with, pointer_with, declr_with};
 ghost use Rattle.c_grammar.specs.Specifying.{declaring, spelled_name};
 
-use crate::parameters::parameters;
-use c_grammar::eating::{
-    begins_close_bracket, begins_close_paren, close_bracket, close_paren, is_close_bracket,
-    is_open_bracket, is_open_paren, is_star, spelled,
+use crate::parameter_lists::parameters;
+use c_grammar::{
+    Fault, Mode, Reach, ReadError, Role, array_words, begins_close_bracket, begins_close_paren,
+    begins_specs, close_bracket, close_paren, declr_inside, expr_inside, is_close_bracket,
+    is_open_bracket, is_open_paren, is_star, loops_step, no_fewer_scopes, number_at, pointer_words,
+    qualifiers, refused, spelled,
 };
-use c_grammar::fault::{Fault, ReadError, number_at, refused};
-use c_grammar::inside::{declr_inside, expr_inside};
-use c_grammar::kinds::{Mode, Reach, Role, begins_specs};
-use c_grammar::laws::{loops_step, no_fewer_scopes};
-use c_grammar::quals::{array_words, pointer_words, qualifiers};
 use c_height::of_declr;
-use c_syntax::declarator::{ArraySize, Declr, Param};
-use c_syntax::expression::Expr;
-use c_syntax::parts::{ArrayWord, Ellipsis, PointerWord, Qual};
-use c_syntax::specifier::Specs;
-use c_tree::lexeme::Lexeme;
-use c_tree::making;
-use qual_base::faults::NoMemory;
-use qual_base::ids::{NameId, TokenId};
+use c_syntax::{ArraySize, ArrayWord, Declr, Ellipsis, Expr, Param, PointerWord, Qual, Specs};
+use c_tree::Lexeme;
+use qual_base::{NameId, NoMemory, TokenId};
 use std::alloc::Global;
-use typedef_scope::kind::Kind;
-use typedef_scope::scopes::Scopes;
+use typedef_scope::{Kind, Scopes};
 
 /// Whether a declarator with a name may stand.
 fn takes_name(mode: Mode) -> bool
@@ -100,7 +91,7 @@ fn with_pointer(
 {
     match inner {
         Some(inner) if is_named(&inner) => Declr::Pointer { star, words, inner },
-        inner => making::abs_pointer(star, words, inner),
+        inner => c_tree::abs_pointer(star, words, inner),
     }
 }
 
@@ -137,8 +128,8 @@ fn with_array(
     ensures { declr_of result ≡ with_array (some_declr_from inner) «open» words.items (some_size_from size) close }
 {
     match inner {
-        Some(inner) if is_named(&inner) => making::array(inner, open, words, size, close),
-        inner => making::abs_array(inner, open, words, size, close),
+        Some(inner) if is_named(&inner) => c_tree::array(inner, open, words, size, close),
+        inner => c_tree::abs_array(inner, open, words, size, close),
     }
 }
 
@@ -153,8 +144,8 @@ fn with_params(
     ensures { declr_of result ≡ with_params (some_declr_from inner) «open» (params_from params.items) (option_map dots_of dots) close }
 {
     match inner {
-        Some(inner) if is_named(&inner) => making::params(inner, open, params, dots, close),
-        inner => making::abs_params(inner, open, params, dots, close),
+        Some(inner) if is_named(&inner) => c_tree::params(inner, open, params, dots, close),
+        inner => c_tree::abs_params(inner, open, params, dots, close),
     }
 }
 

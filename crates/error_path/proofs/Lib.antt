@@ -1,5 +1,7 @@
 mod Holding
+pub mod InLattices
 mod Making
+mod Over
 mod Passing
 mod Resting
 mod Searching

@@ -1,12 +1,12 @@
 -- How a search reaches variables: a queue of those that were reached, each with how it was, and a mark for each of them.
 use Rattle.std.specs.Prelude.{◌≡◌, ℕ, ◌+◌, ◌<◌, ◌≤◌, List, ◌++◌, length, slice_get, Some, true}
 use Rattle.flow_graph.specs.declared.constraint.Link.TheVariants.{Le, Const, Enter, Leave}
-use Rattle.flow_graph.specs.System.{System, owner_of, Stands, AllBelow}
+use Rattle.flow_graph.specs.System.{System, owner_of, Has, Stands, AllBelow}
 use Rattle.match_summary.specs.declared.reason.Summary.{Summary}
 use Rattle.match_summary.specs.Summary.{Leads}
 use Rattle.flow_graph.specs.declared.phase.Phase.{Phase}
 use Rattle.flow_graph.specs.declared.phase.Phase.TheVariants.{First, Second}
-use Rattle.error_path.specs.Marks.{mark_of, size_of, free_of}
+use Rattle.error_path.specs.Marks.{PhaseMarks, mark_of, size_of, free_of}
 use Rattle.error_path.specs.declared.search.Cause.{Cause}
 use Rattle.error_path.specs.declared.search.Cause.TheVariants.{Start, Step, Group}
 use Rattle.error_path.specs.declared.search.Reached.{Reached}
@@ -71,10 +71,22 @@ pub record Grows (old new : Search) : Type 0 where
   pub size : size_of new.marks ≡ size_of old.marks
   pub free : free_of new.marks + length new.queue.items ≤ free_of old.marks + length old.queue.items
 
--- the group of an Enter of a site to a variable and of a constraint was followed in a phase
-abbrev pub IsRounded : System → ℕ → List Summary → Search → Phase → ℕ → ℕ → ℕ → Type 0
-IsRounded sys lattice rows search p site inner leave = (b v : ℕ) → Stands sys lattice leave (Leave site b v) → Leads rows inner b →
+-- the group of an Enter of a site to a variable and of a constraint that leaves from another was followed in a phase
+abbrev pub IsRoundedFrom : System → ℕ → List Summary → Search → Phase → ℕ → ℕ → ℕ → ℕ → Type 0
+IsRoundedFrom sys lattice rows search p site inner b leave = (v : ℕ) → Stands sys lattice leave (Leave site b v) → Leads rows inner b →
     IsMarked search (settled (owner_of sys v) p) v
+
+-- from whatever variable it leaves
+abbrev pub IsRounded : System → ℕ → List Summary → Search → Phase → ℕ → ℕ → ℕ → Type 0
+IsRounded sys lattice rows search p site inner leave = (b : ℕ) → IsRoundedFrom sys lattice rows search p site inner b leave
+
+-- An Enter that is marked stands for the groups of its site that begin at its variable, and a Leave for all Leaves of its site
+-- from its variable: they were followed.
+pub record IsOver (sys : System) (lattice : ℕ) (rows : List Summary) (passed : PhaseMarks) (search : Search) : Type 0 where
+  pub room : length sys.constraints ≤ size_of passed
+  pub groups : (p : Phase) (n s u a m : ℕ) → mark_of passed p n ≡ true → Has sys n (Enter s u a) → IsRounded sys lattice rows search p s a m
+  pub leaves : (p : Phase) (n s b w m v : ℕ) → mark_of passed p n ≡ true → Has sys n (Leave s b w) → Stands sys lattice m (Leave s b v) →
+      IsMarked search (settled (owner_of sys v) p) v
 
 -- all that a constraint leads to from a variable in a phase, by itself or as the first of a group, is marked
 pub record IsFollowed (sys : System) (lattice : ℕ) (rows : List Summary) (search : Search) (p : Phase) (u n : ℕ) : Type 0 where

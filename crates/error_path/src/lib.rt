@@ -2,6 +2,7 @@
 #![tactic(auto)]
 
 mod marks;
+mod passed;
 mod places;
 mod search;
 mod showing;

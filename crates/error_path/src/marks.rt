@@ -4,9 +4,8 @@ ghost use Rattle.std.specs.Prelude.{◌≡◌, ◌≢◌, ℕ, ◌<◌, true, fa
 ghost use Rattle.std.specs.Bool.{OnTrue, OnFalse};
 ghost use Rattle.error_path.specs.Marks.{Marking, mark_of, size_of, unset};
 
-use flow_graph::phase::Phase;
-use qual_base::faults::NoMemory;
-use qual_base::ids::{Numbered, VarId};
+use flow_graph::Phase;
+use qual_base::{NoMemory, Numbered, VarId};
 use std::alloc::Global;
 use std::marker::Model;
 
@@ -39,6 +38,16 @@ impl Marks {
         Ok(Marks { first, second })
     }
 
+    /// Whether a variable is marked in a phase. Any variable is taken. Constant time.
+    pub fn get(&self, phase: Phase, at: VarId) -> bool
+        ensures { result ≡ mark_of self.now phase at }
+    {
+        match phase {
+            Phase::First => is_set(self.first.as_slice(), at),
+            Phase::Second => is_set(self.second.as_slice(), at),
+        }
+    }
+
     /// Marks a variable in a phase, and says whether it was not marked. Constant time.
     pub fn mark(&mut self, phase: Phase, at: VarId) -> bool
         requires { at < size_of self.old }
@@ -61,6 +70,16 @@ fn unmarked(alloc: Global, count: u32) -> Result<Vec<bool>, NoMemory>
     match vec![in alloc; false; count as usize] {
         Ok(marks) => Ok(marks),
         Err(_) => Err(NoMemory),
+    }
+}
+
+/// Whether a mark is set; not for a variable past all.
+fn is_set(marks: &[bool], at: VarId) -> bool
+    ensures { result ≡ slice_index_or marks.now at false }
+{
+    match marks.get(at.number() as usize) {
+        Some(mark) => *mark,
+        None => false,
     }
 }
 

@@ -3,8 +3,7 @@
 ghost use Rattle.std.specs.Prelude.{◌≡◌, ◌≢◌, ℕ, Some, None, OnOk, OnErr};
 ghost use Rattle.error_path.specs.Places.{place_in, SamePlaces};
 
-use qual_base::faults::NoMemory;
-use qual_base::ids::VarId;
+use qual_base::{NoMemory, VarId};
 use std::alloc::Global;
 use std::collections::HashMap;
 

@@ -9,19 +9,16 @@ ghost use Rattle.flow_graph.specs.System.{System, AllBelow, Stands, owner_of};
 ghost use Rattle.flow_graph.specs.Paths.{Lead};
 ghost use Rattle.flow_graph.specs.declared.phase.Phase.TheVariants.{First, Second};
 ghost use Rattle.match_summary.specs.declared.reason.Summary.{Summary};
-ghost use Rattle.match_summary.specs.Summary.{Summarises};
+ghost use Rattle.match_summary.specs.Crossings.{AreCrossings};
+ghost use Rattle.match_summary.specs.Summary.{HasPair, Summarises};
 ghost use Rattle.flow_graph.specs.Parts.{settled};
-ghost use Rattle.error_path.specs.Reaching.{AreStarted, ComesBy, Grows, IsClosed, IsFollowed, IsGood, IsMarked, IsReachedAt, IsRounded, StandsAt};
+ghost use Rattle.error_path.specs.Reaching.{AreStarted, ComesBy, Grows, IsClosed, IsFollowed, IsGood, IsMarked, IsOver, IsReachedAt, IsRounded, IsRoundedFrom, StandsAt};
 
 use crate::marks::Marks;
-use flow_graph::adjacency::Adjacency;
-use flow_graph::constraint::Link;
-use flow_graph::graph::FlowGraph;
-use flow_graph::phase::Phase;
-use match_summary::summary::Summaries;
-use qual_base::faults::NoMemory;
-use qual_base::ids::{EdgeId, Elem, LatticeNo, Numbered, SiteId, VarId};
-use qual_base::places::Owner;
+use crate::passed::Passed;
+use flow_graph::{Adjacency, FlowGraph, Link, Phase};
+use match_summary::{Crossings, InnerEnd, Summaries, Way};
+use qual_base::{EdgeId, Elem, LatticeNo, NoMemory, Numbered, Owner, SiteId, VarId};
 use std::alloc::Global;
 
 /// How a variable was first reached: by a constant at it, by a constraint from an earlier place of the queue, or by a
@@ -165,21 +162,24 @@ impl Search {
     /// Goes on along a constraint that begins at the variable of a place, and along the groups that begin with it.
     fn follow(
         &mut self,
+        passed: &mut Passed,
         graph: &FlowGraph,
-        index: &Adjacency,
+        crossings: &Crossings,
         summaries: &Summaries,
         lattice: LatticeNo,
         origin: &Origin,
         edge: EdgeId,
     ) -> Result<(), NoMemory>
         requires begins { IsKeyed graph.now link_begins origin.now.at edge }
-        requires index { IsIndexOf graph.now index.now }
+        requires crossings { AreCrossings graph.now crossings.now }
         requires lattice { lattice < 16 }
         requires below { AllBelow graph.now (size_of self.old.marks) }
         requires origin { StandsAt self.old origin.now.place origin.now.phase origin.now.at }
+        requires over { IsOver graph.now lattice summaries.now passed.old self.old }
         ensures good { OnOk result ((elem : ℕ) → IsGood graph.now lattice elem summaries.now self.old → IsGood graph.now lattice elem summaries.now self.new) }
         ensures grows { OnOk result (Grows self.old self.new) }
         ensures done { OnOk result (IsFollowed graph.now lattice summaries.now self.new origin.now.phase origin.now.at edge) }
+        ensures over { OnOk result (IsOver graph.now lattice summaries.now passed.new self.new) }
     {
         let constraint = graph.constraint(edge);
         if !constraint.is_in(lattice) {
@@ -205,34 +205,161 @@ impl Search {
                     site,
                     inner,
                 };
-                self.follow_groups(graph, index, summaries, lattice, origin, &call)?;
+                self.follow_groups(passed, graph, crossings, summaries, lattice, origin, &call)?;
                 Ok(())
             }
             _ => Ok(()),
         }
     }
 
-    /// Goes on along the groups of an `Enter`: a step for each `Enter` and `Leave` of its site.
+    /// Goes on along the groups of an `Enter`, where those of an `Enter` of the same site to the same variable were not
+    /// followed in the phase.
     fn follow_groups(
         &mut self,
+        passed: &mut Passed,
         graph: &FlowGraph,
-        index: &Adjacency,
+        crossings: &Crossings,
         summaries: &Summaries,
         lattice: LatticeNo,
         origin: &Origin,
         call: &Call,
     ) -> Result<(), NoMemory>
-        requires index { IsIndexOf graph.now index.now }
+        requires crossings { AreCrossings graph.now crossings.now }
+        requires lattice { lattice < 16 }
+        requires below { AllBelow graph.now (size_of self.old.marks) }
+        requires origin { StandsAt self.old origin.now.place origin.now.phase origin.now.at }
+        requires call { Stands graph.now lattice call.now.enter (Enter call.now.site origin.now.at call.now.inner) }
+        requires over { IsOver graph.now lattice summaries.now passed.old self.old }
+        ensures good { OnOk result ((elem : ℕ) → IsGood graph.now lattice elem summaries.now self.old → IsGood graph.now lattice elem summaries.now self.new) }
+        ensures grows { OnOk result (Grows self.old self.new) }
+        ensures done { OnOk result ((m : ℕ) → IsRounded graph.now lattice summaries.now self.new origin.now.phase call.now.site call.now.inner m) }
+        ensures over { OnOk result (IsOver graph.now lattice summaries.now passed.new self.new) }
+    {
+        let end = InnerEnd {
+            way: Way::In,
+            site: call.site,
+            at: call.inner,
+        };
+        let Some(entry) = crossings.newest(graph, &end) else {
+            return Ok(());
+        };
+        if passed.has(origin.phase, entry) {
+            return Ok(());
+        }
+        let inner = call.inner;
+        self.follow_leaves(
+            passed, graph, crossings, summaries, lattice, origin, call, inner,
+        )?;
+        self.follow_pairs(passed, graph, crossings, summaries, lattice, origin, call)?;
+        passed.add(origin.phase, entry);
+        Ok(())
+    }
+
+    /// Goes on along the groups of an `Enter` in which a pair leads to the `Leave`, the newest pair first.
+    fn follow_pairs(
+        &mut self,
+        passed: &mut Passed,
+        graph: &FlowGraph,
+        crossings: &Crossings,
+        summaries: &Summaries,
+        lattice: LatticeNo,
+        origin: &Origin,
+        call: &Call,
+    ) -> Result<(), NoMemory>
+        requires crossings { AreCrossings graph.now crossings.now }
+        requires lattice { lattice < 16 }
+        requires below { AllBelow graph.now (size_of self.old.marks) }
+        requires origin { StandsAt self.old origin.now.place origin.now.phase origin.now.at }
+        requires call { Stands graph.now lattice call.now.enter (Enter call.now.site origin.now.at call.now.inner) }
+        requires over { IsOver graph.now lattice summaries.now passed.old self.old }
+        ensures good { OnOk result ((elem : ℕ) → IsGood graph.now lattice elem summaries.now self.old → IsGood graph.now lattice elem summaries.now self.new) }
+        ensures grows { OnOk result (Grows self.old self.new) }
+        ensures done { OnOk result ((b m : ℕ) → HasPair summaries.now call.now.inner b → IsRoundedFrom graph.now lattice summaries.now self.new origin.now.phase call.now.site call.now.inner b m) }
+        ensures over { OnOk result (IsOver graph.now lattice summaries.now passed.new self.new) }
+    {
+        let mut next = summaries.newest_from(call.inner);
+        while let Some(at) = next {
+            let last = summaries.row(at).to;
+            self.follow_leaves(
+                passed, graph, crossings, summaries, lattice, origin, call, last,
+            )?;
+            next = summaries.before_from(at);
+        }
+        Ok(())
+    }
+
+    /// Goes on along the groups of an `Enter` whose `Leave` begins at a variable, where nothing or a summary leads to it and
+    /// these `Leave`s were not followed in the phase.
+    fn follow_leaves(
+        &mut self,
+        passed: &mut Passed,
+        graph: &FlowGraph,
+        crossings: &Crossings,
+        summaries: &Summaries,
+        lattice: LatticeNo,
+        origin: &Origin,
+        call: &Call,
+        last: VarId,
+    ) -> Result<(), NoMemory>
+        requires crossings { AreCrossings graph.now crossings.now }
+        requires lattice { lattice < 16 }
+        requires below { AllBelow graph.now (size_of self.old.marks) }
+        requires origin { StandsAt self.old origin.now.place origin.now.phase origin.now.at }
+        requires call { Stands graph.now lattice call.now.enter (Enter call.now.site origin.now.at call.now.inner) }
+        requires over { IsOver graph.now lattice summaries.now passed.old self.old }
+        ensures good { OnOk result ((elem : ℕ) → IsGood graph.now lattice elem summaries.now self.old → IsGood graph.now lattice elem summaries.now self.new) }
+        ensures grows { OnOk result (Grows self.old self.new) }
+        ensures done { OnOk result ((m : ℕ) → IsRoundedFrom graph.now lattice summaries.now self.new origin.now.phase call.now.site call.now.inner last m) }
+        ensures over { OnOk result (IsOver graph.now lattice summaries.now passed.new self.new) }
+    {
+        if !summaries.leads(call.inner, last) {
+            return Ok(());
+        }
+        let end = InnerEnd {
+            way: Way::Out,
+            site: call.site,
+            at: last,
+        };
+        let Some(exit) = crossings.newest(graph, &end) else {
+            return Ok(());
+        };
+        if passed.has(origin.phase, exit) {
+            return Ok(());
+        }
+        self.follow_all(graph, crossings, summaries, lattice, origin, call, last)?;
+        passed.add(origin.phase, exit);
+        Ok(())
+    }
+
+    /// Goes on along the groups of an `Enter` whose `Leave` begins at a variable, the last `Leave` first.
+    fn follow_all(
+        &mut self,
+        graph: &FlowGraph,
+        crossings: &Crossings,
+        summaries: &Summaries,
+        lattice: LatticeNo,
+        origin: &Origin,
+        call: &Call,
+        last: VarId,
+    ) -> Result<(), NoMemory>
+        requires crossings { AreCrossings graph.now crossings.now }
         requires lattice { lattice < 16 }
         requires below { AllBelow graph.now (size_of self.old.marks) }
         requires origin { StandsAt self.old origin.now.place origin.now.phase origin.now.at }
         requires call { Stands graph.now lattice call.now.enter (Enter call.now.site origin.now.at call.now.inner) }
         ensures good { OnOk result ((elem : ℕ) → IsGood graph.now lattice elem summaries.now self.old → IsGood graph.now lattice elem summaries.now self.new) }
         ensures grows { OnOk result (Grows self.old self.new) }
-        ensures done { OnOk result ((m : ℕ) → IsRounded graph.now lattice summaries.now self.new origin.now.phase call.now.site call.now.inner m) }
+        ensures done { OnOk result ((m : ℕ) → IsRoundedFrom graph.now lattice summaries.now self.new origin.now.phase call.now.site call.now.inner last m) }
     {
-        for leave in index.of_site(call.site) {
-            self.follow_group(graph, summaries, lattice, origin, call, *leave)?;
+        let end = InnerEnd {
+            way: Way::Out,
+            site: call.site,
+            at: last,
+        };
+        let mut next = crossings.newest(graph, &end);
+        while let Some(leave) = next {
+            self.follow_group(graph, summaries, lattice, origin, call, leave)?;
+            next = crossings.before(graph, &end, leave);
         }
         Ok(())
     }
@@ -281,22 +408,27 @@ impl Search {
     /// Goes on from a place of the queue along each constraint that begins at its variable.
     fn visit(
         &mut self,
+        passed: &mut Passed,
         graph: &FlowGraph,
         index: &Adjacency,
+        crossings: &Crossings,
         summaries: &Summaries,
         lattice: LatticeNo,
         origin: &Origin,
     ) -> Result<(), NoMemory>
         requires index { IsIndexOf graph.now index.now }
+        requires crossings { AreCrossings graph.now crossings.now }
         requires lattice { lattice < 16 }
         requires below { AllBelow graph.now (size_of self.old.marks) }
         requires origin { StandsAt self.old origin.now.place origin.now.phase origin.now.at }
+        requires over { IsOver graph.now lattice summaries.now passed.old self.old }
         ensures good { OnOk result ((elem : ℕ) → IsGood graph.now lattice elem summaries.now self.old → IsGood graph.now lattice elem summaries.now self.new) }
         ensures grows { OnOk result (Grows self.old self.new) }
         ensures done { OnOk result ((n : ℕ) → IsFollowed graph.now lattice summaries.now self.new origin.now.phase origin.now.at n) }
+        ensures over { OnOk result (IsOver graph.now lattice summaries.now passed.new self.new) }
     {
         for edge in index.out(origin.at) {
-            self.follow(graph, index, summaries, lattice, origin, *edge)?;
+            self.follow(passed, graph, crossings, summaries, lattice, origin, *edge)?;
         }
         Ok(())
     }
@@ -318,15 +450,19 @@ impl Search {
     /// Goes on from each place of the queue, until one is at the variable. Answers that place.
     fn run(
         &mut self,
+        passed: &mut Passed,
         graph: &FlowGraph,
         index: &Adjacency,
+        crossings: &Crossings,
         summaries: &Summaries,
         lattice: LatticeNo,
         target: VarId,
     ) -> Result<Option<usize>, NoMemory>
         requires index { IsIndexOf graph.now index.now }
+        requires crossings { AreCrossings graph.now crossings.now }
         requires lattice { lattice < 16 }
         requires below { AllBelow graph.now (size_of self.old.marks) }
+        requires over { IsOver graph.now lattice summaries.now passed.old self.old }
         ensures good { OnOk result ((elem : ℕ) → IsGood graph.now lattice elem summaries.now self.old → IsGood graph.now lattice elem summaries.now self.new) }
         ensures grows { OnOk result (Grows self.old self.new) }
         ensures found { IfOk result (λ place. IfSome place (λ n. IsReachedAt self.new n target)) }
@@ -338,7 +474,7 @@ impl Search {
             if origin.at == target {
                 return Ok(Some(place));
             }
-            self.visit(graph, index, summaries, lattice, &origin)?;
+            self.visit(passed, graph, index, crossings, summaries, lattice, &origin)?;
             place += 1;
         }
         Ok(None)
@@ -369,19 +505,22 @@ fn settled(graph: &FlowGraph, at: VarId, phase: Phase) -> Phase
 /// Reaches variables from the constants of an element until one is the target: the search and the place of its queue. None
 /// where no path leads there.
 ///
-/// It takes each variable once in each phase, with a step for each constraint that begins there, and for each `Enter` one
-/// for each `Enter` and `Leave` of the same site; before that it goes once over all constraints. 2 bytes for each variable,
-/// and an item of the queue for each variable and phase that it reaches.
+/// It takes each variable once in each phase, with a step for each constraint that begins there. The groups of a site that
+/// begin at one variable are followed once in each phase, with a step for each pair from that variable, and the `Leave`s of
+/// the site from one variable once; before that it goes once over all constraints. 2 bytes for each variable and for each
+/// constraint, and an item of the queue for each variable and phase that it reaches.
 pub fn reach(
     alloc: Global,
     graph: &FlowGraph,
     index: &Adjacency,
+    crossings: &Crossings,
     summaries: &Summaries,
     lattice: LatticeNo,
     elem: Elem,
     target: VarId,
 ) -> Result<Found, NoMemory>
     requires index { IsIndexOf graph.now index.now }
+    requires crossings { AreCrossings graph.now crossings.now }
     requires lattice { lattice < 16 }
     ensures good { IfOk result (λ found. IsGood graph.now lattice elem summaries.now found.search) }
     ensures found { IfOk result (λ found. IfSome found.place (λ n. IsReachedAt found.search n target)) }
@@ -389,6 +528,15 @@ pub fn reach(
 {
     let mut search = Search::new(alloc, graph)?;
     search.start(graph, lattice, elem)?;
-    let place = search.run(graph, index, summaries, lattice, target)?;
+    let mut passed = Passed::new(alloc, graph.len())?;
+    let place = search.run(
+        &mut passed,
+        graph,
+        index,
+        crossings,
+        summaries,
+        lattice,
+        target,
+    )?;
     Ok(Found { search, place })
 }

@@ -10,6 +10,7 @@ ghost use Rattle.flow_graph.specs.Paths.{Lead};
 ghost use Rattle.flow_graph.specs.PathProofs.{steps_of, Holds, AreApart};
 ghost use Rattle.flow_graph.specs.declared.phase.Phase.{Phase};
 ghost use Rattle.lattice_solver.specs.Solution.{Exceeds, IsSolved};
+ghost use Rattle.match_summary.specs.Crossings.{AreCrossings};
 ghost use Rattle.match_summary.specs.Summary.{Leads, Summarises};
 ghost use Rattle.error_path.specs.declared.search.Reached.{Reached};
 ghost use Rattle.flow_graph.specs.Parts.{IsPath, Onward};
@@ -20,14 +21,11 @@ ghost use Rattle.error_path.specs.Shown.{BeginsOver, EndsWith, HasNoLines, InLat
 use crate::search::{Cause, Reached, reach};
 use crate::steps::{Pair, inner_ends, push_group, push_take};
 use crate::sub_paths::SubPaths;
-use flow_graph::adjacency::Adjacency;
-use flow_graph::graph::FlowGraph;
-use flow_graph::proof::{PathProof, PathStep};
+use flow_graph::{Adjacency, FlowGraph, PathProof, PathStep};
 use lattice_core::Lattices;
-use lattice_solver::solver::Solver;
-use match_summary::summary::Summaries;
-use qual_base::faults::NoMemory;
-use qual_base::ids::{EdgeId, Elem, LatticeNo, VarId};
+use lattice_solver::Solver;
+use match_summary::{Crossings, Summaries};
+use qual_base::{EdgeId, Elem, LatticeNo, NoMemory, VarId};
 use std::alloc::Global;
 
 /// The number of a group's sub-path, which is made where it is not there. None where the group is empty.
@@ -130,10 +128,12 @@ fn show_from(
     alloc: Global,
     graph: &FlowGraph,
     index: &Adjacency,
+    crossings: &Crossings,
     summaries: &Summaries,
     target: &Target,
 ) -> Result<PathProof, NoMemory>
     requires index { IsIndexOf graph.now index.now }
+    requires crossings { AreCrossings graph.now crossings.now }
     requires lattice { target.now.lattice < 16 }
     requires summaries { Summarises graph.now target.now.lattice summaries.now }
     requires bound { (e : ℕ) × Stands graph.now target.now.lattice target.now.bound (Bound target.now.at target.now.lattice e) }
@@ -144,6 +144,7 @@ fn show_from(
         alloc,
         graph,
         index,
+        crossings,
         summaries,
         target.lattice,
         target.elem,
@@ -173,9 +174,10 @@ fn show_from(
 /// A path proof of a bound that an element exceeds: it leads from a constant of such an element to the bound, and names each
 /// sub-path once. All lines are 0. Fails for want of memory alone.
 ///
-/// The search takes each variable once in each phase, with a step for each constraint that begins there, and for each
-/// `Enter` one for each `Enter` and `Leave` of the same site; before that it goes once over all constraints. It takes 2
-/// bytes for each variable, and an item for each variable and phase that it reaches. The sub-paths are made from the reasons
+/// The search takes each variable once in each phase, with a step for each constraint that begins there. The groups of a
+/// site that begin at one variable are followed once in each phase, with a step for each pair from that variable, and the
+/// `Leave`s of the site from one variable once; before that it goes once over all constraints. It takes 2 bytes for each
+/// variable and for each constraint, and an item for each variable and phase that it reaches. The sub-paths are made from the reasons
 /// of the summaries, each pair once, in time and memory linear in the steps that are made.
 pub fn show(
     alloc: Global,
@@ -198,7 +200,14 @@ pub fn show(
     ensures lines { IfOk result HasNoLines }
 {
     let target = target_of(graph, solver, lattices, bound);
-    show_from(alloc, graph, solver.index(), summaries, &target)
+    show_from(
+        alloc,
+        graph,
+        solver.index(),
+        solver.crossings(),
+        summaries,
+        &target,
+    )
 }
 
 /// The bound with an element that exceeds it.

@@ -4,10 +4,8 @@ ghost use Rattle.std.specs.Prelude.{◌≡◌, ◌<◌, [], ◌∷◌, ◌++◌,
 ghost use Rattle.flow_graph.specs.declared.proof.PathStep.TheVariants.{Take};
 ghost use Rattle.error_path.specs.Made.{group_steps, Fronts, IsInner};
 
-use flow_graph::graph::FlowGraph;
-use flow_graph::proof::PathStep;
-use qual_base::faults::NoMemory;
-use qual_base::ids::{EdgeId, VarId};
+use flow_graph::{FlowGraph, PathStep};
+use qual_base::{EdgeId, NoMemory, VarId};
 
 /// A variable, and one that a path inside its function leads to.
 #[derive(Clone, Copy, PartialEq, Eq, Debug)]

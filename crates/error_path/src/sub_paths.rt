@@ -12,12 +12,9 @@ ghost use Rattle.error_path.specs.Made.{number_in, place_of, subs_in, Extends, I
 
 use crate::places::Places;
 use crate::steps::{Pair, inner_ends, push_group, push_take};
-use flow_graph::graph::FlowGraph;
-use flow_graph::proof::{PathStep, SubPath};
-use match_summary::reason::Reason;
-use match_summary::summary::Summaries;
-use qual_base::faults::NoMemory;
-use qual_base::ids::{EdgeId, LatticeNo, VarId};
+use flow_graph::{FlowGraph, PathStep, SubPath};
+use match_summary::{Reason, Summaries};
+use qual_base::{EdgeId, LatticeNo, NoMemory, VarId};
 use std::alloc::Global;
 
 /// The number of sub-paths that a proof may have.

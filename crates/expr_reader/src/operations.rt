@@ -17,22 +17,18 @@ ghost use Rattle.c_grammar.specs.Kinds.{reach_of};
 ghost use Rattle.c_grammar.specs.Knot.{expr_at, type_name_at};
 
 use crate::unary::{castable, unary};
-use c_grammar::eating::{begins_colon, colon};
-use c_grammar::fault::{Fault, ReadError, number_at, refused};
-use c_grammar::inside::expr_inside;
-use c_grammar::kinds::{Between, Reach, between_at};
-use c_grammar::laws::{loops_step, operands_are_tight};
+use c_grammar::{
+    Between, Fault, Reach, ReadError, begins_colon, between_at, colon, expr_inside, loops_step,
+    number_at, operands_are_tight, refused,
+};
 use c_height::of_expr;
-use c_ops::building::{OpsFault, build_ops};
-use c_ops::list::OpList;
-use c_ops::op::Op;
-use c_syntax::declarator::TypeName;
-use c_syntax::expression::Expr;
-use c_tree::lexeme::Lexeme;
-use c_words::kinds::Punct;
-use qual_base::ids::TokenId;
+use c_ops::{Op, OpList, OpsFault, build_ops};
+use c_syntax::{Expr, TypeName};
+use c_tree::Lexeme;
+use c_words::Punct;
+use qual_base::TokenId;
 use std::alloc::Global;
-use typedef_scope::scopes::Scopes;
+use typedef_scope::Scopes;
 
 /// Whether commas belong to an expression of a reach.
 fn takes_comma(reach: Reach) -> bool

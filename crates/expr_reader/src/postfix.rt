@@ -14,19 +14,17 @@ ghost use Rattle.c_grammar.specs.Expressing.{arg_turn, args_with, index_with, ca
 ghost use Rattle.c_grammar.specs.Gives.{GivesTurn, TurnGives};
 ghost use Rattle.c_grammar.specs.Kinds.{closing_in};
 
-use c_build::expressions as nodes;
-use c_build::expressions::push;
-use c_grammar::eating::{begins_close_paren, close_bracket, close_paren, comma, is_text, name};
-use c_grammar::fault::{Fault, ReadError, number_at, refused};
-use c_grammar::inside::expr_inside;
-use c_grammar::kinds::{Closing, Reach, closing_at};
-use c_grammar::laws::loops_step;
+use c_build::push;
+use c_grammar::{
+    Closing, Fault, Reach, ReadError, begins_close_paren, close_bracket, close_paren, closing_at,
+    comma, expr_inside, is_text, loops_step, name, number_at, refused,
+};
 use c_height::of_expr;
-use c_syntax::expression::Expr;
-use c_tree::lexeme::Lexeme;
-use qual_base::ids::TokenId;
+use c_syntax::Expr;
+use c_tree::Lexeme;
+use qual_base::TokenId;
 use std::alloc::Global;
-use typedef_scope::scopes::Scopes;
+use typedef_scope::Scopes;
 
 /// One more argument behind a comma, where one stands.
 #[tactic(auto, using(crate::proofs::Pushing::exprs_pushed))]
@@ -121,7 +119,7 @@ where
     let (inner, rest) = expr_inside(expr, alloc, Reach::Whole, scopes, tokens, depth)?;
     let close = number_at(rest);
     let rest = close_bracket(rest)?;
-    let found = nodes::index(alloc, base, open, inner, close)?;
+    let found = c_build::index(alloc, base, open, inner, close)?;
     Ok((found, rest))
 }
 
@@ -144,7 +142,7 @@ where
     let (found, rest) = arguments(expr, alloc, scopes, tokens, depth)?;
     let close = number_at(rest);
     let rest = close_paren(rest)?;
-    let made = nodes::call(alloc, callee, open, found, close)?;
+    let made = c_build::call(alloc, callee, open, found, close)?;
     Ok((made, rest))
 }
 
@@ -174,16 +172,16 @@ where
                 Ok(found) => found,
                 Err(error) => return Err(error),
             };
-            Ok((nodes::dot(alloc, base, token, member)?, rest))
+            Ok((c_build::dot(alloc, base, token, member)?, rest))
         }
         Closing::Arrow => {
             let (member, rest) = match name(tokens) {
                 Ok(found) => found,
                 Err(error) => return Err(error),
             };
-            Ok((nodes::arrow(alloc, base, token, member)?, rest))
+            Ok((c_build::arrow(alloc, base, token, member)?, rest))
         }
-        Closing::Post(sign) => { Ok((nodes::post(alloc, base, token, sign)?, tokens)) }
+        Closing::Post(sign) => { Ok((c_build::post(alloc, base, token, sign)?, tokens)) }
         Closing::Nothing => unreachable!(),
     }
 }

@@ -10,20 +10,16 @@ ghost use Rattle.c_grammar.specs.Kinds.{reach_of, opening_in};
 ghost use Rattle.c_grammar.specs.Knot.{expr_at, type_name_at};
 
 use crate::postfix::{postfixed, texts};
-use c_build::expressions as nodes;
-use c_grammar::eating::{close_paren, is_open_paren};
-use c_grammar::fault::{Fault, ReadError, number_at, refused};
-use c_grammar::inside::{expr_inside, type_inside};
-use c_grammar::kinds::{Opening, Reach, begins_specs, names_type, opening_at};
-use c_grammar::laws::operands_are_tight;
-use c_syntax::declarator::TypeName;
-use c_syntax::expression::Expr;
-use c_syntax::parts::Word;
-use c_tree::lexeme::Lexeme;
-use c_words::kinds::Punct;
-use qual_base::ids::{NameId, TokenId};
+use c_grammar::{
+    Fault, Opening, Reach, ReadError, begins_specs, close_paren, expr_inside, is_open_paren,
+    names_type, number_at, opening_at, operands_are_tight, refused, type_inside,
+};
+use c_syntax::{Expr, TypeName, Word};
+use c_tree::Lexeme;
+use c_words::Punct;
+use qual_base::{NameId, TokenId};
 use std::alloc::Global;
-use typedef_scope::scopes::Scopes;
+use typedef_scope::Scopes;
 
 /// A prefix before its operand.
 fn prefixed<'a, E>(
@@ -43,7 +39,7 @@ where
     ensures { Gives (λ x. ((expr_of x.0.value, scopes.new), x.1.now)) result (prefix_with depth (expr_at depth) (type_name_at depth) token sign (reach_of reach) scopes.old tokens.now) }
 {
     let (operand, rest) = expr_inside(expr, alloc, reach, scopes, tokens, depth)?;
-    Ok((nodes::prefix(alloc, token, sign, operand)?, rest))
+    Ok((c_build::prefix(alloc, token, sign, operand)?, rest))
 }
 
 /// `sizeof` or `_Alignof` of an expression.
@@ -62,7 +58,7 @@ where
     ensures { Gives (λ x. ((expr_of x.0.value, scopes.new), x.1.now)) result (sizeof_value_with depth (expr_at depth) (type_name_at depth) keyword scopes.old tokens.now) }
 {
     let (operand, rest) = expr_inside(expr, alloc, Reach::Unary, scopes, tokens, depth)?;
-    Ok((nodes::sizeof(alloc, keyword, operand)?, rest))
+    Ok((c_build::sizeof(alloc, keyword, operand)?, rest))
 }
 
 /// `sizeof` or `_Alignof` of the name of a type, behind its parenthesis.
@@ -85,7 +81,7 @@ where
     let (type_name, rest) = type_inside(type_name, alloc, scopes, tokens, depth)?;
     let close = number_at(rest);
     let rest = close_paren(rest)?;
-    let made = nodes::sizeof_type(alloc, keyword, open, type_name, close)?;
+    let made = c_build::sizeof_type(alloc, keyword, open, type_name, close)?;
     Ok((made, rest))
 }
 
@@ -136,7 +132,7 @@ where
     let (inner, rest) = expr_inside(expr, alloc, Reach::Whole, scopes, tokens, depth)?;
     let close = number_at(rest);
     let rest = close_paren(rest)?;
-    let made = nodes::paren(alloc, open, inner, close)?;
+    let made = c_build::paren(alloc, open, inner, close)?;
     postfixed(expr, alloc, made, scopes, rest, depth)
 }
 
@@ -162,7 +158,7 @@ where
     if names_type(scopes, name) {
         return Err(refused(Fault::Unexpected, all));
     }
-    let made = nodes::name_use(alloc, first.at, name)?;
+    let made = c_build::name_use(alloc, first.at, name)?;
     postfixed(expr, alloc, made, scopes, tokens, depth)
 }
 
@@ -182,7 +178,7 @@ where
     ensures { Gives (λ x. ((expr_of x.0.value, scopes.new), x.1.now)) result (text_with depth (expr_at depth) (type_name_at depth) token scopes.old tokens.now) }
 {
     let (texts, rest) = texts(alloc, token, tokens)?;
-    let made = nodes::text_use(alloc, texts)?;
+    let made = c_build::text_use(alloc, texts)?;
     postfixed(expr, alloc, made, scopes, rest, depth)
 }
 
@@ -225,11 +221,11 @@ where
         ),
         Opening::Name(name) => name_use(expr, alloc, name, first, scopes, tokens, all, depth),
         Opening::Number => {
-            let number = nodes::number_use(alloc, token)?;
+            let number = c_build::number_use(alloc, token)?;
             postfixed(expr, alloc, number, scopes, tokens, depth)
         }
         Opening::Char => {
-            let char = nodes::char_use(alloc, token)?;
+            let char = c_build::char_use(alloc, token)?;
             postfixed(expr, alloc, char, scopes, tokens, depth)
         }
         Opening::Text => text_use(expr, alloc, token, scopes, tokens, depth),
@@ -297,7 +293,7 @@ where
     let close = number_at(rest);
     let rest = close_paren(rest)?;
     let (operand, rest) = expr_inside(expr, alloc, Reach::Castable, scopes, rest, depth)?;
-    let made = nodes::cast(alloc, open, type_name, close, operand)?;
+    let made = c_build::cast(alloc, open, type_name, close, operand)?;
     Ok((made, rest))
 }
 

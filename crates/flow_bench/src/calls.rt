@@ -4,8 +4,7 @@ ghost use Rattle.std.specs.Prelude.{◌≤◌, ◌<◌, ◌+◌, ◌*◌};
 
 use crate::fault::Fault;
 use crate::making::{add, add_site, bound, constant, enter, le, leave, own};
-use flow_graph::constraint::Link;
-use flow_graph::graph::FlowGraph;
+use flow_graph::{FlowGraph, Link};
 
 /// The functions with their variables, and the sites: one more function than calls.
 fn add_functions(graph: &mut FlowGraph, calls: u32) -> Result<(), Fault>

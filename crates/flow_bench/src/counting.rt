@@ -1,22 +1,18 @@
 //! What is found of a system.
 
-ghost use Rattle.std.specs.Prelude.{◌≡◌, ◌<◌, Some, length, slice_get};
+ghost use Rattle.std.specs.Prelude.{◌≡◌, Some, slice_get};
 ghost use Rattle.flow_graph.specs.Unfolding.{NamesElementsIn};
 ghost use Rattle.match_summary.specs.Summary.{Summarises};
-ghost use Rattle.lattice_solver.specs.Solution.{IsSolved, Exceeds};
+ghost use Rattle.lattice_solver.specs.Solution.{IsSolved};
 
 use crate::fault::Fault;
 use crate::words::Goal;
 use error_path::show;
-use flow_graph::conditions::{is_well_owned, names_elements};
-use flow_graph::graph::FlowGraph;
-use flow_graph::proof::PathProof;
+use flow_graph::{FlowGraph, PathProof, is_well_owned, names_elements};
 use lattice_core::{Entry, Lattice, Lattices, Level, Name, Pair, Sign};
-use lattice_solver::solver::Solver;
-use match_summary::summarise;
-use match_summary::summary::Summaries;
-use qual_base::faults::NoMemory;
-use qual_base::ids::{EdgeId, Elem, LatticeNo, Numbered};
+use lattice_solver::Solver;
+use match_summary::{Summaries, summarise};
+use qual_base::{EdgeId, LatticeNo, Numbered};
 use std::alloc::Global;
 
 /// How many there are of each; 0 for what a run did not go to.
@@ -70,29 +66,6 @@ fn exceeded(graph: &FlowGraph, solver: &Solver, lattice: &Lattice) -> u32
     count
 }
 
-/// The path proof of a bound that an element exceeds.
-fn shown(
-    alloc: Global,
-    graph: &FlowGraph,
-    summaries: &Summaries,
-    solver: &Solver,
-    lattices: &Lattices,
-    lattice: &Lattice,
-    bound: EdgeId,
-    elem: Elem,
-) -> Result<PathProof, NoMemory>
-    requires solved { IsSolved graph.now solver.now }
-    requires summaries { Summarises graph.now solver.now.lattice summaries.now }
-    requires lattice { slice_get lattices.now solver.now.lattice ≡ Some lattice.now }
-    requires named { NamesElementsIn graph.now solver.now.lattice lattice.now.order }
-    requires bound { bound < length graph.now.constraints }
-    requires exceeds { Exceeds graph.now solver.now lattice.now.order bound elem }
-{
-    let _ = lattice;
-    let _ = elem;
-    show(alloc, graph, summaries, solver, lattices, bound)
-}
-
 /// How many steps a path proof has, those of sub-paths among them.
 fn steps_of(proof: &PathProof) -> usize {
     let mut count = proof.main.len();
@@ -118,8 +91,8 @@ fn steps(
 {
     for n in 0..graph.len() {
         let at = EdgeId::new(n);
-        if let Some(elem) = solver.exceeded(graph, lattice, at) {
-            let proof = shown(alloc, graph, summaries, solver, lattices, lattice, at, elem)?;
+        if solver.exceeded(graph, lattice, at).is_some() {
+            let proof = show(alloc, graph, summaries, solver, lattices, at)?;
             return Ok(steps_of(&proof));
         }
     }

@@ -4,7 +4,7 @@ ghost use Rattle.std.specs.Prelude.{◌≤◌, ◌<◌};
 
 use crate::fault::Fault;
 use crate::making::{add, add_site, bound, constant, enter, le, leave, own};
-use flow_graph::graph::FlowGraph;
+use flow_graph::FlowGraph;
 
 /// How many parameters the function has. Its result is the variable behind them.
 const PARAMETERS: u32 = 100;

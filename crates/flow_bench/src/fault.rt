@@ -1,8 +1,8 @@
 //! Why there are no counts.
 
-use flow_graph::graph::GraphFault;
+use flow_graph::GraphFault;
 use lattice_core::LatticeFault;
-use qual_base::faults::NoMemory;
+use qual_base::NoMemory;
 use std::alloc::{AllocError, AllocFailed};
 use std::io;
 

@@ -1,6 +1,6 @@
 //! A benchmark of the analysis: makes a system of constraints, closes and solves it, and prints counts.
 //!
-//! The words are `KIND N GOAL`. KIND is `chain`, `reversed`, `ring`, `fan` or `random`, N its size (at most 1,000,000), and
+//! The words are `KIND N GOAL`. KIND is `chain`, `reversed`, `ring`, `fan`, `wide` or `random`, N its size (at most 1,000,000), and
 //! GOAL is `closure`, `solve` or `show`. What does not fit, a failed write and want of memory end it with status 1.
 #![tactic(auto)]
 
@@ -12,6 +12,7 @@ mod making;
 mod random;
 #[cfg(test)]
 mod tests;
+mod wide;
 mod words;
 
 use counting::{Counts, count};

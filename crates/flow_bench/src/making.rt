@@ -7,18 +7,18 @@ use crate::calls::{add_chain, add_reversed, add_ring};
 use crate::fan::add_fan;
 use crate::fault::Fault;
 use crate::random::add_random;
+use crate::wide::add_wide;
 use crate::words::Kind;
-use flow_graph::constraint::{Constraint, Link, Site};
-use flow_graph::graph::FlowGraph;
-use qual_base::ids::{Elem, FuncId, LatticeNo, Numbered, SiteId, TokenId, UnitNo, VarId};
-use qual_base::places::{Owner, Span};
+use flow_graph::{Constraint, FlowGraph, Link, Site};
+use qual_base::{Elem, FuncId, LatticeNo, Numbered, Owner, SiteId, Span, TokenId, UnitNo, VarId};
 use std::alloc::Global;
 
 /// The greatest size.
 pub const MOST: u32 = 1_000_000;
 
 /// A system of a kind and a size. Time and memory are linear in its constraints: about two for each call of a chain or a
-/// ring, a hundred for each caller of a fan, and as many as the size in a random system.
+/// ring, a hundred for each caller of a fan, four for each parameter of a wide call, and as many as the size in a random
+/// system.
 pub fn make(alloc: Global, kind: Kind, size: u32) -> Result<FlowGraph, Fault> {
     if size > MOST {
         return Err(Fault::Unfit);
@@ -29,6 +29,7 @@ pub fn make(alloc: Global, kind: Kind, size: u32) -> Result<FlowGraph, Fault> {
         Kind::Reversed => add_reversed(&mut graph, size)?,
         Kind::Ring => add_ring(&mut graph, size)?,
         Kind::Fan => add_fan(&mut graph, size)?,
+        Kind::Wide => add_wide(&mut graph, size)?,
         Kind::Random => add_random(&mut graph, size)?,
     }
     Ok(graph)

@@ -4,10 +4,8 @@ ghost use Rattle.std.specs.Prelude.{◌≤◌, ◌<◌};
 
 use crate::fault::Fault;
 use crate::making::{add, add_site, bound, constant, enter, le, leave, own};
-use flow_graph::constraint::Link;
-use flow_graph::graph::FlowGraph;
-use qual_base::ids::{Numbered, SiteId};
-use qual_base::places::Owner;
+use flow_graph::{FlowGraph, Link};
+use qual_base::{Numbered, Owner, SiteId};
 
 /// How many variables a function has.
 const VARIABLES: u32 = 8;

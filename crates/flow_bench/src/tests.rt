@@ -1,11 +1,12 @@
-//! What no clause says: that a closure ends soon over a long chain of calls, in whatever order its constraints stand.
+//! What no clause says: that a closure ends soon over a long chain of calls, in whatever order its constraints stand, and
+//! over a call with many parameters and results.
 
 use crate::counting::{Counts, count};
 use crate::making::make;
 use crate::words::{Goal, Kind};
-use flow_graph::graph::FlowGraph;
+use flow_graph::FlowGraph;
 use match_summary::summarise;
-use qual_base::ids::{LatticeNo, Numbered, VarId};
+use qual_base::{LatticeNo, Numbered, VarId};
 use std::alloc::Global;
 use std::process::Abort;
 use std::test::Fail;
@@ -73,4 +74,13 @@ fn a_chain_of_calls_has_its_path_in_either_order(rt: HostRuntime) {
 fn a_ring_of_calls_has_its_path(rt: HostRuntime) {
     let counts = counts(&rt, rt.alloc(), Kind::Ring, 100_000);
     assert_eq!(rt; counts.exceeded, 1);
+}
+
+#[test]
+fn a_call_with_many_results_has_its_path(rt: HostRuntime) {
+    let counts = counts(&rt, rt.alloc(), Kind::Wide, 20_000);
+    assert_eq!(rt; counts.constraints, 80_003);
+    assert_eq!(rt; counts.pairs, 60_000);
+    assert_eq!(rt; counts.exceeded, 1);
+    assert_eq!(rt; counts.steps, 8);
 }

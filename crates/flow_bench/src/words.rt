@@ -11,6 +11,8 @@ pub enum Kind {
     Ring,
     /// Many callers of one function with many parameters.
     Fan,
+    /// One call of a function with many parameters, each of which comes back by a result of its own.
+    Wide,
     /// Constraints drawn by a generator of pseudo-random numbers.
     Random,
 }
@@ -40,6 +42,7 @@ fn kind_of(word: &str) -> Option<Kind> {
         b"reversed" => Some(Kind::Reversed),
         b"ring" => Some(Kind::Ring),
         b"fan" => Some(Kind::Fan),
+        b"wide" => Some(Kind::Wide),
         b"random" => Some(Kind::Random),
         _ => None,
     }

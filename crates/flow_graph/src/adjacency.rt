@@ -6,8 +6,7 @@ ghost use Rattle.flow_graph.specs.Rows.{row_in};
 
 use crate::graph::FlowGraph;
 use crate::rows::{Key, Rows};
-use qual_base::faults::NoMemory;
-use qual_base::ids::{EdgeId, Numbered, SiteId, VarId};
+use qual_base::{EdgeId, NoMemory, Numbered, SiteId, VarId};
 use std::alloc::Global;
 use std::marker::Model;
 

@@ -10,8 +10,7 @@ ghost use Rattle.flow_graph.specs.Conditions.{IsInOrder, IsNamedAt, IsOwned, IsO
 use crate::constraint::Link;
 use crate::graph::FlowGraph;
 use lattice_core::Lattice;
-use qual_base::ids::{EdgeId, Elem, LatticeNo, Numbered, SiteId};
-use qual_base::places::Owner;
+use qual_base::{EdgeId, Elem, LatticeNo, Numbered, Owner, SiteId};
 
 /// Whether no flow joins variables of two functions, and each `Enter` leads from its site's owner to its target and each
 /// `Leave` back. Linear in the constraints, and takes no memory.

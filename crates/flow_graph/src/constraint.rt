@@ -6,8 +6,7 @@ ghost use Rattle.flow_graph.specs.declared.constraint.Link.TheVariants.{Bound, E
 ghost use Rattle.flow_graph.specs.System.{IsInLattice, IsNoBound, IsNoEnter, IsNoLeave};
 ghost use Rattle.flow_graph.specs.PathRules.{link_begins, link_ends};
 
-use qual_base::ids::{Elem, FuncId, LatticeNo, SiteId, TokenId, UnitNo, VarId};
-use qual_base::places::{Owner, Span};
+use qual_base::{Elem, FuncId, LatticeNo, Owner, SiteId, Span, TokenId, UnitNo, VarId};
 
 /// What a constraint says of its variables.
 ///

@@ -5,9 +5,7 @@ ghost use Rattle.qual_base.specs.declared.places.Owner.TheVariants.{Nobody};
 ghost use Rattle.flow_graph.specs.System.{owner_of, vars_of, AllBelow, AllWithin, IsWithin, SetsOwner};
 
 use crate::constraint::{Constraint, Link, Site};
-use qual_base::faults::NoMemory;
-use qual_base::ids::{EdgeId, Numbered, SiteId, VarId};
-use qual_base::places::Owner;
+use qual_base::{EdgeId, NoMemory, Numbered, Owner, SiteId, VarId};
 use std::alloc::Global;
 use std::marker::Model;
 use thiserror::Error;

@@ -2,13 +2,21 @@
 //! meet it, paths whose calls and returns match, and when a path proof holds.
 #![tactic(auto)]
 
-pub mod adjacency;
-pub mod conditions;
-pub mod constraint;
-pub mod graph;
-pub mod phase;
-pub mod place;
-pub mod proof;
+mod adjacency;
+mod conditions;
+mod constraint;
+mod graph;
+mod phase;
+mod place;
+mod proof;
 mod rows;
 #[cfg(test)]
 mod tests;
+
+pub use adjacency::Adjacency;
+pub use conditions::{is_well_owned, names_elements};
+pub use constraint::{Constraint, Crossing, Limit, Link, Site};
+pub use graph::{FlowGraph, GraphFault, MOST_CONSTRAINTS};
+pub use phase::Phase;
+pub use place::{Path, Place, Seen};
+pub use proof::{BadStep, PathProof, PathStep, SubPath, Why};

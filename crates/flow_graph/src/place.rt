@@ -1,8 +1,7 @@
 //! Where a step of a path proof stands: what the rules of path proofs speak of.
 
 use crate::constraint::Constraint;
-use qual_base::ids::{Elem, LatticeNo, VarId};
-use qual_base::places::Owner;
+use qual_base::{Elem, LatticeNo, Owner, VarId};
 
 /// What a step names: a constraint, a sub-path from a variable to another, or a number of neither.
 #[derive(Clone, Copy, PartialEq, Eq, Debug)]

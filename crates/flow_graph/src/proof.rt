@@ -1,6 +1,6 @@
 //! Path proofs: lists of steps that show how a constant exceeds a bound.
 
-use qual_base::ids::EdgeId;
+use qual_base::EdgeId;
 
 /// A step of a path: a constraint, or a sub-path by its number from 1. Lines count from 1 in the text that a step was
 /// read from, and are 0 in a proof that was made.

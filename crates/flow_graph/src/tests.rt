@@ -6,8 +6,9 @@ ghost use Rattle.flow_graph.specs.System.{IsWithin};
 use crate::adjacency::Adjacency;
 use crate::constraint::{Constraint, Link, Site};
 use crate::graph::FlowGraph;
-use qual_base::ids::{EdgeId, Elem, FuncId, LatticeNo, Numbered, SiteId, TokenId, UnitNo, VarId};
-use qual_base::places::{Owner, Span};
+use qual_base::{
+    EdgeId, Elem, FuncId, LatticeNo, Numbered, Owner, SiteId, Span, TokenId, UnitNo, VarId,
+};
 use std::alloc::Global;
 use std::process::Abort;
 use std::test::Fail;

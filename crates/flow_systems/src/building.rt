@@ -4,11 +4,9 @@ ghost use Rattle.std.specs.Prelude.{◌<◌, ℕ};
 ghost use Rattle.flow_graph.specs.System.{IsWithin};
 
 use crate::case::{Case, Row, Shape};
-use flow_graph::constraint::{Constraint, Link, Site};
-use flow_graph::graph::FlowGraph;
+use flow_graph::{Constraint, FlowGraph, Link, Site};
 use lattice_core::{Entry, Lattice, Lattices, Level, Name, Pair, Sign};
-use qual_base::ids::{Elem, FuncId, LatticeNo, Numbered, SiteId, TokenId, UnitNo, VarId};
-use qual_base::places::{Owner, Span};
+use qual_base::{Elem, FuncId, LatticeNo, Numbered, Owner, SiteId, Span, TokenId, UnitNo, VarId};
 use std::alloc::{AllocError, Global};
 use std::process::Abort;
 use std::test::Fail;

@@ -3,9 +3,9 @@
 use crate::building::{graph_of, lattices_of};
 use crate::case::Row::{Bound, Const, Enter, Le, Leave};
 use crate::case::{Answers, Case, F0, TWO};
-use flow_unfolding::unfolding::is_met;
+use flow_unfolding::is_met;
 use path_checker::{check, read_report};
-use qual_base::ids::LatticeNo;
+use qual_base::LatticeNo;
 use std::test::Fail;
 
 // A function that calls itself at its one site: 0 is entered as 1 and so on to 6, a flow leads from 6 to 13, and 13 is

@@ -6,8 +6,7 @@ ghost use Rattle.flow_unfolding.specs.Assignment.{map_of, changed, is_same, Rais
 
 use crate::strings::{CallString, string_of};
 use lattice_core::Lattice;
-use qual_base::faults::NoMemory;
-use qual_base::ids::{Elem, SiteId, VarId};
+use qual_base::{Elem, NoMemory, SiteId, VarId};
 use std::alloc::Global;
 
 /// An element that a copy of a variable was given.

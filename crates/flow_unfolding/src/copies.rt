@@ -5,10 +5,8 @@ ghost use Rattle.flow_unfolding.specs.Copies;
 ghost use Rattle.flow_graph.specs.CallStrings;
 ghost use Rattle.flow_graph.specs.Unfolding;
 
-use flow_graph::constraint::Link;
-use flow_graph::graph::FlowGraph;
-use qual_base::ids::{FuncId, Numbered, SiteId};
-use qual_base::places::Owner;
+use flow_graph::{FlowGraph, Link};
+use qual_base::{FuncId, Numbered, Owner, SiteId};
 
 /// Whether an owner is a function.
 fn is_function(owner: Owner, function: FuncId) -> bool

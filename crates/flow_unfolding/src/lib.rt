@@ -7,4 +7,6 @@
 mod assignment;
 mod copies;
 mod strings;
-pub mod unfolding;
+mod unfolding;
+
+pub use unfolding::is_met;

@@ -4,8 +4,7 @@ ghost use Rattle.std.specs.Prelude.{◌≡◌, ℕ, ◌<◌, List, [], ◌∷◌
 ghost use Rattle.std.specs.List.{Contains};
 ghost use Rattle.flow_unfolding.specs.Strings.{HasAll};
 
-use qual_base::faults::NoMemory;
-use qual_base::ids::{Numbered, SiteId};
+use qual_base::{NoMemory, Numbered, SiteId};
 use std::alloc::Global;
 use std::marker::Model;
 

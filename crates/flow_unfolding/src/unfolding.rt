@@ -13,12 +13,9 @@ ghost use Rattle.flow_unfolding.specs.Meeting.{IsLow, AgreesAt, AgreesUpTo, Agre
 use crate::assignment::Assignment;
 use crate::copies::{behind, is_copy, seen_from, stands};
 use crate::strings::{CallString, all_strings};
-use flow_graph::conditions::names_elements;
-use flow_graph::constraint::Link;
-use flow_graph::graph::FlowGraph;
+use flow_graph::{FlowGraph, Link, names_elements};
 use lattice_core::Lattice;
-use qual_base::faults::NoMemory;
-use qual_base::ids::{EdgeId, Elem, LatticeNo, Numbered, SiteId, VarId};
+use qual_base::{EdgeId, Elem, LatticeNo, NoMemory, Numbered, SiteId, VarId};
 use std::alloc::Global;
 
 /// The element of a variable as it is met from a copy of a function.

@@ -7,9 +7,7 @@ ghost use Rattle.lattice_core.specs.View.{AreSized};
 
 use crate::Lattice;
 use crate::checks::find_name;
-use qual_base::faults::NoMemory;
-use qual_base::ids::{Elem, LatticeNo};
-use qual_base::words::QualWords;
+use qual_base::{Elem, LatticeNo, NoMemory, QualWords};
 use std::alloc::{AllocFailed, Global};
 use std::marker::Model;
 

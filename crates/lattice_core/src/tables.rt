@@ -11,9 +11,7 @@ use crate::bounds::first_lack;
 use crate::checks::{find_name, first_cycle, first_mixed, first_repeated, links, name_of};
 use crate::rows::{all_below, closure, common, converse, has, row_of};
 use crate::{Entry, LatticeFault, Pair};
-use qual_base::faults::NoMemory;
-use qual_base::ids::{Elem, ElemSet, LatticeNo};
-use qual_base::words::QualWords;
+use qual_base::{Elem, ElemSet, LatticeNo, NoMemory, QualWords};
 use std::alloc::{AllocError, Global};
 use std::marker::Model;
 

@@ -1,7 +1,7 @@
 //! What no clause says: that building succeeds with ample memory, and worked cases by hand.
 
 use crate::{Entry, Lattice, LatticeFault, Lattices, Level, Name, Pair, Sign};
-use qual_base::ids::{Elem, ElemSet, LatticeNo};
+use qual_base::{Elem, ElemSet, LatticeNo};
 use std::alloc::{AllocError, Global};
 use std::test::Fail;
 

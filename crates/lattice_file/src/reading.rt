@@ -14,7 +14,7 @@ use crate::lexemes::{is_word_byte, skip_gap, text_end, word_end};
 use crate::places::line_and_column;
 use crate::sharing::first_shared;
 use lattice_core::{Lattice, LatticeFault, Lattices, Name};
-use qual_base::faults::NoMemory;
+use qual_base::NoMemory;
 use std::alloc::{AllocError, Global};
 
 /// Why a lattice file does not read.

@@ -4,7 +4,7 @@ ghost use Rattle.std.specs.Prelude.{◌≡◌, ◌≤◌, ◌<◌, ℕ, List, le
 ghost use Rattle.lattice_file.specs.Sharing.{IsNamedBefore, IsShared, AreApart, IsFirstShared, IsFirstSharedIn};
 
 use lattice_core::Lattices;
-use qual_base::ids::{Elem, LatticeNo};
+use qual_base::{Elem, LatticeNo};
 
 /// Whether one of the first lattices has an element with a name, in at most 1,024 steps.
 fn is_named_before(all: &Lattices, end: u8, word: &[u8]) -> bool

@@ -52,3 +52,19 @@ module _ (old new : PhaseSets) (phase : Phase) (at elems : ℕ) (here : set_of n
     ]
     | inr other ↦ subst (λ set. bit_at set e ≡ 1) (sym (others p v (λ q. absurd (other q)))) has
   ]
+
+  -- an element of a set is an old one or one of those added
+  pub raised_only : ((p : Phase) (v : ℕ) → (p ≡ phase → v ≢ at) → set_of new p v ≡ set_of old p v) → (p : Phase) (v e : ℕ) → HasIn new p v e →
+      HasIn old p v e ⊎ ((p ≡ phase) × (v ≡ at) × (bit_at elems e ≡ 1))
+  raised_only others p v e has = elim (same_phase p phase) [
+    | inl same ↦ elim (cases_eq v at) [
+      | inl is ↦
+          let moved = subst (λ w. HasIn new phase w e) is (subst (λ q. HasIn new q v e) same has) in
+          elim (was_or_came e moved) [
+            | inl before ↦ inl (subst (λ q. HasIn old q v e) (sym same) (subst (λ w. HasIn old phase w e) (sym is) before))
+            | inr came ↦ inr (same, is, came)
+          ]
+      | inr ne ↦ inl (subst (λ set. bit_at set e ≡ 1) (others p v (λ q. ne)) has)
+    ]
+    | inr other ↦ inl (subst (λ set. bit_at set e ≡ 1) (others p v (λ q. absurd (other q))) has)
+  ]

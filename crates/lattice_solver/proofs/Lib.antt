@@ -10,5 +10,6 @@ mod Gaining
 mod Pairs
 mod Rooms
 mod Marks
+mod Over
 mod Stacking
 mod Items

@@ -1,12 +1,14 @@
--- What a solver holds: its lattice, the sets of the constants that reach each variable in each phase, and where the
--- constraints begin and end.
-use Rattle.std.specs.Prelude.{◌≡◌, ◌<◌, ℕ, List, true, false, bit_or, ◌↔◌}
+-- What a solver holds: its lattice, the sets of the constants that reach each variable in each phase, where the constraints
+-- begin and end, the calls and returns by their inner ends, and the sets that were carried round groups.
+use Rattle.std.specs.Prelude.{◌≡◌, ◌<◌, ◌≤◌, ℕ, List, length, true, false, bit_or, ◌↔◌}
 use Rattle.std.specs.Int.{bit_at}
 use Rattle.lattice_core.specs.Order.{Order, size, leq, IsJoinOf}
 use Rattle.flow_graph.specs.System.{System, AllBelow, Stands}
 use Rattle.flow_graph.specs.Index.{Lists, IsIndexOf}
 use Rattle.flow_graph.specs.Unfolding.{Assignment, Meets, IsAcceptedIn, IsExceeded, Printed}
 use Rattle.flow_graph.specs.declared.constraint.Link.TheVariants.{Bound}
+use Rattle.match_summary.specs.Crossings.{AreCrossings}
+use Rattle.match_summary.specs.declared.crossings.Crossings.{Crossings}
 use Rattle.match_summary.specs.declared.reason.Summary.{Summary}
 use Rattle.match_summary.specs.Summary.{Summarises}
 use Rattle.flow_graph.specs.declared.phase.Phase.{Phase}
@@ -18,6 +20,8 @@ pub record Solution : Type 0 where
   pub lattice : ℕ
   pub phases : PhaseSets
   pub index : Lists
+  pub crossings : Crossings
+  pub passed : PhaseSets
 
 -- the set of what reaches a variable in either phase, bit e for element e
 abbrev pub reached_at : Solution → ℕ → ℕ
@@ -26,10 +30,12 @@ reached_at solution v = bit_or (set_of solution.phases First v) (set_of solution
 abbrev pub HasElement : Solution → ℕ → ℕ → Type 0
 HasElement solution v e = bit_at (reached_at solution v) e ≡ 1
 
--- it fits a system: it has sets for each variable of a constraint, and the index of the constraints
+-- it fits a system: it has sets for each variable of a constraint and for each constraint, and the indices of the constraints
 pub record Fits (sys : System) (solution : Solution) : Type 0 where
   pub below : AllBelow sys (size_of solution.phases)
   pub indexed : IsIndexOf sys solution.index
+  pub crossings : AreCrossings sys solution.crossings
+  pub room : length sys.constraints ≤ size_of solution.passed
 
 -- Its sets have exactly what leads to each variable in each phase, by the summaries of the system, and its index is that of
 -- the constraints.

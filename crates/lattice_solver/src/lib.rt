@@ -1,8 +1,11 @@
 //! Which constants reach which variables, in one lattice: least elements and exceeded bounds.
 #![tactic(auto)]
 
-pub mod phases;
-pub mod solver;
-pub mod turns;
-pub mod waiting;
-pub mod work;
+mod passed;
+mod phases;
+mod solver;
+mod turns;
+mod waiting;
+mod work;
+
+pub use solver::Solver;

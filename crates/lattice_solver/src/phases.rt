@@ -5,9 +5,8 @@ ghost use Rattle.std.specs.Bool.{OnTrue, OnFalse};
 ghost use Rattle.lattice_solver.specs.Sets.{room};
 ghost use Rattle.lattice_solver.specs.Phases.{Moves, set_of, size_of};
 
-use flow_graph::phase::Phase;
-use qual_base::faults::NoMemory;
-use qual_base::ids::{Numbered, VarId};
+use flow_graph::Phase;
+use qual_base::{NoMemory, Numbered, VarId};
 use std::alloc::Global;
 use std::marker::Model;
 

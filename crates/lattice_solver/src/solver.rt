@@ -11,27 +11,26 @@ ghost use Rattle.flow_laws.specs.Laws.{SolutionStands};
 ghost use Rattle.match_summary.specs.Summary.{Summarises};
 ghost use Rattle.lattice_solver.specs.Solution.{AllUnder, Exceeds, Fits, HasElement, IsFirstExceeded, IsFirstOver, IsKept, IsOver, IsSolved, IsUnder, reached_at};
 
+use crate::passed::Passed;
 use crate::turns::{Flows, saturate};
 use crate::work::Work;
-use flow_graph::adjacency::Adjacency;
-use flow_graph::graph::FlowGraph;
-use flow_graph::phase::Phase;
-use flow_laws::accepting::tests_solve;
-use flow_laws::laws::solution_stands;
+use flow_graph::{Adjacency, FlowGraph, Phase};
+use flow_laws::{solution_stands, tests_solve};
 use lattice_core::Lattice;
-use match_summary::summary::Summaries;
-use qual_base::faults::NoMemory;
-use qual_base::ids::{EdgeId, Elem, ElemSet, LatticeNo, Numbered, VarId};
+use match_summary::{Crossings, Summaries};
+use qual_base::{EdgeId, Elem, ElemSet, LatticeNo, NoMemory, Numbered, VarId};
 use std::alloc::Global;
 use std::marker::Model;
 
-/// The sets of the constants that reach each variable in each phase, in one lattice, and an index of the constraints.
+/// The sets of the constants that reach each variable in each phase, in one lattice, and indices of the constraints.
 /// Clauses see it as a `Solution`.
 #[derive(Drop)]
 pub struct Solver {
     lattice: LatticeNo,
     work: Work,
     index: Adjacency,
+    crossings: Crossings,
+    passed: Passed,
 }
 
 impl Model for Solver {
@@ -39,12 +38,12 @@ impl Model for Solver {
 
     ghost Value = { Solution };
 
-    ghost view = { λ s. record { lattice = s.lattice; phases = s.work.sets; index = s.index } };
+    ghost view = { λ s. record { lattice = s.lattice; phases = s.work.sets; index = s.index; crossings = s.crossings; passed = s.passed } };
 }
 
 impl Solver {
-    /// A solver with empty sets, and all the memory that it takes: 21 bytes for each variable, and the index of the
-    /// constraints. Linear in the constraints, the variables and the sites.
+    /// A solver with empty sets, and all the memory that it takes: 21 bytes for each variable, 24 for each constraint, and the
+    /// index of the constraints. Linear in the constraints, the variables and the sites.
     pub fn new(
         alloc: Global,
         graph: &FlowGraph,
@@ -57,10 +56,14 @@ impl Solver {
         let _ = summaries;
         let work = Work::new(alloc, graph.vars())?;
         let index = Adjacency::build(alloc, graph)?;
+        let crossings = Crossings::build(alloc, graph)?;
+        let passed = Passed::new(alloc, graph.len())?;
         Ok(Solver {
             lattice,
             work,
             index,
+            crossings,
+            passed,
         })
     }
 
@@ -74,13 +77,15 @@ impl Solver {
         ensures lattice { self.new.lattice ≡ self.old.lattice }
     {
         self.work.clear();
+        self.passed.clear();
         let flows = Flows {
             graph,
             index: &self.index,
+            crossings: &self.crossings,
             summaries,
             lattice: self.lattice,
         };
-        saturate(&mut self.work, &flows);
+        saturate(&mut self.work, &mut self.passed, &flows);
     }
 
     pub fn lattice(&self) -> LatticeNo
@@ -94,6 +99,13 @@ impl Solver {
         ensures { result.now ≡ self.now.index }
     {
         &self.index
+    }
+
+    /// The calls and returns by their inner ends.
+    pub fn crossings(&self) -> &Crossings
+        ensures { result.now ≡ self.now.crossings }
+    {
+        &self.crossings
     }
 
     /// The elements of the constants that lead to a variable; empty for a variable past all. Constant time.

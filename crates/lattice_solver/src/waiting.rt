@@ -3,8 +3,7 @@
 ghost use Rattle.std.specs.Prelude.{◌≡◌, ◌≢◌, ◌<◌, ◌≤◌, ◌+◌, ℕ, false, true, length, slice_index_or, IfOk, IfSome, IfNone};
 ghost use Rattle.lattice_solver.specs.Waiting.{AreNone, IsTaken, waits};
 
-use qual_base::faults::NoMemory;
-use qual_base::ids::{Numbered, VarId};
+use qual_base::{NoMemory, Numbered, VarId};
 use std::alloc::Global;
 use std::marker::Model;
 

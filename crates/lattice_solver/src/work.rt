@@ -8,11 +8,8 @@ ghost use Rattle.lattice_solver.specs.Working.{Gains, IsTakenUp};
 
 use crate::phases::Phases;
 use crate::waiting::Waiting;
-use flow_graph::graph::FlowGraph;
-use flow_graph::phase::Phase;
-use qual_base::faults::NoMemory;
-use qual_base::ids::VarId;
-use qual_base::places::Owner;
+use flow_graph::{FlowGraph, Phase};
+use qual_base::{NoMemory, Owner, VarId};
 use std::alloc::Global;
 use std::marker::Model;
 

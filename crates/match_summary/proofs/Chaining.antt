@@ -1,7 +1,8 @@
 -- Chains of a list with one place more.
 use Rattle.std.proofs.Common.{◌≡◌, ℕ, ◌+◌, ◌≤◌, ◌<◌, inl, inr, List, [], ◌∷◌, ◌++◌, Some, length, slice_get, get_or, set, sym, ◌∙◌, ap, subst, arith, get_or-set_same, get_or-set_other}
-use Rattle.std.proofs.lemmas.Bool.{cases_eq}
-use Rattle.std.proofs.lemmas.List.{length-append, get_or_append_left, get_or_push}
+use Rattle.std.proofs.lemmas.Bool.{cases_eq, cases_lt}
+use Rattle.std.proofs.lemmas.Option.{slice_get_within}
+use Rattle.std.proofs.lemmas.List.{length-append, get_or_append_left, get_or_past, get_or_push}
 use Rattle.match_summary.specs.declared.chains.Chains.{Chains}
 use Rattle.match_summary.specs.Chained.{AreChained, IsLink}
 use Rattle.match_summary.proofs.Growth.{push_cases, push_left, push_last}
@@ -73,3 +74,79 @@ module _ (keys : List ℕ) (key at : ℕ) (old new : Chains) (are : AreChained k
     newest = newest_more;
     before = before_more;
   }
+
+-- a link below a bound within a list that has lost its last place
+link_off : (keys : List ℕ) (last key bound link : ℕ) → bound ≤ length keys → IsLink (keys ++ last ∷ []) key bound link → IsLink keys key bound link
+link_off keys last key bound link le is = record {
+  within = is.within;
+  there = λ n at. elim (push_cases keys last n key (is.there n at)) [
+    | inl old ↦ old.1
+    | inr new ↦ let end = new.0 in let within = is.within in absurd (omega (arith, end, le, within, at))
+  ];
+  last = λ n from lt there. is.last n from lt (push_left keys last key n there);
+}
+
+-- the newest place of another key than the one that was lost
+link_other_off : (keys : List ℕ) (last key link : ℕ) → (last ≡ key → ⊥) → IsLink (keys ++ last ∷ []) key (length keys + 1) link → IsLink keys key (length keys) link
+link_other_off keys last key link other is = record {
+  within = elim (cases_lt (length keys) link) [
+    | inl over ↦
+        let within = is.within in
+        let end : link ≡ length keys + 1 = omega (arith, over, within) in
+        elim (push_cases keys last (length keys) key (is.there (length keys) end)) [
+          | inl old ↦ let lt = old.0 in absurd (omega (arith, lt))
+          | inr new ↦ absurd (other new.1)
+        ]
+    | inr under ↦ under
+  ];
+  there = λ n at. elim (push_cases keys last n key (is.there n at)) [ inl old ↦ old.1 | inr new ↦ absurd (other new.1) ];
+  last = λ n from lt there. is.last n from (omega (arith, lt)) (push_left keys last key n there);
+}
+
+-- chains without their last place
+module _ (keys : List ℕ) (key link : ℕ) (old new : Chains) (are : AreChained (keys ++ key ∷ []) old) (before : old.before.items ≡ new.before.items ++ link ∷ [])
+    (here : key < length old.newest.items → get_or new.newest.items key 0 ≡ link) (others : (k : ℕ) → (k ≡ key → ⊥) → get_or new.newest.items k 0 ≡ get_or old.newest.items k 0) where
+  all_size : length (keys ++ key ∷ []) ≡ length keys + 1
+  all_size = length-append keys (key ∷ [])
+
+  size_less : length new.before.items ≡ length keys
+  size_less =
+      let whole : length old.before.items ≡ length new.before.items + 1 = ap length before ∙ length-append new.before.items (link ∷ []) in
+      let size = are.size in
+      let more = all_size in
+      omega (arith, whole, size, more)
+
+  last_link : IsLink keys key (length keys) link
+  last_link =
+      let value : get_or old.before.items (length keys) 0 ≡ link = ap (λ xs. get_or xs (length keys) 0) before ∙ get_or_push new.before.items link 0 (length keys) size_less in
+      link_off keys key key (length keys) link (omega arith)
+      (subst (λ l. IsLink (keys ++ key ∷ []) key (length keys) l) value (are.before (length keys) key (push_last keys key)))
+
+  key_within : key < length old.newest.items
+  key_within = elim (cases_lt key (length old.newest.items)) [
+    | inl lt ↦ lt
+    | inr past ↦
+        let none : get_or old.newest.items key 0 ≡ 0 = get_or_past old.newest.items key 0 past in
+        let more = all_size in
+        absurd ((subst (λ l. IsLink (keys ++ key ∷ []) key (length (keys ++ key ∷ [])) l) none (are.newest key)).last (length keys) (omega arith) (omega (arith, more)) (push_last keys key))
+  ]
+
+  newest_less : (k : ℕ) → IsLink keys k (length keys) (get_or new.newest.items k 0)
+  newest_less k = elim (cases_eq k key) [
+    | inl one ↦
+        let value : link ≡ get_or new.newest.items k 0 = sym (here key_within) ∙ ap (λ j. get_or new.newest.items j 0) (sym one) in
+        subst (λ l. IsLink keys k (length keys) l) value (subst (λ j. IsLink keys j (length keys) link) (sym one) last_link)
+    | inr other ↦
+        subst (λ l. IsLink keys k (length keys) l) (sym (others k other))
+        (link_other_off keys key k _ (λ e. other (sym e)) (subst (λ b. IsLink (keys ++ key ∷ []) k b (get_or old.newest.items k 0)) all_size (are.newest k)))
+  ]
+
+  before_less : (n k : ℕ) → slice_get keys n ≡ Some k → IsLink keys k n (get_or new.before.items n 0)
+  before_less n k there =
+      let lt = slice_get_within keys n k there in
+      let size = size_less in
+      let value : get_or old.before.items n 0 ≡ get_or new.before.items n 0 = ap (λ xs. get_or xs n 0) before ∙ get_or_append_left new.before.items (link ∷ []) 0 n (omega (arith, lt, size)) in
+      link_off keys key k n _ (omega (arith, lt)) (subst (λ l. IsLink (keys ++ key ∷ []) k n l) value (are.before n k (push_left keys key k n there)))
+
+  pub chained_pop : AreChained keys new
+  chained_pop = record { size = size_less; newest = newest_less; before = before_less }

@@ -10,7 +10,9 @@ use Rattle.match_summary.specs.declared.reason.Reason.{Reason}
 use Rattle.match_summary.specs.declared.reason.Reason.TheVariants.{Last, Group}
 use Rattle.match_summary.specs.declared.reason.Summary.{Summary}
 use Rattle.match_summary.specs.Summary.{HasPair, Leads, EndsAt, RestsOn, IsInnerEnd}
-use Rattle.match_summary.specs.Closing.{AllFollow, Follows, Grows, IsEntered, IsFollowed, IsGood, IsLeft, targets}
+use Rattle.match_summary.specs.Closing.{AllFollow, Follows, Grows, IsEntered, IsFollowed, IsGood, IsLeft, IsLeftFrom, targets}
+use Rattle.match_summary.specs.Starts.{sources}
+use Rattle.match_summary.proofs.Sources.{source_at, source_row}
 
 -- an element by its place
 pub contains_at : {X : Type 0} (xs : List X) (n : ℕ) (x : X) → slice_get xs n ≡ Some x → Contains xs x
@@ -167,3 +169,14 @@ pub all_follow : (sys : System) (lattice : ℕ) (first old new : List Summary) (
 all_follow sys lattice first old new x w p q here pairs t inner (inl same) one =
     has_grown old new t w q (subst (λ y. Follows sys old y w) (sym same) (here (subst (λ y. IsInnerEnd sys lattice y) same inner)) one)
 all_follow sys lattice first old new x w p q here pairs t inner (inr pair) one = pairs t (has_grown first old t x p pair) one
+
+-- what follows of the Leaves from one variable, after the list has grown before and since
+pub left_between : (sys : System) (lattice : ℕ) (first old middle new : List Summary) (u s a b m : ℕ) → Grows first old → Grows middle new → IsLeftFrom sys lattice old middle u s a b m →
+    IsLeftFrom sys lattice first new u s a b m
+left_between sys lattice first old middle new u s a b m p q h = λ w st leads one. follows_on sys middle new u w q (h w st (leads_grown first old a b p leads) one)
+
+-- where they begin, after they have grown
+pub sources_grown : (old new : List Summary) (n from : ℕ) → Grows old new → slice_get (sources old) n ≡ Some from → slice_get (sources new) n ≡ Some from
+sources_grown old new n from p is =
+    let row = source_row old n from is in
+    source_at new n row.0 (at_grown old new n row.0 p row.1) ∙ ap (λ (x : ℕ). Some x) row.2

@@ -1,8 +1,10 @@
 mod Chaining
 mod Counting
+pub mod Crossing
 mod Followed
 mod Growth
 mod Hashing
 mod Matched
+pub mod Sources
 mod Done
 mod Turns

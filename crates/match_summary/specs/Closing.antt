@@ -8,6 +8,7 @@ use Rattle.match_summary.specs.declared.reason.Summary.{Summary}
 use Rattle.match_summary.specs.declared.closure.Premises.{Premises}
 use Rattle.match_summary.specs.declared.found.Found.{Found}
 use Rattle.match_summary.specs.Chained.{AreChained}
+use Rattle.match_summary.specs.Crossings.{AreCrossings}
 use Rattle.match_summary.specs.Summary.{HasPair, Leads, AreOfOne, IsGrounded, StandsOnce, IsInnerEnd}
 
 -- a list of summaries after more were found
@@ -38,6 +39,7 @@ AreEnds sys lattice ends = (a : ℕ) → (get_or ends a false ≡ true) ↔ IsIn
 pub record AreReady (given : Premises) : Type 0 where
   pub low : given.lattice < 16
   pub index : IsIndexOf given.graph.now given.index.now
+  pub crossings : AreCrossings given.graph.now given.crossings.now
   pub below : AllBelow given.graph.now given.vars
   pub marked : AreEnds given.graph.now given.lattice given.ends.now
 
@@ -45,9 +47,13 @@ pub record AreReady (given : Premises) : Type 0 where
 abbrev pub Follows : System → List Summary → ℕ → ℕ → Type 0
 Follows sys rows u w = AreOfOne sys u w → HasPair rows u w
 
--- constraint m, as a Leave of the site behind an Enter from u to a, was followed
+-- constraint m, as a Leave of the site from b behind an Enter from u to a, was followed
+abbrev pub IsLeftFrom : System → ℕ → List Summary → List Summary → ℕ → ℕ → ℕ → ℕ → ℕ → Type 0
+IsLeftFrom sys lattice old new u s a b m = (w : ℕ) → Stands sys lattice m (Leave s b w) → Leads old a b → AreOfOne sys a b → Follows sys new u w
+
+-- from whatever variable it leaves
 abbrev pub IsLeft : System → ℕ → List Summary → List Summary → ℕ → ℕ → ℕ → ℕ → Type 0
-IsLeft sys lattice old new u s a m = (b w : ℕ) → Stands sys lattice m (Leave s b w) → Leads old a b → AreOfOne sys a b → Follows sys new u w
+IsLeft sys lattice old new u s a m = (b : ℕ) → IsLeftFrom sys lattice old new u s a b m
 
 -- the pairs that a part from x to w adds to what leads to x
 abbrev pub AllFollow : System → ℕ → List Summary → List Summary → ℕ → ℕ → Type 0

@@ -1,6 +1,7 @@
 pub mod Buckets
 pub mod Chained
 pub mod Closing
-pub mod Places
+pub mod Crossings
 pub mod Reason
+pub mod Starts
 pub mod Summary

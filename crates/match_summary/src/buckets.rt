@@ -8,8 +8,7 @@ ghost use Rattle.match_summary.specs.Buckets.{hash_of, AreHashed};
 
 use crate::chains::Chains;
 use crate::reason::Summary;
-use qual_base::faults::NoMemory;
-use qual_base::ids::{Numbered, VarId};
+use qual_base::{NoMemory, Numbered, VarId};
 use std::alloc::Global;
 
 /// For each bucket the chain of the pairs whose hash is in it. With as many buckets as pairs or more, 8 to 12 bytes a pair.
@@ -68,8 +67,17 @@ impl Buckets {
         requires { 0 < self.old.count }
         ensures ok { OnOk result ((rows : List Summary) (why : Reason) → AreHashed rows self.old → AreHashed (rows ++ record { from = from; to = to; why = why } ∷ []) self.new) }
         ensures err { OnErr result ((rows : List Summary) → AreHashed rows self.old → AreHashed rows self.new) }
+        ensures count { self.new.count ≡ self.old.count }
     {
         self.chains.push(bucket(self.count, from, to))
+    }
+
+    /// Takes the last pair away. Constant time.
+    pub fn pop(&mut self, from: VarId, to: VarId)
+        requires { 0 < self.old.count }
+        ensures { (rows : List Summary) (why : Reason) → AreHashed (rows ++ record { from = from; to = to; why = why } ∷ []) self.old → AreHashed rows self.new }
+    {
+        self.chains.pop(bucket(self.count, from, to));
     }
 }
 
@@ -101,7 +109,14 @@ fn bucket(count: u32, from: VarId, to: VarId) -> u32
     requires { 0 < count }
     ensures { result ≡ hash_of from to % count }
 {
-    let both = from.number() as u64 * 4_294_967_296 + to.number() as u64;
+    hash(from.number(), to.number()) % count
+}
+
+/// The upper half of a product of two numbers, which mixes their bits.
+pub fn hash(one: u32, other: u32) -> u32
+    ensures { result ≡ hash_of one other }
+{
+    let both = one as u64 * 4_294_967_296 + other as u64;
     let hash = both.wrapping_mul(11_400_714_819_323_198_485) / 4_294_967_296;
-    (hash % count as u64) as u32
+    hash as u32
 }

@@ -1,9 +1,9 @@
 //! Places of a list, chained by a key of each.
 
-ghost use Rattle.std.specs.Prelude.{◌≡◌, ℕ, ◌≤◌, List, [], ◌∷◌, ◌++◌, length, slice_get, slice_index, Some, OnOk, OnErr};
+ghost use Rattle.std.specs.Prelude.{◌≡◌, ◌≢◌, ℕ, ◌<◌, ◌≤◌, IfOk, List, [], ◌∷◌, ◌++◌, length, slice_get, slice_index, Some, OnOk, OnErr};
 ghost use Rattle.match_summary.specs.Chained.{AreChained, IsLink, link_of};
 
-use qual_base::faults::NoMemory;
+use qual_base::NoMemory;
 use std::alloc::Global;
 
 /// For each key the newest place of a list that has it, and for each place the one before it with the same key. A link is
@@ -23,6 +23,16 @@ impl Chains {
             newest: Vec::new(alloc),
             before: Vec::new(alloc),
         }
+    }
+
+    /// The chains of an empty list, with room for so many places and the keys below a number: 4 bytes each.
+    pub fn sized(alloc: Global, keys: u32, places: u32) -> Result<Chains, NoMemory>
+        ensures { IfOk result (AreChained []) }
+    {
+        Ok(Chains {
+            newest: vec![in alloc; 0u32; keys as usize]?,
+            before: Vec::with_capacity(alloc, places as usize)?,
+        })
     }
 
     /// The last place with a key. Constant time.
@@ -60,6 +70,15 @@ impl Chains {
         self.newest[key] = at;
         Ok(())
     }
+
+    /// Takes the last place away, by its key. Constant time.
+    pub fn pop(&mut self, key: u32)
+        ensures { (keys : List ℕ) → AreChained (keys ++ key ∷ []) self.old → AreChained keys self.new }
+    {
+        if let Some(link) = self.before.pop() {
+            set(&mut self.newest, key, link);
+        }
+    }
 }
 
 /// The place of a link.
@@ -81,4 +100,15 @@ fn make_room(links: &mut Vec<u32>, count: usize) -> Result<(), NoMemory>
         links.resize(count, 0)?;
     }
     Ok(())
+}
+
+/// Sets the link of a key, if it has one.
+fn set(links: &mut Vec<u32>, key: u32, link: u32)
+    ensures here { key < length links.old.items → slice_index links.new.items key ≡ link }
+    ensures others { (k : ℕ) → k ≢ key → slice_index links.new.items k ≡ slice_index links.old.items k }
+{
+    let key = key as usize;
+    if key < links.len() {
+        links[key] = link;
+    }
 }

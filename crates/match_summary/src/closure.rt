@@ -17,37 +17,37 @@ ghost use Rattle.flow_graph.specs.PathRules.{link_begins};
 ghost use Rattle.flow_graph.specs.Index.{link_site, IsKeyed};
 ghost use Rattle.match_summary.specs.Reason.{before_of};
 ghost use Rattle.match_summary.specs.Summary.{AreOfOne, EndsAt, HasPair, IsInnerEnd, Leads, Summarises};
-ghost use Rattle.match_summary.specs.Closing.{AllFollow, AreDone, AreEnds, AreReady, Follows, Grows, IsEntered, IsFollowed, IsKept, IsLeft, IsLookedAt, Looked};
+ghost use Rattle.match_summary.specs.Closing.{AllFollow, AreDone, AreEnds, AreReady, Follows, Grows, IsEntered, IsFollowed, IsKept, IsLeft, IsLeftFrom, IsLookedAt, Looked};
 
+use crate::crossings::{Crossings, InnerEnd, Way};
 use crate::found::Found;
 use crate::inside::{are_of_one, joins};
 use crate::reason::Reason;
 use crate::summary::Summaries;
-use flow_graph::adjacency::Adjacency;
-use flow_graph::constraint::{Crossing, Link};
-use flow_graph::graph::FlowGraph;
-use qual_base::faults::NoMemory;
-use qual_base::ids::{EdgeId, LatticeNo, Numbered, VarId};
+use flow_graph::{Adjacency, Crossing, FlowGraph, Link};
+use qual_base::{EdgeId, LatticeNo, NoMemory, Numbered, VarId};
 use std::alloc::Global;
 
-/// What the rules read: the constraints of one lattice, how many variables there are, where the constraints begin and their
-/// sites, and for each variable whether an `Enter` leads to it.
+/// What the rules read: the constraints of one lattice, how many variables there are, where the constraints begin, the
+/// calls and returns by their inner ends, and for each variable whether an `Enter` leads to it.
 #[derive(Clone, Copy)]
 struct Premises<'a> {
     graph: &'a FlowGraph,
     lattice: LatticeNo,
     vars: u32,
     index: &'a Adjacency,
+    crossings: &'a Crossings,
     ends: &'a [bool],
 }
 
 /// All matched paths of a lattice that begin at the inner end of an `Enter`, as pairs of variables: the summaries of
 /// Rehof and Fähndrich (POPL 2001), found as Horwitz, Reps and Sagiv find theirs (FSE 1995).
 ///
-/// Each pair is looked at once, and for each pair each constraint that begins where it ends; a call or a return is looked
-/// at with those of its site, and a return with the pairs that lead to where each call of the site begins. Memory: 28 bytes
-/// a pair and 8 to 12 for its place, 12 a constraint, 13 to 17 a variable and 4 a site, of which the pairs with their places
-/// stay; the tables of pairs double, so that they may have room for twice as many.
+/// Each pair is looked at once, and for each pair each constraint that begins where it ends. For a call these are the pairs
+/// that begin where it leads, with the returns of its site from where they end; for a return the calls of its site to where
+/// the pair begins, with the pairs that lead to where they begin. Memory: 28 bytes a pair, 8 to 12 for its place and 4 for the
+/// one before it, 20 a constraint, 13 to 17 a variable and 4 a site, of which the pairs with their places stay; the tables of
+/// pairs double, so that they may have room for twice as many.
 pub fn summarise(
     alloc: Global,
     graph: &FlowGraph,
@@ -57,12 +57,14 @@ pub fn summarise(
     ensures { IfOk result (λ summaries. Summarises graph.now lattice summaries) }
 {
     let index = Adjacency::build(alloc, graph)?;
+    let crossings = Crossings::build(alloc, graph)?;
     let ends = inner_ends(alloc, graph, lattice)?;
     let given = Premises {
         graph,
         lattice,
         vars: graph.vars(),
         index: &index,
+        crossings: &crossings,
         ends: ends.as_slice(),
     };
     let mut found = Found::new(alloc);
@@ -218,7 +220,7 @@ fn follow(
     }
 }
 
-/// The rule group by its first premise: adds what follows from a path to an `Enter` and each `Leave` of its site.
+/// The rule group by its first premise: adds what follows from a path to an `Enter`, nothing or a pair inside, and a `Leave`.
 fn enter(
     given: &Premises,
     found: &mut Found,
@@ -235,8 +237,65 @@ fn enter(
     ensures grows { OnOk result (Grows found.old.known found.new.known) }
     ensures done { OnOk result ((m : ℕ) → IsLeft given.now.graph.now given.now.lattice found.old.known found.new.known from call.now.site call.now.to m) }
 {
-    for other in given.index.of_site(call.site) {
-        close(given, found, from, edge, call, *other)?;
+    close_all(given, found, from, edge, call, call.to)?;
+    close_pairs(given, found, from, edge, call)?;
+    Ok(())
+}
+
+/// Adds what follows from a path to an `Enter`, each pair inside that begins where it leads, and each `Leave` behind that;
+/// the newest pair first.
+fn close_pairs(
+    given: &Premises,
+    found: &mut Found,
+    from: VarId,
+    edge: EdgeId,
+    call: &Crossing,
+) -> Result<(), NoMemory>
+    requires ready { AreReady given.now }
+    requires kept { IsKept given.now.graph.now given.now.lattice found.old }
+    requires begins { IsInnerEnd given.now.graph.now given.now.lattice from }
+    requires path { Leads found.old.known from call.now.from }
+    requires call { Stands given.now.graph.now given.now.lattice edge (Enter call.now.site call.now.from call.now.to) }
+    ensures kept { OnOk result (IsKept given.now.graph.now given.now.lattice found.new) }
+    ensures grows { OnOk result (Grows found.old.known found.new.known) }
+    ensures done { OnOk result ((b m : ℕ) → HasPair found.old.known call.now.to b → IsLeftFrom given.now.graph.now given.now.lattice found.old.known found.new.known from call.now.site call.now.to b m) }
+{
+    let mut next = found.known.newest_from(call.to);
+    while let Some(at) = next {
+        let pair = found.row(at);
+        close_all(given, found, from, edge, call, pair.to)?;
+        next = found.known.before_from(at);
+    }
+    Ok(())
+}
+
+/// Adds what follows from a path to an `Enter` and each `Leave` of its site from a variable, the newest first.
+fn close_all(
+    given: &Premises,
+    found: &mut Found,
+    from: VarId,
+    edge: EdgeId,
+    call: &Crossing,
+    last: VarId,
+) -> Result<(), NoMemory>
+    requires ready { AreReady given.now }
+    requires kept { IsKept given.now.graph.now given.now.lattice found.old }
+    requires begins { IsInnerEnd given.now.graph.now given.now.lattice from }
+    requires path { Leads found.old.known from call.now.from }
+    requires call { Stands given.now.graph.now given.now.lattice edge (Enter call.now.site call.now.from call.now.to) }
+    ensures kept { OnOk result (IsKept given.now.graph.now given.now.lattice found.new) }
+    ensures grows { OnOk result (Grows found.old.known found.new.known) }
+    ensures done { OnOk result ((m : ℕ) → IsLeftFrom given.now.graph.now given.now.lattice found.old.known found.new.known from call.now.site call.now.to last m) }
+{
+    let end = InnerEnd {
+        way: Way::Out,
+        site: call.site,
+        at: last,
+    };
+    let mut next = given.crossings.newest(given.graph, &end);
+    while let Some(other) = next {
+        close(given, found, from, edge, call, other)?;
+        next = given.crossings.before(given.graph, &end, other);
     }
     Ok(())
 }
@@ -279,7 +338,8 @@ fn close(
     extend(given, found, from, back.to, &why)
 }
 
-/// The rule group by its third premise: adds what follows from a path to a `Leave` and each `Enter` of its site.
+/// The rule group by its third premise: adds what follows from a path to a `Leave` and each `Enter` of its site to where the
+/// path begins.
 fn leave(
     given: &Premises,
     found: &mut Found,
@@ -298,8 +358,15 @@ fn leave(
     if !are_of_one(given.graph, from, back.from) {
         return Ok(());
     }
-    for other in given.index.of_site(back.site) {
-        open(given, found, from, edge, back, *other)?;
+    let end = InnerEnd {
+        way: Way::In,
+        site: back.site,
+        at: from,
+    };
+    let mut next = given.crossings.newest(given.graph, &end);
+    while let Some(other) = next {
+        open(given, found, from, edge, back, other)?;
+        next = given.crossings.before(given.graph, &end, other);
     }
     Ok(())
 }

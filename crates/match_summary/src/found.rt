@@ -7,8 +7,7 @@ ghost use Rattle.match_summary.specs.Closing.{targets};
 use crate::chains::Chains;
 use crate::reason::{Reason, Summary};
 use crate::summary::Summaries;
-use qual_base::faults::NoMemory;
-use qual_base::ids::{Numbered, VarId};
+use qual_base::{NoMemory, Numbered, VarId};
 use std::alloc::Global;
 
 /// What was found so far.

@@ -6,9 +6,8 @@ ghost use Rattle.flow_graph.specs.System.{owner_of};
 ghost use Rattle.match_summary.specs.Summary.{AreOfOne, Leads};
 
 use crate::summary::Summaries;
-use flow_graph::graph::FlowGraph;
-use qual_base::ids::{FuncId, VarId};
-use qual_base::places::Owner;
+use flow_graph::FlowGraph;
+use qual_base::{FuncId, Owner, VarId};
 
 /// Whether the variables belong to one function, and are one or a matched path is known to lead from one to the other.
 pub fn joins(graph: &FlowGraph, known: &Summaries, from: VarId, to: VarId) -> bool

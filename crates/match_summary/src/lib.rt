@@ -4,12 +4,16 @@
 mod buckets;
 mod chains;
 mod closure;
+mod crossings;
 mod found;
-pub mod inside;
-pub mod places;
-pub mod reason;
-pub mod summary;
+mod inside;
+mod reason;
+mod summary;
 #[cfg(test)]
 mod tests;
 
 pub use closure::summarise;
+pub use crossings::{Crossings, InnerEnd, Way};
+pub use inside::joins;
+pub use reason::{Reason, Summary};
+pub use summary::Summaries;

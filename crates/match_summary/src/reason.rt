@@ -3,7 +3,7 @@
 ghost use Rattle.std.specs.Prelude.{◌≡◌};
 ghost use Rattle.match_summary.specs.Reason.{before_of};
 
-use qual_base::ids::{EdgeId, VarId};
+use qual_base::{EdgeId, VarId};
 
 /// The last part of a matched path: a flow from a variable, or a group, which is an `Enter`, nothing or a matched path,
 /// and a `Leave` of the same site. What comes before the part is nothing or a matched path.

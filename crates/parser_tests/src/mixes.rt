@@ -1,15 +1,10 @@
 //! Worked values: words of which C99 lists the mixes (6.7.1 and 6.7.2), and others.
 
-use c_lexer::lex::lex;
-use c_lexer::tokens::Tokens;
-use c_specs::mix::{Mix, class_of};
-use c_specs::reading::{SpecFault, read_specs};
-use c_syntax::parts::{Attr, Group, Identifier, Qual, Word};
-use c_syntax::specifier::{SpecWord, TypedefName};
-use c_tree::making;
-use c_words::kinds::{Keyword, TokenKind};
-use qual_base::ids::{Elem, LatticeNo, Numbered, TokenId, UnitNo};
-use qual_base::words::QualWords;
+use c_lexer::{Tokens, lex};
+use c_specs::{Mix, SpecFault, class_of, read_specs};
+use c_syntax::{Attr, Group, Identifier, Qual, SpecWord, TypedefName, Word};
+use c_words::{Keyword, TokenKind};
+use qual_base::{Elem, LatticeNo, Numbered, QualWords, TokenId, UnitNo};
 use std::alloc::{AllocError, Global};
 use std::process::Abort;
 use std::test::Fail;
@@ -40,10 +35,10 @@ fn keyword_word(
         Keyword::Noreturn => SpecWord::Noreturn { token },
         Keyword::Const | Keyword::Volatile | Keyword::Restrict => SpecWord::Qual(Qual::Word(word)),
         Keyword::Struct | Keyword::Union => {
-            making::struct_word(alloc, word, Vec::new(alloc), tag, None).expect(rt, "memory")
+            c_tree::struct_word(alloc, word, Vec::new(alloc), tag, None).expect(rt, "memory")
         }
         Keyword::Enum => {
-            making::enum_word(alloc, token, Vec::new(alloc), tag, None).expect(rt, "memory")
+            c_tree::enum_word(alloc, token, Vec::new(alloc), tag, None).expect(rt, "memory")
         }
         Keyword::Attribute => SpecWord::Attr(Attr {
             keyword: token,

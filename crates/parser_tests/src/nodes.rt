@@ -1,15 +1,9 @@
 //! Each node is made where there is memory, and stands where its tokens do.
 
-use c_build::expressions as nodes;
 use c_height::of_expr;
-use c_syntax::declarator::TypeName;
-use c_syntax::expression::Expr;
-use c_syntax::parts::{Identifier, Word};
-use c_syntax::specifier::Specs;
-use c_tree::ends;
-use c_words::kinds::{Keyword, Punct};
-use qual_base::faults::NoMemory;
-use qual_base::ids::{NameId, Numbered, TokenId};
+use c_syntax::{Expr, Identifier, Specs, TypeName, Word};
+use c_words::{Keyword, Punct};
+use qual_base::{NameId, NoMemory, Numbered, TokenId};
 use std::alloc::Global;
 use std::process::Abort;
 use std::test::Fail;
@@ -20,7 +14,7 @@ fn at(number: u32) -> TokenId {
 
 /// The name that a token is.
 fn name(alloc: Global, token: u32) -> Result<Box<Expr>, NoMemory> {
-    nodes::name_use(alloc, at(token), NameId::new(token))
+    c_build::name_use(alloc, at(token), NameId::new(token))
 }
 
 fn member(token: u32) -> Identifier {
@@ -49,9 +43,9 @@ fn is_made(
 ) -> bool {
     match made {
         Ok(made) => {
-            ends::first(&made) == at(first)
-                && ends::key(&made) == at(key)
-                && ends::last(&made) == at(last)
+            c_tree::first(&made) == at(first)
+                && c_tree::key(&made) == at(key)
+                && c_tree::last(&made) == at(last)
                 && of_expr(&made) == height
         }
         Err(_) => false,
@@ -61,13 +55,13 @@ fn is_made(
 /// The forms behind an operand, each round the name at token 3.
 fn forms_behind(alloc: Global) -> Result<bool, NoMemory> {
     let mut arguments = Vec::new(alloc);
-    nodes::push(&mut arguments, name(alloc, 5)?)?;
-    nodes::push(&mut arguments, name(alloc, 7)?)?;
-    let index = nodes::index(alloc, name(alloc, 3)?, at(4), name(alloc, 5)?, at(6));
-    let dot = nodes::dot(alloc, name(alloc, 3)?, at(4), member(5));
-    let arrow = nodes::arrow(alloc, name(alloc, 3)?, at(4), member(5));
-    let post = nodes::post(alloc, name(alloc, 3)?, at(4), Punct::PlusPlus);
-    let call = nodes::call(alloc, name(alloc, 3)?, at(4), arguments, at(8));
+    c_build::push(&mut arguments, name(alloc, 5)?)?;
+    c_build::push(&mut arguments, name(alloc, 7)?)?;
+    let index = c_build::index(alloc, name(alloc, 3)?, at(4), name(alloc, 5)?, at(6));
+    let dot = c_build::dot(alloc, name(alloc, 3)?, at(4), member(5));
+    let arrow = c_build::arrow(alloc, name(alloc, 3)?, at(4), member(5));
+    let post = c_build::post(alloc, name(alloc, 3)?, at(4), Punct::PlusPlus);
+    let call = c_build::call(alloc, name(alloc, 3)?, at(4), arguments, at(8));
     Ok(
         is_made(index, 3, 4, 6, 2)
             && is_made(dot, 3, 4, 5, 2)
@@ -83,11 +77,11 @@ fn forms_before(alloc: Global) -> Result<bool, NoMemory> {
         token: at(1),
         keyword: Keyword::Sizeof,
     };
-    let paren = nodes::paren(alloc, at(1), name(alloc, 3)?, at(4));
-    let prefix = nodes::prefix(alloc, at(1), Punct::Minus, name(alloc, 3)?);
-    let sizeof = nodes::sizeof(alloc, keyword, name(alloc, 3)?);
-    let of_type = nodes::sizeof_type(alloc, keyword, at(2), no_type(alloc), at(4));
-    let cast = nodes::cast(alloc, at(1), no_type(alloc), at(2), name(alloc, 3)?);
+    let paren = c_build::paren(alloc, at(1), name(alloc, 3)?, at(4));
+    let prefix = c_build::prefix(alloc, at(1), Punct::Minus, name(alloc, 3)?);
+    let sizeof = c_build::sizeof(alloc, keyword, name(alloc, 3)?);
+    let of_type = c_build::sizeof_type(alloc, keyword, at(2), no_type(alloc), at(4));
+    let cast = c_build::cast(alloc, at(1), no_type(alloc), at(2), name(alloc, 3)?);
     Ok(
         is_made(paren, 1, 1, 4, 2)
             && is_made(prefix, 1, 1, 3, 2)
@@ -103,14 +97,14 @@ fn leaves(alloc: Global) -> Result<bool, NoMemory> {
     if texts.push(at(3)).is_err() || texts.push(at(4)).is_err() {
         return Err(NoMemory);
     }
-    let marked = nodes::marked(at(2), name(alloc, 3)?);
+    let marked = c_build::marked(at(2), name(alloc, 3)?);
     Ok(
-        is_made(nodes::number_use(alloc, at(3)), 3, 3, 3, 1)
-            && is_made(nodes::char_use(alloc, at(3)), 3, 3, 3, 1)
-            && is_made(nodes::text_use(alloc, texts), 3, 3, 4, 1)
+        is_made(c_build::number_use(alloc, at(3)), 3, 3, 3, 1)
+            && is_made(c_build::char_use(alloc, at(3)), 3, 3, 3, 1)
+            && is_made(c_build::text_use(alloc, texts), 3, 3, 4, 1)
             && is_made(name(alloc, 3), 3, 3, 3, 1)
             && marked.token == at(2)
-            && ends::first(&marked.part) == at(3),
+            && c_tree::first(&marked.part) == at(3),
     )
 }
 

@@ -7,18 +7,11 @@ ghost use Rattle.c_tree.specs.View.{expr_of};
 ghost use Rattle.c_ops.specs.Op.{operator_of};
 
 use crate::trees::{array_of, shown};
-use c_build::expressions as nodes;
-use c_lexer::lex::lex;
-use c_lexer::tokens::Tokens;
-use c_ops::building::{OpsFault, build_ops};
-use c_ops::list::OpList;
-use c_ops::op::{Op, level_of_binary};
-use c_syntax::declarator::TypeName;
-use c_syntax::expression::Expr;
-use c_syntax::specifier::Specs;
-use c_words::kinds::{Punct, TokenKind};
-use qual_base::ids::{NameId, Numbered, TokenId, UnitNo};
-use qual_base::words::QualWords;
+use c_lexer::{Tokens, lex};
+use c_ops::{Op, OpList, OpsFault, build_ops, level_of_binary};
+use c_syntax::{Expr, Specs, TypeName};
+use c_words::{Punct, TokenKind};
+use qual_base::{NameId, Numbered, QualWords, TokenId, UnitNo};
 use std::alloc::{AllocError, Global};
 use std::process::Abort;
 use std::test::Fail;
@@ -94,7 +87,7 @@ fn operand(rt: &impl Abort, alloc: Global, tokens: &Tokens, at: &mut u32) -> Box
         Some(Punct::Star) => {
             *at += 1;
             let operand = leaf(rt, alloc, tokens, at);
-            nodes::prefix(alloc, token, Punct::Star, operand).expect(rt, "memory")
+            c_build::prefix(alloc, token, Punct::Star, operand).expect(rt, "memory")
         }
         Some(Punct::OpenParen) => {
             let close = TokenId::new(*at + 1);
@@ -105,7 +98,7 @@ fn operand(rt: &impl Abort, alloc: Global, tokens: &Tokens, at: &mut u32) -> Box
                 declr: None,
             };
             let operand = leaf(rt, alloc, tokens, at);
-            nodes::cast(alloc, token, type_name, close, operand).expect(rt, "memory")
+            c_build::cast(alloc, token, type_name, close, operand).expect(rt, "memory")
         }
         _ => leaf(rt, alloc, tokens, at),
     }
@@ -120,8 +113,8 @@ fn leaf(rt: &impl Abort, alloc: Global, tokens: &Tokens, at: &mut u32) -> Box<Ex
     let name = name_at(tokens, *at);
     *at += 1;
     match name {
-        Some(name) => nodes::name_use(alloc, token, name).expect(rt, "memory"),
-        None => nodes::number_use(alloc, token).expect(rt, "memory"),
+        Some(name) => c_build::name_use(alloc, token, name).expect(rt, "memory"),
+        None => c_build::number_use(alloc, token).expect(rt, "memory"),
     }
 }
 

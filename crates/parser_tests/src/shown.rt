@@ -5,15 +5,13 @@
 //! declarator inside first, or `_` where there is none. A typedef name among specifiers is `<T>`. What today's grammar
 //! lacks is `?`.
 
-use c_lexer::tokens::Tokens;
-use c_syntax::declaration::{Decl, Declaration, Item, Unit};
-use c_syntax::declarator::{ArraySize, Declr, Param};
-use c_syntax::expression::Expr;
-use c_syntax::parts::{ArrayWord, Ellipsis, Identifier, Listed, Marked, PointerWord, Qual};
-use c_syntax::specifier::{Enum, Enumerator, MemDeclr, SpecWord, Struct, StructItem};
-use c_words::kinds::Punct;
-use qual_base::faults::NoMemory;
-use qual_base::ids::{Numbered, TokenId};
+use c_lexer::Tokens;
+use c_syntax::{
+    ArraySize, ArrayWord, Decl, Declaration, Declr, Ellipsis, Enum, Enumerator, Expr, Identifier,
+    Item, Listed, Marked, MemDeclr, Param, PointerWord, Qual, SpecWord, Struct, StructItem, Unit,
+};
+use c_words::Punct;
+use qual_base::{NoMemory, Numbered, TokenId};
 use std::alloc::Global;
 
 /// A text that grows piece by piece, and whether no piece was lost for want of memory.

@@ -2,10 +2,9 @@
 
 use crate::shown::unit_text;
 use crate::sources::{DECLARATIONS, EXPRESSIONS, LATTICE_WORDS, NAMES, NO_SIZES, NO_UNITS};
-use c_lexer::lex::lex;
-use c_parser::parsing::{ParseFault, parse};
-use qual_base::ids::{Elem, LatticeNo, Numbered, UnitNo};
-use qual_base::words::QualWords;
+use c_lexer::lex;
+use c_parser::{ParseFault, parse};
+use qual_base::{Elem, LatticeNo, Numbered, QualWords, UnitNo};
 use std::alloc::{AllocError, Global};
 use std::process::Abort;
 use std::test::Fail;

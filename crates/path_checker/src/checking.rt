@@ -15,14 +15,12 @@ use crate::rules::{
     begins, ends, fails_b1, fails_b2, fails_b3, is_bound, is_foreign, is_missing, is_outside,
     is_unmatched_enter,
 };
-use flow_graph::constraint::{Constraint, Link};
-use flow_graph::graph::FlowGraph;
-use flow_graph::place::{Path, Place, Seen};
-use flow_graph::proof::{BadStep, PathProof, PathStep, SubPath, Why};
-use flow_laws::holding::{holds_is_unmet, holds_rejects};
+use flow_graph::{
+    BadStep, Constraint, FlowGraph, Link, Path, PathProof, PathStep, Place, Seen, SubPath, Why,
+};
+use flow_laws::{holds_is_unmet, holds_rejects};
 use lattice_core::Lattices;
-use qual_base::ids::{EdgeId, Elem, LatticeNo, Numbered, VarId};
-use qual_base::places::Owner;
+use qual_base::{EdgeId, Elem, LatticeNo, Numbered, Owner, VarId};
 
 /// Each of the lattices is an order. Takes a step for each, at most 16.
 fn are_orders(lattices: &Lattices)

@@ -1,13 +1,14 @@
 //! Path proofs: whether one holds of a constraint graph, and the reading of a report's text.
 #![tactic(auto)]
 
-pub mod checking;
-pub mod lines;
-pub mod report;
+mod checking;
+mod lines;
+mod report;
 mod rules;
 #[cfg(test)]
 mod tests;
 
 pub use checking::check;
-pub use flow_graph::proof::{BadStep, PathProof, PathStep, SubPath, Why};
-pub use report::{ReportFault, read_report};
+pub use flow_graph::{BadStep, PathProof, PathStep, SubPath, Why};
+pub use lines::{Line, line_kind, split_at_first};
+pub use report::{ReportFault, Section, read_report};

@@ -6,8 +6,8 @@ ghost use Rattle.path_checker.specs.Grammar.{IsReport, IsPlaced};
 ghost use Rattle.path_checker.specs.Lines.{lines_of};
 
 use crate::lines::{Line, line_kind, split_at_first};
-use flow_graph::proof::{PathProof, PathStep, SubPath};
-use qual_base::ids::{EdgeId, Numbered};
+use flow_graph::{PathProof, PathStep, SubPath};
+use qual_base::{EdgeId, Numbered};
 use std::alloc::Global;
 use std::marker::Model;
 use std::mem::replace;

@@ -4,11 +4,8 @@ ghost use Rattle.std.specs.Prelude.{◌≡◌, ◌==◌};
 ghost use Rattle.std.specs.Int.{bit_at};
 ghost use Rattle.flow_graph.specs.PathRules.{begins, ends, enters, leaves, is_const, is_bound, is_sub, agree, differ, site_entered, end_of, begins_group, is_after_sub, closes, is_unmatched_enter, is_unmatched_leave, is_unknown, is_headless, is_late_const, is_stray_bound, is_late_return, is_unmatched_in_sub, is_loose_sub, follows_bound, fails_b1, fails_b2, fails_b3, is_missing, is_foreign, is_outside};
 
-use flow_graph::constraint::{Constraint, Link};
-use flow_graph::graph::FlowGraph;
-use flow_graph::place::{Path, Place, Seen};
-use qual_base::ids::{LatticeNo, SiteId, VarId};
-use qual_base::places::Owner;
+use flow_graph::{Constraint, FlowGraph, Link, Path, Place, Seen};
+use qual_base::{LatticeNo, Owner, SiteId, VarId};
 
 /// The variable where a step begins. A constant begins nowhere.
 pub fn begins(step: &Seen) -> Option<VarId>

@@ -16,12 +16,11 @@ use self::cases::{
 };
 use crate::checking::check;
 use crate::report::read_report;
-use flow_graph::constraint::{Constraint, Link, Site};
-use flow_graph::graph::FlowGraph;
-use flow_graph::proof::PathStep;
+use flow_graph::{Constraint, FlowGraph, Link, PathStep, Site};
 use lattice_core::{Entry, Lattice, Lattices, Level, Name, Pair, Sign};
-use qual_base::ids::{EdgeId, Elem, FuncId, LatticeNo, Numbered, SiteId, TokenId, UnitNo, VarId};
-use qual_base::places::{Owner, Span};
+use qual_base::{
+    EdgeId, Elem, FuncId, LatticeNo, Numbered, Owner, SiteId, Span, TokenId, UnitNo, VarId,
+};
 use std::alloc::Global;
 use std::process::Abort;
 use std::test::Fail;

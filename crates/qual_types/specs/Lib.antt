@@ -1,1 +1,4 @@
 pub mod Positions
+pub mod Skel
+pub mod Rows
+pub mod Table

@@ -1,4 +1,15 @@
-//! Where qualifier variables stand: positions inside the types of names and expressions.
+//! Where qualifier variables stand: positions inside the types of names and expressions, and the table of variables.
 #![tactic(auto)]
 
-pub mod position;
+mod growing;
+mod look;
+mod position;
+mod row;
+mod table;
+#[cfg(test)]
+mod tests;
+
+pub use look::{Kind, Look};
+pub use position::{Position, Step};
+pub use row::{Node, Place, Row};
+pub use table::{QualFault, VarTable};

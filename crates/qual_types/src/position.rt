@@ -1,6 +1,6 @@
 //! Positions of variables.
 
-use qual_base::ids::{TokenId, UnitNo};
+use qual_base::{TokenId, UnitNo};
 
 /// A step from a variable of a type to one inside it: to what a reference holds, to a parameter by its number from 0, to the
 /// result of a function, to what stands for all further arguments of one.

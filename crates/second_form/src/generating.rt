@@ -16,12 +16,10 @@ ghost use Rattle.second_form.specs.Facts.{AreNamed, AreObjects};
 ghost use Rattle.second_form.specs.Adding.{IsNumbered, IsNumberedItem, AreNumbered, Adds, OverLimit, of_token, of_writer, of_writers};
 
 use crate::source_form::{Assign, Item, ObjectNo};
-use c_lexer::tokens::Tokens;
-use flow_graph::constraint::{Constraint, Link};
-use flow_graph::graph::{FlowGraph, GraphFault};
+use c_lexer::Tokens;
+use flow_graph::{Constraint, FlowGraph, GraphFault, Link};
 use lattice_core::{Entry, Lattice, Lattices, Level, Sign};
-use qual_base::ids::{Elem, LatticeNo, Numbered, TokenId, UnitNo, VarId};
-use qual_base::places::Span;
+use qual_base::{Elem, LatticeNo, Numbered, Span, TokenId, UnitNo, VarId};
 use std::alloc::{AllocError, Global};
 
 /// The variable of the reference that an object's name is.

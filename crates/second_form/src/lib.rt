@@ -3,11 +3,17 @@
 
 #![tactic(auto)]
 
-pub mod generating;
-pub mod laws;
-pub mod positions;
-pub mod reading;
+mod generating;
+mod laws;
+mod positions;
+mod reading;
 mod scope;
-pub mod source_form;
+mod source_form;
 #[cfg(test)]
 mod tests;
+
+pub use generating::{generate, object_tokens};
+pub use laws::one_source;
+pub use positions::position_of;
+pub use reading::read_items;
+pub use source_form::{Assign, Item, ObjectNo};

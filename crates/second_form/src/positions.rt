@@ -4,8 +4,8 @@ ghost use Rattle.std.specs.Prelude.{◌≡◌, ◌<◌, ◌*◌, IfOk, Some, len
 ghost use Rattle.qual_types.specs.Positions.{view_of};
 ghost use Rattle.second_form.specs.Positions.{positions_of};
 
-use qual_base::ids::{Numbered, TokenId, UnitNo, VarId};
-use qual_types::position::{Position, Step};
+use qual_base::{Numbered, TokenId, UnitNo, VarId};
+use qual_types::{Position, Step};
 use std::alloc::{AllocError, Global};
 
 /// The steps to what an object holds, or none to its reference.

@@ -11,10 +11,9 @@ ghost use Rattle.second_form.specs.Reading.{AreAllWords, IsNamedInt};
 
 use crate::scope::Names;
 use crate::source_form::{Assign, Item, ObjectNo};
-use c_lexer::kinds::{Keyword, Punct, TokenKind};
-use c_lexer::tokens::Tokens;
-use qual_base::faults::NoMemory;
-use qual_base::ids::{NameId, Numbered, TokenId};
+use c_lexer::Tokens;
+use c_words::{Keyword, Punct, TokenKind};
+use qual_base::{NameId, NoMemory, Numbered, TokenId};
 use std::alloc::Global;
 
 /// How many tokens there are.
@@ -195,10 +194,10 @@ fn is_word_at(tokens: &Tokens, at: usize) -> bool
 
 /// The first token from `start` on that is no qualifier word.
 fn words_end(tokens: &Tokens, start: usize) -> usize
-    requires { start ≤ length tokens.now.tokens }
+    requires start { start ≤ length tokens.now.tokens }
+    requires size { length tokens.now.tokens < 2 ^ 32 }
     ensures { AreAllWords tokens.now.tokens start result }
 {
-    let _count = count(tokens);
     let mut at = start;
     while is_word_at(tokens, at) {
         at += 1;
@@ -216,12 +215,12 @@ fn is_named_int(tokens: &Tokens, names: &Names, at: usize) -> bool
 
 /// The name of the object whose declaration begins at a token.
 fn int_at(tokens: &Tokens, names: &Names, at: usize) -> Option<usize>
-    requires { at ≤ length tokens.now.tokens }
+    requires at { at ≤ length tokens.now.tokens }
+    requires size { length tokens.now.tokens < 2 ^ 32 }
     ensures { MatchOption result
         ((name : ℕ) → IsInt tokens.now.tokens names.now at name → ⊥)
         (λ name. IsInt tokens.now.tokens names.now at name) }
 {
-    let _count = count(tokens);
     let type_at = words_end(tokens, at);
     if is_named_int(tokens, names, type_at) {
         Some(type_at + 1)
@@ -247,11 +246,11 @@ fn is_head(tokens: &Tokens, names: &Names, at: usize) -> bool
 fn assign_at(tokens: &Tokens, names: &Names, at: usize) -> Option<Assign>
     requires early { at ≤ length tokens.now.tokens }
     requires few { length names.now.objects ≤ at }
+    requires size { length tokens.now.tokens < 2 ^ 32 }
     ensures { MatchOption result
         ((assign : AssignView) → IsAssign tokens.now.tokens names.now at assign → ⊥)
         (λ assign. IsAssign tokens.now.tokens names.now at (assign_of assign)) }
 {
-    let _count = count(tokens);
     let Some(into) = object_named(tokens, names, at) else {
         return None;
     };
@@ -281,11 +280,11 @@ fn assigns_at(
 ) -> Result<Option<Vec<Assign>>, NoMemory>
     requires early { start ≤ length tokens.now.tokens }
     requires few { length names.now.objects ≤ start }
+    requires size { length tokens.now.tokens < 2 ^ 32 }
     ensures { IfOk result (λ found. MatchOption found
         ((assigns : List AssignView) → AreAssigns tokens.now.tokens names.now start assigns → ⊥)
         (λ assigns. AreAssigns tokens.now.tokens names.now start (map assign_of assigns.items))) }
 {
-    let _count = count(tokens);
     let mut assigns = Vec::new(alloc);
     let mut at = start;
     while !is_close_brace(tokens, at) {
@@ -307,11 +306,11 @@ fn function_at(
 ) -> Result<Option<Vec<Assign>>, NoMemory>
     requires early { at ≤ length tokens.now.tokens }
     requires few { length names.now.objects ≤ at }
+    requires size { length tokens.now.tokens < 2 ^ 32 }
     ensures { IfOk result (λ found. MatchOption found
         ((assigns : List AssignView) → IsHead tokens.now.tokens names.now at → AreAssigns tokens.now.tokens names.now (at + 6) assigns → ⊥)
         (λ assigns. IsHead tokens.now.tokens names.now at × AreAssigns tokens.now.tokens names.now (at + 6) (map assign_of assigns.items))) }
 {
-    let _count = count(tokens);
     if is_head(tokens, names, at) {
         assigns_at(alloc, tokens, names, at + 6)
     } else {
@@ -328,11 +327,11 @@ fn item_at(
 ) -> Result<Option<Item>, NoMemory>
     requires early { at ≤ length tokens.now.tokens }
     requires few { length names.now.objects ≤ at }
+    requires size { length tokens.now.tokens < 2 ^ 32 }
     ensures { IfOk result (λ found. MatchOption found
         ((item : ItemView) → IsItem tokens.now.tokens names.now at item → ⊥)
         (λ item. IsItem tokens.now.tokens names.now at (item_of item))) }
 {
-    let _count = count(tokens);
     match int_at(tokens, names, at) {
         Some(name) => {
             let first = TokenId::new(at as u32);
@@ -388,7 +387,7 @@ pub fn read_items(alloc: Global, tokens: &Tokens) -> Result<Option<Vec<Item>>, N
         ((items : List ItemView) → IsSource tokens.now.tokens items → ⊥)
         (λ items. IsSource tokens.now.tokens (items_of items.items))) }
 {
-    let _count = count(tokens);
+    let total = count(tokens);
     let mut items = Vec::new(alloc);
     let mut names = Names::new(alloc);
     let mut at = 0;
@@ -402,7 +401,7 @@ pub fn read_items(alloc: Global, tokens: &Tokens) -> Result<Option<Vec<Item>>, N
             None => return Ok(None),
         }
     }
-    if at + 1 == tokens.len() as usize {
+    if at + 1 == total {
         Ok(Some(items))
     } else {
         Ok(None)

@@ -1,8 +1,7 @@
 //! The names that a source has declared so far.
 
 use indexmap::IndexSet;
-use qual_base::faults::NoMemory;
-use qual_base::ids::NameId;
+use qual_base::{NameId, NoMemory};
 use std::alloc::Global;
 use std::marker::Model;
 

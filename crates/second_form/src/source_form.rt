@@ -3,7 +3,7 @@
 ghost use Prim.Native.Nat.{ℕ};
 ghost use Rattle.std.specs.Prelude.{◌≡◌};
 
-use qual_base::ids::TokenId;
+use qual_base::TokenId;
 use std::marker::Model;
 
 /// An object of a source, counted from 0 in the order of their declarations.

@@ -9,12 +9,10 @@ ghost use Rattle.second_form.specs.View.{items_of};
 use crate::generating::{generate, object_tokens};
 use crate::reading::read_items;
 use crate::source_form::Item;
-use c_lexer::lex::{LexFault, lex};
-use c_lexer::tokens::Tokens;
-use flow_graph::constraint::Link;
-use flow_graph::graph::FlowGraph;
+use c_lexer::{LexFault, Tokens, lex};
+use flow_graph::{FlowGraph, Link};
 use lattice_core::{Entry, Lattice, LatticeFault, Lattices, Level, Name, Pair, Sign};
-use qual_base::ids::{EdgeId, Numbered, TokenId, UnitNo};
+use qual_base::{EdgeId, Numbered, TokenId, UnitNo};
 use std::alloc::{AllocError, Global};
 use std::test::Fail;
 

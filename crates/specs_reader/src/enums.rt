@@ -19,23 +19,16 @@ ghost use Rattle.c_grammar.specs.Eating.{is_equal};
 ghost use Rattle.c_grammar.specs.Inside.{declared_at};
 ghost use Rattle.c_grammar.specs.Specifying.{value_with, enumerator_with, next_enumerator_with, enumerator_turn, enumerators_with, enum_body_with, enum_with};
 
-use c_build::expressions::marked;
-use c_grammar::eating::{
-    begins_close_brace, close_brace, is_comma, is_equal, is_open_brace, name, tag,
+use c_build::marked;
+use c_grammar::{
+    Fault, Reach, ReadError, begins_close_brace, close_brace, expr_inside, is_comma, is_equal,
+    is_open_brace, loops_step, name, number_at, refused, tag,
 };
-use c_grammar::fault::{Fault, ReadError, number_at, refused};
-use c_grammar::inside::expr_inside;
-use c_grammar::kinds::Reach;
-use c_grammar::laws::loops_step;
-use c_syntax::expression::Expr;
-use c_syntax::parts::{BracedList, Identifier, Marked};
-use c_syntax::specifier::{Enumerator, SpecWord};
-use c_tree::lexeme::Lexeme;
-use c_tree::making;
-use qual_base::ids::{NameId, TokenId};
+use c_syntax::{BracedList, Enumerator, Expr, Identifier, Marked, SpecWord};
+use c_tree::Lexeme;
+use qual_base::{NameId, TokenId};
 use std::alloc::Global;
-use typedef_scope::kind::{Kind, ScopeFault};
-use typedef_scope::scopes::Scopes;
+use typedef_scope::{Kind, ScopeFault, Scopes};
 
 /// A value behind `=`, or none.
 #[tactic(auto, unfolding(c_grammar::specs::Specifying::value_with))]
@@ -278,6 +271,6 @@ where
 {
     let (tag, rest) = tag(tokens);
     let (body, rest) = enum_body(expr, alloc, &tag, scopes, rest, depth)?;
-    let word = making::enum_word(alloc, keyword, Vec::new(alloc), tag, body)?;
+    let word = c_tree::enum_word(alloc, keyword, Vec::new(alloc), tag, body)?;
     Ok((word, rest))
 }

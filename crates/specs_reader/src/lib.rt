@@ -3,4 +3,6 @@
 
 mod enums;
 mod members;
-pub mod words;
+mod words;
+
+pub use words::specifiers;

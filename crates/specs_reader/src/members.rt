@@ -16,25 +16,20 @@ ghost use Rattle.c_grammar.specs.Reading.{run};
 ghost use Rattle.c_grammar.specs.Eating.{is_colon};
 ghost use Rattle.c_grammar.specs.Specifying.{value_with, named_with, mem_declr_with, mem_declr_turn, mem_declrs_with, member_with, struct_item_with, struct_item_turn, members_with, body_with, struct_with};
 
-use c_build::expressions::marked;
-use c_grammar::eating::{
-    begins_close_brace, begins_semicolon, close_brace, comma, is_colon, is_open_brace,
-    is_semicolon, semicolon, tag,
+use c_build::marked;
+use c_grammar::{
+    Fault, Mode, Reach, ReadError, Role, begins_close_brace, begins_semicolon, close_brace, comma,
+    expr_inside, is_colon, is_open_brace, is_semicolon, loops_step, named_inside, number_at,
+    refused, semicolon, specs_inside, tag,
 };
-use c_grammar::fault::{Fault, ReadError, number_at, refused};
-use c_grammar::inside::{expr_inside, named_inside, specs_inside};
-use c_grammar::kinds::{Mode, Reach, Role};
-use c_grammar::laws::loops_step;
-use c_syntax::declarator::Declr;
-use c_syntax::expression::Expr;
-use c_syntax::parts::{Braced, Identifier, Listed, Marked, Qual, Semi, Word};
-use c_syntax::specifier::{MemDeclr, SpecWord, Specs, StructItem};
-use c_tree::lexeme::Lexeme;
-use c_tree::making;
-use qual_base::ids::TokenId;
+use c_syntax::{
+    Braced, Declr, Expr, Identifier, Listed, Marked, MemDeclr, Qual, Semi, SpecWord, Specs,
+    StructItem, Word,
+};
+use c_tree::Lexeme;
+use qual_base::TokenId;
 use std::alloc::Global;
-use typedef_scope::kind::Kind;
-use typedef_scope::scopes::Scopes;
+use typedef_scope::{Kind, Scopes};
 
 /// A width behind a colon, or none.
 #[tactic(auto, unfolding(c_grammar::specs::Specifying::value_with))]
@@ -87,7 +82,7 @@ where
 {
     let (found, rest) = named_inside(declr, alloc, scopes, tokens, depth)?;
     let (width, rest) = width(expr, alloc, scopes, rest, depth)?;
-    Ok((making::named(found, width, Vec::new(alloc)), rest))
+    Ok((c_tree::named(found, width, Vec::new(alloc)), rest))
 }
 
 /// The declarator of a member, or a width alone.
@@ -281,7 +276,7 @@ where
     let (declrs, rest) = member_declrs(expr, declr, alloc, scopes, rest, depth)?;
     let semi = number_at(rest);
     let rest = semicolon(rest)?;
-    Ok((making::member(Vec::new(alloc), found, declrs, semi), rest))
+    Ok((c_tree::member(Vec::new(alloc), found, declrs, semi), rest))
 }
 
 /// Members, or a semicolon alone.
@@ -545,6 +540,6 @@ where
 {
     let (tag, rest) = tag(tokens);
     let (body, rest) = body(expr, specs, declr, alloc, &tag, scopes, rest, depth)?;
-    let word = making::struct_word(alloc, keyword, Vec::new(alloc), tag, body)?;
+    let word = c_tree::struct_word(alloc, keyword, Vec::new(alloc), tag, body)?;
     Ok((word, rest))
 }

@@ -16,19 +16,15 @@ ghost use Rattle.c_grammar.specs.Specifying.{class_of_start, may_stand, is_decla
 
 use crate::enums::enum_word;
 use crate::members::struct_word;
-use c_grammar::fault::{Fault, ReadError, number_at, refused};
-use c_grammar::kinds::{Mode, Reach, Role, Start, is_start, start_at};
-use c_grammar::laws::loops_step;
-use c_specs::mix::{Class, Mix};
-use c_syntax::declarator::Declr;
-use c_syntax::expression::Expr;
-use c_syntax::parts::{Qual, Word};
-use c_syntax::specifier::{SpecWord, Specs, TypedefName};
-use c_tree::lexeme::Lexeme;
-use c_words::kinds::Keyword;
+use c_grammar::{
+    Fault, Mode, Reach, ReadError, Role, Start, is_start, loops_step, number_at, refused, start_at,
+};
+use c_specs::{Class, Mix};
+use c_syntax::{Declr, Expr, Qual, SpecWord, Specs, TypedefName, Word};
+use c_tree::Lexeme;
+use c_words::Keyword;
 use std::alloc::Global;
-use typedef_scope::kind::Kind;
-use typedef_scope::scopes::Scopes;
+use typedef_scope::{Kind, Scopes};
 
 /// What a word that a token begins is in a mix.
 fn class_of_start(start: &Start) -> Class

@@ -1,8 +1,11 @@
 //! What kind of name each name is in the scopes that are open (C99, 6.2.1).
 #![tactic(auto)]
 
-pub mod kind;
+mod kind;
 mod names;
-pub mod scopes;
+mod scopes;
 #[cfg(test)]
 mod tests;
+
+pub use kind::{Kind, ScopeFault};
+pub use scopes::Scopes;

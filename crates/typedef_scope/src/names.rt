@@ -4,8 +4,7 @@ ghost use Rattle.std.specs.Prelude.{◌≡◌, ◌≢◌, ℕ, Some, None, IsSom
 ghost use Rattle.typedef_scope.specs.Names.{seen_in};
 
 use crate::kind::Kind;
-use qual_base::faults::NoMemory;
-use qual_base::ids::NameId;
+use qual_base::{NameId, NoMemory};
 use std::alloc::Global;
 use std::collections::HashMap;
 

@@ -6,8 +6,7 @@ ghost use Rattle.typedef_scope.specs.declared.kind.ScopeFault.TheVariants.{Redec
 
 use crate::kind::{Kind, ScopeFault};
 use crate::names::{Names, Seen};
-use qual_base::faults::NoMemory;
-use qual_base::ids::NameId;
+use qual_base::{NameId, NoMemory};
 use std::alloc::Global;
 use std::marker::Model;
 

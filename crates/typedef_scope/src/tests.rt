@@ -2,7 +2,7 @@
 
 use crate::kind::{Kind, ScopeFault};
 use crate::scopes::Scopes;
-use qual_base::ids::{NameId, Numbered};
+use qual_base::{NameId, Numbered};
 use std::process::Abort;
 use std::test::Fail;
 

@@ -1,7 +1,7 @@
 use Rattle.std.proofs.Common.{◌≢◌, ℕ, ◌∙◌, subst}
 use Rattle.std.proofs.lemmas.Result.{IfOk-weaker}
 use Rattle.c_lexer.specs.Refusals.{IsRefusal}
-use Rattle.c_lexer.specs.declared.lex.LexFault.TheVariants.{NoMemory as NoRoom}
+use Rattle.c_lexer.specs.declared.lexing.LexFault.TheVariants.{NoMemory as NoRoom}
 use Rattle.cqual_tool.specs.Outcome.{OfSource, SourceLexes, SourceFails, SourceSpelled, SourceUnspelled}
 use Rattle.cqual_tool.proofs.Outcomes.{at_equal, both_ok}
 use Rattle.cqual_tool.proofs.reading.of_source.Goals as goal

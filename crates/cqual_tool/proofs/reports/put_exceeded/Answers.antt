@@ -5,7 +5,7 @@ use Rattle.flow_graph.specs.PathProofs.{first_of, steps_of}
 use Rattle.error_path.specs.Shown.{IsExceededBySome}
 use Rattle.cqual_tool.specs.Texts.{error_line, proof_text}
 use Rattle.cqual_tool.specs.Scenes.{scene_of}
-use Rattle.cqual_tool.proofs.LatticeLemmas.{in_lattice}
+use Rattle.error_path.proofs.InLattices.{in_lattice}
 use Rattle.cqual_tool.proofs.ReportLemmas.{in_parts, limit_is, error_as, edge_within, start_link, element_is, entry_of}
 use Rattle.cqual_tool.proofs.reports.put_exceeded.Goals as goal
 

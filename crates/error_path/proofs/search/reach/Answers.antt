@@ -1,5 +1,12 @@
+use Rattle.std.proofs.Common.{arith}
+use Rattle.error_path.proofs.Over.{empty_over}
 use Rattle.error_path.proofs.Searching.{none_leads, none_weaker}
 use Rattle.error_path.proofs.search.reach.Goals as goal
+
+pub run-requires-clause-over : goal.run-requires-clause-over
+run-requires-clause-over c =
+    let size = c.in_ok-passed.ensures.size in
+    empty_over c.args.graph.now c.args.lattice c.args.summaries.now c.in_ok-passed.passed c.start.new.self (omega (arith, size, c.len.ensures.length)) c.in_ok-passed.ensures.none
 
 pub returns-clause-good : goal.returns-clause-good
 returns-clause-good c =

@@ -1,7 +1,7 @@
 use Rattle.std.proofs.lemmas.Option.{slice_get_within}
 use Rattle.flow_graph.specs.Unfolding.{NamesElementsIn}
 use Rattle.error_path.specs.Shown.{IsExceededBySome}
-use Rattle.flow_systems.proofs.InLattices.{in_lattice}
+use Rattle.error_path.proofs.InLattices.{in_lattice}
 use Rattle.flow_systems.proofs.comparing.shown.Goals as goal
 
 pub show-requires-clause-lattice : goal.show-requires-clause-lattice

@@ -7,6 +7,7 @@ use Rattle.flow_graph.specs.Paths.{returns}
 use Rattle.lattice_solver.specs.Phases.{size_of}
 use Rattle.lattice_solver.proofs.Agreeing.{flow_leads, call_leads, enter_carried}
 use Rattle.lattice_solver.proofs.Links.{low_of, stands_in, key_of_link}
+use Rattle.lattice_solver.proofs.Over.{over_on}
 use Rattle.lattice_solver.proofs.turns.follow.Goals as goal
 
 -- the constraint begins where the variable is
@@ -66,3 +67,15 @@ returns-in-Leave-clause-sound c = λ lead all.
     let st = subst (λ (u : ℕ). Stands sys lattice c.args.edge (Leave c.in-Leave.field-0 u c.in-Leave.to)) from
     (stands_in sys lattice c.args.edge c.constraint-constraint.result link c.constraint-constraint.ensures.there c.in-Leave.is (c.if-not-is_in.ensures.0 refl)) in
     c.gain.ensures.sound sys lattice (λ e has. returns c.args.taken.now.at c.in-Leave.to c.in-Leave.field-0 c.args.edge (lead First e has) st) all
+
+pub returns-in-Le-clause-over : goal.returns-in-Le-clause-over
+returns-in-Le-clause-over c =
+    over_on c.args.flows.now.graph.now c.args.flows.now.lattice c.args.flows.now.summaries.now c.args.passed.now c.args.work.now.sets c.give_both.new.work.sets c.give_both.ensures.gains.kept c.requires.over
+
+pub pass_groups-requires-clause-over : goal.pass_groups-requires-clause-over
+pass_groups-requires-clause-over c =
+    over_on c.args.flows.now.graph.now c.args.flows.now.lattice c.args.flows.now.summaries.now c.args.passed.now c.args.work.now.sets c.give_called.new.work.sets c.give_called.ensures.gains.kept c.requires.over
+
+pub returns-in-Leave-clause-over : goal.returns-in-Leave-clause-over
+returns-in-Leave-clause-over c =
+    over_on c.args.flows.now.graph.now c.args.flows.now.lattice c.args.flows.now.summaries.now c.args.passed.now c.args.work.now.sets c.gain.new.self.sets c.gain.ensures.gains.kept c.requires.over

@@ -1,4 +1,4 @@
-use Rattle.std.proofs.Common.{◌≡◌, ℕ, List, get_or, inl, inr, refl, arith, sym, subst}
+use Rattle.std.proofs.Common.{◌≡◌, ℕ, List, get_or, inl, inr, refl, arith, sym, ◌∙◌, subst}
 use Rattle.std.specs.List.{Contains}
 use Rattle.std.proofs.lemmas.Bool.{cases_lt}
 use Rattle.lattice_solver.specs.Stable.{IsCarried}
@@ -9,7 +9,7 @@ use Rattle.lattice_solver.proofs.Items.{read_item, each_item}
 use Rattle.lattice_solver.proofs.turns.pass_on.Goals as goal
 
 pub loop-edge-init : goal.loop-edge-init
-loop-edge-init c = record { gains = gains_same _; sound = λ lead all. all; carried = λ k lt other. absurd (omega (arith, lt)) }
+loop-edge-init c = record { gains = gains_same _; sound = λ lead all. all; carried = λ k lt other. absurd (omega (arith, lt)); over = c.requires.over; same = refl }
 
 pub follow-requires-clause-ready : goal.follow-requires-clause-ready
 follow-requires-clause-ready c = system_same c.args.flows.now _ _ c.loop-edge.invariant.gains.size c.requires.ready
@@ -34,6 +34,8 @@ loop-edge-preserved c =
             let held = read_item Is c.out-edge-items.result.now c.loop-edge.edge-index c.edge-item.result c.loop-edge-test.true c.edge-item.is step.carried other in
             subst (λ (i : ℕ). Is (get_or c.out-edge-items.result.now i other)) is held
       ];
+      over = step.over;
+      same = step.same ∙ so_far.same;
     }
 
 pub returns-clause-carried : goal.returns-clause-carried

@@ -1,4 +1,4 @@
-use Rattle.std.proofs.Common.{◌≡◌, ◌<◌, sym, ◌∙◌, subst, arith}
+use Rattle.std.proofs.Common.{◌≡◌, ◌<◌, refl, sym, ◌∙◌, subst, arith}
 use Rattle.std.specs.Int.{bit_at}
 use Rattle.flow_graph.specs.declared.phase.Phase.TheVariants.{First}
 use Rattle.lattice_solver.specs.Phases.{HasIn, size_of}
@@ -7,6 +7,7 @@ use Rattle.lattice_solver.proofs.Agreeing.{empty_agrees, turn_agrees}
 use Rattle.lattice_solver.proofs.Bits.{none_in}
 use Rattle.lattice_solver.proofs.Exact.{all_in}
 use Rattle.lattice_solver.proofs.Gaining.{system_same}
+use Rattle.lattice_solver.proofs.Over.{empty_over, over_on}
 use Rattle.lattice_solver.proofs.turns.saturate.Goals as goal
 
 pub loop-taken-init : goal.loop-taken-init
@@ -19,10 +20,16 @@ loop-taken-init c =
       agree = λ v quiet.
           empty_agrees c.args.flows.now.graph.now c.args.flows.now.lattice c.args.flows.now.summaries.now c.begin_all.new.work.sets v
           (λ p. (gains.still v quiet).1 p ∙ c.requires.empty p v);
+      over = empty_over c.args.flows.now.graph.now c.args.flows.now.lattice c.args.flows.now.summaries.now c.args.passed.now c.begin_all.new.work.sets c.requires.room c.requires.none;
+      same = refl;
     }
 
 pub pass_on-requires : goal.pass_on-requires
-pass_on-requires c = record { ready = system_same c.args.flows.now _ _ (c.in-Some.ensures.taken.size ∙ c.loop-taken.invariant.size) c.requires.ready }
+pass_on-requires c = record {
+  over = over_on c.args.flows.now.graph.now c.args.flows.now.lattice c.args.flows.now.summaries.now c.loop-taken.passed c.loop-taken.work.sets c.take.new.self.sets
+      c.in-Some.ensures.taken.kept c.loop-taken.invariant.over;
+  ready = system_same c.args.flows.now _ _ (c.in-Some.ensures.taken.size ∙ c.loop-taken.invariant.size) c.requires.ready;
+}
 
 pub loop-taken-smaller : goal.loop-taken-smaller
 loop-taken-smaller c =
@@ -40,6 +47,8 @@ loop-taken-preserved c =
       begun = λ n e v st. gains.kept First v e (up.kept First v e (so_far.begun n e v st));
       agree = turn_agrees c.args.flows.now.graph.now c.args.flows.now.lattice c.args.flows.now.summaries.now
           c.loop-taken.work c.take.new.self c.pass_on.new.work c.in-Some.taken up gains c.pass_on.ensures.carried so_far.agree;
+      over = c.pass_on.ensures.over;
+      same = c.pass_on.ensures.same ∙ so_far.same;
     }
 
 pub returns-clause-exact : goal.returns-clause-exact

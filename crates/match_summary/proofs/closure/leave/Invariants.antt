@@ -1,10 +1,16 @@
-use Rattle.std.proofs.Common.{◌≡◌, ℕ, ◌<◌, get_or}
+use Rattle.std.proofs.Common.{◌≡◌, ℕ, ◌+◌, ◌≤◌}
+use Rattle.match_summary.specs.Chained.{link_of}
 use Rattle.match_summary.specs.Closing.{Grows, IsEntered, IsKept}
+use Rattle.match_summary.specs.Crossings.{Crosses}
 use Rattle.match_summary.proofs.closure.leave.Given as goal
 
-abbrev pub invariant-loop-other : goal.invariant-loop-other
-invariant-loop-other l = record {
+abbrev pub invariant-loop-next : goal.invariant-loop-next
+invariant-loop-next l = record {
   kept : IsKept l.given.graph.now l.given.lattice l.found;
   grows : Grows l.initial.found.known l.found.known;
-  done : (k m : ℕ) → k < l.other-index → get_or l.other-items k m ≡ m → IsEntered l.given.graph.now l.given.lattice l.initial.found.known l.found.known l.from l.back.site l.back.to m;
+  there : (n : ℕ) → link_of l.next ≡ n + 1 → Crosses l.given.graph.now l.end n;
+  done : (n : ℕ) → link_of l.next ≤ n → IsEntered l.given.graph.now l.given.lattice l.initial.found.known l.found.known l.from l.back.site l.back.to n;
 }
+
+abbrev pub decreases-loop-next : goal.decreases-loop-next
+decreases-loop-next l = link_of l.next

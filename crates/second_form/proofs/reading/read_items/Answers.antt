@@ -9,7 +9,7 @@ use Rattle.second_form.proofs.reading.read_items.Goals as goal
 pub end-at-requires : goal.end-at-requires
 end-at-requires c =
     let h = item_end _ _ _ _ (MatchOption-at_some _ (λ item. IsItem c.args.tokens.now.tokens c.loop-alloc.names c.loop-alloc.at (item_of item)) _ c.in-Some.is c.in_ok-item.ensures) in
-    let l = c.count-count.ensures in omega (arith, h.1, l.count, l.few)
+    let l = c.count-total.ensures in omega (arith, h.1, l.count, l.few)
 
 pub loop-alloc-smaller : goal.loop-alloc-smaller
 loop-alloc-smaller c =
@@ -24,8 +24,8 @@ loop-alloc-preserved c =
 pub returns-in-None : goal.returns-in-None
 returns-in-None c = none_read _ _ _ _ c.loop-alloc.invariant (λ e. let h : false ≡ true = c.loop-alloc-test.ensures.1 e in cc) (MatchOption-at_none _ _ c.in-None.is c.in_ok-item.ensures)
 
-pub returns-then-at-len : goal.returns-then-at-len
-returns-then-at-len c = all_read _ _ _ _ c.loop-alloc.invariant (c.loop-alloc-test.ensures.0 refl) (omega (arith, c.if-at-len.true, c.len.ensures))
+pub returns-then-at-total : goal.returns-then-at-total
+returns-then-at-total c = all_read _ _ _ _ c.loop-alloc.invariant (c.loop-alloc-test.ensures.0 refl) (omega (arith, c.if-at-total.true, c.count-total.ensures.count))
 
-pub returns-else-at-len : goal.returns-else-at-len
-returns-else-at-len c = none_behind _ _ _ _ c.loop-alloc.invariant (c.loop-alloc-test.ensures.0 refl) (λ e. omega (arith, c.if-at-len.false, c.len.ensures, e))
+pub returns-else-at-total : goal.returns-else-at-total
+returns-else-at-total c = none_behind _ _ _ _ c.loop-alloc.invariant (c.loop-alloc-test.ensures.0 refl) (λ e. omega (arith, c.if-at-total.false, c.count-total.ensures.count, e))

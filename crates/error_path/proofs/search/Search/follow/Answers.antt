@@ -9,6 +9,7 @@ use Rattle.error_path.specs.Marks.{size_of}
 use Rattle.flow_graph.specs.Parts.{settled}
 use Rattle.error_path.specs.Reaching.{LeadsBy, ByFlow, ByLeave, ByEnter}
 use Rattle.error_path.proofs.Searching.{below_on, stands_on, comes_step, enter_followed, key_of_link, low_of, some_number, stands_in}
+use Rattle.error_path.proofs.Over.{over_on}
 use Rattle.error_path.proofs.search.Search.follow.Goals as goal
 
 pub note-requires : goal.note-requires
@@ -74,3 +75,16 @@ pub returns-in_ok-follow_groups-in-Enter-clause-done : goal.returns-in_ok-follow
 returns-in_ok-follow_groups-in-Enter-clause-done c =
     enter_followed c.args.graph.now c.args.lattice c.args.summaries.now c.follow_groups.new.self c.args.origin.now.phase c.args.edge c.constraint-constraint.result c.in-Enter.site c.in-Enter.field-1 c.in-Enter.inner
     c.args.origin.now.at c.constraint-constraint.ensures.there c.in-Enter.is (c.in_ok-follow_groups-in-Enter.ensures.grows.kept _ c.in-Enter.inner c.in_ok-note-in-Enter.ensures.there) c.in_ok-follow_groups-in-Enter.ensures.done
+
+pub follow_groups-requires-clause-over : goal.follow_groups-requires-clause-over
+follow_groups-requires-clause-over c =
+    over_on c.args.graph.now c.args.lattice c.args.summaries.now c.args.passed.now c.args.self.now c.note-in-Enter.new.self c.in_ok-note-in-Enter.ensures.grows c.requires.over
+
+pub returns-in-Le-clause-over : goal.returns-in-Le-clause-over
+returns-in-Le-clause-over c =
+    on_ok_weaker c.note.result (λ grows. over_on c.args.graph.now c.args.lattice c.args.summaries.now c.args.passed.now c.args.self.now c.note.new.self grows c.requires.over) c.note.ensures.grows
+
+pub returns-else-not-is_returning-clause-over : goal.returns-else-not-is_returning-clause-over
+returns-else-not-is_returning-clause-over c =
+    on_ok_weaker c.note-in-Leave.result
+    (λ grows. over_on c.args.graph.now c.args.lattice c.args.summaries.now c.args.passed.now c.args.self.now c.note-in-Leave.new.self grows c.requires.over) c.note-in-Leave.ensures.grows

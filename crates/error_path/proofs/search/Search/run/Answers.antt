@@ -40,6 +40,7 @@ loop-place-preserved c =
             missed_here old new c.loop-place.place origin.phase origin.at c.args.target step.grows c.origin_at-origin.ensures.stands (eqb-false _ _ (sym c.if-eq.ensures)) r
             (sym (ap (λ m. slice_get new.queue.items m) same) ∙ is) at
       ];
+      over = step.over;
       low = omega (arith, here, more);
     }
 

@@ -7,7 +7,7 @@ use Rattle.error_path.proofs.Searching.{below_on, followed_on, followed_elsewher
 use Rattle.error_path.proofs.search.Search.visit.Goals as goal
 
 pub loop-edge-init : goal.loop-edge-init
-loop-edge-init c = record { good = λ elem good. good; grows = grows_same _; done = λ k lt other. absurd (omega (arith, lt)) }
+loop-edge-init c = record { good = λ elem good. good; grows = grows_same _; done = λ k lt other. absurd (omega (arith, lt)); over = c.requires.over }
 
 pub follow-requires-clause-below : goal.follow-requires-clause-below
 follow-requires-clause-below c = below_on c.args.graph.now c.args.self.now c.loop-edge.self c.loop-edge.invariant.grows c.requires.below
@@ -33,6 +33,7 @@ loop-edge-preserved c =
             let held = read_item Is row c.loop-edge.edge-index c.edge-item.result c.loop-edge-test.true c.edge-item.is step.done other in
             subst (λ (i : ℕ). Is (get_or row i other)) is held
       ];
+      over = step.over;
     }
 
 pub returns-clause-done : goal.returns-clause-done

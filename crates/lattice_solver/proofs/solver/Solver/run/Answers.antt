@@ -1,4 +1,5 @@
-use Rattle.std.proofs.Common.{◌≡◌, ◌<◌, ap, sym, ◌∙◌, subst}
+use Rattle.std.proofs.Common.{◌≡◌, ◌<◌, ap, sym, ◌∙◌, subst, arith}
+use Rattle.match_summary.specs.Crossings.{AreCrossings}
 use Rattle.match_summary.specs.Summary.{Summarises}
 use Rattle.flow_graph.specs.Index.{IsIndexOf}
 use Rattle.flow_graph.specs.Paths.{Lead}
@@ -16,13 +17,19 @@ saturate-requires-clause-ready c =
       lattice = subst (λ n. n < 16) (sym named) c.requires.lattice;
       below = below_same c.args.graph.now _ _ size c.requires.fits.below;
       indexed = subst (IsIndexOf c.args.graph.now) (sym (ap (λ (s : Solution). s.index) c.self.view_is)) c.requires.fits.indexed;
+      crossings = subst (AreCrossings c.args.graph.now) (sym (ap (λ (s : Solution). s.crossings) c.self.view_is)) c.requires.fits.crossings;
       summarised = subst (λ l. Summarises c.args.graph.now l c.args.summaries.now) (sym named) c.requires.summaries;
     }
+
+pub saturate-requires-clause-room : goal.saturate-requires-clause-room
+saturate-requires-clause-room c =
+    let same = c.clear-2.ensures.size ∙ ap (λ (s : Solution). size_of s.passed) c.self.view_is in omega (arith, c.requires.fits.room, same)
 
 pub returns-clause-solved : goal.returns-clause-solved
 returns-clause-solved c =
     let named : c.self.inside.lattice ≡ c.args.self.now.lattice = ap (λ (s : Solution). s.lattice) c.self.view_is in
     let size = c.saturate.ensures.size ∙ c.clear.ensures.size ∙ ap (λ (s : Solution). size_of s.phases) c.self.view_is in
+    let room = c.saturate.ensures.same ∙ c.clear-2.ensures.size ∙ ap (λ (s : Solution). size_of s.passed) c.self.view_is in
     record {
       exact = c.saturate.ensures.exact;
       summaries = c.args.summaries.now;
@@ -30,6 +37,8 @@ returns-clause-solved c =
       fits = record {
         below = below_same c.args.graph.now _ _ size c.requires.fits.below;
         indexed = subst (IsIndexOf c.args.graph.now) (sym (ap (λ (s : Solution). s.index) c.self.view_is)) c.requires.fits.indexed;
+        crossings = subst (AreCrossings c.args.graph.now) (sym (ap (λ (s : Solution). s.crossings) c.self.view_is)) c.requires.fits.crossings;
+        room = omega (arith, c.requires.fits.room, room);
       };
     }
 

@@ -1,0 +1,86 @@
+//! The tokens that the bytes of a unit spell.
+
+ghost use Rattle.std.specs.Prelude.{ℕ, ◌≡◌, ◌+◌, ◌-◌, ◌<◌, ◌^◌, length, IfOk, IfErr, MatchResult};
+ghost use Rattle.c_lexer.specs.Reading.{Reaches, Spells, StopsBehind};
+ghost use Rattle.c_lexer.specs.Tokens.{IsSpelled, NamesKeywords};
+ghost use Rattle.c_lexer.specs.Refusals.{IsOnly, IsRefusal};
+
+use crate::front::{Front, Stop, push_token, read_all};
+use crate::text::Text;
+use crate::tokens::{KeywordMarks, Tokens};
+use c_words::TokenKind;
+use qual_base::{QualWords, Spot, UnitNo};
+use std::alloc::Global;
+
+/// Why a unit has no tokens.
+#[derive(Clone, Copy, PartialEq, Eq, Debug)]
+pub enum LexFault {
+    /// No gap and no token begins at the place.
+    BadByte(Spot),
+    /// A string, a character constant or a comment begins at the place and does not end.
+    Unended(Spot),
+    /// The `$` word at the place is in no lattice.
+    UnknownQualifier(Spot),
+    NoMemory,
+}
+
+/// The fault for which reading stopped.
+fn fault_of(text: &Text, front: &Front, stop: Stop) -> LexFault
+    requires small { length text.now.1 < 2 ^ 32 - 1 }
+    requires stops { (words : _) × StopsBehind text.now.0 words text.now.1 front.now stop }
+    ensures { (words : _) → StopsBehind text.now.0 words text.now.1 front.now stop → IsRefusal text.now.0 words text.now.1 result }
+{
+    match stop {
+        Stop::BadByte => LexFault::BadByte(front.spot_in(text)),
+        Stop::Unended => LexFault::Unended(front.spot_in(text)),
+        Stop::UnknownQualifier => LexFault::UnknownQualifier(front.spot_in(text)),
+        Stop::NoMemory => LexFault::NoMemory,
+    }
+}
+
+/// The tokens of a unit that was read to its end.
+fn finish(text: Text, front: Front, words: &QualWords) -> Result<Tokens, LexFault>
+    requires small { length text.1 < 2 ^ 32 - 1 }
+    requires whole { front.at ≡ length text.1 }
+    requires reached { Reaches text.0 words.now text.1 front }
+    ensures unit { IfOk result (λ tokens. tokens.unit ≡ text.0) }
+    ensures bytes { IfOk result (λ tokens. tokens.bytes ≡ text.1) }
+    ensures spelled { IfOk result (λ tokens. IsSpelled words.now tokens) }
+    ensures keywords { IfOk result (λ tokens. NamesKeywords words.now tokens) }
+    ensures memory { IfErr result (λ e. e ≡ LexFault.NoMemory) }
+{
+    let end = text.bytes().len() as u32;
+    let (mut tokens, marks) = front.into_parts();
+    let Ok(()) = push_token(&mut tokens, TokenKind::End, end, end) else {
+        return Err(LexFault::NoMemory);
+    };
+    let keywords = KeywordMarks {
+        constant: words.find(b"const"),
+        volatile: words.find(b"volatile"),
+        restrict: words.find(b"restrict"),
+    };
+    Ok(Tokens::new(text, tokens, marks, keywords))
+}
+
+/// The tokens that the bytes of a unit spell.
+///
+/// It takes time linear in the bytes, beside look-ups of names, each linear in the name. The fault is at the first
+/// place where the bytes stop to spell tokens.
+pub fn lex(alloc: Global, unit: UnitNo, bytes: &[u8], words: &QualWords) -> Result<Tokens, LexFault>
+    requires { length bytes.now < 2 ^ 32 - 1 }
+    ensures unit { IfOk result (λ tokens. tokens.unit ≡ unit) }
+    ensures bytes { IfOk result (λ tokens. tokens.bytes ≡ bytes.now) }
+    ensures spelled { IfOk result (λ tokens. IsSpelled words.now tokens) }
+    ensures keywords { IfOk result (λ tokens. NamesKeywords words.now tokens) }
+    ensures refused { IfErr result (λ fault. IsRefusal unit words.now bytes.now fault) }
+    ensures only { (tokens : _) (names : _) (marks : _) → Spells unit words.now bytes.now tokens names marks → IsOnly tokens marks result }
+{
+    let Ok(text) = Text::new(alloc, unit, bytes) else {
+        return Err(LexFault::NoMemory);
+    };
+    let mut front = Front::new(alloc);
+    match read_all(&mut front, unit, words, bytes) {
+        Ok(()) => finish(text, front, words),
+        Err(stop) => Err(fault_of(&text, &front, stop)),
+    }
+}

@@ -1,0 +1,309 @@
+-- The first tokens of specifiers, expressions and declarators.
+use Rattle.std.proofs.Common.{◌≡◌, ℕ, nat_eq, ◌≤◌, Bool, true, false, List, [], ◌∷◌, ◌++◌, length, Option, Some, None, inl, inr, refl, sym, ◌∙◌, ap, arith}
+use Rattle.std.specs.Prelude.{Any, IsPermutation, is_some, not}
+use Rattle.std.proofs.lemmas.Bool.{eq-eqb}
+use Rattle.std.proofs.lemmas.List.Folds.{list_any-from_Any}
+use Rattle.std.proofs.lemmas.List.Sorted.{length_permutation}
+use Rattle.c_words.specs.declared.kinds.TokenKind.{TokenKind}
+use Rattle.c_words.specs.declared.kinds.TokenKind.TheVariants as kinds
+use Rattle.c_words.specs.declared.kinds.Keyword.{Keyword}
+use Rattle.c_words.specs.declared.kinds.Keyword.TheVariants as keywords
+use Rattle.c_words.specs.declared.kinds.Punct.{Punct}
+use Rattle.c_words.specs.declared.kinds.Punct.TheVariants as puncts
+use Rattle.c_tree.specs.declared.lexeme.Lexeme.{Lexeme}
+use Rattle.c_syntax.specs.declared.parts.Qual.TheVariants as quals
+use Rattle.c_tree.specs.Tree.{Expr, operation, cast, prefix, sizeof_value, sizeof_type, extension, index, call, dot, arrow, post, compound, name_use, number_use, char_use, text_use, paren, statement_expr, va_arg, va_start, va_copy, offset, Operator, comma, assign, cond, binary, SpecWords, no_words, more_words, SpecWord, storage, thread, inline_word, noreturn, qualifier, basic, struct_type, enum_type, typedef_name, attribute, enum_of, Declr, pointer, declr_name, declr_paren, array, params, abs_pointer, abs_paren, abs_array, abs_params, no_declr, some_declr}
+use Rattle.c_tree.specs.Text.{operator_text, expr_text, spec_words_text, spec_word_text, declr_text, tokens_between}
+use Rattle.c_tree.specs.Levels.{binary_level, operator_level, expr_level}
+use Rattle.c_tree.specs.Specifiers.{IsMix, basic_types}
+use Rattle.c_tree.specs.WellFormed.{IsExpr, IsSpecWord, AreSpecWords, AreTypeWords, IsDeclr, IsElement, IsElementKind, is_storage, is_qual, is_struct, is_sizeof, is_named, prefix_level}
+use Rattle.c_specs.specs.declared.basic.Part.TheVariants as parts
+use Rattle.c_specs.specs.declared.mix.Types.{Types}
+use Rattle.c_specs.specs.declared.mix.Types.TheVariants.{Words, Named}
+use Rattle.c_specs.specs.declared.mix.Mix.{Mix}
+use Rattle.c_specs.specs.declared.mix.Class.TheVariants as classes
+use Rattle.c_specs.specs.Basic.{part_of}
+use Rattle.c_specs.specs.Mix.{class_of, then_class, goes_on, mix_of, with_types, with_part}
+use Rattle.c_specs.specs.Laws.{MixesGoOn}
+use Rattle.c_units.specs.HeldScopes.{HeldScopes, names_type}
+use Rattle.c_units.specs.Scoping.{behind, where_true, expr_scopes, operator_scopes, exprs_scopes, spec_word_scopes, spec_words_scopes}
+use Rattle.c_reading.specs.declared.kinds.SpecStart.{SpecStart}
+use Rattle.c_reading.specs.declared.kinds.SpecStart.TheVariants as starts
+use Rattle.c_reading.specs.Reading.{IsNumbered, kind_at}
+use Rattle.c_reading.specs.Specifying.{keyword_start, kind_start, typed_start, start_at, is_start, begins_specs}
+use Rattle.c_reading.specs.Expressing.{begins_expr}
+use Rattle.c_reading.proofs.Tails.{element_spelled}
+use Rattle.c_reading.proofs.Forms.{behind_ok}
+use Rattle.c_reading.proofs.Aims.{begins_named, begins_abstract, FirstLaws}
+
+-- words of specifiers
+
+-- no mix goes on with a word that is in no basic type
+other_stops : (o : Option Mix) → is_some (elim o [ None ↦ None | Some mix ↦ with_types mix (with_part mix.types parts.Other) ]) ≡ true → ⊥
+other_stops None e = absurd cc
+other_stops (Some mix) e = by_types mix.types e
+  where
+    by_types : (types : Types) → is_some (with_types mix (with_part types parts.Other)) ≡ true → ⊥
+    by_types Named e = absurd cc
+    by_types (Words base mark) e = absurd cc
+
+stops : (keyword : Keyword) (words : SpecWords) → part_of keyword ≡ parts.Other → goes_on words (classes.Spells keyword) ≡ true → ⊥
+stops keyword words other e = by_mix (mix_of words) e
+  where
+    by_mix : (o : Option Mix) → is_some (then_class o (classes.Spells keyword)) ≡ true → ⊥
+    by_mix None e = absurd cc
+    by_mix (Some mix) e = other_stops (Some mix) (ap (λ (part : _). is_some (with_types mix (with_part mix.types part))) (sym other) ∙ e)
+
+pub basic_starts : (keyword : Keyword) (words : SpecWords) → goes_on words (classes.Spells keyword) ≡ true → keyword_start keyword ≡ starts.Basic keyword
+basic_starts keywords.Void words e = refl
+basic_starts keywords.Char words e = refl
+basic_starts keywords.Short words e = refl
+basic_starts keywords.Int words e = refl
+basic_starts keywords.Long words e = refl
+basic_starts keywords.Float words e = refl
+basic_starts keywords.Double words e = refl
+basic_starts keywords.Signed words e = refl
+basic_starts keywords.Unsigned words e = refl
+basic_starts keywords.Bool words e = refl
+basic_starts keywords.Complex words e = refl
+basic_starts keywords.BaseWord words e = refl
+basic_starts keywords.Int128 words e = refl
+basic_starts keyword words e = absurd (stops keyword words refl e)
+
+pub storage_starts : (keyword : Keyword) → is_storage keyword ≡ true → keyword_start keyword ≡ starts.Storage keyword
+storage_starts keywords.Typedef e = refl
+storage_starts keywords.Extern e = refl
+storage_starts keywords.Static e = refl
+storage_starts keywords.Auto e = refl
+storage_starts keywords.Register e = refl
+storage_starts keyword e = absurd cc
+
+pub qual_starts : (keyword : Keyword) → is_qual keyword ≡ true → keyword_start keyword ≡ starts.Word keyword
+qual_starts keywords.Const e = refl
+qual_starts keywords.Volatile e = refl
+qual_starts keywords.Restrict e = refl
+qual_starts keyword e = absurd cc
+
+pub struct_starts : (keyword : Keyword) → is_struct keyword ≡ true → keyword_start keyword ≡ starts.Struct keyword
+struct_starts keywords.Struct e = refl
+struct_starts keywords.Union e = refl
+struct_starts keyword e = absurd cc
+
+element_starts : (kind : TokenKind) → IsElementKind kind → kind_start kind ≡ starts.Element
+element_starts (kinds.Qual lattice elem) h = refl
+element_starts kind h = absurd h
+
+-- what a word begins with
+abbrev pub start_of : SpecWord → SpecStart
+start_of (storage w) = starts.Storage w.keyword
+start_of (thread token) = starts.Thread
+start_of (inline_word token) = starts.Inline
+start_of (noreturn token) = starts.Noreturn
+start_of (qualifier (quals.Word w)) = starts.Word w.keyword
+start_of (qualifier (quals.Element token)) = starts.Element
+start_of (qualifier (quals.Index token)) = starts.Index
+start_of (basic w) = starts.Basic w.keyword
+start_of (struct_type w attrs tag body) = starts.Struct w.keyword
+start_of (enum_type e) = starts.Enum
+start_of (typedef_name n) = starts.Name n.name
+start_of (attribute a) = starts.Attribute
+
+pub starts_some : (w : SpecWord) → is_start (start_of w) ≡ true
+starts_some (storage w) = refl
+starts_some (thread token) = refl
+starts_some (inline_word token) = refl
+starts_some (noreturn token) = refl
+starts_some (qualifier (quals.Word w)) = refl
+starts_some (qualifier (quals.Element token)) = refl
+starts_some (qualifier (quals.Index token)) = refl
+starts_some (basic w) = refl
+starts_some (struct_type w attrs tag body) = refl
+starts_some (enum_type e) = refl
+starts_some (typedef_name n) = refl
+starts_some (attribute a) = refl
+
+-- a typedef name
+abbrev pub is_name : SpecWord → Bool
+is_name (typedef_name n) = true
+is_name w = false
+
+pub where_holds : (b : Bool) (s s' : HeldScopes) → where_true b s ≡ Some s' → b ≡ true
+where_holds true s s' e = refl
+where_holds false s s' e = absurd cc
+
+name_starts : (s : HeldScopes) (typed : Bool) (name : ℕ) → names_type s name ≡ true → typed ≡ false → typed_start s typed (starts.Name name) ≡ starts.Name name
+name_starts s typed name is not_typed = rw (is, not_typed) refl
+
+-- no words are a basic type
+pub no_type_of_none : Any (IsPermutation []) basic_types → ⊥
+no_type_of_none (at, set, less, is, same) =
+    let long : 0 ≡ length set = sym (length_permutation [] set same) in
+    let yes = list_any-from_Any (λ set. nat_eq 0 (length set)) basic_types (at, set, less, is, eq-eqb 0 (length set) long) in
+    let wrong : true ≡ false = sym yes in
+    absurd cc
+
+pub no_mix_of_none : (ws : SpecWords) → ws ≡ no_words → IsMix ws → ⊥
+no_mix_of_none no_words is (inl one, stores) = no_type_of_none one.1
+no_mix_of_none no_words is (inr one, stores) = let zero_is_one : 0 ≡ 1 = one.0 in omega (arith, zero_is_one)
+no_mix_of_none (more_words w ws) is mix = absurd cc
+
+pub type_words_are : (all : List Lexeme) (ws : SpecWords) → AreTypeWords all ws → AreSpecWords all ws
+type_words_are all no_words h = tt
+type_words_are all (more_words w ws) h = (h.0, type_words_are all ws h.2)
+
+module _ (all : List Lexeme) (numbered : IsNumbered all) (goes : MixesGoOn) where
+  element_start_at : (s : HeldScopes) (typed : Bool) (token : ℕ) (k : List Lexeme) → IsElement (tokens_between all token token) →
+      start_at s typed (kind_at (tokens_between all token token ++ k)) ≡ starts.Element
+  element_start_at s typed token k h =
+      let e = element_spelled all numbered token h in
+      ap (λ (ts : List Lexeme). start_at s typed (kind_at (ts ++ k))) e.1 ∙ ap (typed_start s typed) (element_starts e.0.kind e.3)
+
+  -- the text of a word that fits where it stands begins with what the word does
+  pub word_starts : (s s' : HeldScopes) (typed : Bool) (words : SpecWords) (w : SpecWord) (k : List Lexeme) → IsSpecWord all w → spec_word_scopes w s ≡ Some s' → goes_on words (class_of w) ≡ true →
+      (is_name w ≡ true → typed ≡ false) → start_at s typed (kind_at (spec_word_text all w k)) ≡ start_of w
+  word_starts s s' typed words (storage w) k fits named on free = ap (typed_start s typed) (storage_starts w.keyword fits)
+  word_starts s s' typed words (thread token) k fits named on free = refl
+  word_starts s s' typed words (inline_word token) k fits named on free = refl
+  word_starts s s' typed words (noreturn token) k fits named on free = refl
+  word_starts s s' typed words (qualifier (quals.Word w)) k fits named on free = ap (typed_start s typed) (qual_starts w.keyword fits)
+  word_starts s s' typed words (qualifier (quals.Element token)) k fits named on free = element_start_at s typed token k fits
+  word_starts s s' typed words (qualifier (quals.Index token)) k fits named on free = refl
+  word_starts s s' typed words (basic w) k fits named on free = ap (typed_start s typed) (basic_starts w.keyword words on)
+  word_starts s s' typed words (struct_type w attrs tag body) k fits named on free = ap (typed_start s typed) (struct_starts w.keyword fits.0)
+  word_starts s s' typed words (enum_type (enum_of keyword attrs tag body)) k fits named on free = refl
+  word_starts s s' typed words (typedef_name n) k fits named on free = name_starts s typed n.name (where_holds (names_type s n.name) s s' named) (free refl)
+  word_starts s s' typed words (attribute a) k fits named on free = refl
+
+  words_begin : (ws : SpecWords) (s s' : HeldScopes) (k : List Lexeme) → IsMix ws → AreSpecWords all ws → spec_words_scopes ws s ≡ Some s' →
+      begins_specs s (kind_at (spec_words_text all ws k)) ≡ true
+  words_begin no_words s s' k mix fits named = absurd (no_mix_of_none no_words refl mix)
+  words_begin (more_words w ws) s s' k mix fits named =
+      let step = behind_ok (spec_word_scopes w s) (spec_words_scopes ws) s' named in
+      ap is_start (word_starts s step.0 false no_words w (spec_words_text all ws k) fits.0 step.1 (goes no_words w ws mix) (λ is. refl)) ∙ starts_some w
+
+-- expressions
+
+binary_most : (p : Punct) → binary_level p ≤ 10
+binary_most puncts.BarBar = omega arith
+binary_most puncts.AmpersandAmpersand = omega arith
+binary_most puncts.Bar = omega arith
+binary_most puncts.Caret = omega arith
+binary_most puncts.Ampersand = omega arith
+binary_most puncts.EqualEqual = omega arith
+binary_most puncts.BangEqual = omega arith
+binary_most puncts.Less = omega arith
+binary_most puncts.Greater = omega arith
+binary_most puncts.LessEqual = omega arith
+binary_most puncts.GreaterEqual = omega arith
+binary_most puncts.ShiftLeft = omega arith
+binary_most puncts.ShiftRight = omega arith
+binary_most puncts.Plus = omega arith
+binary_most puncts.Minus = omega arith
+binary_most puncts.Star = omega arith
+binary_most puncts.Slash = omega arith
+binary_most puncts.Percent = omega arith
+binary_most _ = omega arith
+
+pub operator_most : (op : Operator) → operator_level op ≤ 12
+operator_most comma = omega arith
+operator_most (assign p) = omega arith
+operator_most (cond middle colon) = omega arith
+operator_most (binary p) = let most = binary_most p in omega (arith, most)
+
+level_most : (e : Expr) → expr_level e ≤ 16
+level_most (operation e op token e2) = let most = operator_most op in omega (arith, most)
+level_most (cast opening ws d closing e) = omega arith
+level_most (prefix token p e) = omega arith
+level_most (sizeof_value word e) = omega arith
+level_most (sizeof_type word opening ws d closing) = omega arith
+level_most (extension keyword e) = omega arith
+level_most (index e opening e2 closing) = omega arith
+level_most (call e opening es closing) = omega arith
+level_most (dot e token name) = omega arith
+level_most (arrow e token name) = omega arith
+level_most (post e token p) = omega arith
+level_most (compound opening ws d closing list) = omega arith
+level_most _ = omega arith
+
+prefix_begins : (s : HeldScopes) (p : Punct) → prefix_level p ≤ 16 → begins_expr s (kinds.Punct p) ≡ true
+prefix_begins s puncts.PlusPlus h = refl
+prefix_begins s puncts.MinusMinus h = refl
+prefix_begins s puncts.Ampersand h = refl
+prefix_begins s puncts.Star h = refl
+prefix_begins s puncts.Plus h = refl
+prefix_begins s puncts.Minus h = refl
+prefix_begins s puncts.Tilde h = refl
+prefix_begins s puncts.Bang h = refl
+prefix_begins s p h = absurd (omega (arith, h))
+
+sizeof_begins : (s : HeldScopes) (keyword : Keyword) → is_sizeof keyword ≡ true → begins_expr s (kinds.Keyword keyword) ≡ true
+sizeof_begins s keywords.Sizeof h = refl
+sizeof_begins s keywords.Alignof h = refl
+sizeof_begins s keyword h = absurd cc
+
+-- texts are at least one
+texts_begin : (all : List Lexeme) (texts : List ℕ) (s : HeldScopes) (k : List Lexeme) → (texts ≡ [] → ⊥) → begins_expr s (kind_at (expr_text all (text_use texts) k)) ≡ true
+texts_begin all [] s k h = absurd (h refl)
+texts_begin all (x ∷ xs) s k h = refl
+
+module _ (all : List Lexeme) where
+  expr_begins : (e : Expr) (s s' : HeldScopes) (k : List Lexeme) → IsExpr all e → expr_scopes e s ≡ Some s' → begins_expr s (kind_at (expr_text all e k)) ≡ true
+  expr_begins (operation e op token e2) s s' k fits named =
+      let a = behind_ok (behind (expr_scopes e s) (operator_scopes op)) (expr_scopes e2) s' named in
+      let b = behind_ok (expr_scopes e s) (operator_scopes op) a.0 a.1 in
+      expr_begins e s b.0 (operator_text all op token (expr_text all e2 k)) fits.0 b.1
+  expr_begins (cast opening ws d closing e) s s' k fits named = refl
+  expr_begins (prefix token p e) s s' k fits named =
+      let most = level_most e in
+      prefix_begins s p (omega (arith, most, fits.1))
+  expr_begins (sizeof_value word e) s s' k fits named = sizeof_begins s word.keyword fits.1
+  expr_begins (sizeof_type word opening ws d closing) s s' k fits named = sizeof_begins s word.keyword fits.3
+  expr_begins (extension keyword e) s s' k fits named = refl
+  expr_begins (index e opening e2 closing) s s' k fits named =
+      let a = behind_ok (expr_scopes e s) (expr_scopes e2) s' named in
+      expr_begins e s a.0 _ fits.0 a.1
+  expr_begins (call e opening es closing) s s' k fits named =
+      let a = behind_ok (expr_scopes e s) (exprs_scopes es) s' named in
+      expr_begins e s a.0 _ fits.0 a.1
+  expr_begins (dot e token name) s s' k fits named = expr_begins e s s' _ fits.0 named
+  expr_begins (arrow e token name) s s' k fits named = expr_begins e s s' _ fits.0 named
+  expr_begins (post e token p) s s' k fits named = expr_begins e s s' _ fits.0 named
+  expr_begins (compound opening ws d closing list) s s' k fits named = refl
+  expr_begins (name_use token name) s s' k fits named = where_holds (not (names_type s name)) s s' named
+  expr_begins (number_use token) s s' k fits named = refl
+  expr_begins (char_use token) s s' k fits named = refl
+  expr_begins (text_use texts) s s' k fits named = texts_begin all texts s k fits
+  expr_begins (paren opening e closing) s s' k fits named = refl
+  expr_begins (statement_expr opening opening2 items closing closing2) s s' k fits named = refl
+  expr_begins (va_arg keyword opening e separator ws d closing) s s' k fits named = refl
+  expr_begins (va_start keyword opening e separator e2 closing) s s' k fits named = refl
+  expr_begins (va_copy keyword opening e separator e2 closing) s s' k fits named = refl
+  expr_begins (offset keyword opening ws d separator name steps closing) s s' k fits named = refl
+
+  -- declarators
+
+  named_begins : (d : Declr) (k : List Lexeme) → IsDeclr all d → is_named d ≡ true → begins_named (kind_at (declr_text all d k)) ≡ true
+  named_begins (pointer star words d) k fits is = refl
+  named_begins (declr_name token name) k fits is = refl
+  named_begins (declr_paren opening attrs d closing) k fits is = refl
+  named_begins (array d opening words size closing) k fits is = named_begins d _ fits.0 fits.1
+  named_begins (params d opening ps dots closing) k fits is = named_begins d _ fits.0 fits.1
+  named_begins d k fits is = absurd cc
+
+  abstract_begins : (d : Declr) (k : List Lexeme) → IsDeclr all d → is_named d ≡ false → begins_abstract (kind_at (declr_text all d k)) ≡ true
+  abstract_begins (abs_pointer star words d) k fits is = refl
+  abstract_begins (abs_paren opening attrs d closing) k fits is = refl
+  abstract_begins (abs_array no_declr opening words size closing) k fits is = refl
+  abstract_begins (abs_array (some_declr d) opening words size closing) k fits is = abstract_begins d _ fits.0.0 fits.0.1
+  abstract_begins (abs_params no_declr opening ps dots closing) k fits is = refl
+  abstract_begins (abs_params (some_declr d) opening ps dots closing) k fits is = abstract_begins d _ fits.0.0 fits.0.1
+  abstract_begins d k fits is = absurd cc
+
+pub first_laws : (goes : MixesGoOn) (all : List Lexeme) → IsNumbered all → FirstLaws all
+first_laws goes all numbered = record {
+  words_begin = words_begin all numbered goes;
+  type_words_begin = λ ws s s' k mix fits named. words_begin all numbered goes ws s s' k mix (type_words_are all ws fits) named;
+  expr_begins = expr_begins all;
+  named_begins = named_begins all;
+  abstract_begins = abstract_begins all;
+}

@@ -1,0 +1,374 @@
+-- Items are read from their text.
+use Rattle.std.proofs.Common.{◌≡◌, ℕ, suc, ◌<◌, ◌≤◌, Bool, true, false, List, [], ◌∷◌, Option, Some, None, refl, ◌∙◌, ap, subst, arith}
+use Rattle.std.specs.Prelude.{◌+◌, ◌-◌, max, if◌then◌else◌, option_map, Contains}
+use Rattle.c_words.specs.declared.kinds.TokenKind.{TokenKind}
+use Rattle.c_words.specs.declared.kinds.Punct.TheVariants as puncts
+use Rattle.c_words.specs.declared.kinds.Keyword.{Keyword}
+use Rattle.c_words.specs.declared.kinds.Keyword.TheVariants as keywords
+use Rattle.c_tree.specs.declared.lexeme.Lexeme.{Lexeme}
+use Rattle.c_syntax.specs.declared.parts.Attr.{Attr}
+use Rattle.c_syntax.specs.declared.parts.AsmLabel.{AsmLabel}
+use Rattle.c_tree.specs.Tree.{SpecWords, Declr, pointer, declr_name, declr_paren, array, params, abs_pointer, abs_paren, abs_array, abs_params, SomeDeclr, some_declr, SomeInit, no_init, some_init, InitDeclrs, no_init_declrs, more_init_declrs, Declaration, declaration, decl_declaration, decl_assert, BlockItems, more_words, no_words}
+use Rattle.c_tree.specs.Text.{sign_text, attrs_text, label_text, declr_text, extensions_text, spec_words_text, init_declrs_text, other_init_declrs_text, block_items_text, some_init_text}
+use Rattle.c_tree.specs.Height.{attrs_height, label_height, declr_height, specs_height, init_declrs_height, block_height, some_init_height}
+use Rattle.c_tree.specs.Specifiers.{IsMix, storage_words}
+use Rattle.c_tree.specs.WellFormed.{AreSpecWords, AreAttrs, IsDeclr, is_named, IsLabel, IsSomeInit, IsInitStart, AreInitDeclrs, AreBlockItems}
+use Rattle.c_tree.specs.Unit.{Item, function_item, decl_item, asm_item, semi_item, is_round_name, declares_function}
+use Rattle.typedef_scope.specs.declared.kind.Kind.{Kind}
+use Rattle.typedef_scope.specs.declared.kind.Kind.TheVariants.{Value}
+use Rattle.c_units.specs.HeldScopes.{HeldScopes, HeldScope, innermost, reopen, release, leave}
+use Rattle.c_units.specs.Scoping.{behind, has_typedef_word, is_typedef_word, declared_kind, spec_words_scopes, declr_scopes, init_declrs_scopes, some_init_scopes, block_items_scopes}
+use Rattle.c_units.specs.Units.{OwnParams, own_params, own_scope}
+use Rattle.c_reading.specs.declared.kinds.Mode.TheVariants.{Named}
+use Rattle.c_reading.specs.Reading.{Read, kind_at, IsNumbered}
+use Rattle.c_reading.specs.Tokens.{is_semicolon, is_asm, is_open_brace, is_static_assert}
+use Rattle.c_reading.specs.Parts.{Inner, DeclrItem}
+use Rattle.c_reading.specs.Specifying.{begins_specs}
+use Rattle.c_reading.specs.Stating.{declr_behind, declrs_with, block_body, declaration_behind, bare_declaration}
+use Rattle.c_reading.specs.Items.{as_decl, goes_on_declared, function_with, attrs_behind, function_or_not, behind_function, behind_declr, first_declr, declared_item, asm_item_with, item_with}
+use Rattle.c_reading.proofs.Binding.{found, done, bind_is, fits_is}
+use Rattle.c_reading.proofs.Forms.{IsComplete, always, behind_ok}
+use Rattle.c_reading.proofs.KindFacts.{named_no_semicolon, named_ends_specs, specs_no_semicolon, specs_no_asm, specs_no_static_assert, specs_no_extension, not_false}
+use Rattle.c_reading.proofs.Aims.{least_with, ends_specs, ends_suffix, ends_init_declr, declr_item_form, declaration_form, item_form, closed_of, declr_room, declared_as, TokenLaws, FirstLaws, Laws, own_scope_in}
+use Rattle.c_reading.proofs.Shared.{named_ends, specs_here_complete}
+use Rattle.c_reading.proofs.DeclLists.{attrs_asks}
+use Rattle.c_reading.proofs.DeclSound.{declr_high}
+use Rattle.c_reading.proofs.DeclComplete.{some_init_read, declr_behind_read, declrs_read, bare_read, behind_read, ends_value, init_no_attr, attrs_no_asm, label_no_suffix, others_end}
+
+-- words without `typedef`
+contains_first : (w : Keyword) (ws : List Keyword) → w ≡ keywords.Typedef → Contains (w ∷ ws) keywords.Typedef
+contains_first w ws e = (0, omega arith, e)
+
+contains_later : (w : Keyword) (ws : List Keyword) → Contains ws keywords.Typedef → Contains (w ∷ ws) keywords.Typedef
+contains_later w ws (k, l, e) = (suc k, omega (arith, l), e)
+
+typedef_is : (w : Keyword) → is_typedef_word w ≡ true → w ≡ keywords.Typedef
+typedef_is keywords.Typedef h = refl
+typedef_is w h = absurd cc
+
+bare_words : (ws : List Keyword) → (Contains ws keywords.Typedef → ⊥) → has_typedef_word ws ≡ false
+bare_words [] h = refl
+bare_words (w ∷ ws) h = by_word (is_typedef_word w) refl (bare_words ws (λ c. h (contains_later w ws c)))
+  where
+    by_word : (b : Bool) → is_typedef_word w ≡ b → has_typedef_word ws ≡ false → (if b then true else has_typedef_word ws) ≡ false
+    by_word true is later = absurd (h (contains_first w ws (typedef_is w is)))
+    by_word false is later = later
+
+-- a declarator of a function has a name
+round_named : (d : Declr) (above : Bool) → is_round_name d above ≡ true → is_named d ≡ true
+round_named (declr_name token name) above h = refl
+round_named (declr_paren opening attrs d closing) above h = refl
+round_named (pointer star words d) above h = refl
+round_named (array d opening words size closing) above h = refl
+round_named (params d opening ps dots closing) above h = refl
+round_named (abs_pointer star words d) above h = absurd cc
+round_named (abs_paren opening attrs d closing) above h = absurd cc
+round_named (abs_array d opening words size closing) above h = absurd cc
+round_named (abs_params d opening ps dots closing) above h = absurd cc
+
+-- a first token of declarations and functions
+abbrev IsOther : TokenKind → Type 0
+IsOther kind = (is_semicolon kind ≡ false) × (is_asm kind ≡ false) × (is_static_assert kind ≡ false)
+
+specs_other : (s : HeldScopes) (kind : TokenKind) → begins_specs s kind ≡ true → IsOther kind
+specs_other s kind h = (specs_no_semicolon s kind h, specs_no_asm s kind h, specs_no_static_assert s kind h)
+
+-- rooms
+words_asks : (w d room : ℕ) → max w d + 1 ≤ room → w + 1 ≤ room
+words_asks w d room h = omega (arith, h)
+
+exts_asks : (exts : List ℕ) (h room : ℕ) → 1 ≤ h → h + 1 ≤ room → least_with exts ≤ room
+exts_asks [] h room a b = omega arith
+exts_asks (x ∷ exts) h room a b = omega (arith, a, b)
+
+max_some : (w d : ℕ) → 1 ≤ w → 1 ≤ max w d
+max_some w d h = omega (arith, h)
+
+bare_asks : (h room : ℕ) → max h 0 + 1 ≤ room → 1 + h ≤ room
+bare_asks h room a = omega (arith, a)
+
+some_low : (w a d l b i room : ℕ) → max w (max (max a (max d (max l (max b i))) + 1) 0) + 1 ≤ room → d ≤ room - 2
+some_low w a d l b i room h = omega (arith, h)
+
+first_low : (w a d l b i r room : ℕ) → max w (max (max a (max d (max l (max b i))) + 1) r) + 1 ≤ room → d ≤ room - 2
+first_low w a d l b i r room h = omega (arith, h)
+
+first_asks : (w a d l b i r room : ℕ) → 1 ≤ d → max w (max (max a (max d (max l (max b i))) + 1) r) + 1 ≤ room → 2 + d ≤ room
+first_asks w a d l b i r room o h = omega (arith, o, h)
+
+first_number : (w a d l b i r room n : ℕ) → 1 ≤ d → room ≤ n → max w (max (max a (max d (max l (max b i))) + 1) r) + 1 ≤ room → suc (room - 2) < n
+first_number w a d l b i r room n o less h = omega (arith, o, less, h)
+
+attrs_low : (w a d l b i r room : ℕ) → max w (max (max a (max d (max l (max b i))) + 1) r) + 1 ≤ room → b ≤ (room - 1) - 1
+attrs_low w a d l b i r room h = omega (arith, h)
+
+init_low : (w a d l b i r room : ℕ) → max w (max (max a (max d (max l (max b i))) + 1) r) + 1 ≤ room → i ≤ (room - 1) - 1
+init_low w a d l b i r room h = omega (arith, h)
+
+rest_low : (w a b room : ℕ) → max w (max a b) + 1 ≤ room → b ≤ room - 1
+rest_low w a b room h = omega (arith, h)
+
+one_less : (room n : ℕ) → room ≤ n → room - 1 ≤ n
+one_less room n a = omega (arith, a)
+
+inside_inside : (h room : ℕ) → h ≤ (room - 1) - 1 → h ≤ room - 1
+inside_inside h room a = omega (arith, a)
+
+in_room : (closed : Option HeldScope) (h room : ℕ) → h ≤ room → h ≤ declr_room true closed room
+in_room None h room a = a
+in_room (Some scope) h room a = omega (arith, a)
+
+fn_words : (w d a b room : ℕ) → max w (max d (max a b)) + 1 ≤ room → w + 1 ≤ room
+fn_words w d a b room h = omega (arith, h)
+
+fn_declr : (w d a b room : ℕ) → 1 ≤ w → max w (max d (max a b)) + 1 ≤ room → d ≤ suc (room - 2)
+fn_declr w d a b room o h = omega (arith, o, h)
+
+fn_attrs : (w d a b room : ℕ) → max w (max d (max a b)) + 1 ≤ room → a ≤ room - 1
+fn_attrs w d a b room h = omega (arith, h)
+
+fn_block : (w d a b room : ℕ) → max w (max d (max a b)) + 1 ≤ room → b ≤ room - 1
+fn_block w d a b room h = omega (arith, h)
+
+fn_number : (w d a b room n : ℕ) → 1 ≤ w → room ≤ n → max w (max d (max a b)) + 1 ≤ room → suc (room - 2) < n
+fn_number w d a b room n o less h = omega (arith, o, less, h)
+
+words_high : (ws : SpecWords) → 1 ≤ specs_height ws
+words_high no_words = omega arith
+words_high (more_words w ws) = let rest : 1 ≤ specs_height ws = words_high ws in omega (arith, rest)
+
+same_found : {A : Type 0} (x : A) (s s' : HeldScopes) (k : List Lexeme) → Some s ≡ Some s' → done (found x s k) ≡ done (found x s' k)
+same_found x s s' k e = ap (λ (o : Option HeldScopes). done (found x (from o) k)) e
+  where
+    from : Option HeldScopes → HeldScopes
+    from None = s
+    from (Some t) = t
+
+-- the block of a function, in the scope of its parameters
+abbrev pub BodyRead : (all : List Lexeme) → ℕ → Inner → Type 0
+BodyRead all n inner = (room : ℕ) → room ≤ n → (opening : ℕ) (items : BlockItems) (closing : ℕ) (s s' : HeldScopes) (k : List Lexeme) → AreBlockItems all items → block_items_scopes items s ≡ Some s' → block_height items ≤ room →
+    block_body inner room s (sign_text puncts.OpenBrace opening (block_items_text all items (sign_text puncts.CloseBrace closing k))) ≡ done (found (record { opening = opening; items = items; closing = closing }) s' k)
+
+module _ (all : List Lexeme) (numbered : IsNumbered all) (tokens : TokenLaws all) (firsts : FirstLaws all) (n : ℕ) (inner : Inner) (laws : Laws all n inner) where
+  as_decl_read : (r : Read Declaration) (d : Declaration) (s : HeldScopes) (k : List Lexeme) → r ≡ done (found d s k) → as_decl r ≡ done (found (decl_item (decl_declaration d)) s k)
+  as_decl_read r d s k is = bind_is _ is refl
+
+  -- behind a function's declarator and attributes goes on a declaration
+  goes_on : (i : SomeInit) (ds : InitDeclrs) (semi : ℕ) (k : List Lexeme) →
+      (is_open_brace (kind_at (some_init_text all i (other_init_declrs_text all ds (sign_text puncts.Semicolon semi k)))) ≡ false) ×
+      (goes_on_declared (kind_at (some_init_text all i (other_init_declrs_text all ds (sign_text puncts.Semicolon semi k)))) ≡ true)
+  goes_on (some_init equal i) ds semi k = (refl, refl)
+  goes_on no_init no_init_declrs semi k = (refl, refl)
+  goes_on no_init (more_init_declrs attrs d l attrs2 i ds) semi k = (refl, refl)
+
+  -- the first declarator of a declaration with all that goes in there
+  record Goes (exts : List ℕ) (words : SpecWords) (room : ℕ) (d : Declr) (l : Option AsmLabel) (attrs : List Attr) (i : SomeInit) (ds : InitDeclrs) (u v s' : HeldScopes) : Type 0 where
+    label_fit : IsLabel all l
+    attrs_fit : AreAttrs all attrs
+    init_fit : IsSomeInit all i
+    rest_fit : AreInitDeclrs all ds
+    init_named : some_init_scopes i (release Value u) ≡ Some v
+    rest_named : init_declrs_scopes Value ds v ≡ Some s'
+    asks : 2 + declr_height d ≤ room
+    attrs_low : attrs_height attrs ≤ (room - 1) - 1
+    init_low : some_init_height i ≤ (room - 1) - 1
+    rest_low : init_declrs_height ds ≤ room - 1
+
+  declr_goes : (exts : List ℕ) (words : SpecWords) (room : ℕ) → room ≤ n → (d : Declr) (l : Option AsmLabel) (attrs : List Attr) (i : SomeInit) (ds : InitDeclrs) (semi : ℕ) (u v s' : HeldScopes) (k : List Lexeme) → Goes exts words room d l attrs i ds u v s' →
+      as_decl (declrs_with inner exts words Value room (declr_behind inner [] d (room - 1)) (release Value u) (label_text all l (attrs_text all attrs (some_init_text all i (other_init_declrs_text all ds (sign_text puncts.Semicolon semi k)))))) ≡
+      done (found (decl_item (decl_declaration (declaration exts words (more_init_declrs [] d l attrs i ds) semi))) s' k)
+  declr_goes exts words room less d l attrs i ds semi u v s' k g =
+      as_decl_read _ (declaration exts words (more_init_declrs [] d l attrs i ds) semi) s' k
+      (declrs_read all numbered tokens firsts n inner laws exts words Value room less (declr_behind inner [] d (room - 1)) (record { before = []; declr = d; label = l; attrs = attrs; init = i }) ds semi (release Value u) v s'
+      (label_text all l (attrs_text all attrs (some_init_text all i (other_init_declrs_text all ds (sign_text puncts.Semicolon semi k))))) k
+      (declr_behind_read all numbered tokens firsts n inner laws (room - 1) (one_less room n less) (record { before = []; declr = d; label = l; attrs = attrs; init = i }) (release Value u) v
+      (other_init_declrs_text all ds (sign_text puncts.Semicolon semi k)) g.label_fit g.attrs_fit g.init_fit g.init_named g.attrs_low g.init_low (others_end all numbered tokens firsts n inner laws ds semi k))
+      g.rest_fit g.rest_named g.rest_low)
+
+  attrs_goes : (exts : List ℕ) (words : SpecWords) (room : ℕ) → room ≤ n → (d : Declr) (attrs : List Attr) (i : SomeInit) (ds : InitDeclrs) (semi : ℕ) (u v s' : HeldScopes) (k : List Lexeme) → Goes exts words room d None attrs i ds u v s' →
+      as_decl (declrs_with inner exts words Value room (attrs_behind inner d attrs (room - 1)) (release Value u) (some_init_text all i (other_init_declrs_text all ds (sign_text puncts.Semicolon semi k)))) ≡
+      done (found (decl_item (decl_declaration (declaration exts words (more_init_declrs [] d None attrs i ds) semi))) s' k)
+  unfolding attrs_behind
+  attrs_goes exts words room less d attrs i ds semi u v s' k g =
+      as_decl_read _ (declaration exts words (more_init_declrs [] d None attrs i ds) semi) s' k
+      (declrs_read all numbered tokens firsts n inner laws exts words Value room less (attrs_behind inner d attrs (room - 1)) (record { before = []; declr = d; label = None; attrs = attrs; init = i }) ds semi (release Value u) v s'
+      (some_init_text all i (other_init_declrs_text all ds (sign_text puncts.Semicolon semi k))) k
+      (bind_is _ (some_init_read all numbered tokens firsts n inner laws (room - 1) (one_less room n less) i (release Value u) v (other_init_declrs_text all ds (sign_text puncts.Semicolon semi k)) g.init_fit g.init_named g.init_low
+      (ends_value (kind_at (other_init_declrs_text all ds (sign_text puncts.Semicolon semi k))) (others_end all numbered tokens firsts n inner laws ds semi k))) refl)
+      g.rest_fit g.rest_named g.rest_low)
+
+  behind_goes : (exts : List ℕ) (words : SpecWords) (room : ℕ) → room ≤ n → (d : Declr) (closed : Option HeldScope) (l : Option AsmLabel) (attrs : List Attr) (i : SomeInit) (ds : InitDeclrs) (semi : ℕ) (u v s' : HeldScopes) (k : List Lexeme) →
+      Goes exts words room d l attrs i ds u v s' →
+      behind_declr inner exts words d closed room (release Value u) (label_text all l (attrs_text all attrs (some_init_text all i (other_init_declrs_text all ds (sign_text puncts.Semicolon semi k))))) ≡
+      done (found (decl_item (decl_declaration (declaration exts words (more_init_declrs [] d l attrs i ds) semi))) s' k)
+  unfolding behind_function function_or_not
+  behind_goes exts words room less d None l attrs i ds semi u v s' k g = declr_goes exts words room less d l attrs i ds semi u v s' k g
+  behind_goes exts words room less d (Some closed) (Some l) attrs i ds semi u v s' k g =
+      fits_is (2 + declr_height d) room _ _ g.asks ∙ declr_goes exts words room less d (Some l) attrs i ds semi u v s' k g
+  behind_goes exts words room less d (Some closed) None attrs i ds semi u v s' k g =
+      let more = some_init_text all i (other_init_declrs_text all ds (sign_text puncts.Semicolon semi k)) in
+      let end = others_end all numbered tokens firsts n inner laws ds semi k in
+      let o = goes_on i ds semi k in
+      rw (attrs_no_asm all numbered tokens firsts n inner laws attrs i (other_init_declrs_text all ds (sign_text puncts.Semicolon semi k)) end)
+      (bind_is _ (tokens.attrs_complete room attrs (release Value u) (release Value u) more g.attrs_fit refl (attrs_asks attrs room (inside_inside (attrs_height attrs) room g.attrs_low))
+      (not_false (init_no_attr all numbered tokens firsts n inner laws i (other_init_declrs_text all ds (sign_text puncts.Semicolon semi k)) end)))
+      (rw o.0 (rw o.1 (fits_is (2 + declr_height d) room more _ g.asks ∙ attrs_goes exts words room less d attrs i ds semi u v s' k g))))
+
+  -- a declaration without `typedef`, behind its words
+  first_declr_goes : (exts : List ℕ) (words : SpecWords) (room : ℕ) → room ≤ n → (d : Declr) (l : Option AsmLabel) (attrs : List Attr) (i : SomeInit) (ds : InitDeclrs) (semi : ℕ) (s u v s' : HeldScopes) (k : List Lexeme) →
+      IsDeclr all d → is_named d ≡ true → declr_scopes (Some Value) d s ≡ Some u → declr_height d ≤ room - 2 → suc (room - 2) < n → Goes exts words room d l attrs i ds u v s' →
+      first_declr inner exts words room s (declr_text all d (label_text all l (attrs_text all attrs (some_init_text all i (other_init_declrs_text all ds (sign_text puncts.Semicolon semi k)))))) ≡
+      done (found (decl_item (decl_declaration (declaration exts words (more_init_declrs [] d l attrs i ds) semi))) s' k)
+  unfolding first_declr
+  first_declr_goes exts words room less d l attrs i ds semi s u v s' k fit name named low number g =
+      let end = other_init_declrs_text all ds (sign_text puncts.Semicolon semi k) in
+      let more = label_text all l (attrs_text all attrs (some_init_text all i end)) in
+      bind_is _ (laws.declrs.complete Named (Some Value) true (room - 2) number (some_declr d) s u more (fit, name) named (in_room (closed_of (Some Value) (some_declr d) s) (declr_height d) (room - 2) low)
+      (rw (named_ends all d fit name) (label_no_suffix all numbered tokens firsts n inner laws l attrs i end (others_end all numbered tokens firsts n inner laws ds semi k))))
+      (bind_is _ refl (behind_goes exts words room less d (closed_of (Some Value) (some_declr d) s) l attrs i ds semi u v s' k g))
+
+  -- what stands behind the words of a declaration
+  ends_words : (ds : InitDeclrs) (semi : ℕ) (k : List Lexeme) → IsInitStart ds → AreInitDeclrs all ds → ends_specs (kind_at (init_declrs_text all ds (sign_text puncts.Semicolon semi k))) ≡ true
+  ends_words no_init_declrs semi k start fit = refl
+  ends_words (more_init_declrs (a ∷ attrs) d l attrs2 i ds) semi k start fit = absurd cc
+  ends_words (more_init_declrs [] d l attrs2 i ds) semi k start fit =
+      let more = label_text all l (attrs_text all attrs2 (some_init_text all i (other_init_declrs_text all ds (sign_text puncts.Semicolon semi k)))) in
+      named_ends_specs (kind_at (declr_text all d more)) (firsts.named_begins d more fit.1 fit.2)
+
+  -- a declaration behind its words, by its first token and by `typedef`
+  declaration_goes : (exts : List ℕ) (words : SpecWords) (room : ℕ) → room ≤ n → (ds : InitDeclrs) (semi : ℕ) (s s' : HeldScopes) (k : List Lexeme) → IsInitStart ds → AreInitDeclrs all ds → init_declrs_scopes (declared_kind words) ds s ≡ Some s' →
+      max (specs_height words) (init_declrs_height ds) + 1 ≤ room →
+      (if is_semicolon (kind_at (init_declrs_text all ds (sign_text puncts.Semicolon semi k))) then as_decl (bare_declaration inner exts words room s (init_declrs_text all ds (sign_text puncts.Semicolon semi k)))
+      else if has_typedef_word (storage_words words) then as_decl (declaration_behind inner exts words room s (init_declrs_text all ds (sign_text puncts.Semicolon semi k)))
+      else first_declr inner exts words room s (init_declrs_text all ds (sign_text puncts.Semicolon semi k))) ≡ done (found (decl_item (decl_declaration (declaration exts words ds semi))) s' k)
+  declaration_goes exts words room less no_init_declrs semi s s' k start fit named low =
+      as_decl_read _ (declaration exts words no_init_declrs semi) s k (bare_read all numbered tokens firsts n inner laws exts words room s semi k (bare_asks (specs_height words) room low)) ∙ same_found _ s s' k named
+  declaration_goes exts words room less (more_init_declrs (a ∷ attrs) d l attrs2 i ds) semi s s' k start fit named low = absurd cc
+  declaration_goes exts words room less (more_init_declrs [] d l attrs2 i ds) semi s s' k start fit named low =
+      let more = label_text all l (attrs_text all attrs2 (some_init_text all i (other_init_declrs_text all ds (sign_text puncts.Semicolon semi k)))) in
+      rw (named_no_semicolon (kind_at (declr_text all d more)) (firsts.named_begins d more fit.1 fit.2)) (by_word (has_typedef_word (storage_words words)) refl)
+    where
+      value_kind : has_typedef_word (storage_words words) ≡ false → declared_kind words ≡ Value
+      value_kind h = rw h refl
+
+      high : 1 ≤ declr_height d
+      high = declr_high d
+
+      by_value : init_declrs_scopes Value (more_init_declrs [] d l attrs2 i ds) s ≡ Some s' → first_declr inner exts words room s (init_declrs_text all (more_init_declrs [] d l attrs2 i ds) (sign_text puncts.Semicolon semi k)) ≡
+          done (found (decl_item (decl_declaration (declaration exts words (more_init_declrs [] d l attrs2 i ds) semi))) s' k)
+      by_value named =
+          let x : DeclrItem = record { before = []; declr = d; label = l; attrs = attrs2; init = i } in
+          let b = behind_ok ((declr_item_form all Value).scopes x s) (init_declrs_scopes Value ds) s' named in
+          let c = behind_ok (declr_scopes (Some Value) d s) (λ t. some_init_scopes i (release Value t)) b.0 b.1 in
+          first_declr_goes exts words room less d l attrs2 i ds semi s c.0 b.0 s' k fit.1 fit.2 c.1 (first_low (specs_height words) 0 (declr_height d) (label_height l) (attrs_height attrs2) (some_init_height i) (init_declrs_height ds) room low)
+          (first_number (specs_height words) 0 (declr_height d) (label_height l) (attrs_height attrs2) (some_init_height i) (init_declrs_height ds) room n high less low)
+          (record {
+            label_fit = fit.3;
+            attrs_fit = fit.4;
+            init_fit = fit.5;
+            rest_fit = fit.6;
+            init_named = c.2;
+            rest_named = b.2;
+            asks = first_asks (specs_height words) 0 (declr_height d) (label_height l) (attrs_height attrs2) (some_init_height i) (init_declrs_height ds) room high low;
+            attrs_low = attrs_low (specs_height words) 0 (declr_height d) (label_height l) (attrs_height attrs2) (some_init_height i) (init_declrs_height ds) room low;
+            init_low = init_low (specs_height words) 0 (declr_height d) (label_height l) (attrs_height attrs2) (some_init_height i) (init_declrs_height ds) room low;
+            rest_low = rest_low (specs_height words) ((declr_item_form all Value).height x) (init_declrs_height ds) room low;
+          })
+
+      by_word : (b : Bool) → has_typedef_word (storage_words words) ≡ b →
+          (if b then as_decl (declaration_behind inner exts words room s (init_declrs_text all (more_init_declrs [] d l attrs2 i ds) (sign_text puncts.Semicolon semi k)))
+          else first_declr inner exts words room s (init_declrs_text all (more_init_declrs [] d l attrs2 i ds) (sign_text puncts.Semicolon semi k))) ≡ done (found (decl_item (decl_declaration (declaration exts words (more_init_declrs [] d l attrs2 i ds) semi))) s' k)
+      by_word true is = as_decl_read _ (declaration exts words (more_init_declrs [] d l attrs2 i ds) semi) s' k (behind_read all numbered tokens firsts n inner laws exts words room less (more_init_declrs [] d l attrs2 i ds) semi s s' k start fit named low)
+      by_word false is = by_value (subst (λ (kind : Kind). init_declrs_scopes kind (more_init_declrs [] d l attrs2 i ds) s ≡ Some s') (value_kind is) named)
+
+  -- `__extension__` and words, at the start of an item
+  declared_goes : (exts : List ℕ) (words : SpecWords) (room : ℕ) → room ≤ n → (s t s' : HeldScopes) (ts k : List Lexeme) (x : Item) → IsMix words → AreSpecWords all words → spec_words_scopes words s ≡ Some t → specs_height words + 1 ≤ room →
+      ends_specs (kind_at ts) ≡ true →
+      (if is_semicolon (kind_at ts) then as_decl (bare_declaration inner exts words room t ts)
+      else if has_typedef_word (storage_words words) then as_decl (declaration_behind inner exts words room t ts)
+      else first_declr inner exts words room t ts) ≡ done (found x s' k) → item_with inner room s (extensions_text exts (spec_words_text all words ts)) ≡ done (found x s' k)
+  unfolding item_with declared_item
+  declared_goes exts words room less s t s' ts k x mix fit named low ended goes =
+      let begun = firsts.words_begin words s t ts mix fit named in
+      let o = other_first exts (specs_other s (kind_at (spec_words_text all words ts)) begun) in
+      rw o.0 (rw o.1 (rw o.2
+      (bind_is _ (tokens.exts_complete room exts s s (spec_words_text all words ts) tt refl (exts_asks exts (specs_height words) room (words_high words) low) (not_false (specs_no_extension s (kind_at (spec_words_text all words ts)) begun)))
+      (bind_is _ (specs_here_complete all n inner laws firsts room less words s t ts (mix, fit) named low ended) goes))))
+    where
+      other_first : (exts : List ℕ) → IsOther (kind_at (spec_words_text all words ts)) → IsOther (kind_at (extensions_text exts (spec_words_text all words ts)))
+      other_first [] h = h
+      other_first (e ∷ exts) h = (refl, refl, refl)
+
+  -- the block of a function, behind the declarator and attributes
+  fn_goes : (body : BodyRead all n inner) (exts : List ℕ) (words : SpecWords) (d : Declr) (attrs : List Attr) (opening : ℕ) (items : BlockItems) (closing : ℕ) (closed : HeldScope) (room : ℕ) → room ≤ n → (u v : HeldScopes) (k : List Lexeme) →
+      AreAttrs all attrs → AreBlockItems all items → attrs_height attrs ≤ room - 1 → block_height items ≤ room - 1 → block_items_scopes items (reopen closed (release Value u)) ≡ Some v →
+      behind_function inner exts words d closed room (release Value u) (attrs_text all attrs (sign_text puncts.OpenBrace opening (block_items_text all items (sign_text puncts.CloseBrace closing k)))) ≡
+      done (found (function_item exts words d attrs opening items closing) (leave v) k)
+  unfolding behind_function function_or_not function_with
+  fn_goes body exts words d attrs opening items closing closed room less u v k attrs_fit items_fit attrs_low items_low named =
+      let more = sign_text puncts.OpenBrace opening (block_items_text all items (sign_text puncts.CloseBrace closing k)) in
+      rw (no_asm attrs) (bind_is _ (tokens.attrs_complete room attrs (release Value u) (release Value u) more attrs_fit refl (attrs_asks attrs room attrs_low) refl)
+      (bind_is _ (body (room - 1) (one_less room n less) opening items closing (reopen closed (release Value u)) v k items_fit named items_low) refl))
+    where
+      no_asm : (attrs : List Attr) → is_asm (kind_at (attrs_text all attrs (sign_text puncts.OpenBrace opening (block_items_text all items (sign_text puncts.CloseBrace closing k))))) ≡ false
+      no_asm [] = refl
+      no_asm (a ∷ attrs) = refl
+
+  -- the scope of a function's own parameters
+  record OwnScope (d : Declr) (t w : HeldScopes) : Type 0 where
+    closed : closed_of (Some Value) (some_declr d) t ≡ Some (innermost w)
+
+  own_closed : (d : Declr) (t w : HeldScopes) → own_scope (own_params d) t ≡ Some w → OwnScope d t w
+  own_closed d t w h = record { closed = by_own (own_params d) h }
+    where
+      by_own : (o : Option OwnParams) → own_scope o t ≡ Some w → option_map innermost (own_scope_in (Some Value) o t) ≡ Some (innermost w)
+      by_own None h = absurd cc
+      by_own (Some p) h = ap (option_map innermost) h
+
+  -- a function behind its words
+  function_goes : (body : BodyRead all n inner) (exts : List ℕ) (words : SpecWords) (d : Declr) (attrs : List Attr) (opening : ℕ) (items : BlockItems) (closing : ℕ) (room : ℕ) → room ≤ n → (t u w v : HeldScopes) (k : List Lexeme) →
+      has_typedef_word (storage_words words) ≡ false → IsDeclr all d → declares_function d ≡ true → AreAttrs all attrs → AreBlockItems all items → declr_scopes (Some Value) d t ≡ Some u → own_scope (own_params d) t ≡ Some w →
+      block_items_scopes items (reopen (innermost w) (release Value u)) ≡ Some v → max (specs_height words) (max (declr_height d) (max (attrs_height attrs) (block_height items))) + 1 ≤ room →
+      (if is_semicolon (kind_at (declr_text all d (attrs_text all attrs (sign_text puncts.OpenBrace opening (block_items_text all items (sign_text puncts.CloseBrace closing k))))))
+      then as_decl (bare_declaration inner exts words room t (declr_text all d (attrs_text all attrs (sign_text puncts.OpenBrace opening (block_items_text all items (sign_text puncts.CloseBrace closing k))))))
+      else if has_typedef_word (storage_words words)
+      then as_decl (declaration_behind inner exts words room t (declr_text all d (attrs_text all attrs (sign_text puncts.OpenBrace opening (block_items_text all items (sign_text puncts.CloseBrace closing k))))))
+      else first_declr inner exts words room t (declr_text all d (attrs_text all attrs (sign_text puncts.OpenBrace opening (block_items_text all items (sign_text puncts.CloseBrace closing k)))))) ≡
+      done (found (function_item exts words d attrs opening items closing) (leave v) k)
+  unfolding first_declr
+  function_goes body exts words d attrs opening items closing room less t u w v k bare fit round attrs_fit items_fit named own inside low =
+      let more = attrs_text all attrs (sign_text puncts.OpenBrace opening (block_items_text all items (sign_text puncts.CloseBrace closing k))) in
+      let name = round_named d false round in
+      let high = words_high words in
+      let wh = specs_height words in let dh = declr_height d in let ah = attrs_height attrs in let bh = block_height items in
+      let is = (own_closed d t w own).closed in
+      rw (named_no_semicolon (kind_at (declr_text all d more)) (firsts.named_begins d more fit name)) (rw bare
+      (bind_is _ (laws.declrs.complete Named (Some Value) true (room - 2) (fn_number wh dh ah bh room n high less low) (some_declr d) t u more (fit, name) named (rw is (fn_declr wh dh ah bh room high low)) (rw (named_ends all d fit name) (suffix attrs)))
+      (bind_is _ refl (rw is (fn_goes body exts words d attrs opening items closing (innermost w) room less u v k attrs_fit items_fit (fn_attrs wh dh ah bh room low) (fn_block wh dh ah bh room low) inside)))))
+    where
+      suffix : (attrs : List Attr) → ends_suffix (kind_at (attrs_text all attrs (sign_text puncts.OpenBrace opening (block_items_text all items (sign_text puncts.CloseBrace closing k))))) ≡ true
+      suffix [] = refl
+      suffix (a ∷ attrs) = refl
+
+  pub item_complete : (body : BodyRead all n inner) (room : ℕ) → room ≤ n → IsComplete (item_form all) always room (item_with inner room)
+  unfolding item_with asm_item_with
+  item_complete body room less (semi_item semi) s s' k fit named low ended = fits_is 1 room _ _ low ∙ bind_is _ refl (same_found (semi_item semi) s s' k named)
+  item_complete body room less (asm_item keyword group semi) s s' k fit named low ended =
+      fits_is 1 room _ _ low ∙ bind_is _ refl (bind_is _ (tokens.group_complete 0 group s s (sign_text puncts.Semicolon semi k) fit refl (omega arith) refl) (bind_is _ refl (same_found (asm_item keyword group semi) s s' k named)))
+  item_complete body room less (decl_item (decl_assert it)) s s' k fit named low ended =
+      fits_is 1 room _ _ low ∙ bind_is _ (tokens.assert_complete room it s s k fit refl (omega arith) refl) (same_found (decl_item (decl_assert it)) s s' k named)
+  item_complete body room less (decl_item (decl_declaration (declaration exts words ds semi))) s s' k fit named low ended =
+      let b = behind_ok (spec_words_scopes words s) (init_declrs_scopes (declared_kind words) ds) s' named in
+      declared_goes exts words room less s b.0 s' (init_declrs_text all ds (sign_text puncts.Semicolon semi k)) k (decl_item (decl_declaration (declaration exts words ds semi))) fit.0 fit.1 b.1
+      (words_asks (specs_height words) (init_declrs_height ds) room low) (ends_words ds semi k fit.2 fit.3)
+      (declaration_goes exts words room less ds semi b.0 s' k fit.2 fit.3 b.2 low)
+  item_complete body room less (function_item exts words d attrs opening items closing) s s' k fit named low ended =
+      let a = behind_ok (spec_words_scopes words s) (λ t. behind (declr_scopes (Some Value) d t) (λ u. behind (own_scope (own_params d) t) (λ w. behind (block_items_scopes items (reopen (innermost w) (release Value u))) (λ inner. Some (leave inner))))) s' named in
+      let b = behind_ok (declr_scopes (Some Value) d a.0) (λ u. behind (own_scope (own_params d) a.0) (λ w. behind (block_items_scopes items (reopen (innermost w) (release Value u))) (λ inner. Some (leave inner)))) s' a.2 in
+      let c = behind_ok (own_scope (own_params d) a.0) (λ w. behind (block_items_scopes items (reopen (innermost w) (release Value b.0))) (λ inner. Some (leave inner))) s' b.2 in
+      let e = behind_ok (block_items_scopes items (reopen (innermost c.0) (release Value b.0))) (λ inner. Some (leave inner)) s' c.2 in
+      let more = attrs_text all attrs (sign_text puncts.OpenBrace opening (block_items_text all items (sign_text puncts.CloseBrace closing k))) in
+      let name = round_named d false fit.4 in
+      declared_goes exts words room less s a.0 s' (declr_text all d more) k (function_item exts words d attrs opening items closing) fit.0 fit.1 a.1
+      (fn_words (specs_height words) (declr_height d) (attrs_height attrs) (block_height items) room low) (named_ends_specs (kind_at (declr_text all d more)) (firsts.named_begins d more fit.3 name))
+      (function_goes body exts words d attrs opening items closing room less a.0 b.0 c.0 e.0 k (bare_words (storage_words words) fit.2) fit.3 fit.4 fit.5 fit.6 b.1 c.1 e.1 low ∙ same_found _ (leave e.0) s' k e.2)

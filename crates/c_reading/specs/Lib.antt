@@ -1,0 +1,11 @@
+pub mod Reading
+pub mod Tokens
+pub mod Parts
+pub mod Specifying
+pub mod Declaring
+pub mod Expressing
+pub mod Initialising
+pub mod Stating
+pub mod Items
+pub mod Knot
+pub mod UnitLaws

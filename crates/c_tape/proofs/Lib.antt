@@ -1,0 +1,3 @@
+pub mod BlockLemmas
+pub mod NodeLemmas
+pub mod TodoLemmas

@@ -1,0 +1,6 @@
+pub mod Nodes
+pub mod Parts
+pub mod Pending
+pub mod Tape
+pub mod Tests
+pub mod Tokens

@@ -1,0 +1,6 @@
+-- The ops of nodes.
+use Rattle.tape_ops.specs.declared.op.Op.{Op}
+use Rattle.c_tape.specs.declared.list.Node.{Node}
+
+abbrev pub op_of : Node → Op
+op_of n = n.op

@@ -1,0 +1,432 @@
+-- The tape of a unit: its nodes in post-order, children in token order.
+--
+-- A line a node. Attributes, `asm`, assertions, labels and jumps have no op, and no token of theirs is in one.
+use Rattle.std.specs.Prelude.{ℕ, suc, Bool, true, false, ◌&&◌, if◌then◌else◌, List, [], ◌∷◌, ◌++◌, Option, None, Some, map}
+use Rattle.c_syntax.specs.declared.parts.Identifier.{Identifier}
+use Rattle.c_syntax.specs.declared.parts.Word.{Word}
+use Rattle.c_syntax.specs.declared.parts.Qual.{Qual}
+use Rattle.c_syntax.specs.declared.parts.PointerWord.{PointerWord}
+use Rattle.c_syntax.specs.declared.parts.PointerWord.TheVariants as pointer_words
+use Rattle.c_syntax.specs.declared.parts.ArrayWord.{ArrayWord}
+use Rattle.c_syntax.specs.declared.parts.ArrayWord.TheVariants as array_words
+use Rattle.tape_ops.specs.declared.op.Op.{Op}
+use Rattle.tape_ops.specs.declared.op.Op.TheVariants as ops
+use Rattle.tape_ops.specs.declared.expression.ExprOp.{ExprOp}
+use Rattle.tape_ops.specs.declared.expression.ExprOp.TheVariants as exprs
+use Rattle.tape_ops.specs.declared.form.FormOp.{FormOp}
+use Rattle.tape_ops.specs.declared.form.FormOp.TheVariants as forms
+use Rattle.tape_ops.specs.declared.initialiser.InitOp.{InitOp}
+use Rattle.tape_ops.specs.declared.initialiser.InitOp.TheVariants as inits
+use Rattle.tape_ops.specs.declared.specifier.SpecOp.{SpecOp}
+use Rattle.tape_ops.specs.declared.specifier.SpecOp.TheVariants as specs
+use Rattle.tape_ops.specs.declared.specifier.TagKind.{TagKind}
+use Rattle.tape_ops.specs.declared.specifier.TagKind.TheVariants as tags
+use Rattle.tape_ops.specs.declared.declarator.DeclrOp.{DeclrOp}
+use Rattle.tape_ops.specs.declared.declarator.DeclrOp.TheVariants as declrs
+use Rattle.tape_ops.specs.declared.statement.StmtOp.{StmtOp}
+use Rattle.tape_ops.specs.declared.statement.StmtOp.TheVariants as stmts
+use Rattle.c_tree.specs.Tree.{Expr, operation, cast, prefix, sizeof_value, sizeof_type, extension, index, call, dot, arrow, post, compound, name_use, number_use, char_use, text_use, paren, statement_expr, va_arg, va_start, va_copy, offset, Operator, comma, assign, cond, binary, SomeExpr, no_expr, some_expr, Exprs, no_exprs, more_exprs, SpecWords, no_words, more_words, SpecWord, storage, thread, inline_word, noreturn, qualifier, basic, struct_type, enum_type, typedef_name, attribute, SomeBody, no_body, some_body, StructItems, no_struct_items, more_struct_items, StructItem, member, member_semi, member_assert, MemDeclrs, no_mem_declrs, more_mem_declrs, MemDeclr, named, unnamed, SomeValue, no_value, some_value, EnumType, enum_of, SomeEnumBody, no_enum_body, some_enum_body, Enumerators, no_enumerators, more_enumerators, Declr, pointer, declr_name, declr_paren, array, params, abs_pointer, abs_paren, abs_array, abs_params, SomeDeclr, no_declr, some_declr, SomeSize, no_size, some_size, ArraySize, size_value, size_star, Params, no_params, more_params, Init, init_value, init_braced, InitList, init_list, InitItems, no_init_items, more_init_items, Desigs, no_desigs, more_desigs, Desig, member_desig, index_desig, SomeInit, no_init, some_init, InitDeclrs, no_init_declrs, more_init_declrs, Declaration, declaration, Decl, decl_declaration, decl_assert, BlockItems, no_block_items, more_block_items, BlockItem, block_decl, block_stmt, Stmt, block, expr_stmt, attr_stmt, label, case_stmt, default_stmt, if_stmt, switch_stmt, while_stmt, do_stmt, for_stmt, goto_stmt, continue_stmt, break_stmt, return_stmt, asm_stmt, SomeElse, no_else, some_else, ForStart, start_declaration, start_value, Dots}
+use Rattle.c_syntax.specs.declared.declaration.Item as rust_item
+use Rattle.c_tree.specs.Unit.{item_of, Item, function_item, decl_item, asm_item, semi_item}
+use Rattle.c_tree.specs.Ends.{first_token, last_token, first_text}
+use Rattle.c_tape.specs.Tokens.{qual_token, first_word}
+use Rattle.c_tape.specs.Tests.{is_void, tag_kind, says_none, has_ellipsis, declares_tag, is_name, is_end, ends_in_value}
+
+-- a tape of one node
+
+abbrev pub expr : ExprOp → List Op
+expr op = ops.Expr op ∷ []
+
+abbrev pub form : FormOp → List Op
+form op = ops.Form op ∷ []
+
+abbrev pub init : InitOp → List Op
+init op = ops.Init op ∷ []
+
+abbrev pub spec : SpecOp → List Op
+spec op = ops.Spec op ∷ []
+
+abbrev pub declr : DeclrOp → List Op
+declr op = ops.Declr op ∷ []
+
+abbrev pub stmt : StmtOp → List Op
+stmt op = ops.Stmt op ∷ []
+
+-- qualifiers
+
+abbrev pub qual_tape : Qual → List Op
+qual_tape q = spec (specs.Word (qual_token q))
+
+abbrev pub quals_tape : List Qual → List Op
+quals_tape [] = []
+quals_tape (q ∷ qs) = qual_tape q ++ quals_tape qs
+
+abbrev pub pointer_word_tape : PointerWord → List Op
+pointer_word_tape (pointer_words.Qual q) = qual_tape q
+pointer_word_tape (pointer_words.Attr attr) = []
+
+abbrev pub pointer_words_tape : List PointerWord → List Op
+pointer_words_tape [] = []
+pointer_words_tape (word ∷ words) = pointer_word_tape word ++ pointer_words_tape words
+
+abbrev pub array_word_tape : ArrayWord → List Op
+array_word_tape (array_words.Static token) = []
+array_word_tape (array_words.Qual q) = qual_tape q
+
+abbrev pub array_words_tape : List ArrayWord → List Op
+array_words_tape [] = []
+array_words_tape (word ∷ words) = array_word_tape word ++ array_words_tape words
+
+-- the qualifiers before `...`
+abbrev pub dots_tape : Option Dots → List Op
+dots_tape None = []
+dots_tape (Some dots) = quals_tape dots.quals
+
+-- what the type of a declarator is made of, beginning with what is nearest to the type of the specifiers
+abbrev mutual
+  pub pieces : Declr → List Op
+  pieces (pointer star words d) = pointer_words_tape words ++ declr declrs.Pointer ++ pieces d
+  pieces (declr_name token name) = []
+  pieces (declr_paren opening attrs d closing) = pieces d
+  pieces (array d opening words size closing) = array_words_tape words ++ declr declrs.Array ++ pieces d
+  pieces (params d opening ps dots closing) = dots_tape dots ++ declr (declrs.Function (has_ellipsis ps dots)) ++ pieces d
+  pieces (abs_pointer star words d) = pointer_words_tape words ++ declr declrs.Pointer ++ some_pieces d
+  pieces (abs_paren opening attrs d closing) = pieces d
+  pieces (abs_array d opening words size closing) = array_words_tape words ++ declr declrs.Array ++ some_pieces d
+  pieces (abs_params d opening ps dots closing) = dots_tape dots ++ declr (declrs.Function (has_ellipsis ps dots)) ++ some_pieces d
+
+  pub some_pieces : SomeDeclr → List Op
+  some_pieces no_declr = []
+  some_pieces (some_declr d) = pieces d
+
+-- a list of an initialiser once more, with the targets of its values
+
+abbrev pub desig_tape : Desig → List Op
+desig_tape (member_desig before name) = init (inits.Member name.token name.name)
+desig_tape (index_desig opening e closing) = init (inits.Index opening)
+
+abbrev pub desigs_tape : Desigs → List Op
+desigs_tape no_desigs = []
+desigs_tape (more_desigs d ds) = desig_tape d ++ desigs_tape ds
+
+abbrev mutual
+  pub rule : Init → List Op
+  rule (init_value e) = init (inits.Leaf (first_token e) (last_token e))
+  rule (init_braced list) = rule_of_list list
+
+  pub rule_of_list : InitList → List Op
+  rule_of_list (init_list opening items last closing) = init inits.ListBegin ++ rule_of_items items ++ init inits.ListEnd
+
+  pub rule_of_items : InitItems → List Op
+  rule_of_items no_init_items = []
+  rule_of_items (more_init_items ds equal i items) = desigs_tape ds ++ rule i ++ rule_of_items items
+
+-- operators with their operands
+
+abbrev pub count : Exprs → ℕ
+count no_exprs = 0
+count (more_exprs e es) = suc (count es)
+
+-- the arguments of a call, behind their values
+abbrev pub arguments : Exprs → List Op
+arguments no_exprs = []
+arguments (more_exprs e es) = expr (exprs.Arg (count es) (first_token e) (last_token e)) ++ arguments es
+
+abbrev pub has_middle : SomeExpr → Bool
+has_middle no_expr = false
+has_middle (some_expr e) = true
+
+abbrev pub operator_tape : Operator → ℕ → ℕ → ℕ → List Op
+operator_tape comma token first last = expr (exprs.Comma token)
+operator_tape (assign p) token first last = expr (exprs.Assign p token first last)
+operator_tape (cond middle colon) token first last = expr (exprs.Cond (has_middle middle) token first last)
+operator_tape (binary p) token first last = expr (exprs.Binary p token first last)
+
+-- tags
+
+-- a tag without a body
+abbrev pub tag_tape : Bool → TagKind → Option Identifier → List Op
+tag_tape is_alone kind None = []
+tag_tape is_alone kind (Some tag) = if is_alone then spec (specs.TagAlone kind tag.token tag.name) else spec (specs.TagUse kind tag.token tag.name)
+
+-- the beginning of a body
+abbrev pub body_tape : TagKind → ℕ → Option Identifier → List Op
+body_tape kind keyword None = spec (specs.Untagged kind keyword)
+body_tape kind keyword (Some tag) = spec (specs.TagBody kind tag.token tag.name)
+
+-- a struct or union without a tag, which a member without a declarator is
+abbrev pub unnamed_word_tape : SpecWord → List Op
+unnamed_word_tape (storage word) = []
+unnamed_word_tape (thread token) = []
+unnamed_word_tape (inline_word token) = []
+unnamed_word_tape (noreturn token) = []
+unnamed_word_tape (qualifier q) = []
+unnamed_word_tape (basic word) = []
+unnamed_word_tape (struct_type word attrs None body) = spec (specs.UnnamedMember word.token)
+unnamed_word_tape (struct_type word attrs (Some tag) body) = []
+unnamed_word_tape (enum_type e) = []
+unnamed_word_tape (typedef_name name) = []
+unnamed_word_tape (attribute attr) = []
+
+abbrev pub unnamed_tape : SpecWords → List Op
+unnamed_tape no_words = []
+unnamed_tape (more_words word words) = unnamed_word_tape word ++ unnamed_tape words
+
+-- what stands round other nodes
+
+-- says nothing, and its value is dropped
+abbrev pub quietly : List Op → List Op
+quietly tape = stmt stmts.Quiet ++ tape ++ stmt stmts.Loud
+
+-- in a scope of its own
+abbrev pub in_scope : List Op → List Op
+in_scope tape = stmt stmts.Enter ++ tape ++ stmt stmts.Leave
+
+-- specifiers with these words
+abbrev pub specs_with : List Op → List Op
+specs_with words = words ++ spec specs.SpecsEnd
+
+-- a type name of specifiers and a declarator, with its first token
+abbrev pub type_name_with : List Op → List Op → ℕ → List Op
+type_name_with words d first = specs_with words ++ d ++ declr (declrs.TypeName first)
+
+-- a list of parameters, or one that says that there are none
+abbrev pub params_with : Bool → Bool → List Op → List Op
+params_with own none tape = declr (declrs.ParamsBegin own) ++ (if none then [] else tape) ++ declr declrs.ParamsEnd
+
+abbrev mutual
+  -- an expression; `called`: it stands right before the `(` of a call
+  pub expr_tape : Bool → Expr → List Op
+  expr_tape called (operation a op token b) = expr_tape false a ++ middle_tape op ++ expr_tape false b ++ operator_tape op token (first_token a) (last_token b)
+  expr_tape called (cast opening ws d closing e) = type_name_with (words_tape false ws) (some_declr_tape d) (first_word ws) ++ expr_tape false e ++ form (forms.Cast opening (last_token e))
+  expr_tape called (prefix token p e) = expr_tape false e ++ expr (exprs.Prefix p token (last_token e))
+  expr_tape called (sizeof_value word e) = stmt stmts.Quiet ++ expr_tape false e ++ form (forms.Sizeof word.token)
+  expr_tape called (sizeof_type word opening ws d closing) = stmt stmts.Quiet ++ type_name_with (words_tape false ws) (some_declr_tape d) (first_word ws) ++ form (forms.Sizeof word.token)
+  expr_tape called (extension keyword e) = expr_tape false e ++ expr (exprs.Ext keyword)
+  expr_tape called (index a opening b closing) = expr_tape false a ++ expr_tape false b ++ expr (exprs.Index opening (first_token a) closing)
+  expr_tape called (call f opening es closing) = expr_tape true f ++ exprs_tape es ++ arguments es ++ expr (exprs.Call opening (count es))
+  expr_tape called (dot e token name) = expr_tape false e ++ expr (exprs.Dot token name.token name.name)
+  expr_tape called (arrow e token name) = expr_tape false e ++ expr (exprs.Arrow token (first_token e) name.token) ++ expr (exprs.Dot token name.token name.name)
+  expr_tape called (post e token p) = expr_tape false e ++ expr (exprs.Post p token (first_token e))
+  expr_tape called (compound opening ws d closing list) = type_name_with (words_tape false ws) (some_declr_tape d) (first_word ws) ++ init inits.Begin ++ list_tape list ++ init (inits.Literal opening) ++ rule_of_list list ++ init inits.LiteralEnd
+  expr_tape called (name_use token name) = expr (exprs.Name called token name)
+  expr_tape called (number_use token) = expr (exprs.Number token)
+  expr_tape called (char_use token) = expr (exprs.Char token)
+  expr_tape called (text_use texts) = expr (exprs.Text (first_text texts))
+  expr_tape called (paren opening e closing) = expr_tape false e ++ expr (exprs.Paren opening)
+  expr_tape called (statement_expr opening opening2 items closing closing2) = in_scope (block_items_tape true items) ++ form (forms.StmtExpr (ends_in_value items) opening)
+  expr_tape called (va_arg keyword opening e separator ws d closing) = expr_tape false e ++ type_name_with (words_tape false ws) (some_declr_tape d) (first_word ws) ++ form (forms.VaArg keyword closing)
+  expr_tape called (va_start keyword opening a separator b closing) = expr_tape false a ++ expr_tape false b ++ form (forms.VaStart keyword closing)
+  expr_tape called (va_copy keyword opening a separator b closing) = expr_tape false a ++ expr_tape false b ++ form (forms.VaCopy keyword closing)
+  expr_tape called (offset keyword opening ws d separator name steps closing) = stmt stmts.Quiet ++ type_name_with (words_tape false ws) (some_declr_tape d) (first_word ws) ++ form (forms.OffsetMember name.token name.name) ++ steps_tape steps ++ form (forms.Offset keyword)
+
+  -- what stands between the operands of `?:`
+  pub middle_tape : Operator → List Op
+  middle_tape comma = []
+  middle_tape (assign p) = []
+  middle_tape (cond middle colon) = some_expr_tape middle
+  middle_tape (binary p) = []
+
+  pub some_expr_tape : SomeExpr → List Op
+  some_expr_tape no_expr = []
+  some_expr_tape (some_expr e) = expr_tape false e
+
+  pub exprs_tape : Exprs → List Op
+  exprs_tape no_exprs = []
+  exprs_tape (more_exprs e es) = expr_tape false e ++ exprs_tape es
+
+  -- an expression whose value is dropped
+  pub dropped_tape : SomeExpr → List Op
+  dropped_tape no_expr = []
+  dropped_tape (some_expr e) = expr_tape false e ++ stmt stmts.Pop
+
+  -- the steps of an offset
+  pub steps_tape : Desigs → List Op
+  steps_tape no_desigs = []
+  steps_tape (more_desigs d ds) = step_tape d ++ steps_tape ds
+
+  pub step_tape : Desig → List Op
+  step_tape (member_desig before name) = form (forms.OffsetMember name.token name.name)
+  step_tape (index_desig opening e closing) = expr_tape false e ++ form (forms.OffsetIndex opening)
+
+  pub words_tape : Bool → SpecWords → List Op
+  words_tape alone no_words = []
+  words_tape alone (more_words word ws) = word_tape alone word ++ words_tape alone ws
+
+  pub word_tape : Bool → SpecWord → List Op
+  word_tape alone (storage word) = spec (specs.Storage word.keyword)
+  word_tape alone (thread token) = []
+  word_tape alone (inline_word token) = []
+  word_tape alone (noreturn token) = []
+  word_tape alone (qualifier q) = qual_tape q
+  word_tape alone (basic word) = if is_void word.keyword then spec specs.Void else []
+  word_tape alone (struct_type word attrs tag body) = struct_tape alone (tag_kind word.keyword) word.token tag body
+  word_tape alone (enum_type e) = enum_tape e
+  word_tape alone (typedef_name name) = spec (specs.Typedef name.token name.name)
+  word_tape alone (attribute attr) = []
+
+  pub struct_tape : Bool → TagKind → ℕ → Option Identifier → SomeBody → List Op
+  struct_tape alone kind keyword tag no_body = tag_tape alone kind tag
+  struct_tape alone kind keyword tag (some_body opening items closing) = body_tape kind keyword tag ++ struct_items_tape items ++ spec specs.BodyEnd
+
+  pub struct_items_tape : StructItems → List Op
+  struct_items_tape no_struct_items = []
+  struct_items_tape (more_struct_items item items) = struct_item_tape item ++ struct_items_tape items
+
+  pub struct_item_tape : StructItem → List Op
+  struct_item_tape (member extensions ws ds semi) = specs_with (words_tape false ws) ++ members_tape ws ds ++ declr declrs.DeclarationEnd
+  struct_item_tape (member_semi semi) = []
+  struct_item_tape (member_assert it) = []
+
+  -- the members of a declaration with these specifiers
+  pub members_tape : SpecWords → MemDeclrs → List Op
+  members_tape ws no_mem_declrs = unnamed_tape ws
+  members_tape ws (more_mem_declrs attrs d ds) = mem_declr_tape d ++ mem_declrs_tape ds
+
+  pub mem_declrs_tape : MemDeclrs → List Op
+  mem_declrs_tape no_mem_declrs = []
+  mem_declrs_tape (more_mem_declrs attrs d ds) = mem_declr_tape d ++ mem_declrs_tape ds
+
+  pub mem_declr_tape : MemDeclr → List Op
+  mem_declr_tape (named d width attrs) = contents false d ++ pieces d ++ declr declrs.Member ++ some_value_tape width
+  mem_declr_tape (unnamed colon e attrs) = quietly (expr_tape false e)
+
+  pub some_value_tape : SomeValue → List Op
+  some_value_tape no_value = []
+  some_value_tape (some_value token e) = quietly (expr_tape false e)
+
+  pub enum_tape : EnumType → List Op
+  enum_tape (enum_of keyword attrs tag body) = enum_body_tape keyword tag body
+
+  pub enum_body_tape : ℕ → Option Identifier → SomeEnumBody → List Op
+  enum_body_tape keyword tag no_enum_body = tag_tape false tags.Enum tag
+  enum_body_tape keyword tag (some_enum_body opening es last closing) = body_tape tags.Enum keyword tag ++ enumerators_tape es ++ spec specs.BodyEnd
+
+  pub enumerators_tape : Enumerators → List Op
+  enumerators_tape no_enumerators = []
+  enumerators_tape (more_enumerators name attrs value es) = some_value_tape value ++ spec (specs.Enumerator name.token name.name) ++ enumerators_tape es
+
+  pub some_declr_tape : SomeDeclr → List Op
+  some_declr_tape no_declr = []
+  some_declr_tape (some_declr d) = contents false d ++ pieces d
+
+  -- the name, the parameters and the sizes of a declarator
+  pub contents : Bool → Declr → List Op
+  contents own (pointer star words d) = contents own d
+  contents own (declr_name token name) = declr (declrs.DeclName token name)
+  contents own (declr_paren opening attrs d closing) = contents own d
+  contents own (array d opening words size closing) = contents own d ++ some_size_tape size
+  contents own (params d opening ps dots closing) = contents own d ++ params_with (own && is_name d) (says_none ps) (params_tape ps)
+  contents own (abs_pointer star words d) = some_contents d
+  contents own (abs_paren opening attrs d closing) = contents own d
+  contents own (abs_array d opening words size closing) = some_contents d ++ some_size_tape size
+  contents own (abs_params d opening ps dots closing) = some_contents d ++ params_with false (says_none ps) (params_tape ps)
+
+  pub some_contents : SomeDeclr → List Op
+  some_contents no_declr = []
+  some_contents (some_declr d) = contents false d
+
+  pub some_size_tape : SomeSize → List Op
+  some_size_tape no_size = []
+  some_size_tape (some_size size) = size_tape size
+
+  pub size_tape : ArraySize → List Op
+  size_tape (size_value e) = quietly (expr_tape false e)
+  size_tape (size_star token) = []
+
+  pub params_tape : Params → List Op
+  params_tape no_params = []
+  params_tape (more_params ws d attrs ps) = specs_with (words_tape false ws) ++ some_declr_tape d ++ declr declrs.Param ++ params_tape ps
+
+  -- the expressions of an initialiser
+  pub init_tape : Init → List Op
+  init_tape (init_value e) = expr_tape false e
+  init_tape (init_braced list) = list_tape list
+
+  pub list_tape : InitList → List Op
+  list_tape (init_list opening items last closing) = init_items_tape items
+
+  pub init_items_tape : InitItems → List Op
+  init_items_tape no_init_items = []
+  init_items_tape (more_init_items ds equal i items) = indices_tape ds ++ init_tape i ++ init_items_tape items
+
+  pub indices_tape : Desigs → List Op
+  indices_tape no_desigs = []
+  indices_tape (more_desigs d ds) = index_tape d ++ indices_tape ds
+
+  pub index_tape : Desig → List Op
+  index_tape (member_desig before name) = []
+  index_tape (index_desig opening e closing) = quietly (expr_tape false e)
+
+  -- the initialiser of the name that was declared last
+  pub some_init_tape : SomeInit → List Op
+  some_init_tape no_init = []
+  some_init_tape (some_init equal i) = declared_init_tape i
+
+  pub declared_init_tape : Init → List Op
+  declared_init_tape (init_value e) = expr_tape false e ++ init (inits.Value (first_token e) (last_token e))
+  declared_init_tape (init_braced list) = init inits.Begin ++ list_tape list ++ init inits.Rule ++ rule_of_list list ++ init inits.End
+
+  pub init_declrs_tape : InitDeclrs → List Op
+  init_declrs_tape no_init_declrs = []
+  init_declrs_tape (more_init_declrs attrs d asm_label attrs2 i ds) = contents false d ++ pieces d ++ declr declrs.Declare ++ some_init_tape i ++ init_declrs_tape ds
+
+  pub declaration_tape : Declaration → List Op
+  declaration_tape (declaration extensions ws ds semi) = specs_with (words_tape (declares_tag ws ds) ws) ++ init_declrs_tape ds ++ declr declrs.DeclarationEnd
+
+  pub decl_tape : Decl → List Op
+  decl_tape (decl_declaration d) = declaration_tape d
+  decl_tape (decl_assert it) = []
+
+  -- the items of a block; `kept`: the value of the last one is that of the block
+  pub block_items_tape : Bool → BlockItems → List Op
+  block_items_tape kept no_block_items = []
+  block_items_tape kept (more_block_items item items) = block_item_tape (kept && is_end items) item ++ block_items_tape kept items
+
+  pub block_item_tape : Bool → BlockItem → List Op
+  block_item_tape kept (block_decl d) = decl_tape d
+  block_item_tape kept (block_stmt s) = stmt_tape kept s
+
+  pub stmt_tape : Bool → Stmt → List Op
+  stmt_tape kept (block opening items closing) = in_scope (block_items_tape false items)
+  stmt_tape kept (expr_stmt e semi) = if kept then some_expr_tape e else dropped_tape e
+  stmt_tape kept (attr_stmt attrs semi) = []
+  stmt_tape kept (label name colon attrs s) = stmt_tape false s
+  stmt_tape kept (case_stmt keyword e colon s) = quietly (expr_tape false e) ++ stmt_tape false s
+  stmt_tape kept (default_stmt keyword colon s) = stmt_tape false s
+  stmt_tape kept (if_stmt keyword opening e closing s other) = in_scope (expr_tape false e ++ stmt stmts.Pop ++ in_scope (stmt_tape false s) ++ some_else_tape other)
+  stmt_tape kept (switch_stmt keyword opening e closing s) = in_scope (expr_tape false e ++ stmt stmts.Pop ++ in_scope (stmt_tape false s))
+  stmt_tape kept (while_stmt keyword opening e closing s) = in_scope (expr_tape false e ++ stmt stmts.Pop ++ in_scope (stmt_tape false s))
+  stmt_tape kept (do_stmt keyword s keyword2 opening e closing semi) = in_scope (in_scope (stmt_tape false s) ++ expr_tape false e ++ stmt stmts.Pop)
+  stmt_tape kept (for_stmt keyword opening start e semi e2 closing s) = in_scope (for_start_tape start ++ dropped_tape e ++ dropped_tape e2 ++ in_scope (stmt_tape false s))
+  stmt_tape kept (goto_stmt keyword name semi) = []
+  stmt_tape kept (continue_stmt keyword semi) = []
+  stmt_tape kept (break_stmt keyword semi) = []
+  stmt_tape kept (return_stmt keyword e semi) = return_tape keyword e semi
+  stmt_tape kept (asm_stmt keyword words group semi) = []
+
+  pub some_else_tape : SomeElse → List Op
+  some_else_tape no_else = []
+  some_else_tape (some_else keyword s) = in_scope (stmt_tape false s)
+
+  pub for_start_tape : ForStart → List Op
+  for_start_tape (start_declaration d) = declaration_tape d
+  for_start_tape (start_value e semi) = dropped_tape e
+
+  pub return_tape : ℕ → SomeExpr → ℕ → List Op
+  return_tape keyword no_expr semi = []
+  return_tape keyword (some_expr e) semi = expr_tape false e ++ stmt (stmts.Return keyword semi)
+
+abbrev pub item_tape : Item → List Op
+item_tape (function_item extensions ws d attrs opening items closing) = specs_with (words_tape false ws) ++ contents true d ++ pieces d ++ declr declrs.Declare ++ stmt stmts.FunctionBody ++ block_items_tape false items ++ stmt stmts.FunctionEnd ++ declr declrs.DeclarationEnd
+item_tape (decl_item d) = decl_tape d
+item_tape (asm_item keyword group semi) = []
+item_tape (semi_item semi) = []
+
+abbrev pub tape_of : List Item → List Op
+tape_of [] = []
+tape_of (item ∷ items) = item_tape item ++ tape_of items
+
+-- of the items that a program has
+abbrev pub items_tape : List rust_item.Item → List Op
+items_tape items = tape_of (map item_of items)

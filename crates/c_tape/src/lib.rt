@@ -1,0 +1,22 @@
+//! The tape of a unit: its nodes in post-order, as plain values without a tree.
+//!
+//! The walk has no recursion and no loop over children. What is left to be put on the tape is a stack of tasks, each a
+//! node, the rest of a list of nodes or an op; a turn takes the next task and puts those of its parts in its place.
+#![tactic(auto)]
+
+mod declaration;
+mod declarator;
+mod expression;
+mod forms;
+mod initialiser;
+mod list;
+mod specifier;
+mod statement;
+mod testing;
+mod todo;
+mod tokens;
+mod unit;
+
+pub use list::{Node, OpList};
+pub use tokens::{first_of_specs, first_of_word};
+pub use unit::tape;

@@ -1,0 +1,96 @@
+-- Scopes that are open while a source is read (C99, 6.2.1), each with its names and, while a declarator in it is being
+-- read, the name of that declarator.
+--
+-- A name's scope begins behind its declarator. Until then the name is held: it is not visible and has no kind, and an
+-- enumerator inside its declarator, whose scope would be the same, cannot take it. One held name a scope is enough, since
+-- inside a declarator only enumerators are declared in the scope of its name.
+use Rattle.std.specs.Prelude.{ℕ, nat_eq, Bool, true, false, List, [], ◌∷◌, Option, None, Some, if◌then◌else◌}
+use Rattle.typedef_scope.specs.declared.kind.Kind.{Kind}
+use Rattle.typedef_scope.specs.declared.kind.Kind.TheVariants.{Typedef}
+use Rattle.typedef_scope.specs.Scopes.{is_same, kind_in, else_in}
+
+-- a scope: its names with their kinds, the newest first, and the name that is held
+pub record HeldScope : Type 0 where
+  pub names : List (ℕ × Kind)
+  pub held : Option ℕ
+
+-- the scopes that are open, the innermost first
+abbrev pub HeldScopes : Type 0
+HeldScopes = List HeldScope
+
+abbrev pub no_scope : HeldScope
+no_scope = record { names = []; held = None }
+
+-- one scope, without names
+abbrev pub file_scope : HeldScopes
+file_scope = no_scope ∷ []
+
+abbrev pub innermost : HeldScopes → HeldScope
+innermost [] = no_scope
+innermost (scope ∷ outer) = scope
+
+-- what is open round the innermost scope
+abbrev pub leave : HeldScopes → HeldScopes
+leave [] = []
+leave (scope ∷ outer) = outer
+
+-- a scope inside the others: one without names, or one that was closed before
+abbrev pub enter : HeldScopes → HeldScopes
+enter scopes = no_scope ∷ scopes
+
+abbrev pub reopen : HeldScope → HeldScopes → HeldScopes
+reopen scope scopes = scope ∷ scopes
+
+-- the kind of a name: that of the innermost scope that declares it
+abbrev pub kind_of : HeldScopes → ℕ → Option Kind
+kind_of [] name = None
+kind_of (scope ∷ outer) name = else_in (kind_in scope.names name) (kind_of outer name)
+
+abbrev pub is_typedef : Option Kind → Bool
+is_typedef (Some Typedef) = true
+is_typedef kind = false
+
+abbrev pub names_type : HeldScopes → ℕ → Bool
+names_type scopes name = is_typedef (kind_of scopes name)
+
+-- whether a scope gives a name no kind other than this one
+abbrev pub admits : Option Kind → Kind → Bool
+admits None kind = true
+admits (Some known) kind = is_same known kind
+
+abbrev pub may_declare : HeldScope → ℕ → Kind → Bool
+may_declare scope name kind = admits (kind_in scope.names name) kind
+
+abbrev pub is_name : Option ℕ → ℕ → Bool
+is_name None name = false
+is_name (Some held) name = nat_eq held name
+
+-- one more name, where the scope has not yet declared it
+abbrev pub with_kind : Option Kind → HeldScope → ℕ → Kind → HeldScope
+with_kind None scope name kind = record scope { names = (name, kind) ∷ scope.names }
+with_kind (Some known) scope name kind = scope
+
+abbrev pub with_name : HeldScope → ℕ → Kind → HeldScope
+with_name scope name kind = with_kind (kind_in scope.names name) scope name kind
+
+-- the innermost scope holds a name for a declarator of this kind, where it gives the name no other kind
+abbrev pub hold : ℕ → Kind → HeldScopes → Option HeldScopes
+hold name kind scopes =
+    if may_declare (innermost scopes) name kind
+    then Some (record (innermost scopes) { held = Some name } ∷ leave scopes)
+    else None
+
+-- the innermost scope lets go the name that it holds, and declares it
+abbrev pub release_as : Option ℕ → Kind → HeldScopes → HeldScopes
+release_as None kind scopes = scopes
+release_as (Some name) kind scopes = record (with_name (innermost scopes) name kind) { held = None } ∷ leave scopes
+
+abbrev pub release : Kind → HeldScopes → HeldScopes
+release kind scopes = release_as (innermost scopes).held kind scopes
+
+-- the innermost scope declares a name at once, where it does not hold it and gives it no other kind
+abbrev pub declare : ℕ → Kind → HeldScopes → Option HeldScopes
+declare name kind scopes =
+    if is_name (innermost scopes).held name then None
+    else if may_declare (innermost scopes) name kind then Some (with_name (innermost scopes) name kind ∷ leave scopes)
+    else None

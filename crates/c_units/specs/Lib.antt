@@ -1,0 +1,4 @@
+pub mod FirstBad
+pub mod HeldScopes
+pub mod Scoping
+pub mod Units

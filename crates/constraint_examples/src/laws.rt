@@ -1,0 +1,8 @@
+//! What the definitions of constraints say of the examples.
+
+ghost use Rattle.constraint_examples.specs.Examples.{ExamplesHold};
+
+/// The system of each example has the constraints, in their order, the call sites and the owners that were worked out for it.
+pub fn examples_hold()
+    ensures { ExamplesHold }
+{}

@@ -1,0 +1,6 @@
+//! Small programs whose constraints were worked out elsewhere: what the definitions say of each is computed by the checker.
+#![tactic(auto)]
+
+mod laws;
+
+pub use laws::examples_hold;

@@ -1,0 +1,386 @@
+-- Where skeletons begin: at each declared name and at each expression that has a fresh one, in the order of the text. What is
+-- the size of an array, the width of a member, the value of an enumerator, a case label, an index of a designator, or an operand
+-- of `sizeof` or `offsetof` gives no fresh skeleton and no site; names that are declared in it have theirs.
+use Rattle.std.specs.Prelude.{ℕ, Bool, true, false, ◌&&◌, ◌||◌, not, List, [], ◌∷◌, ◌++◌, Option, None, Some, if◌then◌else◌}
+use Rattle.c_words.specs.declared.kinds.Punct.{Punct}
+use Rattle.c_words.specs.declared.kinds.Punct.TheVariants as signs
+use Rattle.c_tree.specs.Tree.{Expr, operation, cast, prefix, sizeof_value, sizeof_type, extension, index, call, dot, arrow, post, compound, name_use, number_use, char_use, text_use, paren, statement_expr, va_arg, va_start, va_copy, offset, comma, assign, cond, binary, SomeExpr, no_expr, some_expr, Exprs, no_exprs, more_exprs, SpecWords, no_words, more_words, SpecWord, storage, thread, inline_word, noreturn, qualifier, basic, struct_type, enum_type, typedef_name, attribute, SomeBody, no_body, some_body, StructItems, no_struct_items, more_struct_items, StructItem, member, member_semi, member_assert, MemDeclrs, no_mem_declrs, more_mem_declrs, MemDeclr, named, unnamed, SomeValue, no_value, some_value, EnumType, enum_of, no_enum_body, some_enum_body, Enumerators, no_enumerators, more_enumerators, Declr, pointer, declr_name, declr_paren, array, params, abs_pointer, abs_paren, abs_array, abs_params, SomeDeclr, no_declr, some_declr, SomeSize, no_size, some_size, ArraySize, size_value, size_star, Params, no_params, more_params, Init, init_value, init_braced, InitList, init_list, InitItems, no_init_items, more_init_items, Desigs, no_desigs, more_desigs, Desig, member_desig, index_desig, SomeInit, no_init, some_init, InitDeclrs, no_init_declrs, more_init_declrs, Declaration, declaration, Decl, decl_declaration, decl_assert, BlockItems, no_block_items, more_block_items, BlockItem, block_decl, block_stmt, Stmt, block, expr_stmt, attr_stmt, label, case_stmt, default_stmt, if_stmt, switch_stmt, while_stmt, do_stmt, for_stmt, goto_stmt, continue_stmt, break_stmt, return_stmt, asm_stmt, SomeElse, no_else, some_else, ForStart, start_declaration, start_value}
+use Rattle.c_tree.specs.Unit.{Item, function_item, decl_item, asm_item, semi_item}
+use Rattle.c_tree.specs.Ends.{first_text}
+use Rattle.type_table.specs.Types.{CType, base, void, pointer}
+use Rattle.type_rules.specs.Tokens.{Place, Spelling, place, first_word, Named, declared_name, is_bare}
+use Rattle.type_rules.specs.Scopes.{Role, typedef_role, object_role, function_role, parameter_role, field_role, enumerator_role, Declared, declared_at, Use, means, called, missing, Names}
+use Rattle.type_rules.specs.Values.{value, is_pointer, is_additive, undeclared_function}
+use Rattle.type_rules.specs.Shapes.{use_at, type_named_at, is_zero, shape_of, text_type}
+
+-- A skeleton: where it begins, its type, the function that its variables belong to. At a function's name in an expression it is
+-- an instance of the function that was first declared at `calls`: a call site.
+pub record Start : Type 0 where
+  pub at : Place
+  pub type : CType
+  pub owner : Option Place
+  pub calls : Option Place
+
+-- what a fresh skeleton stands on: the unit, what is known of names, the function around it, and whether nothing is fresh
+pub record Around : Type 0 where
+  pub spelling : Spelling
+  pub names : Names
+  pub enclosing : Option Place
+  pub is_quiet : Bool
+
+abbrev pub quiet : Around → Around
+quiet a = record a { is_quiet = true }
+
+abbrev pub fresh : Around → ℕ → CType → List Start
+fresh a token t = if a.is_quiet then [] else record { at = place a.spelling token; type = t; owner = a.enclosing; calls = None } ∷ []
+
+abbrev pub some_fresh : Around → ℕ → Option CType → List Start
+some_fresh a token None = []
+some_fresh a token (Some t) = fresh a token t
+
+-- a name's skeleton is a place of its type
+abbrev pub named_start : Declared → List Start
+named_start d = record { at = d.at; type = pointer [] d.type; owner = d.owner; calls = None } ∷ []
+
+abbrev pub declared_start : Declared → Role → List Start
+declared_start d typedef_role = []
+declared_start d object_role = named_start d
+declared_start d function_role = named_start d
+declared_start d (parameter_role i) = named_start d
+declared_start d (field_role n i) = named_start d
+declared_start d enumerator_role = []
+
+abbrev pub some_declared_start : Option Declared → List Start
+some_declared_start None = []
+some_declared_start (Some d) = declared_start d d.role
+
+abbrev pub name_start : Around → ℕ → List Start
+name_start a token = some_declared_start (declared_at a.names.declared (place a.spelling token))
+
+-- a name in an expression: a function's name is an instance of it
+abbrev pub instance : Around → ℕ → Place → CType → List Start
+instance a token at t = if a.is_quiet then [] else record { at = place a.spelling token; type = pointer [] t; owner = a.enclosing; calls = Some at } ∷ []
+
+abbrev pub use_by_role : Around → ℕ → Declared → Role → List Start
+use_by_role a token d typedef_role = []
+use_by_role a token d object_role = []
+use_by_role a token d function_role = instance a token d.at d.type
+use_by_role a token d (parameter_role i) = []
+use_by_role a token d (field_role n i) = []
+use_by_role a token d enumerator_role = fresh a token (base [])
+
+abbrev pub some_use_start : Around → ℕ → Option Declared → List Start
+some_use_start a token None = []
+some_use_start a token (Some d) = use_by_role a token d d.role
+
+abbrev pub use_start : Around → ℕ → Use → List Start
+use_start a token (means at) = some_use_start a token (declared_at a.names.declared at)
+use_start a token called = fresh a token (pointer [] undeclared_function)
+use_start a token missing = []
+
+abbrev pub type_at : Around → SpecWords → Option CType
+type_at a ws = type_named_at a.names.type_names (place a.spelling (first_word ws))
+
+-- a place of a type
+abbrev pub some_place : Option CType → Option CType
+some_place None = None
+some_place (Some t) = Some (pointer [] t)
+
+abbrev pub is_some_pointer : Option CType → Bool
+is_some_pointer None = false
+is_some_pointer (Some t) = is_pointer t
+
+-- whether an operator's value is fresh: a sum with one pointer is that pointer
+abbrev pub is_fresh_sum : Bool → Bool → Bool
+is_fresh_sum true b = b
+is_fresh_sum false b = not b
+
+abbrev pub is_fresh_binary : Punct → Bool → Bool → Bool
+is_fresh_binary p a b = not (is_additive p) || is_fresh_sum a b
+
+abbrev pub is_fresh_prefix : Punct → Bool
+is_fresh_prefix signs.Plus = true
+is_fresh_prefix signs.Minus = true
+is_fresh_prefix signs.Tilde = true
+is_fresh_prefix signs.Bang = true
+is_fresh_prefix p = false
+
+abbrev pub fresh_where : Bool → List Start → List Start
+fresh_where true starts = starts
+fresh_where false starts = []
+
+-- parameters that belong to a function with a body have skeletons
+pub data Having : Type 0 where
+  with_skeleton : Having
+  without_skeleton : Having
+
+abbrev pub having : Bool → Having
+having true = with_skeleton
+having false = without_skeleton
+
+abbrev pub had_name : Having → Around → ℕ → List Start
+had_name with_skeleton a token = name_start a token
+had_name without_skeleton a token = []
+
+-- a struct or union without a tag that a member is made of
+abbrev pub unnamed_start : Around → SpecWord → List Start
+unnamed_start a (struct_type word attrs None body) = name_start a word.token
+unnamed_start a (struct_type word attrs (Some tag) body) = []
+unnamed_start a (storage word) = []
+unnamed_start a (thread token) = []
+unnamed_start a (inline_word token) = []
+unnamed_start a (noreturn token) = []
+unnamed_start a (qualifier q) = []
+unnamed_start a (basic word) = []
+unnamed_start a (enum_type e) = []
+unnamed_start a (typedef_name name) = []
+unnamed_start a (attribute attr) = []
+
+abbrev pub unnamed_starts : Around → SpecWords → List Start
+unnamed_starts a no_words = []
+unnamed_starts a (more_words word ws) = unnamed_start a word ++ unnamed_starts a ws
+
+abbrev mutual
+  pub expr_starts : Around → Expr → List Start
+  expr_starts a (operation e comma token e2) = expr_starts a e ++ expr_starts a e2
+  expr_starts a (operation e (assign p) token e2) = expr_starts a e ++ expr_starts a e2
+  expr_starts a (operation e (cond no_expr colon) token e2) = expr_starts a e ++ (expr_starts a e2
+      ++ fresh_where (not (is_zero a.spelling a.names e) && not (is_zero a.spelling a.names e2)) (some_fresh a token (shape_of a.spelling a.names (operation e (cond no_expr colon) token e2)).type))
+  expr_starts a (operation e (cond (some_expr m) colon) token e2) = expr_starts a e ++ (expr_starts a m ++ (expr_starts a e2
+      ++ fresh_where (not (is_zero a.spelling a.names m) && not (is_zero a.spelling a.names e2)) (some_fresh a token (shape_of a.spelling a.names (operation e (cond (some_expr m) colon) token e2)).type)))
+  expr_starts a (operation e (binary p) token e2) = expr_starts a e ++ (expr_starts a e2
+      ++ fresh_where (is_fresh_binary p (is_some_pointer (value (shape_of a.spelling a.names e))) (is_some_pointer (value (shape_of a.spelling a.names e2)))) (fresh a token (base [])))
+  expr_starts a (cast opening ws d closing e) = words_starts a ws ++ (some_declr_starts a d ++ (expr_starts a e ++ some_fresh a opening (type_at a ws)))
+  expr_starts a (prefix token p e) = expr_starts a e ++ fresh_where (is_fresh_prefix p) (fresh a token (base []))
+  expr_starts a (sizeof_value word e) = expr_starts (quiet a) e ++ fresh a word.token (base [])
+  expr_starts a (sizeof_type word opening ws d closing) = words_starts (quiet a) ws ++ (some_declr_starts (quiet a) d ++ fresh a word.token (base []))
+  expr_starts a (extension keyword e) = expr_starts a e
+  expr_starts a (index e opening e2 closing) = expr_starts a e ++ expr_starts a e2
+  expr_starts a (call e opening es closing) = expr_starts a e ++ exprs_starts a es
+  expr_starts a (dot e token name) = expr_starts a e
+  expr_starts a (arrow e token name) = expr_starts a e
+  expr_starts a (post e token p) = expr_starts a e
+  expr_starts a (compound opening ws d closing list) = words_starts a ws ++ (some_declr_starts a d ++ (init_list_starts a list ++ some_fresh a opening (some_place (type_at a ws))))
+  expr_starts a (name_use token name) = use_start a token (use_at a.names.uses (place a.spelling token))
+  expr_starts a (number_use token) = fresh a token (base [])
+  expr_starts a (char_use token) = fresh a token (base [])
+  expr_starts a (text_use texts) = fresh a (first_text texts) (pointer [] text_type)
+  expr_starts a (paren opening e closing) = expr_starts a e
+  expr_starts a (statement_expr opening opening2 items closing closing2) = block_items_starts a items ++ fresh_where (not (ends_in_value items)) (fresh a opening (void []))
+  expr_starts a (va_arg keyword opening e separator ws d closing) = expr_starts a e ++ (words_starts a ws ++ (some_declr_starts a d ++ some_fresh a keyword (type_at a ws)))
+  expr_starts a (va_start keyword opening e separator e2 closing) = expr_starts a e ++ (expr_starts a e2 ++ fresh a keyword (void []))
+  expr_starts a (va_copy keyword opening e separator e2 closing) = expr_starts a e ++ (expr_starts a e2 ++ fresh a keyword (void []))
+  expr_starts a (offset keyword opening ws d separator name steps closing) = words_starts (quiet a) ws ++ (some_declr_starts (quiet a) d ++ (desigs_starts a steps ++ fresh a keyword (base [])))
+
+  -- whether the value of a statement expression is that of its last item
+  pub ends_in_value : BlockItems → Bool
+  ends_in_value no_block_items = false
+  ends_in_value (more_block_items item no_block_items) = is_value item
+  ends_in_value (more_block_items item (more_block_items item2 items)) = ends_in_value (more_block_items item2 items)
+
+  pub is_value : BlockItem → Bool
+  is_value (block_decl d) = false
+  is_value (block_stmt t) = is_value_stmt t
+
+  pub is_value_stmt : Stmt → Bool
+  is_value_stmt (expr_stmt (some_expr e) semi) = true
+  is_value_stmt (expr_stmt no_expr semi) = false
+  is_value_stmt (block opening items closing) = false
+  is_value_stmt (attr_stmt attrs semi) = false
+  is_value_stmt (label name colon attrs t) = false
+  is_value_stmt (case_stmt keyword e colon t) = false
+  is_value_stmt (default_stmt keyword colon t) = false
+  is_value_stmt (if_stmt keyword opening e closing t other) = false
+  is_value_stmt (switch_stmt keyword opening e closing t) = false
+  is_value_stmt (while_stmt keyword opening e closing t) = false
+  is_value_stmt (do_stmt keyword t keyword2 opening e closing semi) = false
+  is_value_stmt (for_stmt keyword opening start e semi e2 closing t) = false
+  is_value_stmt (goto_stmt keyword name semi) = false
+  is_value_stmt (continue_stmt keyword semi) = false
+  is_value_stmt (break_stmt keyword semi) = false
+  is_value_stmt (return_stmt keyword e semi) = false
+  is_value_stmt (asm_stmt keyword words group semi) = false
+
+  pub some_expr_starts : Around → SomeExpr → List Start
+  some_expr_starts a no_expr = []
+  some_expr_starts a (some_expr e) = expr_starts a e
+
+  pub exprs_starts : Around → Exprs → List Start
+  exprs_starts a no_exprs = []
+  exprs_starts a (more_exprs e es) = expr_starts a e ++ exprs_starts a es
+
+  pub words_starts : Around → SpecWords → List Start
+  words_starts a no_words = []
+  words_starts a (more_words word words) = word_starts a word ++ words_starts a words
+
+  pub word_starts : Around → SpecWord → List Start
+  word_starts a (storage word) = []
+  word_starts a (thread token) = []
+  word_starts a (inline_word token) = []
+  word_starts a (noreturn token) = []
+  word_starts a (qualifier q) = []
+  word_starts a (basic word) = []
+  word_starts a (struct_type word attrs tag body) = some_body_starts a body
+  word_starts a (enum_type e) = enum_starts a e
+  word_starts a (typedef_name name) = []
+  word_starts a (attribute attr) = []
+
+  pub some_body_starts : Around → SomeBody → List Start
+  some_body_starts a no_body = []
+  some_body_starts a (some_body opening items closing) = struct_items_starts a items
+
+  pub struct_items_starts : Around → StructItems → List Start
+  struct_items_starts a no_struct_items = []
+  struct_items_starts a (more_struct_items item items) = struct_item_starts a item ++ struct_items_starts a items
+
+  pub struct_item_starts : Around → StructItem → List Start
+  struct_item_starts a (member exts ws ds semi) = words_starts a ws ++ members_starts a ws ds
+  struct_item_starts a (member_semi semi) = []
+  struct_item_starts a (member_assert it) = []
+
+  pub members_starts : Around → SpecWords → MemDeclrs → List Start
+  members_starts a ws no_mem_declrs = unnamed_starts a ws
+  members_starts a ws (more_mem_declrs attrs d ds) = mem_declr_starts a d ++ mem_declrs_starts a ds
+
+  pub mem_declrs_starts : Around → MemDeclrs → List Start
+  mem_declrs_starts a no_mem_declrs = []
+  mem_declrs_starts a (more_mem_declrs attrs d ds) = mem_declr_starts a d ++ mem_declrs_starts a ds
+
+  pub mem_declr_starts : Around → MemDeclr → List Start
+  mem_declr_starts a (named d width attrs) = declr_starts a with_skeleton false d ++ some_value_starts a width
+  mem_declr_starts a (unnamed colon e attrs) = expr_starts (quiet a) e
+
+  pub some_value_starts : Around → SomeValue → List Start
+  some_value_starts a no_value = []
+  some_value_starts a (some_value token e) = expr_starts (quiet a) e
+
+  pub enum_starts : Around → EnumType → List Start
+  enum_starts a (enum_of keyword attrs tag no_enum_body) = []
+  enum_starts a (enum_of keyword attrs tag (some_enum_body opening es last closing)) = enumerators_starts a es
+
+  pub enumerators_starts : Around → Enumerators → List Start
+  enumerators_starts a no_enumerators = []
+  enumerators_starts a (more_enumerators name attrs number es) = some_value_starts a number ++ enumerators_starts a es
+
+  -- a declarator, whose name has a skeleton or none; `own`: the parameters directly around the name belong to a function
+  pub declr_starts : Around → Having → Bool → Declr → List Start
+  declr_starts a h own (pointer star words d) = declr_starts a h own d
+  declr_starts a h own (declr_name token name) = had_name h a token
+  declr_starts a h own (declr_paren opening attrs d closing) = declr_starts a h own d
+  declr_starts a h own (array d opening words size closing) = declr_starts a h own d ++ some_size_starts a size
+  declr_starts a h own (params d opening ps dots closing) = declr_starts a h own d ++ params_starts a (having (own && is_bare d)) ps
+  declr_starts a h own (abs_pointer star words d) = some_declr_starts a d
+  declr_starts a h own (abs_paren opening attrs d closing) = declr_starts a h own d
+  declr_starts a h own (abs_array d opening words size closing) = some_declr_starts a d ++ some_size_starts a size
+  declr_starts a h own (abs_params d opening ps dots closing) = some_declr_starts a d ++ params_starts a without_skeleton ps
+
+  pub some_declr_starts : Around → SomeDeclr → List Start
+  some_declr_starts a no_declr = []
+  some_declr_starts a (some_declr d) = declr_starts a without_skeleton false d
+
+  pub param_declr_starts : Around → Having → SomeDeclr → List Start
+  param_declr_starts a h no_declr = []
+  param_declr_starts a h (some_declr d) = declr_starts a h false d
+
+  pub some_size_starts : Around → SomeSize → List Start
+  some_size_starts a no_size = []
+  some_size_starts a (some_size size) = array_size_starts a size
+
+  pub array_size_starts : Around → ArraySize → List Start
+  array_size_starts a (size_value e) = expr_starts (quiet a) e
+  array_size_starts a (size_star star) = []
+
+  pub params_starts : Around → Having → Params → List Start
+  params_starts a h no_params = []
+  params_starts a h (more_params ws d attrs ps) = words_starts a ws ++ (param_declr_starts a h d ++ params_starts a h ps)
+
+  pub init_starts : Around → Init → List Start
+  init_starts a (init_value e) = expr_starts a e
+  init_starts a (init_braced list) = init_list_starts a list
+
+  pub init_list_starts : Around → InitList → List Start
+  init_list_starts a (init_list opening items last closing) = init_items_starts a items
+
+  pub init_items_starts : Around → InitItems → List Start
+  init_items_starts a no_init_items = []
+  init_items_starts a (more_init_items ds equal init items) = desigs_starts a ds ++ (init_starts a init ++ init_items_starts a items)
+
+  pub desigs_starts : Around → Desigs → List Start
+  desigs_starts a no_desigs = []
+  desigs_starts a (more_desigs d ds) = desig_starts a d ++ desigs_starts a ds
+
+  pub desig_starts : Around → Desig → List Start
+  desig_starts a (member_desig token name) = []
+  desig_starts a (index_desig opening e closing) = expr_starts (quiet a) e
+
+  pub some_init_starts : Around → SomeInit → List Start
+  some_init_starts a no_init = []
+  some_init_starts a (some_init equal init) = init_starts a init
+
+  pub init_declrs_starts : Around → InitDeclrs → List Start
+  init_declrs_starts a no_init_declrs = []
+  init_declrs_starts a (more_init_declrs attrs d asm_label attrs2 init ds) = declr_starts a with_skeleton false d ++ (some_init_starts a init ++ init_declrs_starts a ds)
+
+  pub declaration_starts : Around → Declaration → List Start
+  declaration_starts a (declaration exts ws ds semi) = words_starts a ws ++ init_declrs_starts a ds
+
+  pub decl_starts : Around → Decl → List Start
+  decl_starts a (decl_declaration d) = declaration_starts a d
+  decl_starts a (decl_assert it) = []
+
+  pub block_items_starts : Around → BlockItems → List Start
+  block_items_starts a no_block_items = []
+  block_items_starts a (more_block_items item items) = block_item_starts a item ++ block_items_starts a items
+
+  pub block_item_starts : Around → BlockItem → List Start
+  block_item_starts a (block_decl d) = decl_starts a d
+  block_item_starts a (block_stmt t) = stmt_starts a t
+
+  pub stmt_starts : Around → Stmt → List Start
+  stmt_starts a (block opening items closing) = block_items_starts a items
+  stmt_starts a (expr_stmt e semi) = some_expr_starts a e
+  stmt_starts a (attr_stmt attrs semi) = []
+  stmt_starts a (label name colon attrs t) = stmt_starts a t
+  stmt_starts a (case_stmt keyword e colon t) = expr_starts (quiet a) e ++ stmt_starts a t
+  stmt_starts a (default_stmt keyword colon t) = stmt_starts a t
+  stmt_starts a (if_stmt keyword opening e closing t other) = expr_starts a e ++ (stmt_starts a t ++ some_else_starts a other)
+  stmt_starts a (switch_stmt keyword opening e closing t) = expr_starts a e ++ stmt_starts a t
+  stmt_starts a (while_stmt keyword opening e closing t) = expr_starts a e ++ stmt_starts a t
+  stmt_starts a (do_stmt keyword t keyword2 opening e closing semi) = stmt_starts a t ++ expr_starts a e
+  stmt_starts a (for_stmt keyword opening start e semi e2 closing t) = for_start_starts a start ++ (some_expr_starts a e ++ (some_expr_starts a e2 ++ stmt_starts a t))
+  stmt_starts a (goto_stmt keyword name semi) = []
+  stmt_starts a (continue_stmt keyword semi) = []
+  stmt_starts a (break_stmt keyword semi) = []
+  stmt_starts a (return_stmt keyword e semi) = some_expr_starts a e
+  stmt_starts a (asm_stmt keyword words group semi) = []
+
+  pub some_else_starts : Around → SomeElse → List Start
+  some_else_starts a no_else = []
+  some_else_starts a (some_else keyword t) = stmt_starts a t
+
+  pub for_start_starts : Around → ForStart → List Start
+  for_start_starts a (start_declaration d) = declaration_starts a d
+  for_start_starts a (start_value e semi) = some_expr_starts a e
+
+abbrev pub first_of : Option Declared → Option Place
+first_of None = None
+first_of (Some d) = Some d.first
+
+-- the function that was first declared where a declarator's name was
+abbrev pub declared_function : Spelling → Names → Option Named → Option Place
+declared_function u s None = None
+declared_function u s (Some it) = first_of (declared_at s.declared (place u it.token))
+
+-- at file scope a fresh skeleton belongs to nobody
+abbrev pub item_starts : Spelling → Names → Item → List Start
+item_starts u s (function_item exts ws d attrs opening items closing) =
+    words_starts (around u s None) ws ++ (declr_starts (around u s None) with_skeleton true d ++ block_items_starts (around u s (declared_function u s (declared_name d))) items) where
+      around : Spelling → Names → Option Place → Around
+      around u s f = record { spelling = u; names = s; enclosing = f; is_quiet = false }
+item_starts u s (decl_item d) = decl_starts (record { spelling = u; names = s; enclosing = None; is_quiet = false }) d
+item_starts u s (asm_item keyword group semi) = []
+item_starts u s (semi_item semi) = []
+
+abbrev pub items_starts : Spelling → Names → List Item → List Start
+items_starts u s [] = []
+items_starts u s (item ∷ items) = item_starts u s item ++ items_starts u s items

@@ -1,0 +1,5 @@
+mod Sizes
+mod Seeing
+mod Reading
+mod Growth
+mod Laws

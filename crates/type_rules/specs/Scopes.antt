@@ -1,0 +1,242 @@
+-- What is known of names at a place of a unit: declarations so far, scopes, tags, and what was found of uses.
+use Rattle.std.specs.Prelude.{ℕ, zero, suc, nat_eq, nat_lt, Bool, true, false, ◌&&◌, List, [], ◌∷◌, ◌++◌, length, slice_get, Option, None, Some, if◌then◌else◌}
+use Rattle.c_words.specs.declared.kinds.Keyword.{Keyword}
+use Rattle.c_words.specs.declared.kinds.Keyword.TheVariants as keywords
+use Rattle.type_table.specs.Types.{CType, size}
+use Rattle.type_rules.specs.Tokens.{Place}
+use Rattle.type_rules.specs.Faults.{type_too_large, Fault, fault_where}
+
+-- what a name stands for in a scope: a type, or what is declared first at a place
+pub data Meaning : Type 0 where
+  means_type : CType → Meaning
+  means_thing : Place → Meaning
+
+-- the struct, union or enum of a tag
+pub record Tagged : Type 0 where
+  pub kind : Keyword
+  pub tag : ℕ
+  pub number : ℕ
+
+pub record Scope : Type 0 where
+  pub names : List (ℕ × Meaning)
+  pub tags : List Tagged
+
+-- a member of a struct's own, at its name, or at the word `struct` or `union` where it has none
+pub record Own : Type 0 where
+  pub at : Place
+  pub type : CType
+
+-- a member that a struct has by a name, its own or one of an unnamed member, with the number of the own member that it
+-- is or lies in
+pub record Known : Type 0 where
+  pub name : ℕ
+  pub at : Place
+  pub type : CType
+  pub own : ℕ
+
+-- in the order of the text
+pub record Body : Type 0 where
+  pub own : List Own
+  pub known : List Known
+
+-- a struct, union or enum, by the place of its first tag, or of its keyword where it has none
+pub record Aggregate : Type 0 where
+  pub kind : Keyword
+  pub at : Place
+  pub body : Option Body
+
+pub data Role : Type 0 where
+  typedef_role : Role
+  object_role : Role
+  function_role : Role
+  -- with its number among the parameters
+  parameter_role : ℕ → Role
+  -- with the number of the struct and that among its own members
+  field_role : ℕ → ℕ → Role
+  enumerator_role : Role
+
+-- a declaration; its thing was first declared at `first`, and belongs to the function that was first declared at `owner`
+pub record Declared : Type 0 where
+  pub at : Place
+  pub role : Role
+  pub first : Place
+  pub type : CType
+  pub owner : Option Place
+
+-- what a name in an expression stands for
+pub data Use : Type 0 where
+  means : Place → Use
+  -- undeclared and called directly: a function of any arguments that gives an `int`
+  called : Use
+  missing : Use
+
+pub record NameUse : Type 0 where
+  pub at : Place
+  pub use_of : Use
+
+-- a type's name, at its first token
+pub record TypeNamed : Type 0 where
+  pub at : Place
+  pub type : CType
+
+pub record Names : Type 0 where
+  pub declared : List Declared
+  -- those that are open, the innermost first
+  pub scopes : List Scope
+  pub aggregates : List Aggregate
+  -- the objects and functions of file scope and those that blocks declare `extern`, by where each was first declared
+  pub things : List (ℕ × Place)
+  -- what is visible round the file scope
+  pub round : List (ℕ × Place)
+  pub uses : List NameUse
+  pub type_names : List TypeNamed
+  pub faults : List Fault
+  -- the functions that have a body
+  pub bodies : List Place
+  -- the function in whose body this is
+  pub enclosing : Option Place
+  -- the scope of a function's parameters, until its body goes on in it
+  pub kept : Option Scope
+
+-- places and keywords
+
+abbrev pub is_place : Place → Place → Bool
+is_place p q = nat_eq p.0 q.0 && nat_eq p.1 q.1
+
+abbrev pub is_kind : Keyword → Keyword → Bool
+is_kind keywords.Struct keywords.Struct = true
+is_kind keywords.Union keywords.Union = true
+is_kind keywords.Enum keywords.Enum = true
+is_kind kind other = false
+
+-- finding
+
+abbrev pub thing_named : List (ℕ × Place) → ℕ → Option Place
+thing_named [] name = None
+thing_named (it ∷ things) name = if nat_eq it.0 name then Some it.1 else thing_named things name
+
+abbrev pub meaning_in : List (ℕ × Meaning) → ℕ → Option Meaning
+meaning_in [] name = None
+meaning_in (it ∷ names) name = if nat_eq it.0 name then Some it.1 else meaning_in names name
+
+abbrev pub some_thing : Option Place → Option Meaning
+some_thing None = None
+some_thing (Some at) = Some (means_thing at)
+
+abbrev pub or_outer : Option Meaning → Option Meaning → Option Meaning
+or_outer None outer = outer
+or_outer (Some meaning) outer = Some meaning
+
+-- of the innermost scope that declares the name; what is round the file scope comes last
+abbrev pub meaning_through : List Scope → List (ℕ × Place) → ℕ → Option Meaning
+meaning_through [] round name = some_thing (thing_named round name)
+meaning_through (scope ∷ outer) round name = or_outer (meaning_in scope.names name) (meaning_through outer round name)
+
+abbrev pub meaning : Names → ℕ → Option Meaning
+meaning s name = meaning_through s.scopes s.round name
+
+abbrev pub tag_in : List Tagged → Keyword → ℕ → Option ℕ
+tag_in [] kind tag = None
+tag_in (it ∷ tags) kind tag = if is_kind it.kind kind && nat_eq it.tag tag then Some it.number else tag_in tags kind tag
+
+abbrev pub or_number : Option ℕ → Option ℕ → Option ℕ
+or_number None outer = outer
+or_number (Some n) outer = Some n
+
+abbrev pub tag_through : List Scope → Keyword → ℕ → Option ℕ
+tag_through [] kind tag = None
+tag_through (scope ∷ outer) kind tag = or_number (tag_in scope.tags kind tag) (tag_through outer kind tag)
+
+abbrev pub no_scope : Scope
+no_scope = record { names = []; tags = [] }
+
+abbrev pub innermost : List Scope → Scope
+innermost [] = no_scope
+innermost (scope ∷ outer) = scope
+
+abbrev pub outer_scopes : List Scope → List Scope
+outer_scopes [] = []
+outer_scopes (scope ∷ outer) = outer
+
+-- what the innermost scope says of a name
+abbrev pub inner_meaning : Names → ℕ → Option Meaning
+inner_meaning s name = meaning_in (innermost s.scopes).names name
+
+abbrev pub is_at_file : Names → Bool
+is_at_file s = nat_lt (length s.scopes) 2
+
+abbrev pub declared_at : List Declared → Place → Option Declared
+declared_at [] at = None
+declared_at (d ∷ ds) at = if is_place d.at at then Some d else declared_at ds at
+
+abbrev pub owner_of_some : Option Declared → Option Place
+owner_of_some None = None
+owner_of_some (Some d) = d.owner
+
+abbrev pub owner_at : Names → Place → Option Place
+owner_at s at = owner_of_some (declared_at s.declared at)
+
+-- changing
+
+abbrev pub enter : Names → Names
+enter s = record s { scopes = no_scope ∷ s.scopes }
+
+abbrev pub leave : Names → Names
+leave s = record s { scopes = outer_scopes s.scopes }
+
+abbrev pub bound : ℕ → Meaning → Names → Names
+bound name meaning s = record s { scopes = record (innermost s.scopes) { names = (name, meaning) ∷ (innermost s.scopes).names } ∷ outer_scopes s.scopes }
+
+abbrev pub tag_bound : Keyword → ℕ → ℕ → Names → Names
+tag_bound kind tag n s = record s { scopes = record (innermost s.scopes) { tags = record { kind = kind; tag = tag; number = n } ∷ (innermost s.scopes).tags } ∷ outer_scopes s.scopes }
+
+abbrev pub with_faults : List Fault → Names → Names
+with_faults faults s = record s { faults = s.faults ++ faults }
+
+abbrev pub with_declared : Declared → Names → Names
+with_declared d s = record s { declared = s.declared ++ d ∷ [] }
+
+-- a type is too large where it has over 4,096 constructors
+abbrev pub sized : Place → CType → Names → Names
+sized at type s = with_faults (fault_where (nat_lt 4096 (size type)) at type_too_large) s
+
+abbrev pub with_aggregate : Keyword → Place → Names → Names
+with_aggregate kind at s = record s { aggregates = s.aggregates ++ record { kind = kind; at = at; body = None } ∷ [] }
+
+abbrev pub changed_at : {A : Type 0} → List A → ℕ → (A → A) → List A
+changed_at [] n change = []
+changed_at (x ∷ xs) zero change = change x ∷ xs
+changed_at (x ∷ xs) (suc n) change = x ∷ changed_at xs n change
+
+abbrev pub empty_body : Body
+empty_body = record { own = []; known = [] }
+
+abbrev pub or_no_body : Option Body → Body
+or_no_body None = empty_body
+or_no_body (Some body) = body
+
+abbrev pub body_of_some : Option Aggregate → Option Body
+body_of_some None = None
+body_of_some (Some it) = it.body
+
+abbrev pub body_of : List Aggregate → ℕ → Option Body
+body_of aggregates n = body_of_some (slice_get aggregates n)
+
+abbrev pub has_body : Option Body → Bool
+has_body None = false
+has_body (Some body) = true
+
+abbrev pub with_body : ℕ → (Body → Body) → Names → Names
+with_body n change s = record s { aggregates = changed_at s.aggregates n (λ it. record it { body = Some (change (or_no_body it.body)) }) }
+
+-- one more own member, which has a name
+abbrev pub with_member : ℕ → Place → CType → Body → Body
+with_member name at type body = record { own = body.own ++ record { at = at; type = type } ∷ []; known = body.known ++ record { name = name; at = at; type = type; own = length body.own } ∷ [] }
+
+abbrev pub lying_in : ℕ → List Known → List Known
+lying_in own [] = []
+lying_in own (it ∷ known) = record it { own = own } ∷ lying_in own known
+
+-- one more own member without a name, whose members are members of the outer one too
+abbrev pub with_unnamed : Place → CType → List Known → Body → Body
+with_unnamed at type inner body = record { own = body.own ++ record { at = at; type = type } ∷ []; known = body.known ++ lying_in (length body.own) inner }

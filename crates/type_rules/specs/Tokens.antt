@@ -1,0 +1,132 @@
+-- What the tokens of a source say that its tree does not, and the first tokens of parts of trees.
+use Rattle.std.specs.Prelude.{ℕ, Bool, true, false, ◌&&◌, List, [], ◌∷◌, ◌++◌, Option, None, Some, if◌then◌else◌}
+use Rattle.c_words.specs.declared.kinds.Keyword.{Keyword}
+use Rattle.c_words.specs.declared.kinds.Keyword.TheVariants as keywords
+use Rattle.c_syntax.specs.declared.parts.Qual.{Qual}
+use Rattle.c_syntax.specs.declared.parts.Qual.TheVariants as quals
+use Rattle.c_syntax.specs.declared.parts.PointerWord.{PointerWord}
+use Rattle.c_syntax.specs.declared.parts.PointerWord.TheVariants as pointer_words
+use Rattle.c_syntax.specs.declared.parts.ArrayWord.{ArrayWord}
+use Rattle.c_syntax.specs.declared.parts.ArrayWord.TheVariants as array_words
+use Rattle.c_tree.specs.Tree.{SpecWords, no_words, more_words, SpecWord, storage, thread, inline_word, noreturn, qualifier, basic, struct_type, enum_type, typedef_name, attribute, EnumType, enum_of, Declr, pointer, declr_name, declr_paren, array, params, abs_pointer, abs_paren, abs_array, abs_params, SomeDeclr, no_declr, some_declr, Params, no_params, more_params}
+use Rattle.type_table.specs.Types.{Words}
+
+-- a token of a unit
+abbrev pub Place : Type 0
+Place = ℕ × ℕ
+
+-- What is read from the tokens of a unit: whether the word at a token is an annotation, as a `$` word is, an index word,
+-- or a keyword that a lattice names; whether the number at a token is spelled `0`; and the number of a name's spelling,
+-- which is the same in all units.
+pub record Spelling : Type 0 where
+  pub unit : ℕ
+  pub annotates : ℕ → Bool
+  pub is_naught : ℕ → Bool
+  pub key : ℕ → ℕ
+
+abbrev pub place : Spelling → ℕ → Place
+place u token = (u.unit, token)
+
+abbrev pub qual_token : Qual → ℕ
+qual_token (quals.Word word) = word.token
+qual_token (quals.Element token) = token
+qual_token (quals.Index token) = token
+
+-- the annotation words of a list of qualifiers, in token order
+abbrev pub annotation : Spelling → Qual → Words
+annotation u q = if u.annotates (qual_token q) then place u (qual_token q) ∷ [] else []
+
+abbrev pub annotations : Spelling → List Qual → Words
+annotations u [] = []
+annotations u (q ∷ qs) = annotation u q ++ annotations u qs
+
+abbrev pub pointer_annotations : Spelling → List PointerWord → Words
+pointer_annotations u [] = []
+pointer_annotations u (pointer_words.Qual q ∷ words) = annotation u q ++ pointer_annotations u words
+pointer_annotations u (pointer_words.Attr attr ∷ words) = pointer_annotations u words
+
+abbrev pub array_annotations : Spelling → List ArrayWord → Words
+array_annotations u [] = []
+array_annotations u (array_words.Static token ∷ words) = array_annotations u words
+array_annotations u (array_words.Qual q ∷ words) = annotation u q ++ array_annotations u words
+
+abbrev pub enum_token : EnumType → ℕ
+enum_token (enum_of keyword attrs tag body) = keyword
+
+abbrev pub word_token : SpecWord → ℕ
+word_token (storage word) = word.token
+word_token (thread token) = token
+word_token (inline_word token) = token
+word_token (noreturn token) = token
+word_token (qualifier q) = qual_token q
+word_token (basic word) = word.token
+word_token (struct_type word attrs tag body) = word.token
+word_token (enum_type e) = enum_token e
+word_token (typedef_name name) = name.token
+word_token (attribute attr) = attr.keyword
+
+-- of a type's name that begins with these words; token 0 where there is none, as in no well-formed unit
+abbrev pub first_word : SpecWords → ℕ
+first_word no_words = 0
+first_word (more_words word words) = word_token word
+
+-- a name with its token
+pub record Named : Type 0 where
+  pub token : ℕ
+  pub name : ℕ
+
+-- the name that a declarator declares
+abbrev pub declared_name : Declr → Option Named
+declared_name (pointer star words d) = declared_name d
+declared_name (declr_name token name) = Some (record { token = token; name = name })
+declared_name (declr_paren opening attrs d closing) = declared_name d
+declared_name (array d opening words size closing) = declared_name d
+declared_name (params d opening ps dots closing) = declared_name d
+declared_name (abs_pointer star words d) = None
+declared_name (abs_paren opening attrs d closing) = None
+declared_name (abs_array d opening words size closing) = None
+declared_name (abs_params d opening ps dots closing) = None
+
+abbrev pub some_declared_name : SomeDeclr → Option Named
+some_declared_name no_declr = None
+some_declared_name (some_declr d) = declared_name d
+
+-- a declarator that is its name alone, parentheses aside
+abbrev pub is_bare : Declr → Bool
+is_bare (declr_name token name) = true
+is_bare (declr_paren opening attrs d closing) = is_bare d
+is_bare (pointer star words d) = false
+is_bare (array d opening words size closing) = false
+is_bare (params d opening ps dots closing) = false
+is_bare (abs_pointer star words d) = false
+is_bare (abs_paren opening attrs d closing) = false
+is_bare (abs_array d opening words size closing) = false
+is_bare (abs_params d opening ps dots closing) = false
+
+abbrev pub is_void : Keyword → Bool
+is_void keywords.Void = true
+is_void word = false
+
+-- words that leave `void` no parameter: the keyword itself, and what says nothing of it
+abbrev pub leaves_void : SpecWord → Bool
+leaves_void (storage word) = false
+leaves_void (thread token) = false
+leaves_void (inline_word token) = true
+leaves_void (noreturn token) = true
+leaves_void (qualifier q) = false
+leaves_void (basic word) = is_void word.keyword
+leaves_void (struct_type word attrs tag body) = false
+leaves_void (enum_type e) = false
+leaves_void (typedef_name name) = false
+leaves_void (attribute attr) = true
+
+abbrev pub leave_void : SpecWords → Bool
+leave_void no_words = true
+leave_void (more_words word words) = leaves_void word && leave_void words
+
+-- `void` alone, without a declarator, is no parameter (C99, 6.7.5.3 paragraph 10)
+abbrev pub says_none : Params → Bool
+says_none no_params = false
+says_none (more_params ws no_declr attrs no_params) = leave_void ws
+says_none (more_params ws no_declr attrs (more_params ws2 d attrs2 ps)) = false
+says_none (more_params ws (some_declr d) attrs ps) = false

@@ -1,0 +1,74 @@
+-- The types of a table of rows, each of which names lower rows alone.
+use Rattle.std.specs.Prelude.{◌≡◌, ℕ, ◌<◌, min, Bool, true, false, List, [], ◌∷◌, ◌++◌, length, slice_get, unwrap_or, Option, Some, None}
+use Rattle.type_table.specs.declared.row.Shape.{Shape}
+use Rattle.type_table.specs.declared.row.Shape.TheVariants as shapes
+use Rattle.type_table.specs.declared.row.Row.{Row}
+use Rattle.type_table.specs.Types.{Words, CType, base, void, struct, pointer, function, CTypes, no_types, more_types, size}
+
+-- the type of a number; a number past the table is a base type
+abbrev pub type_at : List CType → ℕ → CType
+type_at types n = unwrap_or (slice_get types n) (base [])
+
+abbrev pub types_at : List CType → List ℕ → CTypes
+types_at types [] = no_types
+types_at types (n ∷ ns) = more_types (type_at types n) (types_at types ns)
+
+abbrev pub some_where : Bool → Words → Option Words
+some_where true ws = Some ws
+some_where false ws = None
+
+-- the type of a shape with its words, where these are the types before it
+abbrev pub shown : List CType → Shape → Words → Words → CType
+shown types shapes.Base ws es = base ws
+shown types shapes.Void ws es = void ws
+shown types (shapes.Ref t) ws es = pointer ws (type_at types t)
+shown types (shapes.Fun ps r e) ws es = function ws (types_at types ps.items) (type_at types r) (some_where e es)
+shown types (shapes.Struct s) ws es = struct ws s
+
+abbrev pub row_type : List CType → Row → CType
+row_type types row = shown types row.shape row.words.items row.ellipsis_words.items
+
+abbrev pub grown : List CType → List Row → List CType
+grown types [] = types
+grown types (row ∷ rows) = grown (types ++ row_type types row ∷ []) rows
+
+-- the types of a table
+abbrev pub types_of : List Row → List CType
+types_of rows = grown [] rows
+
+abbrev pub type_of : List Row → ℕ → CType
+type_of rows n = type_at (types_of rows) n
+
+abbrev pub AreBelow : ℕ → List ℕ → Type 0
+AreBelow n [] = Unit {0}
+AreBelow n (m ∷ ms) = (m < n) × AreBelow n ms
+
+-- the parts of a shape are below a number
+abbrev pub AreParts : ℕ → Shape → Type 0
+AreParts n shapes.Base = Unit {0}
+AreParts n shapes.Void = Unit {0}
+AreParts n (shapes.Ref t) = t < n
+AreParts n (shapes.Fun ps r e) = AreBelow n ps.items × (r < n)
+AreParts n (shapes.Struct s) = Unit {0}
+
+-- a size, at most 2^32 - 1
+abbrev pub capped : ℕ → ℕ
+capped n = min n 4294967295
+
+-- a row behind these types names them alone, and has its size
+abbrev pub IsMade : List CType → Row → Type 0
+IsMade types row = AreParts (length types) row.shape × (row.size ≡ capped (size (row_type types row)))
+
+abbrev pub AreMade : List CType → List Row → Type 0
+AreMade types [] = Unit {0}
+AreMade types (row ∷ rows) = IsMade types row × AreMade (types ++ row_type types row ∷ []) rows
+
+-- what is known of a row at its place
+pub record Stands (types : List CType) (n : ℕ) (row : Row) : Type 0 where
+  pub is : type_at types n ≡ row_type types row
+  pub low : AreParts n row.shape
+  pub sized : row.size ≡ capped (size (type_at types n))
+
+-- what was there stays
+abbrev pub Keeps : List Row → List Row → Type 0
+Keeps old new = (n : ℕ) → n < length old → type_of new n ≡ type_of old n
