@@ -2,8 +2,8 @@
 
 use crate::report::ReportFault;
 use crate::report::ReportFault::{Grammar, NoSuchConstraint};
-use flow_graph::proof::Why;
-use flow_graph::proof::Why::{B1, B2, B3, B4, B5, B6, B7};
+use flow_graph::Why;
+use flow_graph::Why::{B1, B2, B3, B4, B5, B6, B7};
 
 /// The first failing step's line and rule, or none.
 pub type Answer = Option<(u32, Why)>;
