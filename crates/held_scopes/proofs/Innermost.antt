@@ -44,7 +44,7 @@ put_innermost xs n w last some =
     let size = ap length e.2 ∙ length-append e.0 (e.1 ∷ []) in
     let at : n ≡ length e.0 = omega arith in
     let new : reverse (slice_set (e.0 ++ e.1 ∷ []) n w) ≡ w ∷ leave (reverse (e.0 ++ e.1 ∷ [])) =
-      rw (write_last e.0 e.1 w n at) (reverse-append e.0 (w ∷ []) ∙ sym (ap (λ s. w ∷ leave s) (reverse-append e.0 (e.1 ∷ [])))) in
+    rw (write_last e.0 e.1 w n at) (reverse-append e.0 (w ∷ []) ∙ sym (ap (λ s. w ∷ leave s) (reverse-append e.0 (e.1 ∷ [])))) in
     subst (λ ys. reverse (slice_set ys n w) ≡ w ∷ leave (reverse ys)) (sym e.2) new
 
 -- the scope that is read in the place of the last
