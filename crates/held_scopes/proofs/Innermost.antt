@@ -1,5 +1,5 @@
 -- The last scope of a list, which is the innermost.
-use Rattle.std.proofs.Common.{arith, ◌≡◌, ℕ, zero, suc, ◌+◌, ◌-◌, ◌<◌, ◌≤◌, Bool, true, false, List, [], ◌∷◌, ◌++◌, length, reverse, take, slice_index_or, slice_set, Option, None, Some, refl, sym, ◌∙◌, ap, subst}
+use Rattle.std.proofs.Common.{arith, ◌≡◌, ℕ, zero, suc, ◌-◌, ◌<◌, ◌≤◌, true, false, List, [], ◌∷◌, ◌++◌, length, reverse, take, slice_index_or, slice_set, Option, None, Some, refl, sym, ◌∙◌, ap, subst}
 use Rattle.std.proofs.lemmas.List.{reverse-append, length-append, length-reverse}
 use Rattle.c_units.specs.HeldScopes.{HeldScope, HeldScopes, innermost, leave, may_declare, is_name, with_name, hold, declare, release, release_as, kind_of}
 use Rattle.typedef_scope.specs.declared.kind.Kind.{Kind}
