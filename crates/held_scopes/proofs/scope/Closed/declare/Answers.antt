@@ -9,4 +9,4 @@ returns-in_ok-insert-in-None-clause-named c =
     let seen = ap (λ s. kind_in s.names c.args.name) c.self.view_is in
     let missing = seen ∙ sym c.kind_of.ensures ∙ c.in-None.is in
     rw (← c.self.view_is) (added names c.insert.new.self.entries c.args.name c.args.kind
-      c.self.inside.held c.self.invariant missing c.in_ok-insert-in-None.ensures.entries)
+    c.self.inside.held c.self.invariant missing c.in_ok-insert-in-None.ensures.entries)

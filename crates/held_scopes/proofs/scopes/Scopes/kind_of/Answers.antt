@@ -1,6 +1,5 @@
-use Rattle.std.proofs.Common.{arith, ◌≡◌, ◌-◌, ◌≤◌, Option, reverse, take, length, sym, ap, ◌∙◌}
+use Rattle.std.proofs.Common.{arith, ◌≡◌, ◌-◌, ◌≤◌, reverse, take, length, sym, ap, ◌∙◌}
 use Rattle.std.proofs.Math.Seq.{take-length}
-use Rattle.typedef_scope.specs.declared.kind.Kind.{Kind}
 use Rattle.typedef_scope.specs.Scopes.{else_in}
 use Rattle.c_units.specs.HeldScopes as held
 use Rattle.held_scopes.proofs.Innermost.{kind_step}
