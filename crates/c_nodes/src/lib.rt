@@ -7,4 +7,11 @@ mod lists;
 mod sized;
 
 pub use expressions::index;
-pub use sized::{SizedExpr, SizedExprs};
+pub use sized::{
+    PresentDeclr, SizedBlock, SizedBlockItem, SizedBlockItems, SizedBody, SizedDeclaration,
+    SizedDeclr, SizedDesig, SizedDesigs, SizedElse, SizedEnumBody, SizedEnumerator,
+    SizedEnumerators, SizedExpr, SizedExprs, SizedInit, SizedInitDeclr, SizedInitDeclrs,
+    SizedInitItem, SizedInitItems, SizedInitList, SizedMember, SizedMembers, SizedParam,
+    SizedParams, SizedSize, SizedSomeExpr, SizedSomeInit, SizedSpecs, SizedStart, SizedStep,
+    SizedSteps, SizedStmt, SizedStructItem, SizedStructItems, SizedTypeName, SizedValue, SizedWord,
+};
