@@ -6,7 +6,7 @@ mod heights;
 mod lists;
 mod sized;
 
-pub use expressions::index;
+pub use expressions::{call, cast, dot, index};
 pub use sized::{
     PresentDeclr, SizedBlock, SizedBlockItem, SizedBlockItems, SizedBody, SizedDeclaration,
     SizedDeclr, SizedDesig, SizedDesigs, SizedElse, SizedEnumBody, SizedEnumerator,
