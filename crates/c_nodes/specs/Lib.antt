@@ -1,2 +1,3 @@
+pub mod Extended
 pub mod Heights
 pub mod Sized

@@ -4,9 +4,14 @@
 mod expressions;
 mod heights;
 mod lists;
+mod making;
 mod sized;
 
-pub use expressions::{call, cast, dot, index};
+pub use expressions::{
+    arrow, call, cast, char_use, compound, dot, extended, extension, index, name_use, number_use,
+    offset, paren, post, prefix, sizeof_type, sizeof_value, statement_expr, text_use, va_arg,
+    va_copy, va_start,
+};
 pub use sized::{
     PresentDeclr, SizedBlock, SizedBlockItem, SizedBlockItems, SizedBody, SizedDeclaration,
     SizedDeclr, SizedDesig, SizedDesigs, SizedElse, SizedEnumBody, SizedEnumerator,
