@@ -1,12 +1,20 @@
-//! Nodes of trees with their heights.
+//! Nodes of syntax trees with their heights, made of boxed parts.
+//!
+//! A reader of the program holds sized parts alone: each knows its height without a walk, and its type says that the height
+//! is right. The functions are named as the forms of trees that they make.
 #![tactic(auto)]
 
+mod declarators;
 mod expressions;
 mod heights;
 mod lists;
 mod making;
 mod sized;
 
+pub use declarators::{
+    declr_name, is_named, no_declr, no_size, param, present, size_star, size_value, some_declr,
+    type_name, with_array, with_params, with_paren, with_pointer,
+};
 pub use expressions::{
     arrow, call, cast, char_use, compound, dot, extended, extension, index, name_use, number_use,
     offset, paren, post, prefix, sizeof_type, sizeof_value, statement_expr, text_use, va_arg,
