@@ -20,11 +20,13 @@ pub use expressions::{
     offset, paren, post, prefix, sizeof_type, sizeof_value, statement_expr, text_use, va_arg,
     va_copy, va_start,
 };
+pub use heights::{above, above_both, greater, of_attrs, of_label, of_pointer_words};
 pub use sized::{
     PresentDeclr, SizedBlock, SizedBlockItem, SizedBlockItems, SizedBody, SizedDeclaration,
     SizedDeclr, SizedDesig, SizedDesigs, SizedElse, SizedEnumBody, SizedEnumerator,
     SizedEnumerators, SizedExpr, SizedExprs, SizedInit, SizedInitDeclr, SizedInitDeclrs,
-    SizedInitItem, SizedInitItems, SizedInitList, SizedMember, SizedMembers, SizedParam,
-    SizedParams, SizedSize, SizedSomeExpr, SizedSomeInit, SizedSpecs, SizedStart, SizedStep,
-    SizedSteps, SizedStmt, SizedStructItem, SizedStructItems, SizedTypeName, SizedValue, SizedWord,
+    SizedInitItem, SizedInitItems, SizedInitList, SizedMemDeclr, SizedMember, SizedMembers,
+    SizedParam, SizedParams, SizedSize, SizedSomeExpr, SizedSomeInit, SizedSpecs, SizedStart,
+    SizedStep, SizedSteps, SizedStmt, SizedStructItem, SizedStructItems, SizedTypeName, SizedValue,
+    SizedWord,
 };

@@ -5,7 +5,7 @@
 
 ghost use Rattle.std.specs.Prelude.{◌≡◌};
 ghost use Rattle.c_tree.specs.Capped.{capped};
-ghost use Rattle.c_nodes.specs.Heights.{of_block, of_block_item, of_body, of_declaration, of_declr, of_desig, of_desigs, of_else, of_enum_body, of_enumerator, of_enumerators, of_expr, of_exprs, of_init, of_init_declr, of_init_declrs, of_init_item, of_init_items, of_init_list, of_member, of_members, of_param, of_params, of_size, of_some_declr, of_some_expr, of_some_init, of_start, of_step, of_steps, of_stmt, of_struct_item, of_struct_items, of_type_name, of_value, of_word, of_words};
+ghost use Rattle.c_nodes.specs.Heights.{of_block, of_block_item, of_body, of_declaration, of_declr, of_desig, of_desigs, of_else, of_enum_body, of_enumerator, of_enumerators, of_expr, of_exprs, of_init, of_init_declr, of_init_declrs, of_init_item, of_init_items, of_init_list, of_mem_declr, of_member, of_members, of_param, of_params, of_size, of_some_declr, of_some_expr, of_some_init, of_start, of_step, of_steps, of_stmt, of_struct_item, of_struct_items, of_type_name, of_value, of_word, of_words};
 
 use c_syntax::{
     ArraySize, AsmLabel, Attr, BlockItem, Braced, BracedList, Declaration, Declr, Desig,
@@ -85,6 +85,14 @@ pub struct SizedStructItems {
     pub items: Vec<StructItem>,
     pub height: u32,
     pub ghost sized: { height ≡ capped (of_struct_items items.items) },
+}
+
+/// A declarator of a member and its height.
+#[derive(Drop)]
+pub struct SizedMemDeclr {
+    pub declr: MemDeclr,
+    pub height: u32,
+    pub ghost sized: { height ≡ capped (of_mem_declr declr) },
 }
 
 /// A declarator of a member with the attributes before it, and the greater height.
