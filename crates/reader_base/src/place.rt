@@ -16,10 +16,10 @@ pub struct Place<'a> {
 }
 
 /// A tree that is at least so high has room, or the first token is refused.
-pub fn room_for(least: u32, room: u32, place: &Place) -> Result<(), ReadError>
+pub fn room_for(least: u32, room: u16, place: &Place) -> Result<(), ReadError>
     ensures { HasRoom least room place.now.rest.now result }
 {
-    if least <= room {
+    if least <= u32::from(room) {
         Ok(())
     } else {
         Err(refused(Fault::TooDeep, place.rest))
