@@ -12,3 +12,4 @@ pub mod ReachLemmas
 pub mod UniqueLemmas
 pub mod OnceLemmas
 pub mod PlaceLemmas
+pub mod NumberLemmas

@@ -1,7 +1,6 @@
 -- Gaps and tokens in turn lead from a place to one place, so that bytes spell at most one list of tokens.
-use Rattle.std.proofs.Common.{◌≡◌, ◌≢◌, ℕ, zero, suc, ◌+◌, ◌-◌, ◌<◌, ◌≤◌, Bool, true, false, not, cond, ◌&&◌, ◌||◌, ◌==◌, List, [], ◌∷◌, ◌++◌, length, take, drop, refl, sym, ◌∙◌, ap, subst, arith, nat_eq, Option, Some, None, IfOk, IfErr, Result, Ok, Err, inl, inr, ◌⊎◌, if◌then◌else◌}
+use Rattle.std.proofs.Common.{◌≡◌, ℕ, ◌+◌, ◌<◌, Bool, true, false, ◌==◌, List, [], ◌∷◌, ◌++◌, length, take, drop, refl, sym, ◌∙◌, ap, subst, arith, Option, Some, None, IfOk, IfErr, Result, Ok, Err, inl, inr, ◌⊎◌, if◌then◌else◌}
 use Rattle.std.proofs.lemmas.Bool.{both_ways, and_parts, cases_Bool, cases_order, eqb-true}
-use Rattle.std.proofs.lemmas.Bool.Decides.{nat_tests}
 use Rattle.std.proofs.lemmas.List.{length-drop, take_all}
 use Rattle.qual_base.specs.Words.{meaning_of}
 use Rattle.c_lexer.specs.declared.gaps.Gap.{Gap}
@@ -18,12 +17,12 @@ use Rattle.c_lexer.specs.Tokens.{Lexed, IsSpelled}
 use Rattle.c_lexer.specs.Refusals.{IsRefusal, IsOnly}
 use Rattle.c_lexer.specs.Words.{word_kind, sign_kind}
 use Rattle.c_lexer.specs.Names.{name_number}
-use Rattle.c_lexer.specs.Spelling.{is_letter, is_digit, is_digits, is_wide, is_word, is_number, is_char, is_text, is_dollar, is_token, begins_with, begins_comment, IsLongestOf}
+use Rattle.c_lexer.specs.Spelling.{is_letter, is_word, is_number, is_char, is_text, is_dollar, is_token, begins_with, IsLongestOf}
 use Rattle.c_lexer.specs.Gaps.{IsGap, fresh_behind}
 use Rattle.c_lexer.specs.Reading.{Meanings, Front, begin, is_index, IsKind, names_behind, MarksBehind, Skips, Takes, Reaches, IsStep, Spells, IsStuck, IsUnknown}
 use Rattle.c_lexer.specs.Reading.Reaches.{begins, skips, takes}
 use Rattle.c_lexer.proofs.QuoteLemmas.{wide_cases}
-use Rattle.c_lexer.proofs.SignLemmas.{sign-letter, sign-digit, sign-quote, sign-double, sign-dollar}
+use Rattle.c_lexer.proofs.SignLemmas.{sign-letter, sign-quote, sign-double, sign-dollar}
 use Rattle.c_lexer.proofs.TokenLemmas.{Opens, Others, opens_others, char_opens, text_opens, dollar_word, dollar_number, number_sign, letter_number}
 use Rattle.c_lexer.proofs.TokenLemmas.Opens.{plain, wide, utf}
 use Rattle.c_lexer.proofs.StepLemmas.{token-some}

@@ -1,19 +1,17 @@
 -- Bytes spell at most one list of tokens, and none where reading stops.
-use Rattle.std.proofs.Common.{◌≡◌, ◌≢◌, ℕ, zero, suc, ◌+◌, ◌-◌, ◌<◌, ◌≤◌, Bool, true, false, not, cond, ◌&&◌, ◌||◌, ◌==◌, List, [], ◌∷◌, ◌++◌, length, take, drop, refl, sym, ◌∙◌, ap, subst, arith, nat_eq, codes, Option, Some, None, inl, inr, ◌⊎◌, if◌then◌else◌}
+use Rattle.std.proofs.Common.{◌≡◌, ◌≢◌, ℕ, zero, suc, ◌+◌, ◌-◌, ◌<◌, ◌≤◌, Bool, true, false, not, cond, ◌&&◌, ◌||◌, ◌==◌, List, [], ◌∷◌, ◌++◌, length, take, drop, refl, sym, ◌∙◌, ap, arith, nat_eq, None, inl, inr, ◌⊎◌, if◌then◌else◌}
 use Rattle.std.specs.Prelude.{slice_range}
 use Rattle.std.specs.List.{starts_with, prefix_len}
-use Rattle.std.proofs.lemmas.Bool.{both_ways, and_parts, or_cases, or_left, or_right, eqb-true, ne_eqb, cases_Bool, cases_lt, cases_order}
+use Rattle.std.proofs.lemmas.Bool.{both_ways, and_parts, or_cases, or_left, or_right, eqb-true, ne_eqb, cases_order}
 use Rattle.std.proofs.lemmas.Bool.Decides.{nat_tests}
-use Rattle.std.proofs.lemmas.List.{length-drop}
-use Rattle.qual_base.specs.Words.{meaning_of}
 use Rattle.c_lexer.specs.declared.gaps.Gap.{Gap}
 use Rattle.c_lexer.specs.declared.gaps.Gap.TheVariants.{Blank, LineFeed, OtherSpace, BlockComment, LineComment, SkippedLine}
 use Rattle.c_lexer.specs.declared.marks.Marker.{Marker}
 use Rattle.c_lexer.specs.declared.marks.Parts.{Parts}
 use Rattle.c_lexer.specs.declared.places.Mark.{Mark}
 use Rattle.c_lexer.specs.Words.{signs, sign_kind}
-use Rattle.c_lexer.specs.Spelling.{is_digit, is_quoted, is_quoted_tail, is_token, begins_with, begins_comment, IsLongestOf}
-use Rattle.c_lexer.specs.Gaps.{is_blank, is_other_space, line_len, ClosesAt, IsBlockComment, IsGap}
+use Rattle.c_lexer.specs.Spelling.{is_digit, is_quoted, is_quoted_tail, is_token, begins_with, begins_comment}
+use Rattle.c_lexer.specs.Gaps.{is_blank, is_other_space, IsBlockComment, IsGap}
 use Rattle.c_lexer.specs.Marks.{IsMarker, decimal}
 use Rattle.c_lexer.specs.Reading.{mark_of, MarksBehind}
 use Rattle.c_lexer.proofs.SignLemmas.{no_sign}

@@ -1,6 +1,7 @@
 pub mod Gaps
 pub mod Marks
 pub mod Names
+pub mod Numbering
 pub mod Places
 pub mod Reading
 pub mod Refusals

@@ -1,5 +1,5 @@
 -- The last scope of a list, which is the innermost.
-use Rattle.std.proofs.Common.{arith, ◌≡◌, ℕ, zero, suc, ◌+◌, ◌-◌, ◌<◌, ◌≤◌, Bool, true, false, List, [], ◌∷◌, ◌++◌, length, reverse, take, slice_index_or, slice_set, Option, None, Some, refl, sym, ◌∙◌, ap, subst}
+use Rattle.std.proofs.Common.{arith, ◌≡◌, ℕ, zero, suc, ◌-◌, ◌<◌, ◌≤◌, true, false, List, [], ◌∷◌, ◌++◌, length, reverse, take, slice_index_or, slice_set, Option, None, Some, refl, sym, ◌∙◌, ap, subst}
 use Rattle.std.proofs.lemmas.List.{reverse-append, length-append, length-reverse}
 use Rattle.c_units.specs.HeldScopes.{HeldScope, HeldScopes, innermost, leave, may_declare, is_name, with_name, hold, declare, release, release_as, kind_of}
 use Rattle.typedef_scope.specs.declared.kind.Kind.{Kind}
@@ -44,7 +44,7 @@ put_innermost xs n w last some =
     let size = ap length e.2 ∙ length-append e.0 (e.1 ∷ []) in
     let at : n ≡ length e.0 = omega arith in
     let new : reverse (slice_set (e.0 ++ e.1 ∷ []) n w) ≡ w ∷ leave (reverse (e.0 ++ e.1 ∷ [])) =
-      rw (write_last e.0 e.1 w n at) (reverse-append e.0 (w ∷ []) ∙ sym (ap (λ s. w ∷ leave s) (reverse-append e.0 (e.1 ∷ [])))) in
+    rw (write_last e.0 e.1 w n at) (reverse-append e.0 (w ∷ []) ∙ sym (ap (λ s. w ∷ leave s) (reverse-append e.0 (e.1 ∷ [])))) in
     subst (λ ys. reverse (slice_set ys n w) ≡ w ∷ leave (reverse ys)) (sym e.2) new
 
 -- the scope that is read in the place of the last

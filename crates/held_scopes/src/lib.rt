@@ -1,5 +1,5 @@
-//! The scopes that are open while a source is read, in which a declarator's name is held until its declarator ends
-//! (C99, 6.2.1).
+//! The scopes that are open while a source is read, in which a declarator's name is held until its
+//! declarator ends (C99, 6.2.1).
 #![tactic(auto)]
 
 mod scope;

@@ -11,7 +11,8 @@ use std::alloc::Global;
 use std::marker::Model;
 use typedef_scope::Kind;
 
-/// A scope that was closed, and can be opened again: its names with their kinds, and the name that it holds.
+/// A scope that was closed, and can be opened again: its names with their kinds, and the name that
+/// it holds.
 ///
 /// Memory is linear in its names.
 #[derive(Drop)]
@@ -77,8 +78,8 @@ impl Closed {
         self.held = Some(name);
     }
 
-    /// Gives a name a kind, where it has none in this scope. For want of memory the scope stays as it was. Constant
-    /// time but for growth.
+    /// Gives a name a kind, where it has none in this scope. For want of memory the scope stays as
+    /// it was. Constant time but for growth.
     pub(crate) fn declare(&mut self, name: NameId, kind: Kind) -> Result<(), NoMemory>
         ensures named { OnOk result (self.new ≡ with_name self.old name kind) }
         ensures err { OnErr result (self.new ≡ self.old) }
@@ -92,8 +93,8 @@ impl Closed {
         }
     }
 
-    /// Lets go the name that the scope holds, if it holds one, and gives it a kind where it has none. For want of
-    /// memory the scope stays as it was. Constant time but for growth.
+    /// Lets go the name that the scope holds, if it holds one, and gives it a kind where it has
+    /// none. For want of memory the scope stays as it was. Constant time but for growth.
     pub(crate) fn release(&mut self, kind: Kind) -> Result<(), NoMemory>
         ensures released { OnOk result (self.new ≡ released self.old kind) }
         ensures err { OnErr result (self.new ≡ self.old) }

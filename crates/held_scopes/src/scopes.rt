@@ -1,8 +1,8 @@
 //! The scopes that are open, the innermost of which holds the name of a declarator.
 
 ghost use Rattle.std.specs.Prelude.{◌≡◌, IfOk, OnOk, OnErr, false};
-ghost use Rattle.std.specs.Bool.{then_some};
 ghost use Rattle.c_units.specs.HeldScopes as held;
+ghost use Rattle.held_scopes.specs.Outcomes.{Makes};
 
 use crate::scope::Closed;
 use qual_base::{NameId, NoMemory};
@@ -10,10 +10,12 @@ use std::alloc::Global;
 use std::marker::Model;
 use typedef_scope::Kind;
 
-/// The scopes that are open, each with the names that it declares, their kinds, and the name that it holds.
+/// The scopes that are open, each with the names that it declares, their kinds, and the name that
+/// it holds.
 ///
-/// A name's scope begins behind its declarator (C99, 6.2.1, 7): until then the name is held, and has no kind. Clauses
-/// see the list of the scopes, the innermost first. Memory is linear in the names and scopes that are open.
+/// A name's scope begins behind its declarator (C99, 6.2.1, 7): until then the name is held, and
+/// has no kind of its own. Clauses see the list of the scopes, the innermost first. Memory is
+/// linear in the names and scopes that are open.
 #[derive(Drop)]
 pub struct Scopes {
     open: Vec<Closed>,
@@ -38,8 +40,8 @@ impl Scopes {
         Ok(Scopes { open })
     }
 
-    /// Opens a scope without names inside the innermost. For want of memory the scopes stay as they were. Constant
-    /// time but for growth.
+    /// Opens a scope without names inside the innermost. For want of memory the scopes stay as
+    /// they were. Constant time but for growth.
     pub fn enter(&mut self) -> Result<(), NoMemory>
         ensures entered { OnOk result (self.new ≡ held.enter self.old) }
         ensures err { OnErr result (self.new ≡ self.old) }
@@ -48,8 +50,8 @@ impl Scopes {
         self.reopen(Closed::new(alloc))
     }
 
-    /// Opens a scope that was closed inside the innermost. For want of memory the scopes stay as they were, and the
-    /// closed one is lost. Constant time but for growth.
+    /// Opens a scope that was closed, inside the innermost. For want of memory the scopes stay as
+    /// they were, and the closed one is let go. Constant time but for growth.
     pub fn reopen(&mut self, scope: Closed) -> Result<(), NoMemory>
         ensures reopened { OnOk result (self.new ≡ held.reopen scope self.old) }
         ensures err { OnErr result (self.new ≡ self.old) }
@@ -58,15 +60,16 @@ impl Scopes {
         Ok(())
     }
 
-    /// Closes the innermost scope, if one is open, and lets its names go. Takes no memory, and time linear in them.
+    /// Closes the innermost scope, if one is open, and lets its names go. Takes no memory, and time
+    /// linear in them.
     pub fn leave(&mut self)
         ensures { self.new ≡ held.leave self.old }
     {
         let _closed = self.open.pop();
     }
 
-    /// Closes the innermost scope and answers it; where none is open, one without names. Takes no memory, and constant
-    /// time.
+    /// Closes the innermost scope and answers it; where none is open, one without names. Takes no
+    /// memory, and constant time.
     pub fn close(&mut self) -> Closed
         ensures closed { result ≡ held.innermost self.old }
         ensures left { self.new ≡ held.leave self.old }
@@ -77,7 +80,8 @@ impl Scopes {
         }
     }
 
-    /// Whether the innermost scope gives a name no other kind than this. Takes no memory, and constant time.
+    /// Whether the innermost scope gives a name no other kind than this (C99, 6.7, 3). Takes no
+    /// memory, and constant time.
     pub fn may_declare(&self, name: NameId, kind: Kind) -> bool
         ensures { result ≡ held.may_declare (held.innermost self.now) name kind }
     {
@@ -87,10 +91,12 @@ impl Scopes {
         }
     }
 
-    /// Has the innermost scope hold a name for a declarator of a kind. It answers false, and the scopes stay as they
-    /// were, where that scope gives the name another kind. For want of memory they stay too. Constant time.
+    /// Has the innermost scope hold a name, in the place of one that it holds, for a declarator of
+    /// a kind, and answers whether: it is refused where that scope gives the name another kind. A
+    /// refusal and want of memory leave the scopes as they were, and memory is wanted only where no
+    /// scope is open. Constant time.
     pub fn hold(&mut self, name: NameId, kind: Kind) -> Result<bool, NoMemory>
-        ensures held { IfOk result (λ done. held.hold name kind self.old ≡ then_some done self.new) }
+        ensures held { Makes result (held.hold name kind self.old) self.new }
         ensures refused { IfOk result (λ done. done ≡ false → self.new ≡ self.old) }
         ensures err { OnErr result (self.new ≡ self.old) }
     {
@@ -108,8 +114,9 @@ impl Scopes {
         Ok(true)
     }
 
-    /// Has the innermost scope let go the name that it holds, and declare it with a kind where it has none. Where no
-    /// name is held nothing is done. For want of memory the scopes stay as they were. Constant time but for growth.
+    /// Has the innermost scope let go the name that it holds, and declare it with a kind where it
+    /// has none in that scope. Where no name is held nothing is done. For want of memory the scopes
+    /// stay as they were. Constant time but for growth.
     pub fn release(&mut self, kind: Kind) -> Result<(), NoMemory>
         ensures released { OnOk result (self.new ≡ held.release kind self.old) }
         ensures err { OnErr result (self.new ≡ self.old) }
@@ -121,10 +128,11 @@ impl Scopes {
         Ok(())
     }
 
-    /// Declares a name at once in the innermost scope, where it does not hold the name and gives it no other kind, and
-    /// answers whether. A refusal and want of memory leave the scopes as they were. Constant time but for growth.
+    /// Declares a name at once in the innermost scope, as an enumerator is (C99, 6.2.1, 7), and
+    /// answers whether: it is refused where that scope holds the name or gives it another kind. A
+    /// refusal and want of memory leave the scopes as they were. Constant time but for growth.
     pub fn declare(&mut self, name: NameId, kind: Kind) -> Result<bool, NoMemory>
-        ensures declared { IfOk result (λ done. held.declare name kind self.old ≡ then_some done self.new) }
+        ensures declared { Makes result (held.declare name kind self.old) self.new }
         ensures refused { IfOk result (λ done. done ≡ false → self.new ≡ self.old) }
         ensures err { OnErr result (self.new ≡ self.old) }
     {
@@ -142,8 +150,8 @@ impl Scopes {
         Ok(true)
     }
 
-    /// Whether the innermost scope holds this name.
-    fn holds(&self, name: NameId) -> bool
+    /// Whether the innermost scope holds this name. Takes no memory, and constant time.
+    pub fn holds(&self, name: NameId) -> bool
         ensures { result ≡ held.is_name (held.innermost self.now).held name }
     {
         match self.open.last() {
@@ -152,8 +160,9 @@ impl Scopes {
         }
     }
 
-    /// The kind of a name, that of the innermost scope which declares it, or none where no open scope does. Takes no
-    /// memory, and constant time a scope that is open.
+    /// The kind of a name, that of the innermost scope which declares it, or none where no open
+    /// scope does. Takes no memory, and constant time a scope that is open, however many names they
+    /// have.
     pub fn kind_of(&self, name: NameId) -> Option<Kind>
         ensures { result ≡ held.kind_of self.now name }
     {
@@ -165,7 +174,8 @@ impl Scopes {
         None
     }
 
-    /// Whether a name is a typedef's. Takes no memory, and constant time a scope that is open.
+    /// Whether a name is a typedef's (C99, 6.7.7). Takes no memory, and constant time a scope that
+    /// is open.
     pub fn names_type(&self, name: NameId) -> bool
         ensures { result ≡ held.names_type self.now name }
     {

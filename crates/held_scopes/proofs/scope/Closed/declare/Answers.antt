@@ -1,4 +1,4 @@
-use Rattle.std.proofs.Common.{◌≡◌, None, ap, sym, ◌∙◌}
+use Rattle.std.proofs.Common.{ap, sym, ◌∙◌}
 use Rattle.typedef_scope.specs.Scopes.{kind_in}
 use Rattle.held_scopes.proofs.Newest.{added}
 use Rattle.held_scopes.proofs.scope.Closed.declare.Goals as goal

@@ -1,4 +1,4 @@
-use Rattle.std.proofs.Common.{ap, sym, ◌∙◌}
+use Rattle.std.proofs.Common.{◌∙◌}
 use Rattle.held_scopes.proofs.Newest.{newest}
 use Rattle.held_scopes.proofs.scope.Closed.kind_of.Goals as goal
 
