@@ -29,7 +29,7 @@ pub use openings::{
     begins_desig, begins_expr, form_of, infix_of, is_dot, is_opening, opening_of, takes_assign,
     takes_comma,
 };
-pub use place::{Place, room_for};
+pub use place::{Place, room_above, room_for};
 pub use qualifiers::{array_words, pointer_words, quals};
 pub use rows::{asm_words, extensions, texts};
 pub use starts::{begins_init, begins_specs, is_start, start_at, stmt_start};
