@@ -1,0 +1,3 @@
+pub mod Looping
+pub mod RowLoops
+pub mod BracketLoop
