@@ -1,0 +1,2 @@
+mod HeightLemmas
+mod Pushing

@@ -1,0 +1,23 @@
+-- What a reader of the program answers, beside the reader of token lists that it is.
+use Rattle.std.specs.Prelude.{◌≡◌, Result, Ok, Err}
+use Rattle.c_reading.specs.Reading.{Found, Refusal, Reader}
+use Rattle.reader_base.specs.declared.fault.ReadError.{ReadError}
+use Rattle.reader_base.specs.declared.fault.ReadError.TheVariants as errors
+use Rattle.reader_base.specs.declared.place.Place.{Place}
+
+abbrev pub Fails : {Y : Type 0} → ReadError → Result Y Refusal → Type 0
+Fails (errors.Fault fault token) read = read ≡ Err (fault, token)
+Fails errors.NoMemory read = Unit {0}
+
+-- what a reader answered, seen by a view, is what the reader of lists gives, want of memory aside
+abbrev pub Gives : {X Y : Type 0} → (X → Y) → Result X ReadError → Result Y Refusal → Type 0
+Gives view (Ok x) read = read ≡ Ok (view x)
+Gives view (Err e) read = Fails e read
+
+-- what was read, with a place behind it
+abbrev pub behind : {A : Type 0} → A → Place → Found A
+behind a place = record { tree = a; scopes = place.scopes; rest = place.rest.now }
+
+-- a reader of lists answers so at a place, and leaves it so
+abbrev pub Reads : {X A : Type 0} → (X → A) → Place → Place → Result X ReadError → Reader A → Type 0
+Reads view before after result reader = Gives (λ x. behind (view x) after) result (reader before.scopes before.rest.now)

@@ -1,0 +1,121 @@
+-- What is asked of the reader that is lent to all others, and what readers answer.
+use Rattle.std.specs.Prelude.{◌≡◌, ℕ, List, Option, Result, Ok, Err}
+use Rattle.std.specs.Fn.{Shared, always_fn}
+use denote.Ref.{MutBor}
+use Rattle.c_tree.specs.declared.lexeme.Lexeme.{Lexeme}
+use Rattle.c_tree.specs.Tree as trees
+use Rattle.c_tree.specs.Lists.{some_declr_from, init_items_from}
+use Rattle.c_tree.specs.Unit.{spec_words_from, block_items_from}
+use Rattle.c_tree.specs.View.{expr_of, stmt_of}
+use Rattle.c_nodes.specs.declared.sized.SizedExpr.{SizedExpr}
+use Rattle.c_nodes.specs.declared.sized.SizedTypeName.{SizedTypeName}
+use Rattle.c_nodes.specs.declared.sized.SizedSpecs.{SizedSpecs}
+use Rattle.c_nodes.specs.declared.sized.SizedInitList.{SizedInitList}
+use Rattle.c_nodes.specs.declared.sized.SizedBlock.{SizedBlock}
+use Rattle.c_nodes.specs.declared.sized.SizedStmt.{SizedStmt}
+use Rattle.c_units.specs.HeldScopes.{HeldScopes}
+use Rattle.c_reading.specs.Reading.{Found, Read, Reader, Refusal}
+use Rattle.c_reading.specs.Parts as parts
+use Rattle.c_reading.specs.Knot.{knot}
+use Rattle.reader_base.specs.declared.asking.Begun.{Begun}
+use Rattle.reader_base.specs.declared.asking.Begun.TheVariants as begun
+use Rattle.reader_base.specs.declared.asking.Declared.{Declared}
+use Rattle.reader_base.specs.declared.asking.Ask.{Ask}
+use Rattle.reader_base.specs.declared.asking.Ask.TheVariants as asks
+use Rattle.reader_base.specs.declared.asking.Answer.{Answer}
+use Rattle.reader_base.specs.declared.asking.Answer.TheVariants as answers
+use Rattle.reader_base.specs.declared.fault.ReadError.{ReadError}
+use Rattle.reader_base.specs.declared.place.Place.{Place}
+use Rattle.reader_base.specs.Gives.{Gives, behind, Reads}
+
+-- the trees of what readers answer
+abbrev pub begun_of : Begun → parts.Begun
+begun_of begun.Nothing = parts.nothing
+begun_of (begun.Extensions tokens) = parts.extensions tokens.items
+begun_of (begun.Star token) = parts.star token
+
+abbrev pub sized_expr : SizedExpr → trees.Expr
+sized_expr x = expr_of x.tree.value
+
+abbrev pub sized_type_name : SizedTypeName → parts.TypeName
+sized_type_name x = record { words = spec_words_from x.words.items; declr = some_declr_from x.declr }
+
+abbrev pub sized_specs : SizedSpecs → trees.SpecWords
+sized_specs x = spec_words_from x.words.items
+
+abbrev pub declared_of : Declared → parts.Declared
+declared_of x = record { declr = some_declr_from x.declr.declr; closed = x.closed }
+
+abbrev pub sized_init_list : SizedInitList → trees.InitList
+sized_init_list x = trees.init_list x.opening (init_items_from x.items.items) x.comma x.closing
+
+abbrev pub sized_block : SizedBlock → parts.Block
+sized_block x = record { opening = x.opening; items = block_items_from x.items.items; closing = x.closing }
+
+abbrev pub sized_stmt : SizedStmt → trees.Stmt
+sized_stmt x = stmt_of x.tree.value
+
+-- what readers of each kind give, at a place
+abbrev pub ReadsExpr : Place → Place → Result SizedExpr ReadError → Reader trees.Expr → Type 0
+ReadsExpr before after result reader = Reads sized_expr before after result reader
+
+abbrev pub ReadsTypeName : Place → Place → Result SizedTypeName ReadError → Reader parts.TypeName → Type 0
+ReadsTypeName before after result reader = Reads sized_type_name before after result reader
+
+abbrev pub ReadsSpecs : Place → Place → Result SizedSpecs ReadError → Reader trees.SpecWords → Type 0
+ReadsSpecs before after result reader = Reads sized_specs before after result reader
+
+abbrev pub ReadsDeclr : Place → Place → Result Declared ReadError → Reader parts.Declared → Type 0
+ReadsDeclr before after result reader = Reads declared_of before after result reader
+
+abbrev pub ReadsInitList : Place → Place → Result SizedInitList ReadError → Reader trees.InitList → Type 0
+ReadsInitList before after result reader = Reads sized_init_list before after result reader
+
+abbrev pub ReadsBlock : Place → Place → Result SizedBlock ReadError → Reader parts.Block → Type 0
+ReadsBlock before after result reader = Reads sized_block before after result reader
+
+abbrev pub ReadsStmt : Place → Place → Result SizedStmt ReadError → Reader trees.Stmt → Type 0
+ReadsStmt before after result reader = Reads sized_stmt before after result reader
+
+-- a tree of any kind
+pub data Tree : Type 0 where
+  expr_tree : trees.Expr → Tree
+  type_name_tree : parts.TypeName → Tree
+  specs_tree : trees.SpecWords → Tree
+  declr_tree : parts.Declared → Tree
+  init_list_tree : trees.InitList → Tree
+  block_tree : parts.Block → Tree
+  stmt_tree : trees.Stmt → Tree
+
+abbrev pub tree_of : Answer → Tree
+tree_of (answers.Expr x) = expr_tree (sized_expr x)
+tree_of (answers.TypeName x) = type_name_tree (sized_type_name x)
+tree_of (answers.Specs x) = specs_tree (sized_specs x)
+tree_of (answers.Declr x) = declr_tree (declared_of x)
+tree_of (answers.InitList x) = init_list_tree (sized_init_list x)
+tree_of (answers.Block x) = block_tree (sized_block x)
+tree_of (answers.Stmt x) = stmt_tree (sized_stmt x)
+
+abbrev pub under : {A : Type 0} → (A → Tree) → Read A → Read Tree
+under kind (Ok x) = Ok (record { tree = kind x.tree; scopes = x.scopes; rest = x.rest })
+under kind (Err e) = Err e
+
+-- what the reader of this number gives where this is asked
+abbrev pub asked_at : ℕ → Ask → Reader Tree
+asked_at depth (asks.Expr reach begun room) s ts = under expr_tree ((knot depth).expr reach (begun_of begun) room s ts)
+asked_at depth (asks.TypeName room) s ts = under type_name_tree ((knot depth).type_name room s ts)
+asked_at depth (asks.Specs role known room) s ts = under specs_tree ((knot depth).specs role (sized_specs known) room s ts)
+asked_at depth (asks.Declr mode wanted flag room) s ts = under declr_tree ((knot depth).declr mode wanted flag room s ts)
+asked_at depth (asks.InitList room) s ts = under init_list_tree ((knot depth).init_list room s ts)
+asked_at depth (asks.Block room) s ts = under block_tree ((knot depth).block room s ts)
+asked_at depth (asks.Stmt room) s ts = under stmt_tree ((knot depth).stmt room s ts)
+
+abbrev pub ReadsAsked : Place → Place → Result Answer ReadError → Reader Tree → Type 0
+ReadsAsked before after result reader = Reads tree_of before after result reader
+
+-- the reader that is lent can always be called, and gives what the readers of a number give
+module _ {F : Type 0} where
+  abbrev pub Lends : Shared F (Ask × (MutBor Place × Unit {0})) (Result Answer ReadError × (MutBor Place × Unit {0})) → F → ℕ → Type 0
+  Lends g f depth = always_fn g f
+      × ((ask : Ask) (p : MutBor Place) (r : Result Answer ReadError) (after : MutBor Place) → g.post f (ask, (p, tt)) (r, (after, tt)) →
+      ReadsAsked p.now after.now r (asked_at depth ask))

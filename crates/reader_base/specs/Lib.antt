@@ -1,0 +1,4 @@
+pub mod Gives
+pub mod Lent
+pub mod Looping
+pub mod Fitting
