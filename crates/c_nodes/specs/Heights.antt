@@ -53,9 +53,12 @@ of_struct_items items = struct_items_height (struct_items_from items)
 abbrev pub of_struct_item : StructItem → ℕ
 of_struct_item item = struct_item_height (struct_item_of item)
 
+abbrev pub of_mem_declr : MemDeclr → ℕ
+of_mem_declr declr = mem_declr_height (mem_declr_of declr)
+
 -- of a member's declarator with the attributes before it
 abbrev pub of_member : List Attr → MemDeclr → ℕ
-of_member attrs declr = max (attrs_height attrs) (mem_declr_height (mem_declr_of declr))
+of_member attrs declr = max (attrs_height attrs) (of_mem_declr declr)
 
 abbrev pub of_members : List (Listed MemDeclr) → ℕ
 of_members members = mem_declrs_height (mem_declrs_from members)

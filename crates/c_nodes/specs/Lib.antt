@@ -1,1 +1,4 @@
+pub mod Extended
 pub mod Heights
+pub mod Named
+pub mod Sized

@@ -1,37 +1,428 @@
-//! Nodes of expressions.
+//! Nodes of expressions (C99, 6.5), made of sized parts.
+//!
+//! Each takes constant time. Parts are let go where there is no memory.
 
 ghost use Rattle.std.specs.Prelude.{◌≡◌, IfOk};
+ghost use Rattle.c_nodes.specs.Sized.{Makes, expr};
+ghost use Rattle.c_nodes.specs.Extended.{extended};
+ghost use Rattle.c_tree.specs.Lists.{exprs_from, some_declr_from, desigs_from, init_items_from};
 ghost use Rattle.c_tree.specs.Tree as trees;
-ghost use Rattle.c_tree.specs.View.{expr_of};
+ghost use Rattle.c_tree.specs.Unit.{spec_words_from, block_items_from};
 
-use crate::heights::above_both;
-use crate::sized::SizedExpr;
-use c_syntax::Expr;
-use qual_base::{NoMemory, TokenId};
+use crate::heights::{above, above_both};
+use crate::making;
+use crate::sized::{SizedBlock, SizedExpr, SizedExprs, SizedInitList, SizedSteps, SizedTypeName};
+use c_syntax::{Block, Expr, Identifier, Specs, TypeName, Word};
+use c_words::Punct;
+use qual_base::{NameId, NoMemory, TokenId};
 use std::alloc::Global;
 
-/// An index in brackets.
+/// An expression in a box.
+fn boxed(alloc: Global, e: Expr) -> Result<Box<Expr>, NoMemory>
+    ensures { IfOk result (λ made. made.value ≡ e) }
+{
+    match Box::new(alloc, e) {
+        Ok(made) => Ok(made),
+        Err(_) => Err(NoMemory),
+    }
+}
+
+/// `Index = postfix [ expr ]`.
 pub fn index(
     alloc: Global,
     base: SizedExpr,
-    open: TokenId,
+    opening: TokenId,
     index: SizedExpr,
-    close: TokenId,
+    closing: TokenId,
 ) -> Result<SizedExpr, NoMemory>
-    ensures { IfOk result (λ made. expr_of made.tree.value ≡ trees.index (expr_of base.tree.value) «open» (expr_of index.tree.value) close) }
+    ensures { Makes result (trees.index (expr base) opening (expr index) closing) }
 {
     let height = above_both(base.height, index.height);
-    let made = Box::new(
-        alloc,
-        Expr::Index {
-            base: base.tree,
-            open,
-            index: index.tree,
-            close,
-        },
-    );
-    match made {
-        Ok(tree) => Ok(SizedExpr { tree, height }),
-        Err(_) => Err(NoMemory),
+    let node = Expr::Index {
+        base: base.tree,
+        open: opening,
+        index: index.tree,
+        close: closing,
+    };
+    let tree = boxed(alloc, node)?;
+    Ok(SizedExpr { tree, height })
+}
+
+/// `Call = postfix ( [assign (, assign)*] )`.
+pub fn call(
+    alloc: Global,
+    callee: SizedExpr,
+    opening: TokenId,
+    arguments: SizedExprs,
+    closing: TokenId,
+) -> Result<SizedExpr, NoMemory>
+    ensures { Makes result (trees.call (expr callee) opening (exprs_from arguments.items.items) closing) }
+{
+    let height = above_both(callee.height, arguments.height);
+    let node = c_tree::call(callee.tree, opening, arguments.items, closing);
+    let tree = boxed(alloc, node)?;
+    Ok(SizedExpr { tree, height })
+}
+
+/// `Dot = postfix . Name`.
+pub fn dot(
+    alloc: Global,
+    base: SizedExpr,
+    token: TokenId,
+    member: Identifier,
+) -> Result<SizedExpr, NoMemory>
+    ensures { Makes result (trees.dot (expr base) token member) }
+{
+    let height = above(base.height);
+    let node = Expr::Dot {
+        base: base.tree,
+        token,
+        member,
+    };
+    let tree = boxed(alloc, node)?;
+    Ok(SizedExpr { tree, height })
+}
+
+/// `Arrow = postfix -> Name`.
+pub fn arrow(
+    alloc: Global,
+    base: SizedExpr,
+    token: TokenId,
+    member: Identifier,
+) -> Result<SizedExpr, NoMemory>
+    ensures { Makes result (trees.arrow (expr base) token member) }
+{
+    let height = above(base.height);
+    let node = Expr::Arrow {
+        base: base.tree,
+        token,
+        member,
+    };
+    let tree = boxed(alloc, node)?;
+    Ok(SizedExpr { tree, height })
+}
+
+/// `Post = postfix (++ | --)`.
+pub fn post(
+    alloc: Global,
+    operand: SizedExpr,
+    token: TokenId,
+    sign: Punct,
+) -> Result<SizedExpr, NoMemory>
+    ensures { Makes result (trees.post (expr operand) token sign) }
+{
+    let height = above(operand.height);
+    let node = Expr::Post {
+        operand: operand.tree,
+        token,
+        sign,
+    };
+    let tree = boxed(alloc, node)?;
+    Ok(SizedExpr { tree, height })
+}
+
+/// `Compound = ( TypeName ) InitList`.
+pub fn compound(
+    alloc: Global,
+    opening: TokenId,
+    of: SizedTypeName,
+    closing: TokenId,
+    list: SizedInitList,
+) -> Result<SizedExpr, NoMemory>
+    ensures { Makes result (trees.compound opening (spec_words_from of.words.items)
+        (some_declr_from of.declr) closing
+        (trees.init_list list.opening (init_items_from list.items.items) list.comma list.closing)) }
+{
+    let height = above_both(of.height, list.height);
+    let type_name = TypeName {
+        specs: Specs { words: of.words },
+        declr: of.declr,
+    };
+    let list = making::init_list(list.opening, list.items, list.comma, list.closing);
+    let node = making::compound(opening, type_name, closing, list);
+    let tree = boxed(alloc, node)?;
+    Ok(SizedExpr { tree, height })
+}
+
+/// `NameUse = Name`.
+pub fn name_use(alloc: Global, token: TokenId, name: NameId) -> Result<SizedExpr, NoMemory>
+    ensures { Makes result (trees.name_use token name) }
+{
+    let tree = boxed(alloc, Expr::NameUse { token, name })?;
+    Ok(SizedExpr { tree, height: 1 })
+}
+
+/// `NumberUse = Number`.
+pub fn number_use(alloc: Global, token: TokenId) -> Result<SizedExpr, NoMemory>
+    ensures { Makes result (trees.number_use token) }
+{
+    let tree = boxed(alloc, Expr::NumberUse { token })?;
+    Ok(SizedExpr { tree, height: 1 })
+}
+
+/// `CharUse = Char`.
+pub fn char_use(alloc: Global, token: TokenId) -> Result<SizedExpr, NoMemory>
+    ensures { Makes result (trees.char_use token) }
+{
+    let tree = boxed(alloc, Expr::CharUse { token })?;
+    Ok(SizedExpr { tree, height: 1 })
+}
+
+/// `TextUse = Text+`.
+pub fn text_use(alloc: Global, texts: Vec<TokenId>) -> Result<SizedExpr, NoMemory>
+    ensures { Makes result (trees.text_use texts.items) }
+{
+    let tree = boxed(alloc, Expr::TextUse { texts })?;
+    Ok(SizedExpr { tree, height: 1 })
+}
+
+/// `Paren = ( expr )`.
+pub fn paren(
+    alloc: Global,
+    opening: TokenId,
+    inner: SizedExpr,
+    closing: TokenId,
+) -> Result<SizedExpr, NoMemory>
+    ensures { Makes result (trees.paren opening (expr inner) closing) }
+{
+    let height = above(inner.height);
+    let node = Expr::Paren {
+        open: opening,
+        inner: inner.tree,
+        close: closing,
+    };
+    let tree = boxed(alloc, node)?;
+    Ok(SizedExpr { tree, height })
+}
+
+/// `StmtExpr = ( Block )`.
+pub fn statement_expr(
+    alloc: Global,
+    opening: TokenId,
+    block: SizedBlock,
+    closing: TokenId,
+) -> Result<SizedExpr, NoMemory>
+    ensures { Makes result (trees.statement_expr opening block.opening
+        (block_items_from block.items.items) block.closing closing) }
+{
+    let height = above(block.height);
+    let block = Block {
+        open: block.opening,
+        items: block.items,
+        close: block.closing,
+    };
+    let node = making::statement_expr(opening, block, closing);
+    let tree = boxed(alloc, node)?;
+    Ok(SizedExpr { tree, height })
+}
+
+/// `Cast = ( TypeName ) cast`.
+pub fn cast(
+    alloc: Global,
+    opening: TokenId,
+    of: SizedTypeName,
+    closing: TokenId,
+    operand: SizedExpr,
+) -> Result<SizedExpr, NoMemory>
+    ensures { Makes result (trees.cast opening (spec_words_from of.words.items)
+        (some_declr_from of.declr) closing (expr operand)) }
+{
+    let height = above_both(of.height, operand.height);
+    let type_name = TypeName {
+        specs: Specs { words: of.words },
+        declr: of.declr,
+    };
+    let node = c_tree::cast(opening, type_name, closing, operand.tree);
+    let tree = boxed(alloc, node)?;
+    Ok(SizedExpr { tree, height })
+}
+
+/// `Prefix = (++ | --) unary | (& | * | + | - | ~ | !) cast`.
+pub fn prefix(
+    alloc: Global,
+    token: TokenId,
+    sign: Punct,
+    operand: SizedExpr,
+) -> Result<SizedExpr, NoMemory>
+    ensures { Makes result (trees.prefix token sign (expr operand)) }
+{
+    let height = above(operand.height);
+    let node = Expr::Prefix {
+        token,
+        sign,
+        operand: operand.tree,
+    };
+    let tree = boxed(alloc, node)?;
+    Ok(SizedExpr { tree, height })
+}
+
+/// `Ext = ext cast`.
+pub fn extension(alloc: Global, token: TokenId, operand: SizedExpr) -> Result<SizedExpr, NoMemory>
+    ensures { Makes result (trees.extension token (expr operand)) }
+{
+    let height = above(operand.height);
+    let node = Expr::Ext {
+        keyword: token,
+        operand: operand.tree,
+    };
+    let tree = boxed(alloc, node)?;
+    Ok(SizedExpr { tree, height })
+}
+
+/// An expression behind `__extension__` again and again, at these tokens.
+///
+/// Linear in the tokens. Recursive as deep as there are such.
+pub fn extended(
+    alloc: Global,
+    tokens: &[TokenId],
+    operand: SizedExpr,
+) -> Result<SizedExpr, NoMemory>
+    ensures { Makes result (extended tokens.now (expr operand)) }
+{
+    match tokens {
+        [] => Ok(operand),
+        [first, rest @ ..] => {
+            let inner = extended(alloc, rest, operand)?;
+            extension(alloc, *first, inner)
+        }
     }
+}
+
+/// `Sizeof = (sizeof | alignof) unary`.
+pub fn sizeof_value(alloc: Global, keyword: Word, operand: SizedExpr) -> Result<SizedExpr, NoMemory>
+    ensures { Makes result (trees.sizeof_value keyword (expr operand)) }
+{
+    let height = above(operand.height);
+    let node = Expr::Sizeof {
+        keyword,
+        operand: operand.tree,
+    };
+    let tree = boxed(alloc, node)?;
+    Ok(SizedExpr { tree, height })
+}
+
+/// `SizeofType = (sizeof | alignof) ( TypeName )`.
+pub fn sizeof_type(
+    alloc: Global,
+    keyword: Word,
+    opening: TokenId,
+    of: SizedTypeName,
+    closing: TokenId,
+) -> Result<SizedExpr, NoMemory>
+    ensures { Makes result (trees.sizeof_type keyword opening (spec_words_from of.words.items)
+        (some_declr_from of.declr) closing) }
+{
+    let height = above(of.height);
+    let type_name = TypeName {
+        specs: Specs { words: of.words },
+        declr: of.declr,
+    };
+    let node = c_tree::sizeof_type(keyword, opening, type_name, closing);
+    let tree = boxed(alloc, node)?;
+    Ok(SizedExpr { tree, height })
+}
+
+/// `VaArg = __builtin_va_arg ( assign , TypeName )`.
+pub fn va_arg(
+    alloc: Global,
+    keyword: TokenId,
+    opening: TokenId,
+    list: SizedExpr,
+    comma: TokenId,
+    of: SizedTypeName,
+    closing: TokenId,
+) -> Result<SizedExpr, NoMemory>
+    ensures { Makes result (trees.va_arg keyword opening (expr list) comma
+        (spec_words_from of.words.items) (some_declr_from of.declr) closing) }
+{
+    let height = above_both(list.height, of.height);
+    let type_name = TypeName {
+        specs: Specs { words: of.words },
+        declr: of.declr,
+    };
+    let node = making::va_arg(keyword, opening, list.tree, comma, type_name, closing);
+    let tree = boxed(alloc, node)?;
+    Ok(SizedExpr { tree, height })
+}
+
+/// `VaStart = __builtin_va_start ( assign , assign )`.
+pub fn va_start(
+    alloc: Global,
+    keyword: TokenId,
+    opening: TokenId,
+    list: SizedExpr,
+    comma: TokenId,
+    last: SizedExpr,
+    closing: TokenId,
+) -> Result<SizedExpr, NoMemory>
+    ensures { Makes result (trees.va_start keyword opening (expr list) comma (expr last) closing) }
+{
+    let height = above_both(list.height, last.height);
+    let node = Expr::VaStart {
+        keyword,
+        open: opening,
+        list: list.tree,
+        comma,
+        last: last.tree,
+        close: closing,
+    };
+    let tree = boxed(alloc, node)?;
+    Ok(SizedExpr { tree, height })
+}
+
+/// `VaCopy = __builtin_va_copy ( assign , assign )`.
+pub fn va_copy(
+    alloc: Global,
+    keyword: TokenId,
+    opening: TokenId,
+    target: SizedExpr,
+    comma: TokenId,
+    source: SizedExpr,
+    closing: TokenId,
+) -> Result<SizedExpr, NoMemory>
+    ensures { Makes result (trees.va_copy keyword opening (expr target) comma (expr source) closing) }
+{
+    let height = above_both(target.height, source.height);
+    let node = Expr::VaCopy {
+        keyword,
+        open: opening,
+        target: target.tree,
+        comma,
+        source: source.tree,
+        close: closing,
+    };
+    let tree = boxed(alloc, node)?;
+    Ok(SizedExpr { tree, height })
+}
+
+/// `Offset = __builtin_offsetof ( TypeName , Name (. Name | [ expr ])* )`.
+pub fn offset(
+    alloc: Global,
+    keyword: TokenId,
+    opening: TokenId,
+    of: SizedTypeName,
+    comma: TokenId,
+    member: Identifier,
+    steps: SizedSteps,
+    closing: TokenId,
+) -> Result<SizedExpr, NoMemory>
+    ensures { Makes result (trees.offset keyword opening (spec_words_from of.words.items)
+        (some_declr_from of.declr) comma member (desigs_from steps.items.items) closing) }
+{
+    let height = above_both(of.height, steps.height);
+    let type_name = TypeName {
+        specs: Specs { words: of.words },
+        declr: of.declr,
+    };
+    let node = making::offset(
+        keyword,
+        opening,
+        type_name,
+        comma,
+        member,
+        steps.items,
+        closing,
+    );
+    let tree = boxed(alloc, node)?;
+    Ok(SizedExpr { tree, height })
 }

@@ -1,17 +1,32 @@
-//! Nodes of trees with their heights.
+//! Nodes of syntax trees with their heights, made of boxed parts.
+//!
+//! A reader of the program holds sized parts alone: each knows its height without a walk, and its type says that the height
+//! is right. The functions are named as the forms of trees that they make.
 #![tactic(auto)]
 
+mod declarators;
 mod expressions;
 mod heights;
 mod lists;
+mod making;
 mod sized;
 
-pub use expressions::index;
+pub use declarators::{
+    declr_name, is_named, no_declr, no_size, param, present, size_star, size_value, some_declr,
+    type_name, with_array, with_params, with_paren, with_pointer,
+};
+pub use expressions::{
+    arrow, call, cast, char_use, compound, dot, extended, extension, index, name_use, number_use,
+    offset, paren, post, prefix, sizeof_type, sizeof_value, statement_expr, text_use, va_arg,
+    va_copy, va_start,
+};
+pub use heights::{above, above_both, greater, of_attrs, of_label, of_pointer_words};
 pub use sized::{
     PresentDeclr, SizedBlock, SizedBlockItem, SizedBlockItems, SizedBody, SizedDeclaration,
     SizedDeclr, SizedDesig, SizedDesigs, SizedElse, SizedEnumBody, SizedEnumerator,
     SizedEnumerators, SizedExpr, SizedExprs, SizedInit, SizedInitDeclr, SizedInitDeclrs,
-    SizedInitItem, SizedInitItems, SizedInitList, SizedMember, SizedMembers, SizedParam,
-    SizedParams, SizedSize, SizedSomeExpr, SizedSomeInit, SizedSpecs, SizedStart, SizedStep,
-    SizedSteps, SizedStmt, SizedStructItem, SizedStructItems, SizedTypeName, SizedValue, SizedWord,
+    SizedInitItem, SizedInitItems, SizedInitList, SizedMemDeclr, SizedMember, SizedMembers,
+    SizedParam, SizedParams, SizedSize, SizedSomeExpr, SizedSomeInit, SizedSpecs, SizedStart,
+    SizedStep, SizedSteps, SizedStmt, SizedStructItem, SizedStructItems, SizedTypeName, SizedValue,
+    SizedWord,
 };

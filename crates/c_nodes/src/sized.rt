@@ -5,7 +5,7 @@
 
 ghost use Rattle.std.specs.Prelude.{◌≡◌};
 ghost use Rattle.c_tree.specs.Capped.{capped};
-ghost use Rattle.c_nodes.specs.Heights as heights;
+ghost use Rattle.c_nodes.specs.Heights.{of_block, of_block_item, of_body, of_declaration, of_declr, of_desig, of_desigs, of_else, of_enum_body, of_enumerator, of_enumerators, of_expr, of_exprs, of_init, of_init_declr, of_init_declrs, of_init_item, of_init_items, of_init_list, of_mem_declr, of_member, of_members, of_param, of_params, of_size, of_some_declr, of_some_expr, of_some_init, of_start, of_step, of_steps, of_stmt, of_struct_item, of_struct_items, of_type_name, of_value, of_word, of_words};
 
 use c_syntax::{
     ArraySize, AsmLabel, Attr, BlockItem, Braced, BracedList, Declaration, Declr, Desig,
@@ -19,7 +19,7 @@ use qual_base::TokenId;
 pub struct SizedExpr {
     pub tree: Box<Expr>,
     pub height: u32,
-    pub ghost sized: { height ≡ capped (heights.of_expr tree) },
+    pub ghost sized: { height ≡ capped (of_expr tree) },
 }
 
 /// An expression or none, and its height.
@@ -27,7 +27,7 @@ pub struct SizedExpr {
 pub struct SizedSomeExpr {
     pub tree: Option<Box<Expr>>,
     pub height: u32,
-    pub ghost sized: { height ≡ capped (heights.of_some_expr tree) },
+    pub ghost sized: { height ≡ capped (of_some_expr tree) },
 }
 
 /// Expressions and the greatest of their heights.
@@ -35,7 +35,7 @@ pub struct SizedSomeExpr {
 pub struct SizedExprs {
     pub items: Vec<Expr>,
     pub height: u32,
-    pub ghost sized: { height ≡ capped (heights.of_exprs items.items) },
+    pub ghost sized: { height ≡ capped (of_exprs items.items) },
 }
 
 /// The name of a type, and its height.
@@ -44,7 +44,7 @@ pub struct SizedTypeName {
     pub words: Vec<SpecWord>,
     pub declr: Option<Box<Declr>>,
     pub height: u32,
-    pub ghost sized: { height ≡ capped (heights.of_type_name words.items declr) },
+    pub ghost sized: { height ≡ capped (of_type_name words.items declr) },
 }
 
 /// The words of specifiers, and the height of these, which count themselves.
@@ -52,7 +52,7 @@ pub struct SizedTypeName {
 pub struct SizedSpecs {
     pub words: Vec<SpecWord>,
     pub height: u32,
-    pub ghost sized: { height ≡ capped (heights.of_words words.items) },
+    pub ghost sized: { height ≡ capped (of_words words.items) },
 }
 
 /// A word of specifiers and its height.
@@ -60,7 +60,7 @@ pub struct SizedSpecs {
 pub struct SizedWord {
     pub word: SpecWord,
     pub height: u32,
-    pub ghost sized: { height ≡ capped (heights.of_word word) },
+    pub ghost sized: { height ≡ capped (of_word word) },
 }
 
 /// The body of a struct or union or none, and the greatest height of its items.
@@ -68,7 +68,7 @@ pub struct SizedWord {
 pub struct SizedBody {
     pub body: Option<Braced<StructItem>>,
     pub height: u32,
-    pub ghost sized: { height ≡ capped (heights.of_body body) },
+    pub ghost sized: { height ≡ capped (of_body body) },
 }
 
 /// What stands in the body of a struct or union, and its height.
@@ -76,7 +76,7 @@ pub struct SizedBody {
 pub struct SizedStructItem {
     pub item: StructItem,
     pub height: u32,
-    pub ghost sized: { height ≡ capped (heights.of_struct_item item) },
+    pub ghost sized: { height ≡ capped (of_struct_item item) },
 }
 
 /// What stands in the body of a struct or union, and the greatest height there.
@@ -84,7 +84,15 @@ pub struct SizedStructItem {
 pub struct SizedStructItems {
     pub items: Vec<StructItem>,
     pub height: u32,
-    pub ghost sized: { height ≡ capped (heights.of_struct_items items.items) },
+    pub ghost sized: { height ≡ capped (of_struct_items items.items) },
+}
+
+/// A declarator of a member and its height.
+#[derive(Drop)]
+pub struct SizedMemDeclr {
+    pub declr: MemDeclr,
+    pub height: u32,
+    pub ghost sized: { height ≡ capped (of_mem_declr declr) },
 }
 
 /// A declarator of a member with the attributes before it, and the greater height.
@@ -93,7 +101,7 @@ pub struct SizedMember {
     pub attrs: Vec<Attr>,
     pub declr: MemDeclr,
     pub height: u32,
-    pub ghost sized: { height ≡ capped (heights.of_member attrs.items declr) },
+    pub ghost sized: { height ≡ capped (of_member attrs.items declr) },
 }
 
 /// The declarators of a member, and the greatest of their heights.
@@ -101,7 +109,7 @@ pub struct SizedMember {
 pub struct SizedMembers {
     pub items: Vec<Listed<MemDeclr>>,
     pub height: u32,
-    pub ghost sized: { height ≡ capped (heights.of_members items.items) },
+    pub ghost sized: { height ≡ capped (of_members items.items) },
 }
 
 /// A value behind its sign or none, and its height.
@@ -109,7 +117,7 @@ pub struct SizedMembers {
 pub struct SizedValue {
     pub value: Option<Marked<Box<Expr>>>,
     pub height: u32,
-    pub ghost sized: { height ≡ capped (heights.of_value value) },
+    pub ghost sized: { height ≡ capped (of_value value) },
 }
 
 /// The body of an enum or none, and the greatest height of its enumerators.
@@ -117,7 +125,7 @@ pub struct SizedValue {
 pub struct SizedEnumBody {
     pub body: Option<BracedList<Enumerator>>,
     pub height: u32,
-    pub ghost sized: { height ≡ capped (heights.of_enum_body body) },
+    pub ghost sized: { height ≡ capped (of_enum_body body) },
 }
 
 /// An enumerator and its height.
@@ -127,7 +135,7 @@ pub struct SizedEnumerator {
     pub attrs: Vec<Attr>,
     pub value: Option<Marked<Box<Expr>>>,
     pub height: u32,
-    pub ghost sized: { height ≡ capped (heights.of_enumerator attrs.items value) },
+    pub ghost sized: { height ≡ capped (of_enumerator attrs.items value) },
 }
 
 /// Enumerators and the greatest of their heights.
@@ -135,7 +143,7 @@ pub struct SizedEnumerator {
 pub struct SizedEnumerators {
     pub items: Vec<Enumerator>,
     pub height: u32,
-    pub ghost sized: { height ≡ capped (heights.of_enumerators items.items) },
+    pub ghost sized: { height ≡ capped (of_enumerators items.items) },
 }
 
 /// A declarator or none, and its height.
@@ -143,7 +151,7 @@ pub struct SizedEnumerators {
 pub struct SizedDeclr {
     pub declr: Option<Box<Declr>>,
     pub height: u32,
-    pub ghost sized: { height ≡ capped (heights.of_some_declr declr) },
+    pub ghost sized: { height ≡ capped (of_some_declr declr) },
 }
 
 /// A declarator and its height.
@@ -151,7 +159,7 @@ pub struct SizedDeclr {
 pub struct PresentDeclr {
     pub declr: Box<Declr>,
     pub height: u32,
-    pub ghost sized: { height ≡ capped (heights.of_declr declr) },
+    pub ghost sized: { height ≡ capped (of_declr declr) },
 }
 
 /// The size of an array or none, and its height.
@@ -159,7 +167,7 @@ pub struct PresentDeclr {
 pub struct SizedSize {
     pub size: Option<ArraySize>,
     pub height: u32,
-    pub ghost sized: { height ≡ capped (heights.of_size size) },
+    pub ghost sized: { height ≡ capped (of_size size) },
 }
 
 /// A parameter and its height.
@@ -169,7 +177,7 @@ pub struct SizedParam {
     pub declr: Option<Box<Declr>>,
     pub attrs: Vec<Attr>,
     pub height: u32,
-    pub ghost sized: { height ≡ capped (heights.of_param words.items declr attrs.items) },
+    pub ghost sized: { height ≡ capped (of_param words.items declr attrs.items) },
 }
 
 /// Parameters and the greatest of their heights.
@@ -177,7 +185,7 @@ pub struct SizedParam {
 pub struct SizedParams {
     pub items: Vec<Param>,
     pub height: u32,
-    pub ghost sized: { height ≡ capped (heights.of_params items.items) },
+    pub ghost sized: { height ≡ capped (of_params items.items) },
 }
 
 /// An initialiser and its height.
@@ -185,7 +193,7 @@ pub struct SizedParams {
 pub struct SizedInit {
     pub init: Init,
     pub height: u32,
-    pub ghost sized: { height ≡ capped (heights.of_init init) },
+    pub ghost sized: { height ≡ capped (of_init init) },
 }
 
 /// An initialiser in braces and its height.
@@ -196,7 +204,7 @@ pub struct SizedInitList {
     pub comma: Option<TokenId>,
     pub closing: TokenId,
     pub height: u32,
-    pub ghost sized: { height ≡ capped (heights.of_init_list items.items) },
+    pub ghost sized: { height ≡ capped (of_init_list items.items) },
 }
 
 /// An item of an initialiser in braces, and its height.
@@ -206,7 +214,7 @@ pub struct SizedInitItem {
     pub equal: Option<TokenId>,
     pub init: Init,
     pub height: u32,
-    pub ghost sized: { height ≡ capped (heights.of_init_item desigs.items init) },
+    pub ghost sized: { height ≡ capped (of_init_item desigs.items init) },
 }
 
 /// Items of an initialiser in braces, and the greatest of their heights.
@@ -214,7 +222,7 @@ pub struct SizedInitItem {
 pub struct SizedInitItems {
     pub items: Vec<InitItem>,
     pub height: u32,
-    pub ghost sized: { height ≡ capped (heights.of_init_items items.items) },
+    pub ghost sized: { height ≡ capped (of_init_items items.items) },
 }
 
 /// A designator and its height.
@@ -222,7 +230,7 @@ pub struct SizedInitItems {
 pub struct SizedDesig {
     pub desig: Desig,
     pub height: u32,
-    pub ghost sized: { height ≡ capped (heights.of_desig desig) },
+    pub ghost sized: { height ≡ capped (of_desig desig) },
 }
 
 /// Designators and the greatest of their heights.
@@ -230,7 +238,7 @@ pub struct SizedDesig {
 pub struct SizedDesigs {
     pub items: Vec<Desig>,
     pub height: u32,
-    pub ghost sized: { height ≡ capped (heights.of_desigs items.items) },
+    pub ghost sized: { height ≡ capped (of_desigs items.items) },
 }
 
 /// A step of an offset, which is no node, and the height of its index.
@@ -238,7 +246,7 @@ pub struct SizedDesigs {
 pub struct SizedStep {
     pub step: Desig,
     pub height: u32,
-    pub ghost sized: { height ≡ capped (heights.of_step step) },
+    pub ghost sized: { height ≡ capped (of_step step) },
 }
 
 /// The steps of an offset, and the greatest height of their indices.
@@ -246,7 +254,7 @@ pub struct SizedStep {
 pub struct SizedSteps {
     pub items: Vec<Desig>,
     pub height: u32,
-    pub ghost sized: { height ≡ capped (heights.of_steps items.items) },
+    pub ghost sized: { height ≡ capped (of_steps items.items) },
 }
 
 /// An initialiser behind its sign or none, and its height.
@@ -254,7 +262,7 @@ pub struct SizedSteps {
 pub struct SizedSomeInit {
     pub init: Option<Marked<Init>>,
     pub height: u32,
-    pub ghost sized: { height ≡ capped (heights.of_some_init init) },
+    pub ghost sized: { height ≡ capped (of_some_init init) },
 }
 
 /// A declarator of a declaration with what stands round it, and its height.
@@ -266,7 +274,7 @@ pub struct SizedInitDeclr {
     pub attrs: Vec<Attr>,
     pub init: Option<Marked<Init>>,
     pub height: u32,
-    pub ghost sized: { height ≡ capped (heights.of_init_declr before.items declr label attrs.items init) },
+    pub ghost sized: { height ≡ capped (of_init_declr before.items declr label attrs.items init) },
 }
 
 /// The declarators of a declaration, and the greatest of their heights.
@@ -274,7 +282,7 @@ pub struct SizedInitDeclr {
 pub struct SizedInitDeclrs {
     pub items: Vec<Listed<InitDeclr>>,
     pub height: u32,
-    pub ghost sized: { height ≡ capped (heights.of_init_declrs items.items) },
+    pub ghost sized: { height ≡ capped (of_init_declrs items.items) },
 }
 
 /// A declaration and its height.
@@ -282,7 +290,7 @@ pub struct SizedInitDeclrs {
 pub struct SizedDeclaration {
     pub tree: Box<Declaration>,
     pub height: u32,
-    pub ghost sized: { height ≡ capped (heights.of_declaration tree) },
+    pub ghost sized: { height ≡ capped (of_declaration tree) },
 }
 
 /// A block and its height, which counts the block.
@@ -292,7 +300,7 @@ pub struct SizedBlock {
     pub items: Vec<BlockItem>,
     pub closing: TokenId,
     pub height: u32,
-    pub ghost sized: { height ≡ capped (heights.of_block items.items) },
+    pub ghost sized: { height ≡ capped (of_block items.items) },
 }
 
 /// An item of a block, and its height.
@@ -300,7 +308,7 @@ pub struct SizedBlock {
 pub struct SizedBlockItem {
     pub item: BlockItem,
     pub height: u32,
-    pub ghost sized: { height ≡ capped (heights.of_block_item item) },
+    pub ghost sized: { height ≡ capped (of_block_item item) },
 }
 
 /// The items of a block, and the height of the block.
@@ -308,7 +316,7 @@ pub struct SizedBlockItem {
 pub struct SizedBlockItems {
     pub items: Vec<BlockItem>,
     pub height: u32,
-    pub ghost sized: { height ≡ capped (heights.of_block items.items) },
+    pub ghost sized: { height ≡ capped (of_block items.items) },
 }
 
 /// A statement and its height.
@@ -316,7 +324,7 @@ pub struct SizedBlockItems {
 pub struct SizedStmt {
     pub tree: Box<Stmt>,
     pub height: u32,
-    pub ghost sized: { height ≡ capped (heights.of_stmt tree) },
+    pub ghost sized: { height ≡ capped (of_stmt tree) },
 }
 
 /// The other branch of an `if` or none, and its height.
@@ -324,7 +332,7 @@ pub struct SizedStmt {
 pub struct SizedElse {
     pub other: Option<Marked<Box<Stmt>>>,
     pub height: u32,
-    pub ghost sized: { height ≡ capped (heights.of_else other) },
+    pub ghost sized: { height ≡ capped (of_else other) },
 }
 
 /// How a `for` begins, and the height of that.
@@ -332,5 +340,5 @@ pub struct SizedElse {
 pub struct SizedStart {
     pub start: ForStart,
     pub height: u32,
-    pub ghost sized: { height ≡ capped (heights.of_start start) },
+    pub ghost sized: { height ≡ capped (of_start start) },
 }

@@ -1,0 +1,94 @@
+//! Nodes whose parts are lists or may be missing, made so that their trees are known by those of the parts.
+
+ghost use Rattle.std.specs.Prelude.{◌≡◌};
+ghost use Rattle.c_tree.specs.Lists.{some_declr_from, desigs_from, init_items_from};
+ghost use Rattle.c_tree.specs.Tree as trees;
+ghost use Rattle.c_tree.specs.Unit.{spec_words_from, block_items_from};
+ghost use Rattle.c_tree.specs.View.{expr_of, init_list_of};
+
+use c_syntax::{Block, Desig, Expr, Identifier, InitItem, InitList, TypeName};
+use qual_base::TokenId;
+
+/// `InitList = { [InitItem (, InitItem)* [,]] }`.
+pub(crate) fn init_list(
+    open: TokenId,
+    items: Vec<InitItem>,
+    comma: Option<TokenId>,
+    close: TokenId,
+) -> InitList
+    ensures { init_list_of result ≡ trees.init_list «open» (init_items_from items.items) comma close }
+{
+    InitList {
+        open,
+        items,
+        comma,
+        close,
+    }
+}
+
+/// `Compound = ( TypeName ) InitList`.
+pub(crate) fn compound(open: TokenId, type_name: TypeName, close: TokenId, list: InitList) -> Expr
+    ensures { expr_of result ≡ trees.compound «open» (spec_words_from type_name.specs.words.items)
+        (some_declr_from type_name.declr) close (init_list_of list) }
+{
+    Expr::Compound {
+        open,
+        type_name,
+        close,
+        list,
+    }
+}
+
+/// `StmtExpr = ( Block )`.
+pub(crate) fn statement_expr(open: TokenId, block: Block, close: TokenId) -> Expr
+    ensures { expr_of result ≡ trees.statement_expr «open» block.«open»
+        (block_items_from block.items.items) block.close close }
+{
+    Expr::StmtExpr { open, block, close }
+}
+
+/// `VaArg = __builtin_va_arg ( assign , TypeName )`.
+pub(crate) fn va_arg(
+    keyword: TokenId,
+    open: TokenId,
+    list: Box<Expr>,
+    comma: TokenId,
+    type_name: TypeName,
+    close: TokenId,
+) -> Expr
+    ensures { expr_of result ≡ trees.va_arg keyword «open» (expr_of list.value) comma
+        (spec_words_from type_name.specs.words.items) (some_declr_from type_name.declr) close }
+{
+    Expr::VaArg {
+        keyword,
+        open,
+        list,
+        comma,
+        type_name,
+        close,
+    }
+}
+
+/// `Offset = __builtin_offsetof ( TypeName , Name (. Name | [ expr ])* )`.
+pub(crate) fn offset(
+    keyword: TokenId,
+    open: TokenId,
+    type_name: TypeName,
+    comma: TokenId,
+    member: Identifier,
+    steps: Vec<Desig>,
+    close: TokenId,
+) -> Expr
+    ensures { expr_of result ≡ trees.offset keyword «open» (spec_words_from type_name.specs.words.items)
+        (some_declr_from type_name.declr) comma member (desigs_from steps.items) close }
+{
+    Expr::Offset {
+        keyword,
+        open,
+        type_name,
+        comma,
+        member,
+        steps,
+        close,
+    }
+}
