@@ -1,6 +1,6 @@
 //! The scopes that are open, the innermost of which holds the name of a declarator.
 
-ghost use Rattle.std.specs.Prelude.{◌≡◌, IfOk, OnOk, OnErr, false};
+ghost use Rattle.std.specs.Prelude.{◌≡◌, IfOk, OnOk, OnErr, false, []};
 ghost use Rattle.c_units.specs.HeldScopes as held;
 ghost use Rattle.held_scopes.specs.Outcomes.{Makes};
 
@@ -99,6 +99,7 @@ impl Scopes {
         ensures held { Makes result (held.hold name kind self.old) self.new }
         ensures refused { IfOk result (λ done. done ≡ false → self.new ≡ self.old) }
         ensures err { OnErr result (self.new ≡ self.old) }
+        ensures memory { OnErr result (self.old ≡ []) }
     {
         if !self.may_declare(name, kind) {
             return Ok(false);

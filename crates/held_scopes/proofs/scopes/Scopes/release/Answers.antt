@@ -5,5 +5,6 @@ use Rattle.held_scopes.proofs.scopes.Scopes.release.Goals as goal
 pub returns-clause-released : goal.returns-clause-released
 returns-clause-released c =
     let scopes = c.self.inside.open in
-    released_there scopes.items _ scopes.ok.0 (c.in-Some.ensures.variant.0 refl) c.in-Some.scope.now c.in-Some.ensures.value c.args.self.now c.self.view_is
-    c.args.kind c.release.new.self c.in_ok-release.ensures.released
+    let last = c.in-Some.ensures in
+    released_there scopes.items _ scopes.ok.0 (last.variant.0 refl) c.in-Some.scope.now last.value
+    c.args.self.now c.self.view_is c.args.kind c.release.new.self c.in_ok-release.ensures.released
