@@ -138,7 +138,7 @@ pub fn compound(
         specs: Specs { words: of.words },
         declr: of.declr,
     };
-    let list = making::init_list(list.opening, list.items, list.comma, list.closing);
+    let list = making::list_in_braces(list.opening, list.items, list.comma, list.closing);
     let node = making::compound(opening, type_name, closing, list);
     let tree = boxed(alloc, node)?;
     Ok(SizedExpr { tree, height })

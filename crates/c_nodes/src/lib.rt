@@ -21,6 +21,7 @@ pub use expressions::{
     va_copy, va_start,
 };
 pub use heights::{above, above_both, greater, of_attrs, of_label, of_pointer_words};
+pub use making::list_in_braces;
 pub use sized::{
     PresentDeclr, SizedBlock, SizedBlockItem, SizedBlockItems, SizedBody, SizedDeclaration,
     SizedDeclr, SizedDesig, SizedDesigs, SizedElse, SizedEnumBody, SizedEnumerator,

@@ -10,7 +10,7 @@ use c_syntax::{Block, Desig, Expr, Identifier, InitItem, InitList, TypeName};
 use qual_base::TokenId;
 
 /// `InitList = { [InitItem (, InitItem)* [,]] }`.
-pub(crate) fn init_list(
+pub fn list_in_braces(
     open: TokenId,
     items: Vec<InitItem>,
     comma: Option<TokenId>,

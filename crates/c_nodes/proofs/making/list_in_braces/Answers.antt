@@ -3,7 +3,7 @@ use Rattle.c_syntax.specs.declared.declaration.Decl.TheViews as views
 use Rattle.c_tree.specs.Tree as tree
 use Rattle.c_tree.specs.Lists.{init_items_from}
 use Rattle.c_tree.proofs.ViewLemmas.{init_list_is}
-use Rattle.c_nodes.proofs.making.init_list.Goals as goal
+use Rattle.c_nodes.proofs.making.list_in_braces.Goals as goal
 
 pub returns : goal.returns
 returns c =

@@ -1,0 +1,30 @@
+//! Specifiers, initialisers, declarations, statements and items with their heights, made of sized parts.
+//!
+//! The functions are named as the forms of trees that they make. Expressions, declarators and lists are made in `c_nodes`.
+
+#![tactic(auto)]
+
+mod declarations;
+mod initialisers;
+mod items;
+mod making;
+mod specifiers;
+mod statements;
+
+pub use declarations::{block_assert, block_declaration, block_stmt, declaration, init_declr};
+pub use initialisers::{
+    index_desig, index_step, init_braced, init_item, init_list, init_value, member_desig,
+    member_step, no_init, some_init,
+};
+pub use items::{asm_item, assert_item, declaration_item, function_item, push_item, semi_item};
+pub use specifiers::{
+    attribute, basic, enum_type, enumerator, inline_word, listed_member, member, member_assert,
+    member_semi, named, no_body, no_enum_body, no_value, noreturn, qualifier, some_body,
+    some_enum_body, some_value, storage, struct_type, thread, typedef_name, unnamed,
+    words_of_attrs, words_of_quals,
+};
+pub use statements::{
+    asm_stmt, attr_stmt, block, block_of, break_stmt, case_stmt, continue_stmt, default_stmt,
+    do_stmt, expr_stmt, for_stmt, goto_stmt, if_stmt, label, no_else, no_expr, return_stmt,
+    some_else, some_expr, start_declaration, start_value, switch_stmt, while_stmt,
+};
