@@ -87,7 +87,7 @@ init_high (init_value e) = expr_high e
 init_high (init_braced (init_list opening items last closing)) = omega arith
 
 module _ (all : List Lexeme) (numbered : IsNumbered all) (tokens : TokenLaws all) (n : ℕ) (inner : Inner) (laws : Laws all n inner) where
-  desig_shrinks : (room : ℕ) → Shrinks (desig_with inner room)
+  pub desig_shrinks : (room : ℕ) → Shrinks (desig_with inner room)
   unfolding desig_with member_desig_with index_desig_with
   desig_shrinks room s ts x e =
       if_ok (is_dot (kind_at ts)) e (λ is e.
@@ -120,7 +120,7 @@ module _ (all : List Lexeme) (numbered : IsNumbered all) (tokens : TokenLaws all
       let c = bind_ok b.2 in
       omega (arith, repeated_falls begins_desig (desig_with inner room) (desig_shrinks room) _ _ _ a.1, equal_falls (desigs_from a.0.tree) _ _ _ b.1, init_here_shrinks room _ _ _ c.1, left_is c.2)
 
-  next_item_falls : (room token : ℕ) → Falls (next_init_item inner room token)
+  pub next_item_falls : (room token : ℕ) → Falls (next_init_item inner room token)
   unfolding next_init_item
   next_item_falls room token s ts x e =
       if_ok (is_close_brace (kind_at ts)) e (λ is e. omega (arith, left_is e)) (λ is e.

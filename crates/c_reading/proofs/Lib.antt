@@ -57,4 +57,6 @@ pub mod ItemsFalls
 pub mod ItemsSound
 pub mod ItemsComplete
 pub mod UnitsRead
+pub mod KnotLaws
+pub mod TurnsShown
 pub mod Examples

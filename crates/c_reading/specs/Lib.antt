@@ -9,3 +9,4 @@ pub mod Stating
 pub mod Items
 pub mod Knot
 pub mod UnitLaws
+pub mod Turns

@@ -7,4 +7,4 @@ mod laws;
 pub use kinds::{
     Bracket, Fault, Infix, Inside, Mode, Opening, PostfixForm, Reach, Role, SpecStart, StmtStart,
 };
-pub use laws::{one_unit_at_most, unit_is_well_formed, well_formed_is_read};
+pub use laws::{one_unit_at_most, turns_take_tokens, unit_is_well_formed, well_formed_is_read};
