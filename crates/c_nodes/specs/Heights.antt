@@ -89,7 +89,8 @@ abbrev pub of_size : Option ArraySize → ℕ
 of_size size = some_size_height (some_size_from size)
 
 abbrev pub of_param : List SpecWord → Option (Box Declr Global) → List Attr → ℕ
-of_param words declr attrs = max (of_words words) (max (of_some_declr declr) (attrs_height attrs)) + 1
+of_param words declr attrs =
+    max (of_words words) (max (of_some_declr declr) (attrs_height attrs)) + 1
 
 abbrev pub of_params : List Param → ℕ
 of_params params = params_height (params_from params)
@@ -124,8 +125,11 @@ abbrev pub of_some_init : Option (Marked Init) → ℕ
 of_some_init init = some_init_height (some_init_from init)
 
 -- of a declarator of a declaration with what stands before and behind it
-abbrev pub of_init_declr : List Attr → Box Declr Global → Option AsmLabel → List Attr → Option (Marked Init) → ℕ
-of_init_declr before declr name attrs init = max (attrs_height before) (max (of_declr declr) (max (label_height name) (max (attrs_height attrs) (of_some_init init)))) + 1
+abbrev pub of_init_declr :
+    List Attr → Box Declr Global → Option AsmLabel → List Attr → Option (Marked Init) → ℕ
+of_init_declr before declr name attrs init =
+    let behind : ℕ = max (label_height name) (max (attrs_height attrs) (of_some_init init)) in
+    max (attrs_height before) (max (of_declr declr) behind) + 1
 
 abbrev pub of_init_declrs : List (Listed InitDeclr) → ℕ
 of_init_declrs declrs = init_declrs_height (init_declrs_from declrs)

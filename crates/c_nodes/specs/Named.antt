@@ -9,7 +9,8 @@ use Rattle.c_tree.specs.WellFormed.{is_named}
 -- one form for a declarator with a name, another for one without or for none
 abbrev pub by_name : SomeDeclr → (Declr → Declr) → (SomeDeclr → Declr) → Declr
 by_name no_declr of_named of_other = of_other no_declr
-by_name (some_declr d) of_named of_other = if is_named d then of_named d else of_other (some_declr d)
+by_name (some_declr d) of_named of_other =
+    if is_named d then of_named d else of_other (some_declr d)
 
 -- where there is memory, there is this declarator
 abbrev pub MakesDeclr : Result SizedDeclr NoMemory → Declr → Type 0

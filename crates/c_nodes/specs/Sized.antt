@@ -6,10 +6,12 @@ use Rattle.c_syntax.specs.declared.declaration.InitDeclr.{InitDeclr}
 use Rattle.c_syntax.specs.declared.declarator.Param.{Param}
 use Rattle.c_syntax.specs.declared.initialiser.InitItem.{InitItem}
 use Rattle.c_syntax.specs.declared.specifier.Enumerator.{Enumerator}
+use Rattle.c_syntax.specs.declared.specifier.MemDeclr.{MemDeclr}
 use Rattle.c_nodes.specs.declared.sized.SizedEnumerator.{SizedEnumerator}
 use Rattle.c_nodes.specs.declared.sized.SizedExpr.{SizedExpr}
 use Rattle.c_nodes.specs.declared.sized.SizedInitDeclr.{SizedInitDeclr}
 use Rattle.c_nodes.specs.declared.sized.SizedInitItem.{SizedInitItem}
+use Rattle.c_nodes.specs.declared.sized.SizedMember.{SizedMember}
 use Rattle.c_nodes.specs.declared.sized.SizedParam.{SizedParam}
 use Rattle.c_tree.specs.Tree.{Expr}
 use Rattle.c_tree.specs.View.{expr_of}
@@ -20,6 +22,9 @@ expr e = expr_of e.tree.value
 -- where there is memory, the tree is this
 abbrev pub Makes : Result SizedExpr NoMemory → Expr → Type 0
 Makes result tree = IfOk result (λ made. expr made ≡ tree)
+
+abbrev pub member_of : SizedMember → Listed MemDeclr
+member_of m = record { attrs = m.attrs; item = m.declr }
 
 abbrev pub enumerator_of : SizedEnumerator → Enumerator
 enumerator_of e = record { name = e.name; attrs = e.attrs; value = e.value }

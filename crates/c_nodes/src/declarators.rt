@@ -90,7 +90,8 @@ pub fn declr_name(alloc: Global, token: TokenId, name: NameId) -> Result<SizedDe
 }
 
 fn pointer(star: TokenId, words: Vec<PointerWord>, inner: Option<Box<Declr>>) -> Declr
-    ensures tree { declr_of result ≡ by_name (some_declr_from inner) (λ d. trees.pointer star words.items d)
+    ensures tree { declr_of result ≡ by_name (some_declr_from inner)
+        (λ d. trees.pointer star words.items d)
         (λ d. trees.abs_pointer star words.items d) }
     ensures height { declr_height (declr_of result)
         ≡ max (pointer_words_height words.items) (some_declr_height (some_declr_from inner)) + 1 }
@@ -173,8 +174,8 @@ fn array(
     ensures tree { declr_of result ≡ by_name (some_declr_from inner)
         (λ d. trees.array d «open» words.items (some_size_from size) close)
         (λ d. trees.abs_array d «open» words.items (some_size_from size) close) }
-    ensures height { declr_height (declr_of result) ≡ max (some_declr_height (some_declr_from inner))
-        (some_size_height (some_size_from size)) + 1 }
+    ensures height { declr_height (declr_of result)
+        ≡ max (some_declr_height (some_declr_from inner)) (some_size_height (some_size_from size)) + 1 }
 {
     match inner {
         Some(inner) if is_named(&inner) => c_tree::array(inner, open, words, size, close),
@@ -215,9 +216,10 @@ fn params(
 ) -> Declr
     ensures tree { declr_of result ≡ by_name (some_declr_from inner)
         (λ d. trees.params d «open» (params_from params.items) (option_map dots_of dots) close)
-        (λ d. trees.abs_params d «open» (params_from params.items) (option_map dots_of dots) close) }
-    ensures height { declr_height (declr_of result) ≡ max (some_declr_height (some_declr_from inner))
-        (params_height (params_from params.items)) + 1 }
+        (λ d. trees.abs_params d «open» (params_from params.items) (option_map dots_of dots)
+        close) }
+    ensures height { declr_height (declr_of result)
+        ≡ max (some_declr_height (some_declr_from inner)) (params_height (params_from params.items)) + 1 }
 {
     match inner {
         Some(inner) if is_named(&inner) => c_tree::params(inner, open, params, dots, close),

@@ -2,17 +2,21 @@
 //!
 //! Each takes constant time. Parts are let go where there is no memory.
 
-ghost use Rattle.std.specs.Prelude.{◌≡◌, IfOk};
+ghost use Rattle.std.specs.Prelude.{◌≡◌, None, IfOk};
 ghost use Rattle.c_nodes.specs.Sized.{Makes, expr};
 ghost use Rattle.c_nodes.specs.Extended.{extended};
-ghost use Rattle.c_tree.specs.Lists.{exprs_from, some_declr_from, desigs_from, init_items_from};
+ghost use Rattle.c_tree.specs.Lists.{exprs_from, some_expr_from, some_declr_from, desigs_from, init_items_from};
 ghost use Rattle.c_tree.specs.Tree as trees;
 ghost use Rattle.c_tree.specs.Unit.{spec_words_from, block_items_from};
+ghost use Rattle.c_tree.specs.View.{desig_of};
 
 use crate::heights::{above, above_both};
 use crate::making;
-use crate::sized::{SizedBlock, SizedExpr, SizedExprs, SizedInitList, SizedSteps, SizedTypeName};
-use c_syntax::{Block, Expr, Identifier, Specs, TypeName, Word};
+use crate::sized::{
+    SizedBlock, SizedExpr, SizedExprs, SizedInitList, SizedSomeExpr, SizedStep, SizedSteps,
+    SizedTypeName,
+};
+use c_syntax::{Block, Desig, Expr, Identifier, Specs, TypeName, Word};
 use c_words::Punct;
 use qual_base::{NameId, NoMemory, TokenId};
 use std::alloc::Global;
@@ -56,7 +60,8 @@ pub fn call(
     arguments: SizedExprs,
     closing: TokenId,
 ) -> Result<SizedExpr, NoMemory>
-    ensures { Makes result (trees.call (expr callee) opening (exprs_from arguments.items.items) closing) }
+    ensures { Makes result
+        (trees.call (expr callee) opening (exprs_from arguments.items.items) closing) }
 {
     let height = above_both(callee.height, arguments.height);
     let node = c_tree::call(callee.tree, opening, arguments.items, closing);
@@ -380,7 +385,8 @@ pub fn va_copy(
     source: SizedExpr,
     closing: TokenId,
 ) -> Result<SizedExpr, NoMemory>
-    ensures { Makes result (trees.va_copy keyword opening (expr target) comma (expr source) closing) }
+    ensures { Makes result
+        (trees.va_copy keyword opening (expr target) comma (expr source) closing) }
 {
     let height = above_both(target.height, source.height);
     let node = Expr::VaCopy {
@@ -425,4 +431,48 @@ pub fn offset(
     );
     let tree = boxed(alloc, node)?;
     Ok(SizedExpr { tree, height })
+}
+
+/// A step `. Name` of an offset.
+pub fn member_step(dot: TokenId, name: Identifier) -> SizedStep
+    ensures { desig_of result.step ≡ trees.member_desig dot name }
+{
+    SizedStep {
+        step: Desig::Member { dot, name },
+        height: 0,
+    }
+}
+
+/// A step `[ expr ]` of an offset.
+pub fn index_step(opening: TokenId, index: SizedExpr, closing: TokenId) -> SizedStep
+    ensures { desig_of result.step ≡ trees.index_desig opening (expr index) closing }
+{
+    SizedStep {
+        step: Desig::Index {
+            open: opening,
+            index: index.tree,
+            close: closing,
+        },
+        height: index.height,
+    }
+}
+
+/// No expression.
+pub fn no_expr() -> SizedSomeExpr
+    ensures { result.tree ≡ None }
+{
+    SizedSomeExpr {
+        tree: None,
+        height: 0,
+    }
+}
+
+/// An expression where one may be missing.
+pub fn some_expr(e: SizedExpr) -> SizedSomeExpr
+    ensures { some_expr_from result.tree ≡ trees.some_expr (expr e) }
+{
+    SizedSomeExpr {
+        tree: Some(e.tree),
+        height: e.height,
+    }
 }

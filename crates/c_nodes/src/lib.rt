@@ -1,7 +1,7 @@
 //! Nodes of syntax trees with their heights, made of boxed parts.
 //!
-//! A reader of the program holds sized parts alone: each knows its height without a walk, and its type says that the height
-//! is right. The functions are named as the forms of trees that they make.
+//! A reader of the program holds sized parts alone: each knows its height without a walk, and its
+//! type says that the height is right. Functions are named as the forms of trees that they make.
 #![tactic(auto)]
 
 mod declarators;
@@ -16,9 +16,9 @@ pub use declarators::{
     type_name, with_array, with_params, with_paren, with_pointer,
 };
 pub use expressions::{
-    arrow, call, cast, char_use, compound, dot, extended, extension, index, name_use, number_use,
-    offset, paren, post, prefix, sizeof_type, sizeof_value, statement_expr, text_use, va_arg,
-    va_copy, va_start,
+    arrow, call, cast, char_use, compound, dot, extended, extension, index, index_step,
+    member_step, name_use, no_expr, number_use, offset, paren, post, prefix, sizeof_type,
+    sizeof_value, some_expr, statement_expr, text_use, va_arg, va_copy, va_start,
 };
 pub use heights::{above, above_both, greater, of_attrs, of_label, of_pointer_words};
 pub use making::list_in_braces;

@@ -1,7 +1,8 @@
-//! Lists of trees with their heights: an empty one, and one more at the end in constant time, amortised.
+//! Lists of trees with their heights: an empty one, and one more at the end in constant time,
+//! amortised.
 
 ghost use Rattle.std.specs.Prelude.{◌≡◌, ◌++◌, [], ◌∷◌, OnOk};
-ghost use Rattle.c_nodes.specs.Sized.{enumerator_of, param_of, init_item_of, init_declr_of};
+ghost use Rattle.c_nodes.specs.Sized.{enumerator_of, member_of, param_of, init_item_of, init_declr_of};
 
 use crate::heights::{above, greater};
 use crate::sized::{
@@ -28,7 +29,8 @@ impl SizedExprs {
     /// One more at the end.
     #[tactic(auto, using(crate::proofs::Pushing::exprs_pushed))]
     pub fn push(&mut self, next: SizedExpr) -> Result<(), NoMemory>
-        ensures { OnOk result (self.new.items.items ≡ self.old.items.items ++ next.tree.value ∷ []) }
+        ensures { OnOk result
+            (self.new.items.items ≡ self.old.items.items ++ next.tree.value ∷ []) }
     {
         let height = greater(self.height, next.height);
         match self.items.push(Box::into_inner(next.tree)) {
@@ -55,7 +57,8 @@ impl SizedSpecs {
     /// One more at the end.
     #[tactic(auto, using(crate::proofs::Pushing::words_pushed))]
     pub fn push(&mut self, next: SizedWord) -> Result<(), NoMemory>
-        ensures { OnOk result (self.new.words.items ≡ self.old.words.items ++ next.word ∷ []) }
+        ensures { OnOk result
+            (self.new.words.items ≡ self.old.words.items ++ next.word ∷ []) }
     {
         let height = greater(self.height, above(next.height));
         match self.words.push(next.word) {
@@ -82,7 +85,8 @@ impl SizedStructItems {
     /// One more at the end.
     #[tactic(auto, using(crate::proofs::Pushing::struct_items_pushed))]
     pub fn push(&mut self, next: SizedStructItem) -> Result<(), NoMemory>
-        ensures { OnOk result (self.new.items.items ≡ self.old.items.items ++ next.item ∷ []) }
+        ensures { OnOk result
+            (self.new.items.items ≡ self.old.items.items ++ next.item ∷ []) }
     {
         let height = greater(self.height, next.height);
         match self.items.push(next.item) {
@@ -109,7 +113,8 @@ impl SizedMembers {
     /// One more at the end.
     #[tactic(auto, using(crate::proofs::Pushing::members_pushed))]
     pub fn push(&mut self, next: SizedMember) -> Result<(), NoMemory>
-        ensures { OnOk result (self.new.items.items ≡ self.old.items.items ++ record { attrs = next.attrs; item = next.declr } ∷ []) }
+        ensures { OnOk result
+            (self.new.items.items ≡ self.old.items.items ++ member_of next ∷ []) }
     {
         let height = greater(self.height, next.height);
         match self.items.push(Listed {
@@ -139,7 +144,8 @@ impl SizedEnumerators {
     /// One more at the end.
     #[tactic(auto, using(crate::proofs::Pushing::enumerators_pushed))]
     pub fn push(&mut self, next: SizedEnumerator) -> Result<(), NoMemory>
-        ensures { OnOk result (self.new.items.items ≡ self.old.items.items ++ enumerator_of next ∷ []) }
+        ensures { OnOk result
+            (self.new.items.items ≡ self.old.items.items ++ enumerator_of next ∷ []) }
     {
         let height = greater(self.height, next.height);
         match self.items.push(Enumerator {
@@ -170,7 +176,8 @@ impl SizedParams {
     /// One more at the end.
     #[tactic(auto, using(crate::proofs::Pushing::params_pushed))]
     pub fn push(&mut self, next: SizedParam) -> Result<(), NoMemory>
-        ensures { OnOk result (self.new.items.items ≡ self.old.items.items ++ param_of next ∷ []) }
+        ensures { OnOk result
+            (self.new.items.items ≡ self.old.items.items ++ param_of next ∷ []) }
     {
         let height = greater(self.height, next.height);
         match self.items.push(Param {
@@ -201,7 +208,8 @@ impl SizedInitItems {
     /// One more at the end.
     #[tactic(auto, using(crate::proofs::Pushing::init_items_pushed))]
     pub fn push(&mut self, next: SizedInitItem) -> Result<(), NoMemory>
-        ensures { OnOk result (self.new.items.items ≡ self.old.items.items ++ init_item_of next ∷ []) }
+        ensures { OnOk result
+            (self.new.items.items ≡ self.old.items.items ++ init_item_of next ∷ []) }
     {
         let height = greater(self.height, next.height);
         match self.items.push(InitItem {
@@ -232,7 +240,8 @@ impl SizedDesigs {
     /// One more at the end.
     #[tactic(auto, using(crate::proofs::Pushing::desigs_pushed))]
     pub fn push(&mut self, next: SizedDesig) -> Result<(), NoMemory>
-        ensures { OnOk result (self.new.items.items ≡ self.old.items.items ++ next.desig ∷ []) }
+        ensures { OnOk result
+            (self.new.items.items ≡ self.old.items.items ++ next.desig ∷ []) }
     {
         let height = greater(self.height, next.height);
         match self.items.push(next.desig) {
@@ -259,7 +268,8 @@ impl SizedSteps {
     /// One more at the end.
     #[tactic(auto, using(crate::proofs::Pushing::steps_pushed))]
     pub fn push(&mut self, next: SizedStep) -> Result<(), NoMemory>
-        ensures { OnOk result (self.new.items.items ≡ self.old.items.items ++ next.step ∷ []) }
+        ensures { OnOk result
+            (self.new.items.items ≡ self.old.items.items ++ next.step ∷ []) }
     {
         let height = greater(self.height, next.height);
         match self.items.push(next.step) {
@@ -286,7 +296,8 @@ impl SizedInitDeclrs {
     /// One more at the end.
     #[tactic(auto, using(crate::proofs::Pushing::init_declrs_pushed))]
     pub fn push(&mut self, next: SizedInitDeclr) -> Result<(), NoMemory>
-        ensures { OnOk result (self.new.items.items ≡ self.old.items.items ++ init_declr_of next ∷ []) }
+        ensures { OnOk result
+            (self.new.items.items ≡ self.old.items.items ++ init_declr_of next ∷ []) }
     {
         let height = greater(self.height, next.height);
         match self.items.push(Listed {
@@ -321,7 +332,8 @@ impl SizedBlockItems {
     /// One more at the end.
     #[tactic(auto, using(crate::proofs::Pushing::block_items_pushed))]
     pub fn push(&mut self, next: SizedBlockItem) -> Result<(), NoMemory>
-        ensures { OnOk result (self.new.items.items ≡ self.old.items.items ++ next.item ∷ []) }
+        ensures { OnOk result
+            (self.new.items.items ≡ self.old.items.items ++ next.item ∷ []) }
     {
         let height = greater(self.height, above(next.height));
         match self.items.push(next.item) {

@@ -1,4 +1,5 @@
-//! Nodes whose parts are lists or may be missing, made so that their trees are known by those of the parts.
+//! Nodes whose parts are lists or may be missing, made so that their trees are known by those of
+//! the parts.
 
 ghost use Rattle.std.specs.Prelude.{◌≡◌};
 ghost use Rattle.c_tree.specs.Lists.{some_declr_from, desigs_from, init_items_from};
@@ -16,7 +17,8 @@ pub fn list_in_braces(
     comma: Option<TokenId>,
     close: TokenId,
 ) -> InitList
-    ensures { init_list_of result ≡ trees.init_list «open» (init_items_from items.items) comma close }
+    ensures { init_list_of result
+        ≡ trees.init_list «open» (init_items_from items.items) comma close }
 {
     InitList {
         open,
@@ -79,8 +81,9 @@ pub(crate) fn offset(
     steps: Vec<Desig>,
     close: TokenId,
 ) -> Expr
-    ensures { expr_of result ≡ trees.offset keyword «open» (spec_words_from type_name.specs.words.items)
-        (some_declr_from type_name.declr) comma member (desigs_from steps.items) close }
+    ensures { expr_of result ≡ trees.offset keyword «open»
+        (spec_words_from type_name.specs.words.items) (some_declr_from type_name.declr) comma
+        member (desigs_from steps.items) close }
 {
     Expr::Offset {
         keyword,

@@ -62,7 +62,8 @@ pub fn declaration(
     declrs: SizedInitDeclrs,
     semi: TokenId,
 ) -> Result<SizedDeclaration, NoMemory>
-    ensures { IfOk result (λ made. declaration_of made.tree.value ≡ trees.declaration extensions.items
+    ensures { IfOk result (λ made. declaration_of made.tree.value
+        ≡ trees.declaration extensions.items
         (spec_words_from specs.words.items) (init_declrs_from declrs.items.items) semi) }
 {
     let height = above_both(specs.height, declrs.height);
@@ -97,7 +98,8 @@ pub fn block_declaration(alloc: Global, it: SizedDeclaration) -> Result<SizedBlo
 
 /// `Assert = _Static_assert bal ;` in a block.
 pub fn block_assert(alloc: Global, it: Assert) -> Result<SizedBlockItem, NoMemory>
-    ensures { IfOk result (λ made. block_item_of made.item ≡ trees.block_decl (trees.decl_assert it)) }
+    ensures { IfOk result
+        (λ made. block_item_of made.item ≡ trees.block_decl (trees.decl_assert it)) }
 {
     let decl = boxed_decl(alloc, Decl::Assert(it))?;
     Ok(SizedBlockItem {

@@ -1,4 +1,4 @@
-//! Nodes of initialisers (C99, 6.7.8) and steps of offsets, made of sized parts.
+//! Nodes of initialisers (C99, 6.7.8), made of sized parts.
 //!
 //! Each takes constant time.
 
@@ -10,7 +10,7 @@ ghost use Rattle.c_tree.specs.View.{init_of, desig_of};
 
 use c_nodes::{
     SizedDesig, SizedDesigs, SizedExpr, SizedInit, SizedInitItem, SizedInitItems, SizedInitList,
-    SizedSomeInit, SizedStep, above, above_both,
+    SizedSomeInit, above, above_both,
 };
 use c_syntax::{Desig, Identifier, Init, Marked};
 use qual_base::TokenId;
@@ -94,30 +94,6 @@ pub fn index_desig(opening: TokenId, index: SizedExpr, closing: TokenId) -> Size
             close: closing,
         },
         height: above(index.height),
-    }
-}
-
-/// A step `. Name` of an offset.
-pub fn member_step(dot: TokenId, name: Identifier) -> SizedStep
-    ensures { desig_of result.step ≡ trees.member_desig dot name }
-{
-    SizedStep {
-        step: Desig::Member { dot, name },
-        height: 0,
-    }
-}
-
-/// A step `[ expr ]` of an offset.
-pub fn index_step(opening: TokenId, index: SizedExpr, closing: TokenId) -> SizedStep
-    ensures { desig_of result.step ≡ trees.index_desig opening (expr index) closing }
-{
-    SizedStep {
-        step: Desig::Index {
-            open: opening,
-            index: index.tree,
-            close: closing,
-        },
-        height: index.height,
     }
 }
 

@@ -1,6 +1,6 @@
 //! Items of a unit (C99, 6.9), made of sized parts.
 //!
-//! Each takes constant time. No height is kept of them, since nothing stands above an item but the unit.
+//! Each takes constant time. No height is kept of them: nothing stands above an item but the unit.
 
 ghost use Rattle.std.specs.Prelude.{◌≡◌, ◌++◌, [], ◌∷◌, IfOk, OnOk};
 ghost use Rattle.c_tree.specs.Tree.{decl_declaration, decl_assert};

@@ -1,7 +1,7 @@
-//! Specifiers, initialisers, declarations, statements and items with their heights, made of sized parts.
+//! Specifiers, initialisers, declarations, statements and items, made of sized parts.
 //!
-//! The functions are named as the forms of trees that they make. Expressions, declarators and lists are made in `c_nodes`.
-
+//! The functions are named as the forms of trees that they make. Expressions, declarators and lists
+//! are made in `c_nodes`.
 #![tactic(auto)]
 
 mod declarations;
@@ -13,8 +13,7 @@ mod statements;
 
 pub use declarations::{block_assert, block_declaration, block_stmt, declaration, init_declr};
 pub use initialisers::{
-    index_desig, index_step, init_braced, init_item, init_list, init_value, member_desig,
-    member_step, no_init, some_init,
+    index_desig, init_braced, init_item, init_list, init_value, member_desig, no_init, some_init,
 };
 pub use items::{asm_item, assert_item, declaration_item, function_item, push_item, semi_item};
 pub use specifiers::{
@@ -25,6 +24,6 @@ pub use specifiers::{
 };
 pub use statements::{
     asm_stmt, attr_stmt, block, block_of, break_stmt, case_stmt, continue_stmt, default_stmt,
-    do_stmt, expr_stmt, for_stmt, goto_stmt, if_stmt, label, no_else, no_expr, return_stmt,
-    some_else, some_expr, start_declaration, start_value, switch_stmt, while_stmt,
+    do_stmt, expr_stmt, for_stmt, goto_stmt, if_stmt, label, no_else, return_stmt, some_else,
+    start_declaration, start_value, switch_stmt, while_stmt,
 };

@@ -1,4 +1,5 @@
-//! Statements whose parts are lists or may be missing, made so that their trees are known by those of the parts.
+//! Statements whose parts are lists or may be missing, made so that their trees are known by those
+//! of the parts.
 
 ghost use Rattle.std.specs.Prelude.{◌≡◌};
 ghost use Rattle.c_tree.specs.Lists.{some_expr_from, some_else_from};

@@ -84,7 +84,8 @@ pub fn basic(word: Word) -> SizedWord
 
 /// A name whose kind at its place is a typedef.
 pub fn typedef_name(token: TokenId, name: NameId) -> SizedWord
-    ensures { spec_word_of result.word ≡ trees.typedef_name (record { token = token; name = name }) }
+    ensures { spec_word_of result.word
+        ≡ trees.typedef_name (record { token = token; name = name }) }
 {
     SizedWord {
         word: SpecWord::TypedefName(TypedefName { token, name }),

@@ -29,26 +29,6 @@ fn boxed(alloc: Global, s: Stmt) -> Result<Box<Stmt>, NoMemory>
     }
 }
 
-/// No expression.
-pub fn no_expr() -> SizedSomeExpr
-    ensures { result.tree ≡ None }
-{
-    SizedSomeExpr {
-        tree: None,
-        height: 0,
-    }
-}
-
-/// An expression where one may be missing.
-pub fn some_expr(e: SizedExpr) -> SizedSomeExpr
-    ensures { some_expr_from result.tree ≡ trees.some_expr (expr e) }
-{
-    SizedSomeExpr {
-        tree: Some(e.tree),
-        height: e.height,
-    }
-}
-
 /// `Block = { (decl | stmt)* }`.
 pub fn block_of(opening: TokenId, items: SizedBlockItems, closing: TokenId) -> SizedBlock
     ensures opening { result.opening ≡ opening }
@@ -216,7 +196,8 @@ pub fn switch_stmt(
     closing: TokenId,
     body: SizedStmt,
 ) -> Result<SizedStmt, NoMemory>
-    ensures { MakesStmt result (trees.switch_stmt keyword opening (expr value) closing (stmt body)) }
+    ensures { MakesStmt result
+        (trees.switch_stmt keyword opening (expr value) closing (stmt body)) }
 {
     let height = above_both(value.height, body.height);
     let node = Stmt::Switch {
@@ -239,7 +220,8 @@ pub fn while_stmt(
     closing: TokenId,
     body: SizedStmt,
 ) -> Result<SizedStmt, NoMemory>
-    ensures { MakesStmt result (trees.while_stmt keyword opening (expr condition) closing (stmt body)) }
+    ensures { MakesStmt result
+        (trees.while_stmt keyword opening (expr condition) closing (stmt body)) }
 {
     let height = above_both(condition.height, body.height);
     let node = Stmt::While {
@@ -264,8 +246,8 @@ pub fn do_stmt(
     closing: TokenId,
     semi: TokenId,
 ) -> Result<SizedStmt, NoMemory>
-    ensures { MakesStmt result (trees.do_stmt keyword (stmt body) while_keyword opening (expr condition)
-        closing semi) }
+    ensures { MakesStmt result (trees.do_stmt keyword (stmt body) while_keyword opening
+        (expr condition) closing semi) }
 {
     let height = above_both(body.height, condition.height);
     let node = Stmt::Do {

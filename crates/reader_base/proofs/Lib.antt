@@ -1,1 +1,3 @@
 pub mod Looping
+pub mod RowLoops
+pub mod BracketLoop

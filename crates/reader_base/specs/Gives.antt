@@ -1,5 +1,6 @@
 -- What a reader of the program answers, beside the reader of token lists that it is.
-use Rattle.std.specs.Prelude.{◌≡◌, Result, Ok, Err}
+use Rattle.std.specs.Prelude.{◌≡◌, List, Result, Ok, Err}
+use Rattle.std.specs.Global.{Vec}
 use Rattle.c_reading.specs.Reading.{Found, Refusal, Reader}
 use Rattle.reader_base.specs.declared.fault.ReadError.{ReadError}
 use Rattle.reader_base.specs.declared.fault.ReadError.TheVariants as errors
@@ -21,3 +22,11 @@ behind a place = record { tree = a; scopes = place.scopes; rest = place.rest.now
 -- a reader of lists answers so at a place, and leaves it so
 abbrev pub Reads : {X A : Type 0} → (X → A) → Place → Place → Result X ReadError → Reader A → Type 0
 Reads view before after result reader = Gives (λ x. behind (view x) after) result (reader before.scopes before.rest.now)
+
+-- the same of what is its own view, as the number of a token
+abbrev pub Takes : {A : Type 0} → Place → Place → Result A ReadError → Reader A → Type 0
+Takes before after result reader = Reads (λ x. x) before after result reader
+
+-- the same of a row
+abbrev pub ReadsRow : {A : Type 0} → Place → Place → Result (Vec A) ReadError → Reader (List A) → Type 0
+ReadsRow before after result reader = Reads (λ row. row.items) before after result reader

@@ -14,6 +14,7 @@ use Rattle.c_nodes.specs.declared.sized.SizedInitList.{SizedInitList}
 use Rattle.c_nodes.specs.declared.sized.SizedBlock.{SizedBlock}
 use Rattle.c_nodes.specs.declared.sized.SizedStmt.{SizedStmt}
 use Rattle.c_units.specs.HeldScopes.{HeldScopes}
+use Rattle.c_reading.specs.declared.kinds.Role.{Role}
 use Rattle.c_reading.specs.Reading.{Found, Read, Reader, Refusal}
 use Rattle.c_reading.specs.Parts as parts
 use Rattle.c_reading.specs.Knot.{knot}
@@ -99,6 +100,10 @@ tree_of (answers.Stmt x) = stmt_tree (sized_stmt x)
 abbrev pub under : {A : Type 0} → (A → Tree) → Read A → Read Tree
 under kind (Ok x) = Ok (record { tree = kind x.tree; scopes = x.scopes; rest = x.rest })
 under kind (Err e) = Err e
+
+-- the reader of a number of specifiers, behind words that were read already
+abbrev pub specs_from : ℕ → Role → SizedSpecs → ℕ → Reader trees.SpecWords
+specs_from depth role known room = (knot depth).specs role (sized_specs known) room
 
 -- what the reader of this number gives where this is asked
 abbrev pub asked_at : ℕ → Ask → Reader Tree

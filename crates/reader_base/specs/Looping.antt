@@ -2,11 +2,11 @@
 use Rattle.std.specs.Prelude.{◌≡◌, ◌<◌, Bool, true, false, List, length, Option, Some, None, Result, Ok, Err}
 use Rattle.c_tree.specs.declared.lexeme.Lexeme.{Lexeme}
 use Rattle.c_units.specs.HeldScopes.{HeldScopes}
-use Rattle.c_reading.specs.Reading.{Found, Refusal, Read, Turn, run}
+use Rattle.c_reading.specs.Reading.{Found, Read, Turn, run}
 use Rattle.reader_base.specs.declared.fault.ReadError.{ReadError}
 use Rattle.reader_base.specs.declared.fault.ReadError.TheVariants as errors
 use Rattle.reader_base.specs.declared.place.Place.{Place}
-use Rattle.reader_base.specs.Gives.{behind}
+use Rattle.reader_base.specs.Gives.{Fails, behind}
 
 -- a turn went on, with this state and place behind it; or the loop ends, and they are as they were
 abbrev pub WentOn : {S : Type 0} → S → S → Place → Place → Bool → Option (Read S) → Type 0
@@ -32,7 +32,7 @@ pub record IsLoop {S : Type 0} (turn : Turn S) : Type 0 where
       turn a s ts ≡ Some (Ok (record { tree = next; scopes = t; rest = rest })) → length rest < length ts
   pub goes_on : (start a next : S) (first s t : HeldScopes) (all ts rest : List Lexeme) → run turn a s ts ≡ run turn start first all →
       turn a s ts ≡ Some (Ok (record { tree = next; scopes = t; rest = rest })) → run turn next t rest ≡ run turn start first all
-  pub fails : (start a : S) (first s : HeldScopes) (all ts : List Lexeme) (e : Refusal) → run turn a s ts ≡ run turn start first all →
-      turn a s ts ≡ Some (Err e) → run turn start first all ≡ Err e
+  pub fails : (start a : S) (first s : HeldScopes) (all ts : List Lexeme) (e : ReadError) → run turn a s ts ≡ run turn start first all →
+      FailsTurn e (turn a s ts) → Fails e (run turn start first all)
   pub ends : (start a : S) (first s : HeldScopes) (all ts : List Lexeme) → run turn a s ts ≡ run turn start first all →
       turn a s ts ≡ None → run turn start first all ≡ Ok (record { tree = a; scopes = s; rest = ts })

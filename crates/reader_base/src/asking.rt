@@ -25,18 +25,21 @@ pub struct Declared {
     pub closed: Option<Closed>,
 }
 
-/// What a reader is asked for, each with the greatest height that the tree may have.
+/// What a reader is asked for, each with its room: the greatest height that the tree may have.
+///
+/// A room has 16 bits, so that a height of 32 bits, which stands still at its end, decides what
+/// fits.
 #[derive(Drop)]
 pub enum Ask {
-    Expr(Reach, Begun, u32),
-    TypeName(u32),
+    Expr(Reach, Begun, u16),
+    TypeName(u16),
     /// Behind words that were read already.
-    Specs(Role, SizedSpecs, u32),
+    Specs(Role, SizedSpecs, u16),
     /// With the kind that the name is held for, if any, and whether it may be a function's.
-    Declr(Mode, Option<Kind>, bool, u32),
-    InitList(u32),
-    Block(u32),
-    Stmt(u32),
+    Declr(Mode, Option<Kind>, bool, u16),
+    InitList(u16),
+    Block(u16),
+    Stmt(u16),
 }
 
 /// What a reader answers.

@@ -1,10 +1,10 @@
 //! The readers of the parts inside, by the one reader that is lent.
 //!
-//! `depth` is the number of the readers of lists that the lent one gives; `room` is the greatest height
-//! that the tree may have.
+//! `depth` is the number of the readers of lists that the lent one gives; `room` is the greatest
+//! height that the tree may have.
 
 ghost use Rattle.c_reading.specs.Knot.{knot};
-ghost use Rattle.reader_base.specs.Lent.{Lends, begun_of, sized_specs};
+ghost use Rattle.reader_base.specs.Lent.{Lends, begun_of, specs_from};
 ghost use Rattle.reader_base.specs.Lent.{ReadsExpr, ReadsTypeName, ReadsSpecs, ReadsDeclr};
 ghost use Rattle.reader_base.specs.Lent.{ReadsInitList, ReadsBlock, ReadsStmt};
 
@@ -20,7 +20,7 @@ pub fn expr_inside<'a, F>(
     lent: &F,
     reach: Reach,
     begun: Begun,
-    room: u32,
+    room: u16,
     place: &mut Place<'a>,
     depth: u32,
 ) -> Result<SizedExpr, ReadError>
@@ -38,7 +38,7 @@ where
 /// The name of a type inside.
 pub fn type_name_inside<'a, F>(
     lent: &F,
-    room: u32,
+    room: u16,
     place: &mut Place<'a>,
     depth: u32,
 ) -> Result<SizedTypeName, ReadError>
@@ -58,14 +58,14 @@ pub fn specs_inside<'a, F>(
     lent: &F,
     role: Role,
     known: SizedSpecs,
-    room: u32,
+    room: u16,
     place: &mut Place<'a>,
     depth: u32,
 ) -> Result<SizedSpecs, ReadError>
 where
     F: Fn(Ask, &mut Place<'a>) -> Result<Answer, ReadError>,
     requires { Lends F.Fn lent.now depth }
-    ensures { ReadsSpecs place.old place.new result ((knot depth).specs role (sized_specs known) room) }
+    ensures { ReadsSpecs place.old place.new result (specs_from depth role known room) }
 {
     match lent(Ask::Specs(role, known, room), place)? {
         Answer::Specs(found) => Ok(found),
@@ -79,7 +79,7 @@ pub fn declr_inside<'a, F>(
     mode: Mode,
     wanted: Option<Kind>,
     flag: bool,
-    room: u32,
+    room: u16,
     place: &mut Place<'a>,
     depth: u32,
 ) -> Result<Declared, ReadError>
@@ -97,7 +97,7 @@ where
 /// An initialiser in braces inside.
 pub fn init_list_inside<'a, F>(
     lent: &F,
-    room: u32,
+    room: u16,
     place: &mut Place<'a>,
     depth: u32,
 ) -> Result<SizedInitList, ReadError>
@@ -115,7 +115,7 @@ where
 /// A block inside.
 pub fn block_inside<'a, F>(
     lent: &F,
-    room: u32,
+    room: u16,
     place: &mut Place<'a>,
     depth: u32,
 ) -> Result<SizedBlock, ReadError>
@@ -133,7 +133,7 @@ where
 /// A statement inside.
 pub fn stmt_inside<'a, F>(
     lent: &F,
-    room: u32,
+    room: u16,
     place: &mut Place<'a>,
     depth: u32,
 ) -> Result<SizedStmt, ReadError>

@@ -3,15 +3,19 @@
 
 mod asking;
 mod fault;
+mod groups;
 mod inside;
 mod kinds;
 mod openings;
 mod place;
+mod qualifiers;
+mod rows;
 mod starts;
 mod tokens;
 
 pub use asking::{Answer, Ask, Begun, Declared};
 pub use fault::{ReadError, number_at, refused};
+pub use groups::{attr, attrs, group, label, static_assert};
 pub use inside::{
     block_inside, declr_inside, expr_inside, init_list_inside, specs_inside, stmt_inside,
     type_name_inside,
@@ -25,7 +29,9 @@ pub use openings::{
     begins_desig, begins_expr, form_of, infix_of, is_dot, is_opening, opening_of, takes_assign,
     takes_comma,
 };
-pub use place::{Place, room_for};
+pub use place::{Place, room_above, room_for};
+pub use qualifiers::{array_words, pointer_words, quals};
+pub use rows::{asm_words, extensions, texts};
 pub use starts::{begins_init, begins_specs, is_start, start_at, stmt_start};
 pub use tokens::{
     asm_word, assert_word, attribute_word, behind_first, close_brace, close_bracket, close_paren,

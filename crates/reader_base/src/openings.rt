@@ -178,7 +178,7 @@ pub fn is_dot(kind: TokenKind) -> bool
     }
 }
 
-/// Whether a designator begins with a token of a kind, or a step of an offset (C99, 6.7.8 and 7.17).
+/// Whether a designator begins with a token of a kind, or a step of an offset (C99, 6.7.8, 7.17).
 pub fn begins_desig(kind: TokenKind) -> bool
     ensures { result ≡ exprs.begins_desig kind }
 {

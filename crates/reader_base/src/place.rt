@@ -1,5 +1,7 @@
 //! Where a reader stands.
 
+ghost use Rattle.std.specs.Prelude.{◌≡◌, ℕ, suc};
+ghost use Rattle.c_tree.specs.Capped.{capped};
 ghost use Rattle.reader_base.specs.Fitting.{HasRoom};
 
 use crate::fault::{ReadError, refused};
@@ -16,10 +18,21 @@ pub struct Place<'a> {
 }
 
 /// A tree that is at least so high has room, or the first token is refused.
-pub fn room_for(least: u32, room: u32, place: &Place) -> Result<(), ReadError>
+pub fn room_for(least: u32, room: u16, place: &Place) -> Result<(), ReadError>
     ensures { HasRoom least room place.now.rest.now result }
 {
-    if least <= room {
+    if least <= u32::from(room) {
+        Ok(())
+    } else {
+        Err(refused(Fault::TooDeep, place.rest))
+    }
+}
+
+/// A tree that is higher than a part of this height has room, or the first token is refused.
+pub fn room_above(height: u32, room: u16, place: &Place) -> Result<(), ReadError>
+    ensures { (n : ℕ) → height ≡ capped n → HasRoom (suc n) room place.now.rest.now result }
+{
+    if height < u32::from(room) {
         Ok(())
     } else {
         Err(refused(Fault::TooDeep, place.rest))

@@ -4,7 +4,7 @@ ghost use Rattle.std.specs.Prelude.{◌≡◌};
 ghost use Rattle.c_reading.specs.Reading as reading;
 ghost use Rattle.c_reading.specs.Reading.{token_at};
 ghost use Rattle.c_reading.specs.Tokens as tokens;
-ghost use Rattle.reader_base.specs.Gives.{Reads};
+ghost use Rattle.reader_base.specs.Gives.{Reads, Takes};
 
 use crate::fault::{ReadError, refused};
 use crate::kinds::{
@@ -41,7 +41,7 @@ pub fn behind_first(tokens: &[Lexeme]) -> &[Lexeme]
 
 /// Takes the first token, whatever it is.
 pub fn take_one(place: &mut Place) -> Result<TokenId, ReadError>
-    ensures { Reads (λ token. token) place.old place.new result reading.take_one }
+    ensures { Takes place.old place.new result reading.take_one }
 {
     match place.rest {
         [first, rest @ ..] => {
@@ -54,7 +54,7 @@ pub fn take_one(place: &mut Place) -> Result<TokenId, ReadError>
 
 /// Takes `(`, which must stand first.
 pub fn open_paren(place: &mut Place) -> Result<TokenId, ReadError>
-    ensures { Reads (λ token. token) place.old place.new result (token_at tokens.is_open_paren) }
+    ensures { Takes place.old place.new result (token_at tokens.is_open_paren) }
 {
     match place.rest {
         [first, rest @ ..] if is_open_paren(first.kind) => {
@@ -67,7 +67,7 @@ pub fn open_paren(place: &mut Place) -> Result<TokenId, ReadError>
 
 /// Takes `)`, which must stand first.
 pub fn close_paren(place: &mut Place) -> Result<TokenId, ReadError>
-    ensures { Reads (λ token. token) place.old place.new result (token_at tokens.is_close_paren) }
+    ensures { Takes place.old place.new result (token_at tokens.is_close_paren) }
 {
     match place.rest {
         [first, rest @ ..] if is_close_paren(first.kind) => {
@@ -80,7 +80,7 @@ pub fn close_paren(place: &mut Place) -> Result<TokenId, ReadError>
 
 /// Takes `[`, which must stand first.
 pub fn open_bracket(place: &mut Place) -> Result<TokenId, ReadError>
-    ensures { Reads (λ token. token) place.old place.new result (token_at tokens.is_open_bracket) }
+    ensures { Takes place.old place.new result (token_at tokens.is_open_bracket) }
 {
     match place.rest {
         [first, rest @ ..] if is_open_bracket(first.kind) => {
@@ -93,7 +93,7 @@ pub fn open_bracket(place: &mut Place) -> Result<TokenId, ReadError>
 
 /// Takes `]`, which must stand first.
 pub fn close_bracket(place: &mut Place) -> Result<TokenId, ReadError>
-    ensures { Reads (λ token. token) place.old place.new result (token_at tokens.is_close_bracket) }
+    ensures { Takes place.old place.new result (token_at tokens.is_close_bracket) }
 {
     match place.rest {
         [first, rest @ ..] if is_close_bracket(first.kind) => {
@@ -106,7 +106,7 @@ pub fn close_bracket(place: &mut Place) -> Result<TokenId, ReadError>
 
 /// Takes `{`, which must stand first.
 pub fn open_brace(place: &mut Place) -> Result<TokenId, ReadError>
-    ensures { Reads (λ token. token) place.old place.new result (token_at tokens.is_open_brace) }
+    ensures { Takes place.old place.new result (token_at tokens.is_open_brace) }
 {
     match place.rest {
         [first, rest @ ..] if is_open_brace(first.kind) => {
@@ -119,7 +119,7 @@ pub fn open_brace(place: &mut Place) -> Result<TokenId, ReadError>
 
 /// Takes `}`, which must stand first.
 pub fn close_brace(place: &mut Place) -> Result<TokenId, ReadError>
-    ensures { Reads (λ token. token) place.old place.new result (token_at tokens.is_close_brace) }
+    ensures { Takes place.old place.new result (token_at tokens.is_close_brace) }
 {
     match place.rest {
         [first, rest @ ..] if is_close_brace(first.kind) => {
@@ -132,7 +132,7 @@ pub fn close_brace(place: &mut Place) -> Result<TokenId, ReadError>
 
 /// Takes `:`, which must stand first.
 pub fn colon(place: &mut Place) -> Result<TokenId, ReadError>
-    ensures { Reads (λ token. token) place.old place.new result (token_at tokens.is_colon) }
+    ensures { Takes place.old place.new result (token_at tokens.is_colon) }
 {
     match place.rest {
         [first, rest @ ..] if is_colon(first.kind) => {
@@ -145,7 +145,7 @@ pub fn colon(place: &mut Place) -> Result<TokenId, ReadError>
 
 /// Takes `,`, which must stand first.
 pub fn comma(place: &mut Place) -> Result<TokenId, ReadError>
-    ensures { Reads (λ token. token) place.old place.new result (token_at tokens.is_comma) }
+    ensures { Takes place.old place.new result (token_at tokens.is_comma) }
 {
     match place.rest {
         [first, rest @ ..] if is_comma(first.kind) => {
@@ -158,7 +158,7 @@ pub fn comma(place: &mut Place) -> Result<TokenId, ReadError>
 
 /// Takes `=`, which must stand first.
 pub fn equal(place: &mut Place) -> Result<TokenId, ReadError>
-    ensures { Reads (λ token. token) place.old place.new result (token_at tokens.is_equal) }
+    ensures { Takes place.old place.new result (token_at tokens.is_equal) }
 {
     match place.rest {
         [first, rest @ ..] if is_equal(first.kind) => {
@@ -171,7 +171,7 @@ pub fn equal(place: &mut Place) -> Result<TokenId, ReadError>
 
 /// Takes `;`, which must stand first.
 pub fn semicolon(place: &mut Place) -> Result<TokenId, ReadError>
-    ensures { Reads (λ token. token) place.old place.new result (token_at tokens.is_semicolon) }
+    ensures { Takes place.old place.new result (token_at tokens.is_semicolon) }
 {
     match place.rest {
         [first, rest @ ..] if is_semicolon(first.kind) => {
@@ -184,7 +184,7 @@ pub fn semicolon(place: &mut Place) -> Result<TokenId, ReadError>
 
 /// Takes the end of the unit, which must stand first.
 pub fn end(place: &mut Place) -> Result<TokenId, ReadError>
-    ensures { Reads (λ token. token) place.old place.new result (token_at tokens.is_end) }
+    ensures { Takes place.old place.new result (token_at tokens.is_end) }
 {
     match place.rest {
         [first, rest @ ..] if is_end(first.kind) => {
@@ -197,7 +197,7 @@ pub fn end(place: &mut Place) -> Result<TokenId, ReadError>
 
 /// Takes `__attribute__`, which must stand first.
 pub fn attribute_word(place: &mut Place) -> Result<TokenId, ReadError>
-    ensures { Reads (λ token. token) place.old place.new result (token_at tokens.is_attribute) }
+    ensures { Takes place.old place.new result (token_at tokens.is_attribute) }
 {
     match place.rest {
         [first, rest @ ..] if is_attribute(first.kind) => {
@@ -210,7 +210,7 @@ pub fn attribute_word(place: &mut Place) -> Result<TokenId, ReadError>
 
 /// Takes `asm`, which must stand first.
 pub fn asm_word(place: &mut Place) -> Result<TokenId, ReadError>
-    ensures { Reads (λ token. token) place.old place.new result (token_at tokens.is_asm) }
+    ensures { Takes place.old place.new result (token_at tokens.is_asm) }
 {
     match place.rest {
         [first, rest @ ..] if is_asm(first.kind) => {
@@ -223,7 +223,7 @@ pub fn asm_word(place: &mut Place) -> Result<TokenId, ReadError>
 
 /// Takes `_Static_assert`, which must stand first.
 pub fn assert_word(place: &mut Place) -> Result<TokenId, ReadError>
-    ensures { Reads (λ token. token) place.old place.new result (token_at tokens.is_static_assert) }
+    ensures { Takes place.old place.new result (token_at tokens.is_static_assert) }
 {
     match place.rest {
         [first, rest @ ..] if is_static_assert(first.kind) => {
@@ -236,7 +236,7 @@ pub fn assert_word(place: &mut Place) -> Result<TokenId, ReadError>
 
 /// Takes `while`, which must stand first.
 pub fn while_word(place: &mut Place) -> Result<TokenId, ReadError>
-    ensures { Reads (λ token. token) place.old place.new result (token_at tokens.is_while) }
+    ensures { Takes place.old place.new result (token_at tokens.is_while) }
 {
     match place.rest {
         [first, rest @ ..] if is_while(first.kind) => {
@@ -259,7 +259,7 @@ pub fn spelled_name(kind: TokenKind) -> Option<NameId>
 
 /// Takes a name, which must stand first.
 pub fn name(place: &mut Place) -> Result<Identifier, ReadError>
-    ensures { Reads (λ found. found) place.old place.new result tokens.name_at }
+    ensures { Takes place.old place.new result tokens.name_at }
 {
     let [first, rest @ ..] = place.rest else {
         return Err(refused(Fault::Unexpected, place.rest));
@@ -276,7 +276,7 @@ pub fn name(place: &mut Place) -> Result<Identifier, ReadError>
 
 /// Takes a tag, where a name stands first.
 pub fn tag(place: &mut Place) -> Result<Option<Identifier>, ReadError>
-    ensures { Reads (λ found. found) place.old place.new result tokens.tag_at }
+    ensures { Takes place.old place.new result tokens.tag_at }
 {
     let [first, rest @ ..] = place.rest else {
         return Ok(None);

@@ -1,0 +1,10 @@
+use Rattle.std.proofs.Common.{◌≡◌, length, []}
+use Rattle.c_reading.specs.Reading.{run}
+use Rattle.reader_base.specs.Rows.{asm_word_turn}
+use Rattle.reader_base.proofs.rows.asm_words.Given as goal
+
+abbrev pub invariant-loop-known : goal.invariant-loop-known
+invariant-loop-known l = run asm_word_turn l.known.items l.place.scopes l.place.rest.now ≡ run asm_word_turn [] l.fn.place.scopes l.fn.place.rest.now
+
+abbrev pub decreases-loop-known : goal.decreases-loop-known
+decreases-loop-known l = length l.place.rest.now

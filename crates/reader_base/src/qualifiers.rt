@@ -1,0 +1,171 @@
+//! Qualifiers, the words behind a star and those in the brackets of an array (C99, 6.7.3 and 6.7.5).
+
+ghost use Rattle.std.specs.Prelude.{◌≡◌};
+ghost use Rattle.c_reading.specs.Tokens as tokens;
+ghost use Rattle.reader_base.specs.Gives.{ReadsRow, Takes};
+ghost use Rattle.reader_base.specs.Looping.{IsLoop, Turns};
+ghost use Rattle.reader_base.specs.Rows as rows;
+
+use crate::fault::{ReadError, refused};
+use crate::groups::attr;
+use crate::kinds::{is_attribute, is_static};
+use crate::place::{Place, room_for};
+use crate::tokens::kind_at;
+use c_reading::Fault;
+use c_syntax::{ArrayWord, PointerWord, Qual, Word};
+use c_words::{Keyword, TokenKind};
+use qual_base::TokenId;
+
+/// The qualifier that a token of a kind is.
+fn qual_of(kind: TokenKind, token: TokenId) -> Option<Qual>
+    ensures { result ≡ rows.made_of (tokens.qual_of kind) token }
+{
+    match kind {
+        TokenKind::Keyword(Keyword::Const) => Some(Qual::Word(Word {
+            token,
+            keyword: Keyword::Const,
+        })),
+        TokenKind::Keyword(Keyword::Volatile) => Some(Qual::Word(Word {
+            token,
+            keyword: Keyword::Volatile,
+        })),
+        TokenKind::Keyword(Keyword::Restrict) => Some(Qual::Word(Word {
+            token,
+            keyword: Keyword::Restrict,
+        })),
+        TokenKind::Qual(_, _) => Some(Qual::Element { token }),
+        TokenKind::Index => Some(Qual::Index { token }),
+        _ => None,
+    }
+}
+
+/// Whether a token of a kind is a qualifier.
+fn is_qual(kind: TokenKind) -> bool
+    ensures { result ≡ tokens.is_made (tokens.qual_of kind) }
+{
+    match kind {
+        TokenKind::Keyword(Keyword::Const | Keyword::Volatile | Keyword::Restrict) => true,
+        TokenKind::Qual(_, _) | TokenKind::Index => true,
+        _ => false,
+    }
+}
+
+/// Each turn over qualifiers takes one.
+fn quals_step()
+    ensures { IsLoop rows.qual_turn }
+{}
+
+/// One qualifier more, where one stands.
+#[tactic(auto, unfolding(c_reading::specs::Reading::and_then))]
+fn qual_turn(known: &mut Vec<Qual>, place: &mut Place) -> Result<bool, ReadError>
+    ensures { Turns known.old.items known.new.items place.old place.new result rows.qual_turn }
+{
+    let [first, rest @ ..] = place.rest else {
+        return Ok(false);
+    };
+    let Some(qual) = qual_of(first.kind, first.at) else {
+        return Ok(false);
+    };
+    known.push(qual)?;
+    place.rest = rest;
+    Ok(true)
+}
+
+/// Qualifiers, as many as stand.
+#[tactic(auto, unfolding(c_reading::specs::Tokens::quals_at, c_reading::specs::Reading::repeated))]
+pub fn quals(place: &mut Place) -> Result<Vec<Qual>, ReadError>
+    ensures { ReadsRow place.old place.new result tokens.quals_at }
+{
+    quals_step();
+    let mut known = Vec::new(place.alloc);
+    while qual_turn(&mut known, place)? {}
+    Ok(known)
+}
+
+/// Each turn over the words in the brackets of an array takes one.
+fn array_words_step()
+    ensures { IsLoop rows.array_word_turn }
+{}
+
+/// One word more in the brackets of an array, where one stands.
+#[tactic(auto, unfolding(c_reading::specs::Reading::and_then))]
+fn array_word_turn(known: &mut Vec<ArrayWord>, place: &mut Place) -> Result<bool, ReadError>
+    ensures { Turns known.old.items known.new.items place.old place.new result rows.array_word_turn }
+{
+    let [first, rest @ ..] = place.rest else {
+        return Ok(false);
+    };
+    if let Some(qual) = qual_of(first.kind, first.at) {
+        known.push(ArrayWord::Qual(qual))?;
+    } else if is_static(first.kind) {
+        known.push(ArrayWord::Static { token: first.at })?;
+    } else {
+        return Ok(false);
+    }
+    place.rest = rest;
+    Ok(true)
+}
+
+/// The words in the brackets of an array, as many as stand.
+#[tactic(auto, unfolding(c_reading::specs::Tokens::array_words_at, c_reading::specs::Reading::repeated))]
+pub fn array_words(place: &mut Place) -> Result<Vec<ArrayWord>, ReadError>
+    ensures { ReadsRow place.old place.new result tokens.array_words_at }
+{
+    array_words_step();
+    let mut known = Vec::new(place.alloc);
+    while array_word_turn(&mut known, place)? {}
+    Ok(known)
+}
+
+/// Takes a qualifier, which must stand first.
+fn qual(place: &mut Place) -> Result<Qual, ReadError>
+    ensures { Takes place.old place.new result (tokens.made_at tokens.qual_of) }
+{
+    let [first, rest @ ..] = place.rest else {
+        return Err(refused(Fault::Unexpected, place.rest));
+    };
+    let Some(qual) = qual_of(first.kind, first.at) else {
+        return Err(refused(Fault::Unexpected, place.rest));
+    };
+    place.rest = rest;
+    Ok(qual)
+}
+
+/// Each turn over the words behind a star takes one.
+fn pointer_words_step(room: u16)
+    ensures { IsLoop (rows.pointer_word_turn room) }
+{}
+
+/// One word more behind a star, where one stands.
+#[tactic(auto, unfolding(c_reading::specs::Tokens::pointer_word_at, c_reading::specs::Reading::and_then, c_reading::specs::Reading::fits))]
+fn pointer_word_turn(
+    known: &mut Vec<PointerWord>,
+    room: u16,
+    place: &mut Place,
+) -> Result<bool, ReadError>
+    ensures { Turns known.old.items known.new.items place.old place.new result (rows.pointer_word_turn room) }
+{
+    if is_attribute(kind_at(place.rest)) {
+        room_for(2, room, place)?;
+        let attr = attr(place)?;
+        known.push(PointerWord::Attr(attr))?;
+        return Ok(true);
+    }
+    if is_qual(kind_at(place.rest)) {
+        let qual = qual(place)?;
+        known.push(PointerWord::Qual(qual))?;
+        return Ok(true);
+    }
+    Ok(false)
+}
+
+/// The words behind a star, as many as stand.
+#[tactic(auto, unfolding(c_reading::specs::Tokens::pointer_words_at, c_reading::specs::Reading::repeated))]
+pub fn pointer_words(room: u16, place: &mut Place) -> Result<Vec<PointerWord>, ReadError>
+    ensures { ReadsRow place.old place.new result (tokens.pointer_words_at room) }
+{
+    pointer_words_step(room);
+    let mut known = Vec::new(place.alloc);
+    while pointer_word_turn(&mut known, room, place)? {}
+    Ok(known)
+}
