@@ -21,7 +21,7 @@ use reader_base::{
 };
 
 /// `Desig = . Name`, at the dot.
-#[tactic(auto, unfolding(c_reading::specs::Reading::fits, c_reading::specs::Reading::and_then))]
+#[tactic(auto, unfolding(c_reading::specs::Initialising::member_desig_with, c_reading::specs::Reading::fits, c_reading::specs::Reading::and_then))]
 fn member(room: u16, place: &mut Place, depth: u32) -> Result<SizedDesig, ReadError>
     ensures { ReadsDesig place.old place.new result (member_desig_with (knot depth) room) }
 {
@@ -32,7 +32,7 @@ fn member(room: u16, place: &mut Place, depth: u32) -> Result<SizedDesig, ReadEr
 }
 
 /// `Desig = [ cond ]`, at the bracket.
-#[tactic(auto, unfolding(c_reading::specs::Reading::fits, c_reading::specs::Reading::and_then))]
+#[tactic(auto, unfolding(c_reading::specs::Initialising::index_desig_with, c_reading::specs::Reading::fits, c_reading::specs::Reading::and_then))]
 fn index<'a, F>(
     lent: &F,
     room: u16,
@@ -53,6 +53,7 @@ where
 }
 
 /// A designator.
+#[tactic(auto, unfolding(c_reading::specs::Initialising::desig_with))]
 fn desig<'a, F>(
     lent: &F,
     room: u16,
@@ -129,9 +130,9 @@ pub(crate) fn equal_behind(
 ) -> Result<Option<TokenId>, ReadError>
     ensures { Takes place.old place.new result (equal_behind (desigs_from known.now.items.items)) }
 {
-    match known.items.as_slice() {
-        [] => Ok(None),
-        [_, ..] => {
+    match known.items.as_slice().split_first() {
+        None => Ok(None),
+        Some(_) => {
             let equal = equal(place)?;
             Ok(Some(equal))
         }

@@ -1,11 +1,12 @@
 //! Lists of initialisers in braces (C99, 6.7.8).
 
+ghost use Rattle.std.specs.Prelude.{◌≡◌, IfOk};
 ghost use Rattle.c_reading.specs.Initialising.{init_item_with, next_init_item, init_items_with};
 ghost use Rattle.c_reading.specs.Initialising.{braced_with, init_list_with};
 ghost use Rattle.c_reading.specs.Knot.{knot};
-ghost use Rattle.c_reading.specs.Reading.{comma_turn};
+ghost use Rattle.c_reading.specs.Reading.{comma_turn, run};
 ghost use Rattle.init_forms.specs.Seen.{ReadsItem};
-ghost use Rattle.init_forms.specs.Listed.{ReadsListing, listing};
+ghost use Rattle.init_forms.specs.Listed.{ReadsListing, listing, only};
 ghost use Rattle.reader_base.specs.Lent.{Lends, ReadsInitList};
 ghost use Rattle.reader_base.specs.Looping.{IsLoop, Turns};
 
@@ -13,11 +14,12 @@ use crate::designators::{desigs, equal_behind};
 use crate::values::init_here;
 use c_nodes::{SizedInitItem, SizedInitItems, SizedInitList};
 use c_reading::{Fault, turns_take_tokens};
-use qual_base::TokenId;
+use qual_base::{NoMemory, TokenId};
 use reader_base::{
     Answer, Ask, Place, ReadError, close_brace, is_close_brace, is_comma, is_open_brace, kind_at,
     refused, room_for, take_one,
 };
+use std::alloc::Global;
 
 /// Items, and the comma that ended them, if one did.
 #[derive(Drop)]
@@ -27,7 +29,7 @@ pub struct Listing {
 }
 
 /// `InitItem = [Desig+ =] init`.
-#[tactic(auto, unfolding(c_reading::specs::Reading::and_then), using(crate::proofs::Pushed::desigs_are))]
+#[tactic(auto, unfolding(c_reading::specs::Initialising::init_item_with, c_reading::specs::Reading::and_then), using(crate::proofs::Pushed::desigs_are))]
 fn item<'a, F>(
     lent: &F,
     room: u16,
@@ -53,7 +55,7 @@ fn items_step(room: u16, depth: u32)
 }
 
 /// Behind a comma one item more, or the end of the list.
-#[tactic(auto, unfolding(c_reading::specs::Reading::and_then), using(crate::proofs::Pushed::items_pushed))]
+#[tactic(auto, unfolding(c_reading::specs::Initialising::next_init_item, c_reading::specs::Reading::and_then), using(crate::proofs::Pushed::items_pushed))]
 fn item_turn<'a, F>(
     lent: &F,
     known: &mut Listing,
@@ -87,8 +89,37 @@ where
     Ok(true)
 }
 
-/// The first item, and behind each comma one more.
-#[tactic(auto, unfolding(c_reading::specs::Reading::listed, c_reading::specs::Reading::and_then))]
+/// One item so far.
+fn one_item(alloc: Global, first: SizedInitItem) -> Result<Listing, NoMemory>
+    ensures { IfOk result (λ known. listing known ≡ only first) }
+{
+    let mut items = SizedInitItems::new(alloc);
+    items.push(first)?;
+    Ok(Listing { items, comma: None })
+}
+
+/// Behind each comma one item more.
+fn more_items<'a, F>(
+    lent: &F,
+    first: Listing,
+    room: u16,
+    place: &mut Place<'a>,
+    depth: u32,
+) -> Result<Listing, ReadError>
+where
+    F: Fn(Ask, &mut Place<'a>) -> Result<Answer, ReadError>,
+    requires { Lends F.Fn lent.now depth }
+    ensures { ReadsListing place.old place.new result
+        (run (comma_turn (next_init_item (knot depth) room)) (listing first)) }
+{
+    items_step(room, depth);
+    let mut known = first;
+    while item_turn(lent, &mut known, room, place, depth)? {}
+    Ok(known)
+}
+
+/// The items before a closing brace.
+#[tactic(auto, unfolding(c_reading::specs::Initialising::init_items_with, c_reading::specs::Reading::listed, c_reading::specs::Reading::and_then))]
 fn items<'a, F>(
     lent: &F,
     room: u16,
@@ -100,22 +131,19 @@ where
     requires { Lends F.Fn lent.now depth }
     ensures { ReadsListing place.old place.new result (init_items_with (knot depth) room) }
 {
-    items_step(room, depth);
-    let mut known = Listing {
-        items: SizedInitItems::new(place.alloc),
-        comma: None,
-    };
     if is_close_brace(kind_at(place.rest)) {
-        return Ok(known);
+        return Ok(Listing {
+            items: SizedInitItems::new(place.alloc),
+            comma: None,
+        });
     }
     let first = item(lent, room, place, depth)?;
-    known.items.push(first)?;
-    while item_turn(lent, &mut known, room, place, depth)? {}
-    Ok(known)
+    let known = one_item(place.alloc, first)?;
+    more_items(lent, known, room, place, depth)
 }
 
 /// `InitList = { [InitItem (, InitItem)* [,]] }`, which must begin at the first token.
-#[tactic(auto, unfolding(c_reading::specs::Reading::fits, c_reading::specs::Reading::and_then, c_reading::specs::Initialising::braced_with), using(crate::proofs::Pushed::items_are))]
+#[tactic(auto, unfolding(c_reading::specs::Initialising::init_list_with, c_reading::specs::Initialising::braced_with, c_reading::specs::Reading::fits, c_reading::specs::Reading::and_then), using(crate::proofs::Pushed::items_are))]
 pub fn init_list<'a, F>(
     lent: &F,
     room: u16,

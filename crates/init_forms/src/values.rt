@@ -14,6 +14,7 @@ use reader_base::{
 };
 
 /// An initialiser: an expression without commas, or a list in braces.
+#[tactic(auto, unfolding(c_reading::specs::Initialising::init_with, c_reading::specs::Reading::and_then))]
 pub fn init<'a, F>(
     lent: &F,
     room: u16,
@@ -34,7 +35,7 @@ where
 }
 
 /// The initialiser of an item, which must begin at the first token.
-#[tactic(auto, unfolding(c_reading::specs::Reading::fits))]
+#[tactic(auto, unfolding(c_reading::specs::Initialising::init_here, c_reading::specs::Reading::fits))]
 pub(crate) fn init_here<'a, F>(
     lent: &F,
     room: u16,
