@@ -47,7 +47,14 @@ where
     room_for(3, room, place)?;
     let opening = take_one(place)?;
     let inside = room.saturating_sub(2);
-    let index = expr_inside(lent, Reach::Conditional, Begun::Nothing, inside, place, depth)?;
+    let index = expr_inside(
+        lent,
+        Reach::Conditional,
+        Begun::Nothing,
+        inside,
+        place,
+        depth,
+    )?;
     let closing = close_bracket(place)?;
     Ok(index_desig(opening, index, closing))
 }
