@@ -1,5 +1,5 @@
 -- What waits, the newest last.
-use Rattle.std.proofs.Common.{◌≡◌, ℕ, ◌+◌, ◌-◌, ◌<◌, ◌≤◌, Bool, true, false, List, [], ◌∷◌, ◌++◌, length, take, None, Some, refl, sym, ◌∙◌, ap, subst, arith, inl, inr}
+use Rattle.std.proofs.Common.{◌≡◌, ℕ, ◌+◌, ◌-◌, ◌<◌, true, false, List, [], ◌∷◌, ◌++◌, length, take, None, Some, refl, sym, ◌∙◌, ap, subst, arith, inl, inr}
 use Rattle.std.specs.Prelude.{slice_get, nat_le}
 use Rattle.std.proofs.lemmas.Bool.{leb-true}
 use Rattle.std.proofs.lemmas.Bool.Decides.{leb_tells}
@@ -12,7 +12,6 @@ use Rattle.c_ops.proofs.Progress.{joined_all}
 use Rattle.c_ops.proofs.Lasts.{with_last, without_last}
 use Rattle.c_reading.specs.Expressing.{how_many}
 use Rattle.op_rows.specs.declared.waiting.Waiting.{Waiting}
-use Rattle.c_nodes.specs.Sized.{expr}
 use Rattle.op_rows.specs.Rows.{operator, joined, left_of, stack_from, stack_of}
 
 stack_from-push : (s : Stack) (ws : List Waiting) (w : Waiting) → stack_from s (ws ++ w ∷ []) ≡ above (stack_from s ws) (left_of w)

@@ -1,7 +1,5 @@
-use Rattle.std.proofs.Common.{sym, ◌∙◌, ap}
 use Rattle.c_nodes.specs.Sized.{expr}
-use Rattle.op_rows.specs.Rows.{settled_at}
-use Rattle.op_rows.proofs.Stacks.{settling_goes_on, settling_ends}
+use Rattle.op_rows.proofs.Stacks.{settling_goes_on}
 use Rattle.op_rows.proofs.waiting.settle.Goals as goal
 
 pub loop-left-preserved : goal.loop-left-preserved

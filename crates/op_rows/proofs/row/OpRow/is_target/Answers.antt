@@ -1,8 +1,5 @@
-use Rattle.std.proofs.Common.{sym, ◌∙◌, ap}
-use Rattle.std.specs.Prelude.{nat_le}
+use Rattle.std.proofs.Common.{sym, ◌∙◌}
 use Rattle.c_ops.proofs.Lasts.{read_last}
-use Rattle.c_tree.specs.Tree.{Expr}
-use Rattle.c_tree.specs.Levels.{expr_level}
 use Rattle.c_nodes.specs.Sized.{expr}
 use Rattle.op_rows.proofs.Stacks.{accepts_newest, kept_last, joined_last}
 use Rattle.op_rows.proofs.row.OpRow.is_target.Goals as goal
