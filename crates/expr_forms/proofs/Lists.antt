@@ -1,0 +1,26 @@
+-- Lists of expressions and of steps as a program holds them, and as readers of lists answer them.
+use Rattle.std.proofs.Common.{◌≡◌, List, [], ◌∷◌, ◌++◌, refl, ap, map}
+use Rattle.c_syntax.specs.declared.expression.Expr as rust_expr
+use Rattle.c_syntax.specs.declared.initialiser.Desig as rust_desig
+use Rattle.c_tree.specs.Lists as lists
+use Rattle.c_tree.specs.Tree.{more_exprs, more_desigs}
+use Rattle.c_tree.specs.View.{expr_of, desig_of}
+use Rattle.c_reading.specs.Parts as parts
+
+pub exprs_same : (es : List rust_expr.Expr) → parts.exprs_from (map expr_of es) ≡ lists.exprs_from es
+exprs_same [] = refl
+exprs_same (e ∷ es) = ap (more_exprs (expr_of e)) (exprs_same es)
+
+pub steps_same : (xs : List rust_desig.Desig) → parts.desigs_from (map desig_of xs) ≡ lists.desigs_from xs
+steps_same [] = refl
+steps_same (x ∷ xs) = ap (more_desigs (desig_of x)) (steps_same xs)
+
+pub one_mapped : {A B : Type 0} (f : A → B) (xs : List A) (x : A) → map f (xs ++ x ∷ []) ≡ map f xs ++ f x ∷ []
+one_mapped f [] x = refl
+one_mapped f (y ∷ xs) x = ap (λ more. f y ∷ more) (one_mapped f xs x)
+
+pub one_expr_mapped : (es : List rust_expr.Expr) (e : rust_expr.Expr) → map expr_of (es ++ e ∷ []) ≡ map expr_of es ++ expr_of e ∷ []
+one_expr_mapped es e = one_mapped expr_of es e
+
+pub one_step_mapped : (xs : List rust_desig.Desig) (x : rust_desig.Desig) → map desig_of (xs ++ x ∷ []) ≡ map desig_of xs ++ desig_of x ∷ []
+one_step_mapped xs x = one_mapped desig_of xs x

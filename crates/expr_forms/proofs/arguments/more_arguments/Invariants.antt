@@ -1,0 +1,14 @@
+use Rattle.std.proofs.Common.{◌≡◌, length, [], ◌∷◌}
+use Rattle.std.specs.Prelude.{None}
+use Rattle.c_nodes.specs.Sized.{expr}
+use Rattle.c_reading.specs.Reading.{run}
+use Rattle.expr_forms.specs.Parts.{argument_turn, known_arguments}
+use Rattle.expr_forms.proofs.arguments.more_arguments.Given as goal
+
+abbrev pub invariant-loop-known : goal.invariant-loop-known
+invariant-loop-known g l =
+    run (argument_turn l.depth l.room) (known_arguments l.known) l.place.scopes l.place.rest.now
+    ≡ run (argument_turn l.depth l.room) (record { items = expr l.fn.first ∷ []; ending = None }) l.fn.place.scopes l.fn.place.rest.now
+
+abbrev pub decreases-loop-known : goal.decreases-loop-known
+decreases-loop-known g l = length l.place.rest.now

@@ -1,0 +1,16 @@
+//! Readers of one operand of an expression (C99, 6.5.1 to 6.5.4).
+//!
+//! Each stands over the one reader that is lent to it, which reads what stands inside.
+#![tactic(auto)]
+
+mod arguments;
+mod offsets;
+mod operand;
+mod parens;
+mod postfix;
+mod prefixes;
+mod primaries;
+mod sizes;
+mod variadic;
+
+pub use operand::{cast, unary};

@@ -1,0 +1,85 @@
+//! One operand, by its first token.
+
+ghost use Rattle.reader_base.specs.Lent.{Lends, ReadsExpr};
+ghost use Rattle.expr_forms.specs.Parts.{cast_at, unary_at, unary_by_at};
+
+use crate::offsets::offset;
+use crate::parens::opened;
+use crate::prefixes::{extension, prefix};
+use crate::primaries::{character, named, number, text};
+use crate::sizes::sizeof;
+use crate::variadic::{va_arg, va_copy, va_start};
+use c_nodes::SizedExpr;
+use c_reading::{Fault, Opening};
+use reader_base::{Answer, Ask, Place, ReadError, is_open_paren, kind_at, opening_of, refused};
+
+/// A unary form by what it begins with.
+#[tactic(auto, unfolding(c_reading::specs::Expressing::unary_by))]
+fn unary_by<'a, F>(
+    lent: &F,
+    opening: Opening,
+    room: u16,
+    place: &mut Place<'a>,
+    depth: u32,
+) -> Result<SizedExpr, ReadError>
+where
+    F: Fn(Ask, &mut Place<'a>) -> Result<Answer, ReadError>,
+    requires { Lends F.Fn lent.now depth }
+    ensures { ReadsExpr place.old place.new result (unary_by_at depth opening room) }
+{
+    match opening {
+        Opening::Prefix(sign, reach) => prefix(lent, sign, reach, room, place, depth),
+        Opening::Sizeof(keyword) => sizeof(lent, keyword, room, place, depth),
+        Opening::Extension => extension(lent, room, place, depth),
+        Opening::Name(name) => named(lent, name, room, place, depth),
+        Opening::Number => number(lent, room, place, depth),
+        Opening::Char => character(lent, room, place, depth),
+        Opening::Text => text(lent, room, place, depth),
+        Opening::Paren => opened(lent, false, room, place, depth),
+        Opening::VaArg => va_arg(lent, room, place, depth),
+        Opening::VaStart => va_start(lent, room, place, depth),
+        Opening::VaCopy => va_copy(lent, room, place, depth),
+        Opening::Offset => offset(lent, room, place, depth),
+        Opening::Nothing => Err(refused(Fault::Unexpected, place.rest)),
+    }
+}
+
+/// A unary form (C99, 6.5.3): `unary = postfix | Prefix | Sizeof | SizeofType | Ext`.
+///
+/// Linear in the tokens, of which each is looked at once.
+#[tactic(auto, unfolding(c_reading::specs::Expressing::unary_with))]
+pub fn unary<'a, F>(
+    lent: &F,
+    room: u16,
+    place: &mut Place<'a>,
+    depth: u32,
+) -> Result<SizedExpr, ReadError>
+where
+    F: Fn(Ask, &mut Place<'a>) -> Result<Answer, ReadError>,
+    requires { Lends F.Fn lent.now depth }
+    ensures { ReadsExpr place.old place.new result (unary_at depth room) }
+{
+    unary_by(lent, opening_of(kind_at(place.rest)), room, place, depth)
+}
+
+/// A cast or a unary form (C99, 6.5.4): `cast = unary | Cast`.
+///
+/// Linear in the tokens, of which each is looked at once.
+#[tactic(auto, unfolding(c_reading::specs::Expressing::cast_with))]
+pub fn cast<'a, F>(
+    lent: &F,
+    room: u16,
+    place: &mut Place<'a>,
+    depth: u32,
+) -> Result<SizedExpr, ReadError>
+where
+    F: Fn(Ask, &mut Place<'a>) -> Result<Answer, ReadError>,
+    requires { Lends F.Fn lent.now depth }
+    ensures { ReadsExpr place.old place.new result (cast_at depth room) }
+{
+    if is_open_paren(kind_at(place.rest)) {
+        opened(lent, true, room, place, depth)
+    } else {
+        unary(lent, room, place, depth)
+    }
+}

@@ -1,0 +1,51 @@
+//! Prefixes of an operand (C99, 6.5.3).
+
+ghost use Rattle.reader_base.specs.Lent.{Lends, ReadsExpr};
+ghost use Rattle.expr_forms.specs.Parts.{extension_at, prefix_at};
+
+use c_nodes::SizedExpr;
+use c_reading::Reach;
+use c_words::Punct;
+use reader_base::{Answer, Ask, Begun, Place, ReadError, expr_inside, room_for, take_one};
+
+/// `Prefix = (++ | --) unary | (& | * | + | - | ~ | !) cast`.
+#[tactic(auto, unfolding(c_reading::specs::Expressing::prefix_with, c_reading::specs::Reading::fits, c_reading::specs::Reading::and_then))]
+pub(crate) fn prefix<'a, F>(
+    lent: &F,
+    sign: Punct,
+    reach: Reach,
+    room: u16,
+    place: &mut Place<'a>,
+    depth: u32,
+) -> Result<SizedExpr, ReadError>
+where
+    F: Fn(Ask, &mut Place<'a>) -> Result<Answer, ReadError>,
+    requires { Lends F.Fn lent.now depth }
+    ensures { ReadsExpr place.old place.new result (prefix_at depth sign reach room) }
+{
+    room_for(2, room, place)?;
+    let token = take_one(place)?;
+    let inside = room.saturating_sub(1);
+    let operand = expr_inside(lent, reach, Begun::Nothing, inside, place, depth)?;
+    Ok(c_nodes::prefix(place.alloc, token, sign, operand)?)
+}
+
+/// `Ext = __extension__ cast`.
+#[tactic(auto, unfolding(c_reading::specs::Expressing::extension_with, c_reading::specs::Reading::fits, c_reading::specs::Reading::and_then))]
+pub(crate) fn extension<'a, F>(
+    lent: &F,
+    room: u16,
+    place: &mut Place<'a>,
+    depth: u32,
+) -> Result<SizedExpr, ReadError>
+where
+    F: Fn(Ask, &mut Place<'a>) -> Result<Answer, ReadError>,
+    requires { Lends F.Fn lent.now depth }
+    ensures { ReadsExpr place.old place.new result (extension_at depth room) }
+{
+    room_for(2, room, place)?;
+    let token = take_one(place)?;
+    let inside = room.saturating_sub(1);
+    let operand = expr_inside(lent, Reach::Castable, Begun::Nothing, inside, place, depth)?;
+    Ok(c_nodes::extension(place.alloc, token, operand)?)
+}

@@ -1,0 +1,2 @@
+mod Extending
+mod Rooms

@@ -1,0 +1,16 @@
+use Rattle.std.proofs.Common.{◌≡◌, length}
+use Rattle.c_ops.specs.Joining.{bottom}
+use Rattle.c_nodes.specs.Sized.{expr}
+use Rattle.c_reading.specs.Reading.{run}
+use Rattle.c_reading.specs.Expressing.{operation_turn}
+use Rattle.c_reading.specs.Knot.{knot}
+use Rattle.op_rows.specs.Rows.{row_of}
+use Rattle.expr_rows.proofs.expression.operations.Given as goal
+
+abbrev pub invariant-loop-row : goal.invariant-loop-row
+invariant-loop-row g l =
+    run (operation_turn (knot l.depth) l.reach l.room) (row_of l.row) l.place.scopes l.place.rest.now
+    ≡ run (operation_turn (knot l.depth) l.reach l.room) (record { waiting = bottom; last = expr l.fn.first }) l.fn.place.scopes l.fn.place.rest.now
+
+abbrev pub decreases-loop-row : goal.decreases-loop-row
+decreases-loop-row g l = length l.place.rest.now
