@@ -1,0 +1,11 @@
+use Rattle.std.proofs.Common.{◌≡◌, length}
+use Rattle.declr_forms.specs.Views.{list_of, more_params}
+use Rattle.declr_forms.proofs.parameters.more_params.Given as goal
+
+abbrev pub invariant-loop-all : goal.invariant-loop-all
+invariant-loop-all g l =
+    more_params l.depth l.room (list_of l.all) l.place.scopes l.place.rest.now
+    ≡ more_params l.depth l.room (list_of l.fn.known) l.fn.place.scopes l.fn.place.rest.now
+
+abbrev pub decreases-loop-all : goal.decreases-loop-all
+decreases-loop-all g l = length l.place.rest.now

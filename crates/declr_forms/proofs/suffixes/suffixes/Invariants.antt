@@ -1,0 +1,12 @@
+use Rattle.std.proofs.Common.{◌≡◌, length}
+use Rattle.reader_base.specs.Lent.{declared_of}
+use Rattle.declr_forms.specs.Views.{more_suffixes}
+use Rattle.declr_forms.proofs.suffixes.suffixes.Given as goal
+
+abbrev pub invariant-loop-known : goal.invariant-loop-known
+invariant-loop-known g l =
+    more_suffixes l.depth l.flag l.room (declared_of l.known) l.place.scopes l.place.rest.now
+    ≡ more_suffixes l.depth l.flag l.room (declared_of l.fn.core) l.fn.place.scopes l.fn.place.rest.now
+
+abbrev pub decreases-loop-known : goal.decreases-loop-known
+decreases-loop-known g l = length l.place.rest.now

@@ -1,0 +1,97 @@
+//! Names of declarators (C99, 6.7.5).
+
+ghost use Rattle.std.specs.Prelude.{◌≡◌, IfOk};
+ghost use Rattle.std.specs.Bool.{then_some};
+ghost use Rattle.c_units.specs.Scoping.{at_name};
+ghost use Rattle.c_reading.specs.Declaring as declaring;
+ghost use Rattle.c_reading.specs.Knot.{knot};
+ghost use Rattle.declr_forms.specs.Names as names;
+ghost use Rattle.reader_base.specs.Lent.{ReadsDeclr};
+
+use c_nodes::{declr_name, no_declr};
+use c_reading::{Fault, Mode};
+use qual_base::{NameId, NoMemory};
+use reader_base::{Declared, Place, ReadError, kind_at, refused, room_for, spelled_name};
+use typedef_scope::Kind;
+
+/// Whether a declarator with a name may stand.
+pub(crate) fn takes_name(mode: Mode) -> bool
+    ensures { result ≡ declaring.takes_name mode }
+{
+    match mode {
+        Mode::Named | Mode::Either => true,
+        Mode::Abstract => false,
+    }
+}
+
+/// No declarator, where none may stand.
+fn absent(mode: Mode, place: &mut Place) -> Result<Declared, ReadError>
+    ensures { ReadsDeclr place.old place.new result (declaring.absent mode) }
+{
+    match mode {
+        Mode::Named => Err(refused(Fault::Unexpected, place.rest)),
+        Mode::Abstract | Mode::Either => Ok(Declared {
+            declr: no_declr(),
+            closed: None,
+        }),
+    }
+}
+
+/// Has the innermost scope hold a name where a kind is wanted, and answers whether it may.
+fn hold_wanted(wanted: Option<Kind>, name: NameId, place: &mut Place) -> Result<bool, NoMemory>
+    ensures held { IfOk result (λ may. at_name wanted name place.old.scopes ≡ then_some may place.new.scopes) }
+    ensures rest { place.new.rest ≡ place.old.rest }
+{
+    match wanted {
+        Some(kind) => {
+            let may = place.scopes.hold(name, kind)?;
+            Ok(may)
+        }
+        None => Ok(true),
+    }
+}
+
+/// A name at the first token, which is held where a kind is wanted.
+#[tactic(auto, unfolding(c_reading::specs::Reading::and_then, c_reading::specs::Reading::fits))]
+fn held_name(
+    wanted: Option<Kind>,
+    name: NameId,
+    room: u16,
+    place: &mut Place,
+) -> Result<Declared, ReadError>
+    ensures { ReadsDeclr place.old place.new result (names.held_at wanted name room) }
+{
+    if !hold_wanted(wanted, name, place)? {
+        return Err(refused(Fault::Redeclared, place.rest));
+    }
+    room_for(1, room, place)?;
+    let [first, rest @ ..] = place.rest else {
+        return Err(refused(Fault::Unexpected, place.rest));
+    };
+    let declr = declr_name(place.alloc, first.at, name)?;
+    place.rest = rest;
+    Ok(Declared {
+        declr,
+        closed: None,
+    })
+}
+
+/// A name where one stands and may, or no declarator.
+pub(crate) fn name_or_none(
+    mode: Mode,
+    wanted: Option<Kind>,
+    room: u16,
+    place: &mut Place,
+    depth: u32,
+) -> Result<Declared, ReadError>
+    ensures { ReadsDeclr place.old place.new result (names.name_at (knot depth) mode wanted room) }
+{
+    let Some(name) = spelled_name(kind_at(place.rest)) else {
+        return absent(mode, place);
+    };
+    if takes_name(mode) {
+        held_name(wanted, name, room, place)
+    } else {
+        absent(mode, place)
+    }
+}

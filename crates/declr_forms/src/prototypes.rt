@@ -1,0 +1,109 @@
+//! Parameters in parentheses behind a declarator, in a scope of their own (C99, 6.7.5.3).
+//!
+//! `depth` is the number of the readers of lists that the lent one gives; `room` is the greatest
+//! height that the tree may have.
+
+ghost use Rattle.std.specs.Prelude.{◌≡◌, is_some};
+ghost use Rattle.c_tree.specs.Lists.{some_declr_from};
+ghost use Rattle.c_tree.specs.View.{declr_of};
+ghost use Rattle.c_units.specs.Units.{bare_name};
+ghost use Rattle.c_reading.specs.Declaring as declaring;
+ghost use Rattle.c_reading.specs.Knot.{knot};
+ghost use Rattle.reader_base.specs.Lent.{Lends, ReadsDeclr, declared_of};
+
+use crate::parameters::parameters;
+use c_nodes::{SizedDeclr, with_params};
+use c_syntax::{Attr, Declr};
+use held_scopes::Closed;
+use qual_base::TokenId;
+use reader_base::{Answer, Ask, Declared, Place, ReadError, close_paren, take_one};
+
+/// Whether a declarator is a name alone, parentheses aside. Linear in the parentheses.
+fn is_bare(declr: &Declr) -> bool
+    ensures { result ≡ is_some (bare_name (declr_of declr.now)) }
+{
+    let mut part = declr;
+    loop {
+        match part {
+            Declr::DeclParen { inner, .. } => part = inner,
+            Declr::DeclName { .. } => return true,
+            Declr::Pointer { .. }
+            | Declr::Array { .. }
+            | Declr::Params { .. }
+            | Declr::AbsPointer { .. }
+            | Declr::AbsParen { .. }
+            | Declr::AbsArray { .. }
+            | Declr::AbsParams { .. } => return false,
+        }
+    }
+}
+
+/// Whether there is a declarator that is a name alone, parentheses aside.
+pub(crate) fn is_bare_name(declr: &SizedDeclr) -> bool
+    ensures { result ≡ declaring.is_bare (some_declr_from declr.now.declr) }
+{
+    match &declr.declr {
+        Some(declr) => is_bare(declr),
+        None => false,
+    }
+}
+
+/// The scope of the parameters directly around the name, where these are such.
+fn closed_by(declr: &SizedDeclr, scope: Closed, closed: Option<Closed>) -> Option<Closed>
+    ensures { result ≡ declaring.closed_by (some_declr_from declr.now.declr) scope closed }
+{
+    if is_bare_name(declr) {
+        Some(scope)
+    } else {
+        closed
+    }
+}
+
+/// `[Param (, Param)* [, qual* ...]] )`, behind a declarator or none, the parenthesis and attributes
+/// of the first.
+#[tactic(auto, unfolding(c_reading::specs::Declaring::prototype_with, c_reading::specs::Reading::and_then), using(crate::proofs::Named::named_params, crate::proofs::Words::same_params))]
+pub(crate) fn prototype<'a, F>(
+    lent: &F,
+    known: Declared,
+    opening: TokenId,
+    lead: Vec<Attr>,
+    room: u16,
+    place: &mut Place<'a>,
+    depth: u32,
+) -> Result<Declared, ReadError>
+where
+    F: Fn(Ask, &mut Place<'a>) -> Result<Answer, ReadError>,
+    requires { Lends F.Fn lent.now depth }
+    ensures { ReadsDeclr place.old place.new result (declaring.prototype_with (knot depth) (declared_of known) opening lead.items room) }
+{
+    let Declared {
+        declr: inner,
+        closed: before,
+    } = known;
+    place.scopes.enter()?;
+    let list = parameters(lent, lead, room.saturating_sub(1), place, depth)?;
+    let closing = close_paren(place)?;
+    let scope = place.scopes.close();
+    let closed = closed_by(&inner, scope, before);
+    let declr = with_params(place.alloc, inner, opening, list.items, list.dots, closing)?;
+    Ok(Declared { declr, closed })
+}
+
+/// Parameters in parentheses, behind a declarator.
+#[tactic(auto, unfolding(c_reading::specs::Reading::and_then))]
+pub(crate) fn params_behind<'a, F>(
+    lent: &F,
+    known: Declared,
+    room: u16,
+    place: &mut Place<'a>,
+    depth: u32,
+) -> Result<Declared, ReadError>
+where
+    F: Fn(Ask, &mut Place<'a>) -> Result<Answer, ReadError>,
+    requires { Lends F.Fn lent.now depth }
+    ensures { ReadsDeclr place.old place.new result (declaring.params_behind (knot depth) (declared_of known) room) }
+{
+    let opening = take_one(place)?;
+    let none = Vec::new(place.alloc);
+    prototype(lent, known, opening, none, room, place, depth)
+}

@@ -1,0 +1,3 @@
+mod Pushing
+mod Rooms
+mod Lists

@@ -1,0 +1,11 @@
+use Rattle.std.proofs.Common.{◌≡◌, length}
+use Rattle.spec_forms.specs.Forms.{more_members_at}
+use Rattle.spec_forms.proofs.structs.more_members.Given as goal
+
+abbrev pub invariant-loop : goal.invariant-loop
+invariant-loop g l =
+    more_members_at l.depth l.known l.room l.place.scopes l.place.rest.now
+    ≡ more_members_at l.depth l.fn.known l.room l.fn.place.scopes l.fn.place.rest.now
+
+abbrev pub decreases-loop : goal.decreases-loop
+decreases-loop g l = length l.place.rest.now

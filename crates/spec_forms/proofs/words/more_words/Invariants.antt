@@ -1,0 +1,11 @@
+use Rattle.std.proofs.Common.{◌≡◌, length}
+use Rattle.spec_forms.specs.Forms.{words_at}
+use Rattle.spec_forms.proofs.words.more_words.Given as goal
+
+abbrev pub invariant-loop : goal.invariant-loop
+invariant-loop g l =
+    words_at l.depth l.role l.words l.room l.place.scopes l.place.rest.now
+    ≡ words_at l.depth l.role l.fn.words l.room l.fn.place.scopes l.fn.place.rest.now
+
+abbrev pub decreases-loop : goal.decreases-loop
+decreases-loop g l = length l.place.rest.now

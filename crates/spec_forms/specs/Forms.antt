@@ -1,0 +1,233 @@
+-- The readers of specifiers at a number of the knot, and what they answer.
+use Rattle.std.specs.Prelude.{◌≡◌, ℕ, ◌-◌, max, Bool, List, map, Option, None, Some, Result, if◌then◌else◌}
+use Rattle.c_syntax.specs.declared.parts.Identifier.{Identifier}
+use Rattle.c_syntax.specs.declared.parts.Listed.{Listed}
+use Rattle.c_syntax.specs.declared.specifier.Enumerator.{Enumerator}
+use Rattle.c_syntax.specs.declared.specifier.MemDeclr.{MemDeclr as RustMemDeclr}
+use Rattle.c_words.specs.declared.kinds.Keyword.{Keyword}
+use Rattle.c_tree.specs.declared.lexeme.Lexeme.{Lexeme}
+use Rattle.c_tree.specs.Tree.{SpecWords, SpecWord, SomeValue, no_value, some_value, SomeEnumBody, SomeBody, StructItem, MemDeclr, Declr}
+use Rattle.c_tree.specs.Lists.{some_value_from, some_enum_body_from, some_body_from}
+use Rattle.c_tree.specs.View.{spec_word_of, struct_item_of, mem_declr_of, declr_of}
+use Rattle.c_specs.specs.Reading.{pushed}
+use Rattle.c_nodes.specs.declared.sized.SizedWord.{SizedWord}
+use Rattle.c_nodes.specs.declared.sized.SizedValue.{SizedValue}
+use Rattle.c_nodes.specs.declared.sized.SizedEnumerator.{SizedEnumerator}
+use Rattle.c_nodes.specs.declared.sized.SizedEnumBody.{SizedEnumBody}
+use Rattle.c_nodes.specs.declared.sized.PresentDeclr.{PresentDeclr}
+use Rattle.c_nodes.specs.declared.sized.SizedMemDeclr.{SizedMemDeclr}
+use Rattle.c_nodes.specs.declared.sized.SizedMember.{SizedMember}
+use Rattle.c_nodes.specs.declared.sized.SizedMembers.{SizedMembers}
+use Rattle.c_nodes.specs.declared.sized.SizedStructItem.{SizedStructItem}
+use Rattle.c_nodes.specs.declared.sized.SizedStructItems.{SizedStructItems}
+use Rattle.c_nodes.specs.declared.sized.SizedBody.{SizedBody}
+use Rattle.c_nodes.specs.Sized.{enumerator_of}
+use Rattle.c_reading.specs.declared.kinds.Reach.TheVariants.{Conditional}
+use Rattle.c_reading.specs.declared.kinds.Role.{Role}
+use Rattle.c_reading.specs.declared.kinds.SpecStart.{SpecStart}
+use Rattle.c_reading.specs.Reading.{Reader, Turn, Next, CommaList, with_next, ◌>>=◌, ends, fits, take_one, run, comma_turn, listed, repeated_turn, repeated}
+use Rattle.c_reading.specs.Parts.{nothing, EnumItem, MemberItem}
+use Rattle.c_reading.specs.Knot.{knot}
+use Rattle.c_reading.specs.Specifying.{word_by, word_with, word_turn, specs_with, enumerator_behind, enumerator_named, enumerator_with, next_enumerator, enumerators_with, enum_body_with, enum_with, named_declr, width_with, field_with, mem_declr_with, first_member, next_member, mem_declrs_with, specs_here, member_with, struct_item_with, members_with, body_with, struct_with}
+use Rattle.c_reading.specs.Turns.{no_close_brace}
+use Rattle.reader_base.specs.declared.fault.ReadError.{ReadError}
+use Rattle.reader_base.specs.declared.place.Place.{Place}
+use Rattle.reader_base.specs.Gives.{Reads}
+use Rattle.reader_base.specs.Lent.{sized_specs}
+use Rattle.spec_forms.specs.declared.mixed.Mixed.{Mixed}
+use Rattle.spec_forms.specs.declared.enums.EnumList.{EnumList}
+
+abbrev pub words_in : Mixed → SpecWords
+words_in m = sized_specs m.words
+
+-- what readers answer, at a place
+
+abbrev pub ReadsWord : Place → Place → Result SizedWord ReadError → Reader SpecWord → Type 0
+ReadsWord before after result reader = Reads (λ x. spec_word_of x.word) before after result reader
+
+abbrev pub ReadsMixed : Mixed → Place → Place → Result (Unit {0}) ReadError → Reader SpecWords → Type 0
+ReadsMixed mixed before after result reader = Reads (λ _. words_in mixed) before after result reader
+
+abbrev pub ReadsValue : Place → Place → Result SizedValue ReadError → Reader SomeValue → Type 0
+ReadsValue before after result reader = Reads (λ x. some_value_from x.value) before after result reader
+
+abbrev pub enum_item : Enumerator → EnumItem
+enum_item e = record { name = e.name; attrs = e.attrs.items; value = some_value_from e.value }
+
+abbrev pub ReadsEnumerator : Place → Place → Result SizedEnumerator ReadError → Reader EnumItem → Type 0
+ReadsEnumerator before after result reader = Reads (λ x. enum_item (enumerator_of x)) before after result reader
+
+abbrev pub enum_list : EnumList → CommaList EnumItem ℕ
+enum_list l = record { items = map enum_item l.items.items.items; ending = l.ending }
+
+abbrev pub ReadsEnumList : EnumList → Place → Place → Result (Unit {0}) ReadError → Reader (CommaList EnumItem ℕ) → Type 0
+ReadsEnumList l before after result reader = Reads (λ _. enum_list l) before after result reader
+
+abbrev pub ReadsEnums : Place → Place → Result EnumList ReadError → Reader (CommaList EnumItem ℕ) → Type 0
+ReadsEnums before after result reader = Reads enum_list before after result reader
+
+abbrev pub ReadsEnumBody : Place → Place → Result SizedEnumBody ReadError → Reader SomeEnumBody → Type 0
+ReadsEnumBody before after result reader = Reads (λ x. some_enum_body_from x.body) before after result reader
+
+abbrev pub ReadsDeclarator : Place → Place → Result PresentDeclr ReadError → Reader Declr → Type 0
+ReadsDeclarator before after result reader = Reads (λ x. declr_of x.declr.value) before after result reader
+
+abbrev pub ReadsMemDeclr : Place → Place → Result SizedMemDeclr ReadError → Reader MemDeclr → Type 0
+ReadsMemDeclr before after result reader = Reads (λ x. mem_declr_of x.declr) before after result reader
+
+abbrev pub member_item : Listed RustMemDeclr → MemberItem
+member_item d = record { attrs = d.attrs.items; declr = mem_declr_of d.item }
+
+abbrev pub listed_item : SizedMember → MemberItem
+listed_item x = record { attrs = x.attrs.items; declr = mem_declr_of x.declr }
+
+abbrev pub ReadsMember : Place → Place → Result SizedMember ReadError → Reader MemberItem → Type 0
+ReadsMember before after result reader = Reads listed_item before after result reader
+
+abbrev pub member_list : SizedMembers → CommaList MemberItem ⊥
+member_list l = record { items = map member_item l.items.items; ending = None }
+
+abbrev pub ReadsMemberList : SizedMembers → Place → Place → Result (Unit {0}) ReadError → Reader (CommaList MemberItem ⊥) → Type 0
+ReadsMemberList l before after result reader = Reads (λ _. member_list l) before after result reader
+
+abbrev pub ReadsMembers : Place → Place → Result SizedMembers ReadError → Reader (List MemberItem) → Type 0
+ReadsMembers before after result reader = Reads (λ x. map member_item x.items.items) before after result reader
+
+abbrev pub ReadsStructItem : Place → Place → Result SizedStructItem ReadError → Reader StructItem → Type 0
+ReadsStructItem before after result reader = Reads (λ x. struct_item_of x.item) before after result reader
+
+abbrev pub struct_items : SizedStructItems → List StructItem
+struct_items l = map struct_item_of l.items.items
+
+abbrev pub ReadsStructItems : SizedStructItems → Place → Place → Result (Unit {0}) ReadError → Reader (List StructItem) → Type 0
+ReadsStructItems l before after result reader = Reads (λ _. struct_items l) before after result reader
+
+abbrev pub ReadsItems : Place → Place → Result SizedStructItems ReadError → Reader (List StructItem) → Type 0
+ReadsItems before after result reader = Reads struct_items before after result reader
+
+abbrev pub ReadsBody : Place → Place → Result SizedBody ReadError → Reader SomeBody → Type 0
+ReadsBody before after result reader = Reads (λ x. some_body_from x.body) before after result reader
+
+-- words
+
+-- a word that begins so
+abbrev pub word_at : ℕ → SpecStart → ℕ → Reader SpecWord
+word_at depth start room s ts = word_by (knot depth) start room s ts
+
+-- the words with one more that begins so
+abbrev pub words_with : ℕ → Role → SpecStart → Mixed → ℕ → Reader SpecWords
+words_with depth role start words room s ts =
+    word_with (knot depth) role (words_in words) start room s ts >>= λ word. ends (pushed (words_in words) word.tree) word.scopes word.rest
+
+-- the words with as many more as stand
+abbrev pub words_at : ℕ → Role → Mixed → ℕ → Reader SpecWords
+words_at depth role words room s ts = run (word_turn (knot depth) role room) (words_in words) s ts
+
+abbrev pub specs_at : ℕ → Role → SpecWords → ℕ → Reader SpecWords
+specs_at depth role known room s ts = specs_with (knot depth) role known room s ts
+
+-- values
+
+-- a value behind its sign, where that stands
+abbrev pub value_at : ℕ → Bool → ℕ → Reader SomeValue
+value_at depth stands room s ts =
+    if stands
+    then fits 2 room ts (take_one s ts >>= λ token. (knot depth).expr Conditional nothing (room - 1) token.scopes token.rest >>= λ e.
+    ends (some_value token.tree e.tree) e.scopes e.rest)
+    else ends no_value s ts
+
+-- enums
+
+abbrev pub behind_name : ℕ → Identifier → ℕ → Reader EnumItem
+behind_name depth name room s ts = enumerator_behind (knot depth) name room s ts
+
+abbrev pub named_at : ℕ → Identifier → List Lexeme → ℕ → Reader EnumItem
+named_at depth name at room s ts = enumerator_named (knot depth) name room at s ts
+
+abbrev pub enumerator_at : ℕ → ℕ → Reader EnumItem
+enumerator_at depth room s ts = enumerator_with (knot depth) room s ts
+
+-- behind a comma with this number
+abbrev pub behind_comma : ℕ → ℕ → EnumList → ℕ → Reader (CommaList EnumItem ℕ)
+behind_comma depth comma known room s ts =
+    next_enumerator (knot depth) room comma s ts >>= λ x. ends (with_next (enum_list known).items x.tree) x.scopes x.rest
+
+unfoldable pub enumerator_turn : ℕ → ℕ → Turn (CommaList EnumItem ℕ)
+enumerator_turn depth room known s ts = comma_turn (next_enumerator (knot depth) room) known s ts
+
+-- enumerators behind others
+abbrev pub more_at : ℕ → EnumList → ℕ → Reader (CommaList EnumItem ℕ)
+more_at depth known room s ts = run (enumerator_turn depth room) (enum_list known) s ts
+
+-- enumerators, of which one stands at least
+abbrev pub enums_at : ℕ → ℕ → Reader (CommaList EnumItem ℕ)
+enums_at depth room s ts = listed (enumerator_with (knot depth) room) (next_enumerator (knot depth) room) s ts
+
+abbrev pub enumerators_at : ℕ → ℕ → Reader SomeEnumBody
+enumerators_at depth room s ts = enumerators_with (knot depth) room s ts
+
+abbrev pub enum_body_at : ℕ → Option Identifier → ℕ → Reader SomeEnumBody
+enum_body_at depth tag room s ts = enum_body_with (knot depth) tag room s ts
+
+abbrev pub enum_at : ℕ → ℕ → Reader SpecWord
+enum_at depth room s ts = enum_with (knot depth) room s ts
+
+-- structs and unions
+
+abbrev pub named_declr_at : ℕ → ℕ → Reader Declr
+named_declr_at depth room s ts = named_declr (knot depth) None room s ts
+
+abbrev pub width_at : ℕ → ℕ → Reader MemDeclr
+width_at depth room s ts = width_with (knot depth) room s ts
+
+abbrev pub field_at : ℕ → ℕ → Reader MemDeclr
+field_at depth room s ts = field_with (knot depth) room s ts
+
+abbrev pub mem_declr_at : ℕ → ℕ → Reader MemDeclr
+mem_declr_at depth room s ts = mem_declr_with (knot depth) room s ts
+
+abbrev pub first_member_at : ℕ → ℕ → Reader MemberItem
+first_member_at depth room s ts = first_member (knot depth) room s ts
+
+-- behind a comma with this number
+abbrev pub member_behind : ℕ → ℕ → SizedMembers → ℕ → Reader (CommaList MemberItem ⊥)
+member_behind depth comma known room s ts =
+    next_member (knot depth) room comma s ts >>= λ x. ends (with_next (member_list known).items x.tree) x.scopes x.rest
+
+unfoldable pub member_turn : ℕ → ℕ → Turn (CommaList MemberItem ⊥)
+member_turn depth room known s ts = comma_turn (next_member (knot depth) room) known s ts
+
+-- declarators of a member behind others
+abbrev pub more_members_at : ℕ → SizedMembers → ℕ → Reader (CommaList MemberItem ⊥)
+more_members_at depth known room s ts = run (member_turn depth room) (member_list known) s ts
+
+abbrev pub mem_declrs_at : ℕ → ℕ → Reader (List MemberItem)
+mem_declrs_at depth room s ts = mem_declrs_with (knot depth) room s ts
+
+abbrev pub specs_here_at : ℕ → ℕ → Reader SpecWords
+specs_here_at depth room s ts = specs_here (knot depth) room s ts
+
+abbrev pub member_at : ℕ → ℕ → Reader StructItem
+member_at depth room s ts = member_with (knot depth) room s ts
+
+abbrev pub struct_item_at : ℕ → ℕ → Reader StructItem
+struct_item_at depth room s ts = struct_item_with (knot depth) room s ts
+
+unfoldable pub struct_item_turn : ℕ → ℕ → Turn (List StructItem)
+struct_item_turn depth room known s ts = repeated_turn no_close_brace (struct_item_with (knot depth) room) known s ts
+
+-- items behind others
+abbrev pub more_items_at : ℕ → SizedStructItems → ℕ → Reader (List StructItem)
+more_items_at depth known room s ts = run (struct_item_turn depth room) (struct_items known) s ts
+
+abbrev pub items_at : ℕ → ℕ → Reader (List StructItem)
+items_at depth room s ts = repeated no_close_brace (struct_item_with (knot depth) room) s ts
+
+abbrev pub members_at : ℕ → ℕ → Reader SomeBody
+members_at depth room s ts = members_with (knot depth) room s ts
+
+abbrev pub body_at : ℕ → Option Identifier → ℕ → Reader SomeBody
+body_at depth tag room s ts = body_with (knot depth) tag room s ts
+
+abbrev pub struct_at : ℕ → Keyword → ℕ → Reader SpecWord
+struct_at depth keyword room s ts = struct_with (knot depth) keyword room s ts

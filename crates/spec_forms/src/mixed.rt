@@ -1,0 +1,147 @@
+//! Words of specifiers, with what stands of their mix.
+
+ghost use Rattle.std.specs.Prelude.{◌≡◌, OnOk, max};
+ghost use Rattle.c_reading.specs.Specifying.{least_of};
+ghost use Rattle.c_specs.specs.Mix.{mix_of, then_class, goes_on, is_whole_mix, is_typed, is_type_word};
+ghost use Rattle.c_specs.specs.Reading.{pushed};
+ghost use Rattle.c_tree.specs.Height.{specs_height};
+ghost use Rattle.c_tree.specs.Unit.{spec_words_from};
+ghost use Rattle.c_tree.specs.View.{spec_word_of};
+ghost use Rattle.reader_base.specs.Fitting.{HasRoom};
+ghost use Rattle.reader_base.specs.Lent.{sized_specs};
+
+use crate::starts::least_of;
+use c_nodes::{SizedSpecs, SizedWord};
+use c_reading::SpecStart;
+use c_specs::{Class, Mix, class_of};
+use c_syntax::SpecWord;
+use qual_base::NoMemory;
+use reader_base::{Place, ReadError, room_for};
+use std::alloc::Global;
+
+/// Words of specifiers, what stands of their mix, if one begins so, and whether a type stands.
+#[derive(Drop)]
+pub(crate) struct Mixed {
+    pub words: SizedSpecs,
+    mix: Option<Mix>,
+    typed: bool,
+    ghost mixed: { mix ≡ mix_of (sized_specs words) },
+    ghost stands: { typed ≡ is_typed (sized_specs words) },
+}
+
+/// The mix with one more word of a class.
+fn then_class(mix: Option<Mix>, class: Class) -> Option<Mix>
+    ensures { result ≡ then_class mix class }
+{
+    match mix {
+        Some(mix) => mix.with_class(class),
+        None => None,
+    }
+}
+
+/// Whether a word is a type.
+fn is_type_word(word: &SpecWord) -> bool
+    ensures { result ≡ is_type_word (spec_word_of word.now) }
+{
+    match word {
+        SpecWord::Type(_) | SpecWord::Struct(_) => true,
+        SpecWord::Enum(_) | SpecWord::TypedefName(_) => true,
+        SpecWord::Storage(_) | SpecWord::Thread { .. } => false,
+        SpecWord::Inline { .. } | SpecWord::Noreturn { .. } => false,
+        SpecWord::Qual(_) | SpecWord::Attr(_) => false,
+    }
+}
+
+/// What stands of the mix of words, if one begins so.
+fn mix_of(words: &[SpecWord]) -> Option<Mix>
+    ensures { result ≡ mix_of (spec_words_from words.now) }
+{
+    let mut mix = Some(Mix::new());
+    for word in words {
+        mix = then_class(mix, class_of(word));
+    }
+    mix
+}
+
+/// Whether a type stands among words.
+fn is_typed(words: &[SpecWord]) -> bool
+    ensures { result ≡ is_typed (spec_words_from words.now) }
+{
+    for word in words {
+        if is_type_word(word) {
+            return true;
+        }
+    }
+    false
+}
+
+impl Mixed {
+    /// These words. Linear in them.
+    pub fn new(words: SizedSpecs) -> Self
+        ensures { sized_specs result.words ≡ sized_specs words }
+    {
+        let mix = mix_of(words.words.as_slice());
+        let typed = is_typed(words.words.as_slice());
+        Mixed { words, mix, typed }
+    }
+
+    /// Whether a type stands among the words. Constant time.
+    pub fn is_typed(&self) -> bool
+        ensures { result ≡ is_typed (sized_specs self.now.words) }
+    {
+        self.typed
+    }
+
+    /// Whether a mix goes on with a word of a class. Constant time.
+    pub fn goes_on(&self, class: Class) -> bool
+        ensures { result ≡ goes_on (sized_specs self.now.words) class }
+    {
+        then_class(self.mix, class).is_some()
+    }
+
+    /// Whether the words are a whole mix. Constant time.
+    pub fn is_whole(&self) -> bool
+        ensures { result ≡ is_whole_mix (sized_specs self.now.words) }
+    {
+        match self.mix {
+            Some(mix) => mix.is_whole(),
+            None => false,
+        }
+    }
+
+    /// The words with one more that begins so have room, or the first token is refused.
+    #[tactic(auto, using(crate::proofs::Rooms::greater_capped))]
+    pub fn room_for_next(
+        &self,
+        start: &SpecStart,
+        room: u16,
+        place: &Place,
+    ) -> Result<(), ReadError>
+        ensures { HasRoom (max (least_of start.now) (specs_height (sized_specs self.now.words))) room
+            place.now.rest.now result }
+    {
+        room_for(least_of(start).max(self.words.height), room, place)
+    }
+
+    /// One word more, in constant time, amortised; where memory is wanting, no words are left.
+    #[tactic(auto, using(crate::proofs::Pushing::words_pushed, crate::proofs::Pushing::mix_pushed, crate::proofs::Pushing::typed_pushed))]
+    pub fn push(&mut self, next: SizedWord, alloc: Global) -> Result<(), NoMemory>
+        ensures { OnOk result (sized_specs self.new.words ≡ pushed (sized_specs self.old.words) (spec_word_of next.word)) }
+    {
+        let mix = then_class(self.mix, class_of(&next.word));
+        let typed = self.typed || is_type_word(&next.word);
+        match self.words.push(next) {
+            Ok(()) => {
+                self.mix = mix;
+                self.typed = typed;
+                Ok(())
+            }
+            Err(_) => {
+                self.words = SizedSpecs::new(alloc);
+                self.mix = Some(Mix::new());
+                self.typed = false;
+                Err(NoMemory)
+            }
+        }
+    }
+}

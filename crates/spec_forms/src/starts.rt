@@ -1,0 +1,65 @@
+//! What is known of a word of specifiers before it is read.
+
+ghost use Rattle.std.specs.Prelude.{◌≡◌};
+ghost use Rattle.c_reading.specs.Specifying as specs;
+
+use c_reading::{Role, SpecStart};
+use c_specs::Class;
+use c_words::Keyword;
+
+/// What a word that begins so is in a mix.
+pub(crate) fn class_of_start(start: &SpecStart) -> Class
+    ensures { result ≡ specs.class_of_start start.now }
+{
+    match start {
+        SpecStart::Storage(keyword) => Class::Stores(*keyword),
+        SpecStart::Thread => Class::Stores(Keyword::Thread),
+        SpecStart::Basic(keyword) => Class::Spells(*keyword),
+        SpecStart::Struct(_) | SpecStart::Enum | SpecStart::Name(_) => Class::Named,
+        SpecStart::Inline | SpecStart::Noreturn | SpecStart::Word(_) => Class::Free,
+        SpecStart::Element | SpecStart::Index | SpecStart::Attribute => Class::Free,
+        SpecStart::Nothing => Class::Free,
+    }
+}
+
+/// Whether the name of a type cannot have a word that begins so.
+fn is_declaring(start: &SpecStart) -> bool
+    ensures { result ≡ specs.is_declaring start.now }
+{
+    match start {
+        SpecStart::Storage(_) | SpecStart::Thread => true,
+        SpecStart::Inline | SpecStart::Noreturn => true,
+        _ => false,
+    }
+}
+
+/// Whether a word that begins so may stand in a role.
+pub(crate) fn may_stand(role: Role, start: &SpecStart) -> bool
+    ensures { result ≡ specs.may_stand role start.now }
+{
+    match role {
+        Role::Declaring => true,
+        Role::Naming => !is_declaring(start),
+    }
+}
+
+/// The least height of specifiers with a word that begins so.
+pub(crate) fn least_of(start: &SpecStart) -> u32
+    ensures { result ≡ specs.least_of start.now }
+{
+    match start {
+        SpecStart::Struct(_) | SpecStart::Enum => 2,
+        SpecStart::Name(_) | SpecStart::Attribute => 2,
+        _ => 1,
+    }
+}
+
+/// Whether a word of specifiers begins so.
+pub(crate) fn is_start(start: &SpecStart) -> bool
+    ensures { result ≡ specs.is_start start.now }
+{
+    match start {
+        SpecStart::Nothing => false,
+        _ => true,
+    }
+}
