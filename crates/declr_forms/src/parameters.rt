@@ -16,8 +16,7 @@ ghost use Rattle.reader_base.specs.Lent.{Lends, ReadsSpecs, sized_specs};
 ghost use Rattle.reader_base.specs.Looping.{IsLoop, Turns};
 
 use c_nodes::{SizedDeclr, SizedParam, SizedParams, SizedSpecs, param};
-use c_reading::{Fault, Mode, Role};
-use c_specs::{mixes_go_on, whole_are_mixes};
+use c_reading::{Fault, Mode, Role, turns_take_tokens};
 use c_syntax::{Attr, Declr, Ellipsis, Qual};
 use decl_nodes::{words_of_attrs, words_of_quals};
 use qual_base::{NoMemory, TokenId};
@@ -233,8 +232,7 @@ where
 fn params_step(room: u16, depth: u32)
     ensures { IsLoop (params_turn depth room) }
 {
-    whole_are_mixes();
-    mixes_go_on();
+    turns_take_tokens(depth);
 }
 
 /// The parameters behind those that were read already, up to the dots that end them.

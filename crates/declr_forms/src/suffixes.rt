@@ -13,7 +13,7 @@ ghost use Rattle.reader_base.specs.Looping.{IsLoop, Turns};
 use crate::arrays::array;
 use crate::prototypes::{is_bare_name, params_behind};
 use c_nodes::no_declr;
-use c_specs::{mixes_go_on, whole_are_mixes};
+use c_reading::turns_take_tokens;
 use c_words::TokenKind;
 use qual_base::NoMemory;
 use reader_base::{
@@ -124,8 +124,7 @@ where
 fn suffixes_step(flag: bool, room: u16, depth: u32)
     ensures { IsLoop (suffixes_turn depth flag room) }
 {
-    whole_are_mixes();
-    mixes_go_on();
+    turns_take_tokens(depth);
 }
 
 /// All brackets and parameters behind a declarator.

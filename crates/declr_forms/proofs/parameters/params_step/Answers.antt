@@ -1,5 +1,10 @@
-use Rattle.declr_forms.proofs.Turns.{params_loop}
+use Rattle.c_reading.specs.Reading.{comma_turn}
+use Rattle.c_reading.specs.Declaring.{next_param}
+use Rattle.c_reading.specs.Knot.{knot}
+use Rattle.reader_base.proofs.Looping.{is_loop}
 use Rattle.declr_forms.proofs.parameters.params_step.Goals as goal
 
 pub returns : goal.returns
-returns c = params_loop c.whole_are_mixes.ensures c.mixes_go_on.ensures _ _
+returns c =
+    is_loop (comma_turn (next_param (knot c.args.depth) c.args.room))
+    (c.turns_take_tokens.ensures.params c.args.room)

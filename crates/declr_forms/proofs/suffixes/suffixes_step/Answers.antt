@@ -1,5 +1,9 @@
-use Rattle.declr_forms.proofs.Turns.{suffixes_loop}
+use Rattle.c_reading.specs.Declaring.{suffix_turn}
+use Rattle.c_reading.specs.Knot.{knot}
+use Rattle.reader_base.proofs.Looping.{is_loop}
 use Rattle.declr_forms.proofs.suffixes.suffixes_step.Goals as goal
 
 pub returns : goal.returns
-returns c = suffixes_loop c.whole_are_mixes.ensures c.mixes_go_on.ensures c.args.depth c.args.flag c.args.room
+returns c =
+    is_loop (suffix_turn (knot c.args.depth) c.args.flag c.args.room)
+    (c.turns_take_tokens.ensures.suffixes c.args.flag c.args.room)
