@@ -1,0 +1,59 @@
+-- Readers of blocks and of what stands in them, at a number of the knot.
+use Rattle.std.specs.Prelude.{ℕ, Result, not, List, [], map, if◌then◌else◌}
+use Rattle.c_tree.specs.Tree as trees
+use Rattle.c_tree.specs.Tree.{Stmt, BlockItem, SpecWords, block_decl, block_stmt, decl_declaration, decl_assert}
+use Rattle.c_tree.specs.View.{block_item_of}
+use Rattle.c_nodes.specs.declared.sized.SizedBlockItem.{SizedBlockItem}
+use Rattle.c_nodes.specs.declared.sized.SizedBlockItems.{SizedBlockItems}
+use Rattle.c_reading.specs.declared.kinds.Fault.TheVariants.{Unexpected}
+use Rattle.c_reading.specs.Reading.{Reader, Turn, ◌>>=◌, ends, fits, refuses, kind_at, take_one, repeated, repeated_turn}
+use Rattle.c_reading.specs.Expressing.{begins_expr}
+use Rattle.c_reading.specs.Specifying.{begins_specs}
+use Rattle.c_reading.specs.Tokens.{is_close_brace, assert_at}
+use Rattle.c_reading.specs.Stating.{declaration_with, declaration_from, block_item_with, block_with, expr_stmt_with}
+use Rattle.c_reading.specs.Parts.{nothing}
+use Rattle.c_reading.specs.Knot.{knot}
+use Rattle.reader_base.specs.declared.fault.ReadError.{ReadError}
+use Rattle.reader_base.specs.declared.place.Place.{Place}
+use Rattle.reader_base.specs.Gives.{Reads}
+
+abbrev pub ReadsItem : Place → Place → Result SizedBlockItem ReadError → Reader BlockItem → Type 0
+ReadsItem before after result reader = Reads (λ x. block_item_of x.item) before after result reader
+
+-- the name of a type alone
+abbrev pub typedef_word : ℕ → ℕ → SpecWords
+typedef_word token name = trees.more_words (trees.typedef_name (record { token = token; name = name })) trees.no_words
+
+abbrev pub assert_item_with : ℕ → Reader BlockItem
+assert_item_with room s ts = fits 1 room ts (assert_at s ts >>= λ it. ends (block_decl (decl_assert it.tree)) it.scopes it.rest)
+
+abbrev pub declaration_item_with : ℕ → List ℕ → ℕ → Reader BlockItem
+declaration_item_with depth exts room s ts = declaration_with (knot depth) exts room s ts >>= λ d. ends (block_decl (decl_declaration d.tree)) d.scopes d.rest
+
+abbrev pub item_from_with : ℕ → SpecWords → ℕ → Reader BlockItem
+item_from_with depth known room s ts = declaration_from (knot depth) known room s ts >>= λ d. ends (block_decl (decl_declaration d.tree)) d.scopes d.rest
+
+abbrev pub typed_item_with : ℕ → ℕ → ℕ → Reader BlockItem
+typed_item_with depth name room s ts = take_one s ts >>= λ token. item_from_with depth (typedef_word token.tree name) room token.scopes token.rest
+
+abbrev pub unnamed_item_with : ℕ → ℕ → Reader BlockItem
+unnamed_item_with depth room s ts =
+    if begins_specs s (kind_at ts) then declaration_item_with depth [] room s ts
+    else (knot depth).stmt room s ts >>= λ t. ends (block_stmt t.tree) t.scopes t.rest
+
+-- the items of a block, as the state of the loop over them
+abbrev pub known_items : SizedBlockItems → List BlockItem
+known_items known = map block_item_of known.items.items
+
+abbrev pub item_turn : ℕ → ℕ → Turn (List BlockItem)
+item_turn depth room = repeated_turn (λ kind. not (is_close_brace kind)) (block_item_with (knot depth) room)
+
+abbrev pub items_with : ℕ → ℕ → Reader (List BlockItem)
+items_with depth room s ts = repeated (λ kind. not (is_close_brace kind)) (block_item_with (knot depth) room) s ts
+
+abbrev pub block_stmt_with : ℕ → ℕ → Reader Stmt
+block_stmt_with depth room s ts = block_with (knot depth) room s ts >>= λ b. ends (trees.block b.tree.opening b.tree.items b.tree.closing) b.scopes b.rest
+
+abbrev pub value_stmt_with : ℕ → ℕ → Reader Stmt
+value_stmt_with depth room s ts =
+    if begins_expr s (kind_at ts) then fits 2 room ts (expr_stmt_with (knot depth) nothing room s ts) else refuses Unexpected ts

@@ -1,0 +1,185 @@
+//! Statements without a statement inside.
+
+ghost use Rattle.c_reading.specs.Knot.{knot};
+ghost use Rattle.c_reading.specs.Stating as stating;
+ghost use Rattle.c_reading.specs.Tokens.{is_close_paren, is_semicolon};
+ghost use Rattle.c_tree.specs.Tree as trees;
+ghost use Rattle.reader_base.specs.Lent.{Lends, ReadsStmt, begun_of};
+ghost use Rattle.stmt_forms.specs.Statements.{ReadsSomeExpr, null_with};
+
+use c_nodes::{SizedSomeExpr, SizedStmt, no_expr, some_expr};
+use c_reading::Reach;
+use reader_base::{
+    Answer, Ask, Begun, Place, ReadError, asm_words, attrs, expr_inside, group, is_close_paren,
+    is_semicolon, kind_at, name, room_for, semicolon, take_one,
+};
+
+/// `;` alone (C99, 6.8.3).
+#[tactic(auto, unfolding(c_reading::specs::Reading::fits, c_reading::specs::Reading::and_then))]
+pub(crate) fn null_stmt(room: u16, place: &mut Place) -> Result<SizedStmt, ReadError>
+    ensures { ReadsStmt place.old place.new result (null_with room) }
+{
+    room_for(1, room, place)?;
+    let semi = take_one(place)?;
+    let made = decl_nodes::expr_stmt(place.alloc, no_expr(), semi)?;
+    Ok(made)
+}
+
+/// `goto Name ;` (C99, 6.8.6.1).
+#[tactic(auto, unfolding(c_reading::specs::Stating::goto_with, c_reading::specs::Reading::fits, c_reading::specs::Reading::and_then))]
+pub(crate) fn goto_stmt(room: u16, place: &mut Place, depth: u32) -> Result<SizedStmt, ReadError>
+    ensures { ReadsStmt place.old place.new result (stating.goto_with (knot depth) room) }
+{
+    room_for(1, room, place)?;
+    let keyword = take_one(place)?;
+    let label = name(place)?;
+    let semi = semicolon(place)?;
+    let made = decl_nodes::goto_stmt(place.alloc, keyword, label, semi)?;
+    Ok(made)
+}
+
+/// `continue ;` (C99, 6.8.6.2).
+#[tactic(auto, unfolding(c_reading::specs::Stating::jump_with, c_reading::specs::Reading::fits, c_reading::specs::Reading::and_then))]
+pub(crate) fn continue_stmt(
+    room: u16,
+    place: &mut Place,
+    depth: u32,
+) -> Result<SizedStmt, ReadError>
+    ensures { ReadsStmt place.old place.new result
+        (stating.jump_with (knot depth) trees.continue_stmt room) }
+{
+    room_for(1, room, place)?;
+    let keyword = take_one(place)?;
+    let semi = semicolon(place)?;
+    let made = decl_nodes::continue_stmt(place.alloc, keyword, semi)?;
+    Ok(made)
+}
+
+/// `break ;` (C99, 6.8.6.3).
+#[tactic(auto, unfolding(c_reading::specs::Stating::jump_with, c_reading::specs::Reading::fits, c_reading::specs::Reading::and_then))]
+pub(crate) fn break_stmt(room: u16, place: &mut Place, depth: u32) -> Result<SizedStmt, ReadError>
+    ensures { ReadsStmt place.old place.new result
+        (stating.jump_with (knot depth) trees.break_stmt room) }
+{
+    room_for(1, room, place)?;
+    let keyword = take_one(place)?;
+    let semi = semicolon(place)?;
+    let made = decl_nodes::break_stmt(place.alloc, keyword, semi)?;
+    Ok(made)
+}
+
+/// An expression, or none where `;` stands first.
+#[tactic(auto, unfolding(c_reading::specs::Stating::some_expr_with, c_reading::specs::Reading::and_then))]
+pub(crate) fn value_before_semi<'a, F>(
+    lent: &F,
+    room: u16,
+    place: &mut Place<'a>,
+    depth: u32,
+) -> Result<SizedSomeExpr, ReadError>
+where
+    F: Fn(Ask, &mut Place<'a>) -> Result<Answer, ReadError>,
+    requires { Lends F.Fn lent.now depth }
+    ensures { ReadsSomeExpr place.old place.new result
+        (stating.some_expr_with (knot depth) is_semicolon room) }
+{
+    if is_semicolon(kind_at(place.rest)) {
+        return Ok(no_expr());
+    }
+    let value = expr_inside(lent, Reach::Whole, Begun::Nothing, room, place, depth)?;
+    Ok(some_expr(value))
+}
+
+/// An expression, or none where `)` stands first.
+#[tactic(auto, unfolding(c_reading::specs::Stating::some_expr_with, c_reading::specs::Reading::and_then))]
+pub(crate) fn value_before_paren<'a, F>(
+    lent: &F,
+    room: u16,
+    place: &mut Place<'a>,
+    depth: u32,
+) -> Result<SizedSomeExpr, ReadError>
+where
+    F: Fn(Ask, &mut Place<'a>) -> Result<Answer, ReadError>,
+    requires { Lends F.Fn lent.now depth }
+    ensures { ReadsSomeExpr place.old place.new result
+        (stating.some_expr_with (knot depth) is_close_paren room) }
+{
+    if is_close_paren(kind_at(place.rest)) {
+        return Ok(no_expr());
+    }
+    let value = expr_inside(lent, Reach::Whole, Begun::Nothing, room, place, depth)?;
+    Ok(some_expr(value))
+}
+
+/// `return [expr] ;` (C99, 6.8.6.4).
+#[tactic(auto, unfolding(c_reading::specs::Stating::return_with, c_reading::specs::Reading::fits, c_reading::specs::Reading::and_then))]
+pub(crate) fn return_stmt<'a, F>(
+    lent: &F,
+    room: u16,
+    place: &mut Place<'a>,
+    depth: u32,
+) -> Result<SizedStmt, ReadError>
+where
+    F: Fn(Ask, &mut Place<'a>) -> Result<Answer, ReadError>,
+    requires { Lends F.Fn lent.now depth }
+    ensures { ReadsStmt place.old place.new result (stating.return_with (knot depth) room) }
+{
+    room_for(1, room, place)?;
+    let keyword = take_one(place)?;
+    let value = value_before_semi(lent, room.saturating_sub(1), place, depth)?;
+    let semi = semicolon(place)?;
+    let made = decl_nodes::return_stmt(place.alloc, keyword, value, semi)?;
+    Ok(made)
+}
+
+/// `expr ;` behind what of its first operand was read already (C99, 6.8.3).
+#[tactic(auto, unfolding(c_reading::specs::Stating::expr_stmt_with, c_reading::specs::Reading::and_then))]
+pub(crate) fn expr_stmt<'a, F>(
+    lent: &F,
+    begun: Begun,
+    room: u16,
+    place: &mut Place<'a>,
+    depth: u32,
+) -> Result<SizedStmt, ReadError>
+where
+    F: Fn(Ask, &mut Place<'a>) -> Result<Answer, ReadError>,
+    requires { Lends F.Fn lent.now depth }
+    ensures { ReadsStmt place.old place.new result
+        (stating.expr_stmt_with (knot depth) (begun_of begun) room) }
+{
+    let value = expr_inside(
+        lent,
+        Reach::Whole,
+        begun,
+        room.saturating_sub(1),
+        place,
+        depth,
+    )?;
+    let semi = semicolon(place)?;
+    let made = decl_nodes::expr_stmt(place.alloc, some_expr(value), semi)?;
+    Ok(made)
+}
+
+/// `asm (volatile | goto | inline)* bal ;`, a group as GNU C has it.
+#[tactic(auto, unfolding(c_reading::specs::Stating::asm_with, c_reading::specs::Reading::fits, c_reading::specs::Reading::and_then))]
+pub(crate) fn asm_stmt(room: u16, place: &mut Place, depth: u32) -> Result<SizedStmt, ReadError>
+    ensures { ReadsStmt place.old place.new result (stating.asm_with (knot depth) room) }
+{
+    room_for(1, room, place)?;
+    let keyword = take_one(place)?;
+    let words = asm_words(place)?;
+    let group = group(place)?;
+    let semi = semicolon(place)?;
+    let made = decl_nodes::asm_stmt(place.alloc, keyword, words, group, semi)?;
+    Ok(made)
+}
+
+/// `Attr+ ;`, at the first attribute.
+#[tactic(auto, unfolding(c_reading::specs::Stating::attr_stmt_with, c_reading::specs::Reading::and_then))]
+pub(crate) fn attr_stmt(room: u16, place: &mut Place, depth: u32) -> Result<SizedStmt, ReadError>
+    ensures { ReadsStmt place.old place.new result (stating.attr_stmt_with (knot depth) room) }
+{
+    let attrs = attrs(room, place)?;
+    let semi = semicolon(place)?;
+    let made = decl_nodes::attr_stmt(place.alloc, attrs, semi)?;
+    Ok(made)
+}
