@@ -7,9 +7,9 @@ ghost use Rattle.stmt_forms.specs.Statements.{ReadsStart, for_with};
 
 use crate::branches::part;
 use crate::jumps::{value_before_paren, value_before_semi};
-use crate::stand_in::declaration;
 use c_nodes::{SizedStart, SizedStmt, no_expr, some_expr};
 use c_reading::Reach;
+use decl_forms::declaration;
 use decl_nodes::{start_declaration, start_value};
 use reader_base::{
     Answer, Ask, Begun, Place, ReadError, begins_specs, close_paren, expr_inside, extensions,

@@ -11,10 +11,10 @@ ghost use Rattle.stmt_forms.specs.InBlocks.{typed_item_with, unnamed_item_with};
 
 use crate::jumps::expr_stmt;
 use crate::labelled::label;
-use crate::stand_in::{declaration, declaration_from};
 use c_nodes::{SizedBlockItem, SizedSpecs};
 use c_reading::Fault;
 use c_syntax::Attr;
+use decl_forms::{declaration, declaration_from};
 use decl_nodes::{block_stmt, typedef_name};
 use qual_base::{NameId, NoMemory, TokenId};
 use reader_base::{

@@ -1,8 +1,7 @@
 //! Readers of statements and blocks (C99, 6.8).
 //!
 //! Each reads what begins at a place, with the room that its height may take, and asks the reader
-//! that is lent to it for the parts inside. The two readers of declarations do not stand yet: in their
-//! place `stand_in` has functions with their contracts that answer want of memory.
+//! that is lent to it for the parts inside.
 #![tactic(auto)]
 
 mod blocks;
@@ -11,7 +10,6 @@ mod fors;
 mod items;
 mod jumps;
 mod labelled;
-mod stand_in;
 mod statements;
 
 pub use blocks::block;

@@ -1,0 +1,57 @@
+-- Declarators of a declaration as the readers of token lists see them.
+use Rattle.std.specs.Prelude.{ℕ, List, [], ◌∷◌, map, None, Option, Result}
+use Rattle.typedef_scope.specs.declared.kind.Kind.{Kind}
+use Rattle.c_syntax.specs.declared.declaration.InitDeclr.{InitDeclr}
+use Rattle.c_syntax.specs.declared.parts.Attr.{Attr}
+use Rattle.c_syntax.specs.declared.parts.Listed.{Listed}
+use Rattle.c_nodes.specs.declared.sized.PresentDeclr.{PresentDeclr}
+use Rattle.c_nodes.specs.declared.sized.SizedDeclaration.{SizedDeclaration}
+use Rattle.c_nodes.specs.declared.sized.SizedInitDeclr.{SizedInitDeclr}
+use Rattle.c_nodes.specs.declared.sized.SizedInitDeclrs.{SizedInitDeclrs}
+use Rattle.c_nodes.specs.declared.sized.SizedSomeInit.{SizedSomeInit}
+use Rattle.c_tree.specs.Lists.{some_init_from}
+use Rattle.c_tree.specs.Tree as trees
+use Rattle.c_tree.specs.View.{declr_of, declaration_of}
+use Rattle.c_reading.specs.Parts.{DeclrItem}
+use Rattle.c_reading.specs.Reading.{Reader, Turn, CommaList, comma_turn, listed}
+use Rattle.c_reading.specs.Stating.{next_init_declr, init_declr_with}
+use Rattle.c_reading.specs.Knot.{knot}
+use Rattle.reader_base.specs.declared.fault.ReadError.{ReadError}
+use Rattle.reader_base.specs.declared.place.Place.{Place}
+use Rattle.reader_base.specs.Gives.{Reads}
+
+abbrev pub item_tree : Listed InitDeclr → DeclrItem
+item_tree x = record { before = x.attrs.items; declr = declr_of x.item.declr.value; label = x.item.label; attrs = x.item.attrs.items; init = some_init_from x.item.init }
+
+abbrev pub sized_item : SizedInitDeclr → DeclrItem
+sized_item x = record { before = x.before.items; declr = declr_of x.declr.value; label = x.label; attrs = x.attrs.items; init = some_init_from x.init }
+
+abbrev pub listing : SizedInitDeclrs → CommaList DeclrItem ⊥
+listing known = record { items = map item_tree known.items.items; ending = None }
+
+-- one declarator alone
+abbrev pub only : SizedInitDeclr → CommaList DeclrItem ⊥
+only first = record { items = sized_item first ∷ []; ending = None }
+
+-- a declarator more behind a comma
+unfoldable pub declrs_turn : ℕ → Kind → ℕ → Turn (CommaList DeclrItem ⊥)
+declrs_turn depth kind room known s ts = comma_turn (next_init_declr (knot depth) kind room) known s ts
+
+-- declarators behind the words, the first without attributes
+abbrev pub declrs_at : ℕ → Kind → ℕ → Reader (CommaList DeclrItem ⊥)
+declrs_at depth kind room s ts = listed (init_declr_with (knot depth) [] kind room) (next_init_declr (knot depth) kind room) s ts
+
+abbrev pub ReadsSomeInit : Place → Place → Result SizedSomeInit ReadError → Reader trees.SomeInit → Type 0
+ReadsSomeInit before after result reader = Reads (λ x. some_init_from x.init) before after result reader
+
+abbrev pub ReadsPresent : Place → Place → Result PresentDeclr ReadError → Reader trees.Declr → Type 0
+ReadsPresent before after result reader = Reads (λ x. declr_of x.declr.value) before after result reader
+
+abbrev pub ReadsItem : Place → Place → Result SizedInitDeclr ReadError → Reader DeclrItem → Type 0
+ReadsItem before after result reader = Reads sized_item before after result reader
+
+abbrev pub ReadsListing : Place → Place → Result SizedInitDeclrs ReadError → Reader (CommaList DeclrItem ⊥) → Type 0
+ReadsListing before after result reader = Reads listing before after result reader
+
+abbrev pub ReadsDeclaration : Place → Place → Result SizedDeclaration ReadError → Reader trees.Declaration → Type 0
+ReadsDeclaration before after result reader = Reads (λ x. declaration_of x.tree.value) before after result reader

@@ -1,0 +1,135 @@
+//! Declarations (C99, 6.7).
+
+ghost use Rattle.c_tree.specs.Unit.{spec_words_from};
+ghost use Rattle.c_reading.specs.Knot.{knot};
+ghost use Rattle.c_reading.specs.Specifying.{specs_here};
+ghost use Rattle.c_reading.specs.Stating.{declaration_behind, declaration_with, declaration_from};
+ghost use Rattle.decl_forms.specs.Listed.{ReadsDeclaration, ReadsListing, declrs_at};
+ghost use Rattle.reader_base.specs.Lent.{Lends, ReadsSpecs, sized_specs};
+
+use crate::declarators::{init_declr, more_declrs, one_declr};
+use crate::kinds::declared_kind;
+use c_nodes::{SizedDeclaration, SizedInitDeclrs, SizedSpecs};
+use c_reading::{Fault, Role};
+use qual_base::TokenId;
+use reader_base::{
+    Answer, Ask, Place, ReadError, begins_specs, is_semicolon, kind_at, refused, room_above,
+    room_for, semicolon, specs_inside, take_one,
+};
+use typedef_scope::Kind;
+
+/// The specifiers that must begin at the first token.
+#[tactic(auto, unfolding(c_reading::specs::Specifying::specs_here, c_reading::specs::Reading::fits))]
+fn specs_here<'a, F>(
+    lent: &F,
+    room: u16,
+    place: &mut Place<'a>,
+    depth: u32,
+) -> Result<SizedSpecs, ReadError>
+where
+    F: Fn(Ask, &mut Place<'a>) -> Result<Answer, ReadError>,
+    requires { Lends F.Fn lent.now depth }
+    ensures { ReadsSpecs place.old place.new result (specs_here (knot depth) room) }
+{
+    if !begins_specs(&place.scopes, kind_at(place.rest)) {
+        return Err(refused(Fault::Unexpected, place.rest));
+    }
+    room_for(2, room, place)?;
+    let known = SizedSpecs::new(place.alloc);
+    let room = room.saturating_sub(1);
+    specs_inside(lent, Role::Declaring, known, room, place, depth)
+}
+
+/// `InitDeclr (, Attr* InitDeclr)*`.
+#[tactic(auto, unfolding(c_reading::specs::Reading::listed, c_reading::specs::Reading::and_then, crate::specs::Listed::declrs_turn))]
+fn declrs<'a, F>(
+    lent: &F,
+    kind: Kind,
+    room: u16,
+    place: &mut Place<'a>,
+    depth: u32,
+) -> Result<SizedInitDeclrs, ReadError>
+where
+    F: Fn(Ask, &mut Place<'a>) -> Result<Answer, ReadError>,
+    requires { Lends F.Fn lent.now depth }
+    ensures { ReadsListing place.old place.new result (declrs_at depth kind room) }
+{
+    let before = Vec::new(place.alloc);
+    let first = init_declr(lent, before, kind, room, place, depth)?;
+    let known = one_declr(place.alloc, first)?;
+    more_declrs(lent, known, kind, room, place, depth)
+}
+
+/// `[InitDeclr (, Attr* InitDeclr)*] ;`, behind the words.
+#[tactic(auto, unfolding(c_reading::specs::Stating::declaration_behind, c_reading::specs::Stating::bare_declaration, c_reading::specs::Stating::declrs_with, c_reading::specs::Reading::fits, c_reading::specs::Reading::and_then), using(crate::proofs::Pushed::items_are))]
+fn behind_words<'a, F>(
+    lent: &F,
+    exts: Vec<TokenId>,
+    words: SizedSpecs,
+    room: u16,
+    place: &mut Place<'a>,
+    depth: u32,
+) -> Result<SizedDeclaration, ReadError>
+where
+    F: Fn(Ask, &mut Place<'a>) -> Result<Answer, ReadError>,
+    requires { Lends F.Fn lent.now depth }
+    ensures { ReadsDeclaration place.old place.new result
+        (declaration_behind (knot depth) exts.items (sized_specs words) room) }
+{
+    if is_semicolon(kind_at(place.rest)) {
+        room_above(words.height, room, place)?;
+        let semi = take_one(place)?;
+        let none = SizedInitDeclrs::new(place.alloc);
+        return Ok(decl_nodes::declaration(place.alloc, exts, words, none, semi)?);
+    }
+    let kind = declared_kind(words.words.as_slice());
+    let room = room.saturating_sub(1);
+    let declrs = declrs(lent, kind, room, place, depth)?;
+    let semi = semicolon(place)?;
+    Ok(decl_nodes::declaration(place.alloc, exts, words, declrs, semi)?)
+}
+
+/// A declaration behind `__extension__`, as often as it stands.
+#[tactic(auto, unfolding(c_reading::specs::Stating::declaration_with, c_reading::specs::Reading::and_then))]
+pub fn declaration<'a, F>(
+    lent: &F,
+    exts: Vec<TokenId>,
+    room: u16,
+    place: &mut Place<'a>,
+    depth: u32,
+) -> Result<SizedDeclaration, ReadError>
+where
+    F: Fn(Ask, &mut Place<'a>) -> Result<Answer, ReadError>,
+    requires { Lends F.Fn lent.now depth }
+    ensures { ReadsDeclaration place.old place.new result
+        (declaration_with (knot depth) exts.items room) }
+{
+    let words = specs_here(lent, room, place, depth)?;
+    behind_words(lent, exts, words, room, place, depth)
+}
+
+/// A declaration behind words that were read already.
+#[tactic(auto, unfolding(c_reading::specs::Stating::declaration_from, c_reading::specs::Reading::and_then))]
+pub fn declaration_from<'a, F>(
+    lent: &F,
+    known: SizedSpecs,
+    room: u16,
+    place: &mut Place<'a>,
+    depth: u32,
+) -> Result<SizedDeclaration, ReadError>
+where
+    F: Fn(Ask, &mut Place<'a>) -> Result<Answer, ReadError>,
+    requires { Lends F.Fn lent.now depth }
+    ensures { ReadsDeclaration place.old place.new result
+        (declaration_from (knot depth) (sized_specs known) room) }
+{
+    let words = specs_inside(
+        lent,
+        Role::Declaring,
+        known,
+        room.saturating_sub(1),
+        place,
+        depth,
+    )?;
+    behind_words(lent, Vec::new(place.alloc), words, room, place, depth)
+}

@@ -1,0 +1,177 @@
+//! Declarators of a declaration, with what stands behind each (C99, 6.7).
+
+ghost use Rattle.std.specs.Prelude.{◌≡◌, IfOk, Some};
+ghost use Rattle.c_tree.specs.View.{declr_of};
+ghost use Rattle.c_reading.specs.Knot.{knot};
+ghost use Rattle.c_reading.specs.Reading.{run};
+ghost use Rattle.c_reading.specs.Specifying.{named_declr};
+ghost use Rattle.c_reading.specs.Stating.{some_init_with, declr_behind, init_declr_with};
+ghost use Rattle.decl_forms.specs.Listed.{ReadsSomeInit, ReadsPresent, ReadsItem, ReadsListing};
+ghost use Rattle.decl_forms.specs.Listed.{listing, only, declrs_turn};
+ghost use Rattle.reader_base.specs.Lent.{Lends};
+ghost use Rattle.reader_base.specs.Looping.{IsLoop, Turns};
+
+use c_nodes::{PresentDeclr, SizedInitDeclr, SizedInitDeclrs, SizedSomeInit, present};
+use c_reading::{Fault, Mode, turns_take_tokens};
+use c_syntax::Attr;
+use decl_nodes::{no_init, some_init};
+use init_forms::init;
+use qual_base::NoMemory;
+use reader_base::{
+    Answer, Ask, Place, ReadError, attrs, declr_inside, is_comma, is_equal, kind_at, label,
+    refused, take_one,
+};
+use std::alloc::Global;
+use typedef_scope::Kind;
+
+/// `[= init]`.
+#[tactic(auto, unfolding(c_reading::specs::Stating::some_init_with, c_reading::specs::Reading::and_then))]
+fn some_init_here<'a, F>(
+    lent: &F,
+    room: u16,
+    place: &mut Place<'a>,
+    depth: u32,
+) -> Result<SizedSomeInit, ReadError>
+where
+    F: Fn(Ask, &mut Place<'a>) -> Result<Answer, ReadError>,
+    requires { Lends F.Fn lent.now depth }
+    ensures { ReadsSomeInit place.old place.new result (some_init_with (knot depth) room) }
+{
+    if !is_equal(kind_at(place.rest)) {
+        return Ok(no_init());
+    }
+    let equal = take_one(place)?;
+    let init = init(lent, room.saturating_sub(1), place, depth)?;
+    Ok(some_init(equal, init))
+}
+
+/// `[AsmLabel] Attr* [= init]`, behind a declarator whose name is declared.
+#[tactic(auto, unfolding(c_reading::specs::Stating::declr_behind, c_reading::specs::Reading::and_then))]
+fn behind<'a, F>(
+    lent: &F,
+    before: Vec<Attr>,
+    declr: PresentDeclr,
+    room: u16,
+    place: &mut Place<'a>,
+    depth: u32,
+) -> Result<SizedInitDeclr, ReadError>
+where
+    F: Fn(Ask, &mut Place<'a>) -> Result<Answer, ReadError>,
+    requires { Lends F.Fn lent.now depth }
+    ensures { ReadsItem place.old place.new result
+        (declr_behind (knot depth) before.items (declr_of declr.declr.value) room) }
+{
+    let label = label(place)?;
+    let attrs = attrs(room, place)?;
+    let init = some_init_here(lent, room, place, depth)?;
+    Ok(decl_nodes::init_declr(before, declr, label, attrs, init))
+}
+
+/// A declarator with a name, which is held.
+#[tactic(auto, unfolding(c_reading::specs::Specifying::named_declr, c_reading::specs::Reading::and_then))]
+fn named<'a, F>(
+    lent: &F,
+    kind: Kind,
+    room: u16,
+    place: &mut Place<'a>,
+    depth: u32,
+) -> Result<PresentDeclr, ReadError>
+where
+    F: Fn(Ask, &mut Place<'a>) -> Result<Answer, ReadError>,
+    requires { Lends F.Fn lent.now depth }
+    ensures { ReadsPresent place.old place.new result (named_declr (knot depth) (Some kind) room) }
+{
+    let found = declr_inside(lent, Mode::Named, Some(kind), false, room, place, depth)?;
+    match present(found.declr) {
+        Some(declr) => Ok(declr),
+        None => Err(refused(Fault::Unexpected, place.rest)),
+    }
+}
+
+/// `InitDeclr = declr [AsmLabel] Attr* [= init]`, behind attributes. The name is declared behind its declarator.
+#[tactic(auto, unfolding(c_reading::specs::Stating::init_declr_with, c_reading::specs::Reading::and_then))]
+pub(crate) fn init_declr<'a, F>(
+    lent: &F,
+    before: Vec<Attr>,
+    kind: Kind,
+    room: u16,
+    place: &mut Place<'a>,
+    depth: u32,
+) -> Result<SizedInitDeclr, ReadError>
+where
+    F: Fn(Ask, &mut Place<'a>) -> Result<Answer, ReadError>,
+    requires { Lends F.Fn lent.now depth }
+    ensures { ReadsItem place.old place.new result
+        (init_declr_with (knot depth) before.items kind room) }
+{
+    let declr = named(lent, kind, room.saturating_sub(1), place, depth)?;
+    place.scopes.release(kind)?;
+    behind(lent, before, declr, room, place, depth)
+}
+
+/// Each turn over declarators takes a comma.
+#[tactic(auto, unfolding(crate::specs::Listed::declrs_turn))]
+fn declrs_step(kind: Kind, room: u16, depth: u32)
+    ensures { IsLoop (declrs_turn depth kind room) }
+{
+    turns_take_tokens(depth);
+}
+
+/// Behind a comma one declarator more.
+#[tactic(auto, unfolding(crate::specs::Listed::declrs_turn, c_reading::specs::Stating::next_init_declr, c_reading::specs::Reading::and_then), using(crate::proofs::Pushed::items_pushed))]
+fn declr_turn<'a, F>(
+    lent: &F,
+    known: &mut SizedInitDeclrs,
+    kind: Kind,
+    room: u16,
+    place: &mut Place<'a>,
+    depth: u32,
+) -> Result<bool, ReadError>
+where
+    F: Fn(Ask, &mut Place<'a>) -> Result<Answer, ReadError>,
+    requires { Lends F.Fn lent.now depth }
+    ensures { Turns (listing known.old) (listing known.new) place.old place.new result
+        (declrs_turn depth kind room) }
+{
+    let [first, rest @ ..] = place.rest else {
+        return Ok(false);
+    };
+    if !is_comma(first.kind) {
+        return Ok(false);
+    }
+    place.rest = rest;
+    let before = attrs(room, place)?;
+    let next = init_declr(lent, before, kind, room, place, depth)?;
+    known.push(next)?;
+    Ok(true)
+}
+
+/// One declarator so far.
+pub(crate) fn one_declr(alloc: Global, first: SizedInitDeclr) -> Result<SizedInitDeclrs, NoMemory>
+    ensures { IfOk result (λ known. listing known ≡ only first) }
+{
+    let mut known = SizedInitDeclrs::new(alloc);
+    known.push(first)?;
+    Ok(known)
+}
+
+/// Behind each comma one declarator more.
+pub(crate) fn more_declrs<'a, F>(
+    lent: &F,
+    first: SizedInitDeclrs,
+    kind: Kind,
+    room: u16,
+    place: &mut Place<'a>,
+    depth: u32,
+) -> Result<SizedInitDeclrs, ReadError>
+where
+    F: Fn(Ask, &mut Place<'a>) -> Result<Answer, ReadError>,
+    requires { Lends F.Fn lent.now depth }
+    ensures { ReadsListing place.old place.new result
+        (run (declrs_turn depth kind room) (listing first)) }
+{
+    declrs_step(kind, room, depth);
+    let mut known = first;
+    while declr_turn(lent, &mut known, kind, room, place, depth)? {}
+    Ok(known)
+}

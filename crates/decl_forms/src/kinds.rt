@@ -1,0 +1,56 @@
+//! What kind of name a declaration declares.
+
+ghost use Rattle.std.specs.Prelude.{◌≡◌};
+ghost use Rattle.c_tree.specs.Specifiers.{storage_words};
+ghost use Rattle.c_tree.specs.Unit.{spec_words_from};
+ghost use Rattle.c_tree.specs.View.{spec_word_of};
+ghost use Rattle.c_units.specs.Scoping.{declared_kind, has_typedef_word, is_typedef_word};
+ghost use Rattle.decl_forms.specs.Storage.{storage_of};
+
+use c_syntax::SpecWord;
+use c_words::Keyword;
+use typedef_scope::Kind;
+
+/// Whether a keyword is `typedef`.
+fn is_typedef_word(keyword: Keyword) -> bool
+    ensures { result ≡ is_typedef_word keyword }
+{
+    match keyword {
+        Keyword::Typedef => true,
+        _ => false,
+    }
+}
+
+/// Whether a word is `typedef`.
+fn is_typedef(word: &SpecWord) -> bool
+    ensures { result ≡ has_typedef_word (storage_of (spec_word_of word.now)) }
+{
+    match word {
+        SpecWord::Storage(word) => is_typedef_word(word.keyword),
+        _ => false,
+    }
+}
+
+/// Whether `typedef` stands among words.
+#[tactic(auto, using(crate::proofs::Words::typedef_from))]
+fn has_typedef(words: &[SpecWord]) -> bool
+    ensures { result ≡ has_typedef_word (storage_words (spec_words_from words.now)) }
+{
+    for word in words {
+        if is_typedef(word) {
+            return true;
+        }
+    }
+    false
+}
+
+/// The kind of the names of a declaration. Linear in its words.
+pub(crate) fn declared_kind(words: &[SpecWord]) -> Kind
+    ensures { result ≡ declared_kind (spec_words_from words.now) }
+{
+    if has_typedef(words) {
+        Kind::Typedef
+    } else {
+        Kind::Value
+    }
+}

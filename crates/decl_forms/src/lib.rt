@@ -1,0 +1,8 @@
+//! Readers of declarations (C99, 6.7), over readers of the parts inside.
+#![tactic(auto)]
+
+mod declarations;
+mod declarators;
+mod kinds;
+
+pub use declarations::{declaration, declaration_from};
