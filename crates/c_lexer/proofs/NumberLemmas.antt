@@ -1,6 +1,6 @@
 -- Names of one number are spelled alike, and names that are spelled alike have one number.
 use Rattle.std.proofs.Common.{◌≡◌, ℕ, zero, suc, ◌+◌, ◌-◌, ◌≤◌, true, false, List, [], ◌∷◌, ◌++◌, length, take, drop, get_or, refl, sym, ◌∙◌, ap, subst, arith, Option, Some, None, is_some, inl, inr, ◌⊎◌, unwrap_or, if◌then◌else◌, bytes_eq, position}
-use Rattle.std.specs.Prelude.{slice_get, slice_range, option_map, Result, Ok, Err, IfOk}
+use Rattle.std.specs.Prelude.{slice_get, slice_range, option_map}
 use Rattle.std.specs.List.{position_or_len}
 use Rattle.std.proofs.lemmas.List.Quantifiers.{position-Some}
 use Rattle.std.proofs.lemmas.List.Sums.{fails_before_first}
@@ -160,7 +160,3 @@ spelled-numbered words lexed spelled one other a b are =
       λ same. (let h : Some (text_of lexed one) ≡ Some (text_of lexed other) = sym first ∙ ap (slice_get spelled.0) same ∙ second in let e : text_of lexed one ≡ text_of lexed other = cc in e),
       λ same. k.1 a b (text_of lexed one) first (second ∙ ap Some (sym same)),
     )
-
-pub read-numbered : {E : Type 0} (words : Meanings) (read : Result Lexed E) → IfOk read (IsSpelled words) → IfOk read AreNumbered
-read-numbered words (Ok lexed) spelled = spelled-numbered words lexed spelled
-read-numbered words (Err e) spelled = tt

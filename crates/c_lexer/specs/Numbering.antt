@@ -3,7 +3,8 @@ use Rattle.std.specs.Prelude.{◌≡◌, ℕ, Option, Some, option_map, slice_ge
 use Rattle.c_words.specs.declared.kinds.TokenKind.{TokenKind}
 use Rattle.c_words.specs.declared.kinds.TokenKind.TheVariants.{Name}
 use Rattle.c_lexer.specs.declared.token.Token.{Token}
-use Rattle.c_lexer.specs.Tokens.{Lexed, text_of}
+use Rattle.c_lexer.specs.Reading.{Meanings}
+use Rattle.c_lexer.specs.Tokens.{Lexed, IsSpelled, text_of}
 
 -- what kind a token has, where there is such a token
 abbrev pub kind_of : Lexed → ℕ → Option TokenKind
@@ -18,3 +19,7 @@ abbrev pub AreNumbered : Lexed → Type 0
 AreNumbered lexed =
     (one other a b : ℕ) → AreNames lexed one other a b →
     (a ≡ b → text_of lexed one ≡ text_of lexed other) × (text_of lexed one ≡ text_of lexed other → a ≡ b)
+
+-- of all tokens that the bytes spell
+abbrev pub NamesAreNumbered : Type 0
+NamesAreNumbered = (words : Meanings) (lexed : Lexed) → IsSpelled words lexed → AreNumbered lexed

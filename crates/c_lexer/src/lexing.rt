@@ -3,7 +3,6 @@
 ghost use Rattle.std.specs.Prelude.{ℕ, ◌≡◌, ◌+◌, ◌-◌, ◌<◌, ◌^◌, length, IfOk, IfErr, MatchResult};
 ghost use Rattle.c_lexer.specs.Reading.{Reaches, Spells, StopsBehind};
 ghost use Rattle.c_lexer.specs.Tokens.{IsSpelled, NamesKeywords};
-ghost use Rattle.c_lexer.specs.Numbering.{AreNumbered};
 ghost use Rattle.c_lexer.specs.Refusals.{IsOnly, IsRefusal};
 
 use crate::front::{Front, Stop, push_token, read_all};
@@ -66,13 +65,12 @@ fn finish(text: Text, front: Front, words: &QualWords) -> Result<Tokens, LexFaul
 /// The tokens that the bytes of a unit spell.
 ///
 /// It takes time linear in the bytes, beside look-ups of names, each linear in the name. The fault is at the first
-/// place where the bytes stop to spell tokens. Two names have one number exactly where the same bytes spell them.
+/// place where the bytes stop to spell tokens.
 pub fn lex(alloc: Global, unit: UnitNo, bytes: &[u8], words: &QualWords) -> Result<Tokens, LexFault>
     requires { length bytes.now < 2 ^ 32 - 1 }
     ensures unit { IfOk result (λ tokens. tokens.unit ≡ unit) }
     ensures bytes { IfOk result (λ tokens. tokens.bytes ≡ bytes.now) }
     ensures spelled { IfOk result (λ tokens. IsSpelled words.now tokens) }
-    ensures numbered { IfOk result AreNumbered }
     ensures keywords { IfOk result (λ tokens. NamesKeywords words.now tokens) }
     ensures refused { IfErr result (λ fault. IsRefusal unit words.now bytes.now fault) }
     ensures only { (tokens : _) (names : _) (marks : _) → Spells unit words.now bytes.now tokens names marks → IsOnly tokens marks result }

@@ -5,6 +5,7 @@ mod front;
 mod fronts;
 mod gaps;
 mod kinds;
+mod laws;
 mod lexing;
 mod longest;
 mod marks;
@@ -18,6 +19,7 @@ mod token;
 mod tokens;
 mod words;
 
+pub use laws::names_are_numbered;
 pub use lexing::{LexFault, lex};
 pub use places::Mark;
 pub use token::Token;

@@ -2,7 +2,6 @@ use Rattle.std.proofs.Common.{ℕ, List, sym, subst}
 use Rattle.c_lexer.specs.Reading.{Front, Reaches, StopsBehind}
 use Rattle.c_lexer.specs.Reading.Reaches.{begins}
 use Rattle.c_lexer.specs.Refusals.{IsRefusal}
-use Rattle.c_lexer.proofs.NumberLemmas.{read-numbered}
 use Rattle.c_lexer.proofs.OnceLemmas.{answer-once, refused-once}
 use Rattle.c_lexer.proofs.lexing.lex.Goals as goal
 
@@ -31,6 +30,3 @@ returns-in-Err-clause-only c =
 pub returns-in-Ok-read_all-clause-only : goal.returns-in-Ok-read_all-clause-only
 returns-in-Ok-read_all-clause-only c =
     answer-once c.args.unit c.args.words.now c.args.bytes.now c.in-Ok.text c.finish.result c.in-Ok.ensures c.finish.ensures.unit c.finish.ensures.bytes c.finish.ensures.spelled c.finish.ensures.memory
-
-pub returns-in-Ok-read_all-clause-numbered : goal.returns-in-Ok-read_all-clause-numbered
-returns-in-Ok-read_all-clause-numbered c = read-numbered c.args.words.now c.finish.result c.finish.ensures.spelled
