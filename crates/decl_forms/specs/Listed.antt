@@ -1,10 +1,10 @@
 -- Declarators of a declaration as the readers of token lists see them.
-use Rattle.std.specs.Prelude.{ℕ, List, [], ◌∷◌, map, None, Option, Result}
+use Rattle.std.specs.Prelude.{ℕ, ◌-◌, List, [], ◌∷◌, map, None, Option, Result}
 use Rattle.typedef_scope.specs.declared.kind.Kind.{Kind}
+use Rattle.typedef_scope.specs.declared.kind.Kind.TheVariants.{Value}
 use Rattle.c_syntax.specs.declared.declaration.InitDeclr.{InitDeclr}
 use Rattle.c_syntax.specs.declared.parts.Attr.{Attr}
 use Rattle.c_syntax.specs.declared.parts.Listed.{Listed}
-use Rattle.c_nodes.specs.declared.sized.PresentDeclr.{PresentDeclr}
 use Rattle.c_nodes.specs.declared.sized.SizedDeclaration.{SizedDeclaration}
 use Rattle.c_nodes.specs.declared.sized.SizedInitDeclr.{SizedInitDeclr}
 use Rattle.c_nodes.specs.declared.sized.SizedInitDeclrs.{SizedInitDeclrs}
@@ -12,8 +12,9 @@ use Rattle.c_nodes.specs.declared.sized.SizedSomeInit.{SizedSomeInit}
 use Rattle.c_tree.specs.Lists.{some_init_from}
 use Rattle.c_tree.specs.Tree as trees
 use Rattle.c_tree.specs.View.{declr_of, declaration_of}
-use Rattle.c_reading.specs.Parts.{DeclrItem}
-use Rattle.c_reading.specs.Reading.{Reader, Turn, CommaList, comma_turn, listed}
+use Rattle.c_reading.specs.Parts.{DeclrItem, init_declrs_from}
+use Rattle.c_reading.specs.Reading.{Reader, Turn, CommaList, ◌>>=◌, ends, token_at, run, comma_turn, listed}
+use Rattle.c_reading.specs.Tokens.{is_semicolon}
 use Rattle.c_reading.specs.Stating.{next_init_declr, init_declr_with}
 use Rattle.c_reading.specs.Knot.{knot}
 use Rattle.reader_base.specs.declared.fault.ReadError.{ReadError}
@@ -41,11 +42,15 @@ declrs_turn depth kind room known s ts = comma_turn (next_init_declr (knot depth
 abbrev pub declrs_at : ℕ → Kind → ℕ → Reader (CommaList DeclrItem ⊥)
 declrs_at depth kind room s ts = listed (init_declr_with (knot depth) [] kind room) (next_init_declr (knot depth) kind room) s ts
 
+-- declarators behind the first of a declaration of values, and its end
+abbrev pub declaration_on : ℕ → List ℕ → trees.SpecWords → DeclrItem → ℕ → Reader trees.Declaration
+declaration_on depth exts words first room s ts =
+    run (declrs_turn depth Value (room - 1)) (record { items = first ∷ []; ending = None }) s ts >>= λ ds.
+    token_at is_semicolon ds.scopes ds.rest >>= λ semi.
+    ends (trees.declaration exts words (init_declrs_from ds.tree.items) semi.tree) semi.scopes semi.rest
+
 abbrev pub ReadsSomeInit : Place → Place → Result SizedSomeInit ReadError → Reader trees.SomeInit → Type 0
 ReadsSomeInit before after result reader = Reads (λ x. some_init_from x.init) before after result reader
-
-abbrev pub ReadsPresent : Place → Place → Result PresentDeclr ReadError → Reader trees.Declr → Type 0
-ReadsPresent before after result reader = Reads (λ x. declr_of x.declr.value) before after result reader
 
 abbrev pub ReadsItem : Place → Place → Result SizedInitDeclr ReadError → Reader DeclrItem → Type 0
 ReadsItem before after result reader = Reads sized_item before after result reader

@@ -2,43 +2,21 @@
 
 ghost use Rattle.c_tree.specs.Unit.{spec_words_from};
 ghost use Rattle.c_reading.specs.Knot.{knot};
-ghost use Rattle.c_reading.specs.Specifying.{specs_here};
 ghost use Rattle.c_reading.specs.Stating.{declaration_behind, declaration_with, declaration_from};
 ghost use Rattle.decl_forms.specs.Listed.{ReadsDeclaration, ReadsListing, declrs_at};
-ghost use Rattle.reader_base.specs.Lent.{Lends, ReadsSpecs, sized_specs};
+ghost use Rattle.decl_forms.specs.Listed.{declaration_on, sized_item};
+ghost use Rattle.reader_base.specs.Lent.{Lends, sized_specs};
 
 use crate::declarators::{init_declr, more_declrs, one_declr};
 use crate::kinds::declared_kind;
-use c_nodes::{SizedDeclaration, SizedInitDeclrs, SizedSpecs};
-use c_reading::{Fault, Role};
+use c_nodes::{SizedDeclaration, SizedInitDeclr, SizedInitDeclrs, SizedSpecs};
+use c_reading::Role;
 use qual_base::TokenId;
 use reader_base::{
-    Answer, Ask, Place, ReadError, begins_specs, is_semicolon, kind_at, refused, room_above,
-    room_for, semicolon, specs_inside, take_one,
+    Answer, Ask, Place, ReadError, is_semicolon, kind_at, room_above, semicolon, specs_here,
+    specs_inside, take_one,
 };
 use typedef_scope::Kind;
-
-/// The specifiers that must begin at the first token.
-#[tactic(auto, unfolding(c_reading::specs::Specifying::specs_here, c_reading::specs::Reading::fits))]
-fn specs_here<'a, F>(
-    lent: &F,
-    room: u16,
-    place: &mut Place<'a>,
-    depth: u32,
-) -> Result<SizedSpecs, ReadError>
-where
-    F: Fn(Ask, &mut Place<'a>) -> Result<Answer, ReadError>,
-    requires { Lends F.Fn lent.now depth }
-    ensures { ReadsSpecs place.old place.new result (specs_here (knot depth) room) }
-{
-    if !begins_specs(&place.scopes, kind_at(place.rest)) {
-        return Err(refused(Fault::Unexpected, place.rest));
-    }
-    room_for(2, room, place)?;
-    let known = SizedSpecs::new(place.alloc);
-    let room = room.saturating_sub(1);
-    specs_inside(lent, Role::Declaring, known, room, place, depth)
-}
 
 /// `InitDeclr (, Attr* InitDeclr)*`.
 #[tactic(auto, unfolding(c_reading::specs::Reading::listed, c_reading::specs::Reading::and_then, crate::specs::Listed::declrs_turn))]
@@ -60,9 +38,32 @@ where
     more_declrs(lent, known, kind, room, place, depth)
 }
 
+/// `(, Attr* InitDeclr)* ;`, behind the words and the first declarator, which declare a value.
+#[tactic(auto, unfolding(c_reading::specs::Reading::and_then), using(crate::proofs::Pushed::items_are))]
+pub fn declaration_on<'a, F>(
+    lent: &F,
+    exts: Vec<TokenId>,
+    words: SizedSpecs,
+    first: SizedInitDeclr,
+    room: u16,
+    place: &mut Place<'a>,
+    depth: u32,
+) -> Result<SizedDeclaration, ReadError>
+where
+    F: Fn(Ask, &mut Place<'a>) -> Result<Answer, ReadError>,
+    requires { Lends F.Fn lent.now depth }
+    ensures { ReadsDeclaration place.old place.new result
+        (declaration_on depth exts.items (sized_specs words) (sized_item first) room) }
+{
+    let known = one_declr(place.alloc, first)?;
+    let declrs = more_declrs(lent, known, Kind::Value, room.saturating_sub(1), place, depth)?;
+    let semi = semicolon(place)?;
+    Ok(decl_nodes::declaration(place.alloc, exts, words, declrs, semi)?)
+}
+
 /// `[InitDeclr (, Attr* InitDeclr)*] ;`, behind the words.
 #[tactic(auto, unfolding(c_reading::specs::Stating::declaration_behind, c_reading::specs::Stating::bare_declaration, c_reading::specs::Stating::declrs_with, c_reading::specs::Reading::fits, c_reading::specs::Reading::and_then), using(crate::proofs::Pushed::items_are))]
-fn behind_words<'a, F>(
+pub fn declaration_behind<'a, F>(
     lent: &F,
     exts: Vec<TokenId>,
     words: SizedSpecs,
@@ -105,7 +106,7 @@ where
         (declaration_with (knot depth) exts.items room) }
 {
     let words = specs_here(lent, room, place, depth)?;
-    behind_words(lent, exts, words, room, place, depth)
+    declaration_behind(lent, exts, words, room, place, depth)
 }
 
 /// A declaration behind words that were read already.
@@ -131,5 +132,5 @@ where
         place,
         depth,
     )?;
-    behind_words(lent, Vec::new(place.alloc), words, room, place, depth)
+    declaration_behind(lent, Vec::new(place.alloc), words, room, place, depth)
 }

@@ -4,29 +4,28 @@ ghost use Rattle.std.specs.Prelude.{◌≡◌, IfOk, Some};
 ghost use Rattle.c_tree.specs.View.{declr_of};
 ghost use Rattle.c_reading.specs.Knot.{knot};
 ghost use Rattle.c_reading.specs.Reading.{run};
-ghost use Rattle.c_reading.specs.Specifying.{named_declr};
 ghost use Rattle.c_reading.specs.Stating.{some_init_with, declr_behind, init_declr_with};
-ghost use Rattle.decl_forms.specs.Listed.{ReadsSomeInit, ReadsPresent, ReadsItem, ReadsListing};
+ghost use Rattle.decl_forms.specs.Listed.{ReadsSomeInit, ReadsItem, ReadsListing};
 ghost use Rattle.decl_forms.specs.Listed.{listing, only, declrs_turn};
 ghost use Rattle.reader_base.specs.Lent.{Lends};
 ghost use Rattle.reader_base.specs.Looping.{IsLoop, Turns};
 
-use c_nodes::{PresentDeclr, SizedInitDeclr, SizedInitDeclrs, SizedSomeInit, present};
-use c_reading::{Fault, Mode, turns_take_tokens};
+use c_nodes::{PresentDeclr, SizedInitDeclr, SizedInitDeclrs, SizedSomeInit};
+use c_reading::turns_take_tokens;
 use c_syntax::Attr;
 use decl_nodes::{no_init, some_init};
 use init_forms::init;
 use qual_base::NoMemory;
 use reader_base::{
-    Answer, Ask, Place, ReadError, attrs, declr_inside, is_comma, is_equal, kind_at, label,
-    refused, take_one,
+    Answer, Ask, Place, ReadError, attrs, is_comma, is_equal, kind_at, label, named_declr,
+    take_one,
 };
 use std::alloc::Global;
 use typedef_scope::Kind;
 
-/// `[= init]`.
+/// `[= init]`. Linear in the tokens.
 #[tactic(auto, unfolding(c_reading::specs::Stating::some_init_with, c_reading::specs::Reading::and_then))]
-fn some_init_here<'a, F>(
+pub fn some_init_here<'a, F>(
     lent: &F,
     room: u16,
     place: &mut Place<'a>,
@@ -45,9 +44,9 @@ where
     Ok(some_init(equal, init))
 }
 
-/// `[AsmLabel] Attr* [= init]`, behind a declarator whose name is declared.
+/// `[AsmLabel] Attr* [= init]`, behind a declarator whose name is declared. Linear in the tokens.
 #[tactic(auto, unfolding(c_reading::specs::Stating::declr_behind, c_reading::specs::Reading::and_then))]
-fn behind<'a, F>(
+pub fn declr_behind<'a, F>(
     lent: &F,
     before: Vec<Attr>,
     declr: PresentDeclr,
@@ -67,27 +66,6 @@ where
     Ok(decl_nodes::init_declr(before, declr, label, attrs, init))
 }
 
-/// A declarator with a name, which is held.
-#[tactic(auto, unfolding(c_reading::specs::Specifying::named_declr, c_reading::specs::Reading::and_then))]
-fn named<'a, F>(
-    lent: &F,
-    kind: Kind,
-    room: u16,
-    place: &mut Place<'a>,
-    depth: u32,
-) -> Result<PresentDeclr, ReadError>
-where
-    F: Fn(Ask, &mut Place<'a>) -> Result<Answer, ReadError>,
-    requires { Lends F.Fn lent.now depth }
-    ensures { ReadsPresent place.old place.new result (named_declr (knot depth) (Some kind) room) }
-{
-    let found = declr_inside(lent, Mode::Named, Some(kind), false, room, place, depth)?;
-    match present(found.declr) {
-        Some(declr) => Ok(declr),
-        None => Err(refused(Fault::Unexpected, place.rest)),
-    }
-}
-
 /// `InitDeclr = declr [AsmLabel] Attr* [= init]`, behind attributes. The name is declared behind its declarator.
 #[tactic(auto, unfolding(c_reading::specs::Stating::init_declr_with, c_reading::specs::Reading::and_then))]
 pub(crate) fn init_declr<'a, F>(
@@ -104,9 +82,9 @@ where
     ensures { ReadsItem place.old place.new result
         (init_declr_with (knot depth) before.items kind room) }
 {
-    let declr = named(lent, kind, room.saturating_sub(1), place, depth)?;
+    let declr = named_declr(lent, Some(kind), room.saturating_sub(1), place, depth)?;
     place.scopes.release(kind)?;
-    behind(lent, before, declr, room, place, depth)
+    declr_behind(lent, before, declr, room, place, depth)
 }
 
 /// Each turn over declarators takes a comma.

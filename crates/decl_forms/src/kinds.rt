@@ -31,9 +31,9 @@ fn is_typedef(word: &SpecWord) -> bool
     }
 }
 
-/// Whether `typedef` stands among words.
+/// Whether `typedef` stands among words. Linear in these.
 #[tactic(auto, using(crate::proofs::Words::typedef_from))]
-fn has_typedef(words: &[SpecWord]) -> bool
+pub fn has_typedef(words: &[SpecWord]) -> bool
     ensures { result ≡ has_typedef_word (storage_words (spec_words_from words.now)) }
 {
     for word in words {

@@ -1,13 +1,12 @@
 -- The parts of declarators that readers of the program answer, as those of token lists.
 use Rattle.std.specs.Prelude.{ℕ, suc, Bool, map, option_map, List, Option, Result}
-use Rattle.c_nodes.specs.declared.sized.PresentDeclr.{PresentDeclr}
 use Rattle.c_nodes.specs.declared.sized.SizedParam.{SizedParam}
 use Rattle.c_nodes.specs.declared.sized.SizedSize.{SizedSize}
 use Rattle.c_syntax.specs.declared.declarator.Param.{Param}
 use Rattle.c_tree.specs.Lists.{some_declr_from, some_size_from}
 use Rattle.c_tree.specs.Tree as trees
 use Rattle.c_tree.specs.Unit.{spec_words_from}
-use Rattle.c_tree.specs.View.{declr_of, dots_of}
+use Rattle.c_tree.specs.View.{dots_of}
 use Rattle.c_reading.specs.Reading.{Reader, Turn, Next, one_more, list_end, CommaList, comma_turn, fits, kind_at, run}
 use Rattle.typedef_scope.specs.declared.kind.Kind.{Kind}
 use Rattle.c_reading.specs.declared.kinds.Mode.{Mode}
@@ -25,9 +24,6 @@ use Rattle.reader_base.specs.Gives.{Reads}
 
 abbrev pub ReadsSize : Place → Place → Result SizedSize ReadError → Reader trees.SomeSize → Type 0
 ReadsSize before after result reader = Reads (λ x. some_size_from x.size) before after result reader
-
-abbrev pub ReadsPresent : Place → Place → Result PresentDeclr ReadError → Reader trees.Declr → Type 0
-ReadsPresent before after result reader = Reads (λ x. declr_of x.declr.value) before after result reader
 
 -- a parameter, as it is read and in a list
 abbrev pub param_of : SizedParam → ParamItem

@@ -5,26 +5,25 @@
 //! height that the tree may have.
 
 ghost use Rattle.std.specs.Prelude.{◌≡◌, is_some};
-ghost use Rattle.c_tree.specs.Lists.{some_declr_from};
 ghost use Rattle.c_reading.specs.Declaring as declaring;
 ghost use Rattle.c_reading.specs.Knot.{knot};
 ghost use Rattle.c_reading.specs.Reading.{kind_at};
 ghost use Rattle.c_reading.specs.Specifying as specifying;
 ghost use Rattle.c_reading.specs.Tokens as tokens;
-ghost use Rattle.declr_forms.specs.Views.{ReadsPresent, paren_behind};
+ghost use Rattle.declr_forms.specs.Views.{paren_behind};
 ghost use Rattle.reader_base.specs.Lent.{Lends, ReadsDeclr};
 
 use crate::names::{name_or_none, takes_name};
 use crate::prototypes::prototype;
 use crate::suffixes::suffixes;
-use c_nodes::{PresentDeclr, SizedDeclr, no_declr, present, with_paren, with_pointer};
+use c_nodes::{no_declr, with_paren, with_pointer};
 use c_reading::{Fault, Mode};
 use c_syntax::Attr;
 use qual_base::TokenId;
 use reader_base::{
     Answer, Ask, Declared, Place, ReadError, attrs, begins_specs, close_paren, declr_inside,
-    is_close_paren, is_open_bracket, is_open_paren, is_star, kind_at, pointer_words, refused,
-    room_for, spelled_name, take_one,
+    is_close_paren, is_open_bracket, is_open_paren, is_star, kind_at, known_declr, pointer_words,
+    refused, room_for, spelled_name, take_one,
 };
 use typedef_scope::Kind;
 
@@ -73,16 +72,6 @@ fn least_pointer(mode: Mode) -> u32
     match mode {
         Mode::Named => 2,
         Mode::Abstract | Mode::Either => 1,
-    }
-}
-
-/// A declarator, which must be there.
-fn known_declr(found: SizedDeclr, place: &mut Place) -> Result<PresentDeclr, ReadError>
-    ensures { ReadsPresent place.old place.new result (specifying.present (some_declr_from found.declr)) }
-{
-    match present(found) {
-        Some(found) => Ok(found),
-        None => Err(refused(Fault::Unexpected, place.rest)),
     }
 }
 

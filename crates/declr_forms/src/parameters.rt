@@ -9,20 +9,19 @@ ghost use Rattle.c_tree.specs.View.{declr_of};
 ghost use Rattle.c_tree.specs.WellFormed.{ends_starred};
 ghost use Rattle.c_reading.specs.Declaring as declaring;
 ghost use Rattle.c_reading.specs.Knot.{knot};
-ghost use Rattle.c_reading.specs.Specifying as specifying;
 ghost use Rattle.declr_forms.specs.Views.{ReadsParam, ReadsNext, ReadsParams, attrs_behind, list_of, more_params, params_turn};
 ghost use Rattle.reader_base.specs.Gives.{ReadsRow};
 ghost use Rattle.reader_base.specs.Lent.{Lends, ReadsSpecs, sized_specs};
 ghost use Rattle.reader_base.specs.Looping.{IsLoop, Turns};
 
 use c_nodes::{SizedDeclr, SizedParam, SizedParams, SizedSpecs, param};
-use c_reading::{Fault, Mode, Role, turns_take_tokens};
+use c_reading::{Mode, Role, turns_take_tokens};
 use c_syntax::{Attr, Declr, Ellipsis, Qual};
 use decl_nodes::{words_of_attrs, words_of_quals};
 use qual_base::{NoMemory, TokenId};
 use reader_base::{
-    Answer, Ask, Place, ReadError, attrs, begins_specs, declr_inside, is_close_paren, is_comma,
-    is_dots, kind_at, quals, refused, room_for, specs_inside, take_one,
+    Answer, Ask, Place, ReadError, attrs, declr_inside, is_close_paren, is_comma,
+    is_dots, kind_at, quals, specs_here, specs_inside, take_one,
 };
 use std::alloc::Global;
 use typedef_scope::Kind;
@@ -88,28 +87,6 @@ fn takes_attrs(declr: &SizedDeclr) -> bool
         Some(declr) => !ends_starred(declr),
         None => false,
     }
-}
-
-/// The specifiers that a parameter begins with.
-#[tactic(auto, unfolding(c_reading::specs::Specifying::specs_here, c_reading::specs::Reading::fits))]
-fn specs_here<'a, F>(
-    lent: &F,
-    room: u16,
-    place: &mut Place<'a>,
-    depth: u32,
-) -> Result<SizedSpecs, ReadError>
-where
-    F: Fn(Ask, &mut Place<'a>) -> Result<Answer, ReadError>,
-    requires { Lends F.Fn lent.now depth }
-    ensures { ReadsSpecs place.old place.new result (specifying.specs_here (knot depth) room) }
-{
-    if !begins_specs(&place.scopes, kind_at(place.rest)) {
-        return Err(refused(Fault::Unexpected, place.rest));
-    }
-    room_for(2, room, place)?;
-    let none = SizedSpecs::new(place.alloc);
-    let inner = room.saturating_sub(1);
-    specs_inside(lent, Role::Declaring, none, inner, place, depth)
 }
 
 /// The specifiers of a parameter, behind words that were read already.

@@ -6,10 +6,11 @@ use Rattle.c_tree.specs.declared.lexeme.Lexeme.{Lexeme}
 use Rattle.c_tree.specs.Tree as trees
 use Rattle.c_tree.specs.Lists.{some_declr_from, init_items_from}
 use Rattle.c_tree.specs.Unit.{spec_words_from, block_items_from}
-use Rattle.c_tree.specs.View.{expr_of, stmt_of}
+use Rattle.c_tree.specs.View.{expr_of, declr_of, stmt_of}
 use Rattle.c_nodes.specs.declared.sized.SizedExpr.{SizedExpr}
 use Rattle.c_nodes.specs.declared.sized.SizedTypeName.{SizedTypeName}
 use Rattle.c_nodes.specs.declared.sized.SizedSpecs.{SizedSpecs}
+use Rattle.c_nodes.specs.declared.sized.PresentDeclr.{PresentDeclr}
 use Rattle.c_nodes.specs.declared.sized.SizedInitList.{SizedInitList}
 use Rattle.c_nodes.specs.declared.sized.SizedBlock.{SizedBlock}
 use Rattle.c_nodes.specs.declared.sized.SizedStmt.{SizedStmt}
@@ -68,6 +69,9 @@ ReadsSpecs before after result reader = Reads sized_specs before after result re
 
 abbrev pub ReadsDeclr : Place → Place → Result Declared ReadError → Reader parts.Declared → Type 0
 ReadsDeclr before after result reader = Reads declared_of before after result reader
+
+abbrev pub ReadsPresent : Place → Place → Result PresentDeclr ReadError → Reader trees.Declr → Type 0
+ReadsPresent before after result reader = Reads (λ x. declr_of x.declr.value) before after result reader
 
 abbrev pub ReadsInitList : Place → Place → Result SizedInitList ReadError → Reader trees.InitList → Type 0
 ReadsInitList before after result reader = Reads sized_init_list before after result reader

@@ -7,6 +7,7 @@ mod groups;
 mod inside;
 mod kinds;
 mod openings;
+mod parts;
 mod place;
 mod qualifiers;
 mod rows;
@@ -29,6 +30,7 @@ pub use openings::{
     begins_desig, begins_expr, form_of, infix_of, is_dot, is_opening, opening_of, takes_assign,
     takes_comma,
 };
+pub use parts::{known_declr, named_declr, specs_here};
 pub use place::{Place, room_above, room_for};
 pub use qualifiers::{array_words, pointer_words, quals};
 pub use rows::{asm_words, extensions, texts};

@@ -6,15 +6,14 @@ use Rattle.c_syntax.specs.declared.specifier.Enumerator.{Enumerator}
 use Rattle.c_syntax.specs.declared.specifier.MemDeclr.{MemDeclr as RustMemDeclr}
 use Rattle.c_words.specs.declared.kinds.Keyword.{Keyword}
 use Rattle.c_tree.specs.declared.lexeme.Lexeme.{Lexeme}
-use Rattle.c_tree.specs.Tree.{SpecWords, SpecWord, SomeValue, no_value, some_value, SomeEnumBody, SomeBody, StructItem, MemDeclr, Declr}
+use Rattle.c_tree.specs.Tree.{SpecWords, SpecWord, SomeValue, no_value, some_value, SomeEnumBody, SomeBody, StructItem, MemDeclr}
 use Rattle.c_tree.specs.Lists.{some_value_from, some_enum_body_from, some_body_from}
-use Rattle.c_tree.specs.View.{spec_word_of, struct_item_of, mem_declr_of, declr_of}
+use Rattle.c_tree.specs.View.{spec_word_of, struct_item_of, mem_declr_of}
 use Rattle.c_specs.specs.Reading.{pushed}
 use Rattle.c_nodes.specs.declared.sized.SizedWord.{SizedWord}
 use Rattle.c_nodes.specs.declared.sized.SizedValue.{SizedValue}
 use Rattle.c_nodes.specs.declared.sized.SizedEnumerator.{SizedEnumerator}
 use Rattle.c_nodes.specs.declared.sized.SizedEnumBody.{SizedEnumBody}
-use Rattle.c_nodes.specs.declared.sized.PresentDeclr.{PresentDeclr}
 use Rattle.c_nodes.specs.declared.sized.SizedMemDeclr.{SizedMemDeclr}
 use Rattle.c_nodes.specs.declared.sized.SizedMember.{SizedMember}
 use Rattle.c_nodes.specs.declared.sized.SizedMembers.{SizedMembers}
@@ -28,7 +27,7 @@ use Rattle.c_reading.specs.declared.kinds.SpecStart.{SpecStart}
 use Rattle.c_reading.specs.Reading.{Reader, Turn, Next, CommaList, with_next, ◌>>=◌, ends, fits, take_one, run, comma_turn, listed, repeated_turn, repeated}
 use Rattle.c_reading.specs.Parts.{nothing, EnumItem, MemberItem}
 use Rattle.c_reading.specs.Knot.{knot}
-use Rattle.c_reading.specs.Specifying.{word_by, word_with, word_turn, specs_with, enumerator_behind, enumerator_named, enumerator_with, next_enumerator, enumerators_with, enum_body_with, enum_with, named_declr, width_with, field_with, mem_declr_with, first_member, next_member, mem_declrs_with, specs_here, member_with, struct_item_with, members_with, body_with, struct_with}
+use Rattle.c_reading.specs.Specifying.{word_by, word_with, word_turn, specs_with, enumerator_behind, enumerator_named, enumerator_with, next_enumerator, enumerators_with, enum_body_with, enum_with, width_with, field_with, mem_declr_with, first_member, next_member, mem_declrs_with, member_with, struct_item_with, members_with, body_with, struct_with}
 use Rattle.c_reading.specs.Turns.{no_close_brace}
 use Rattle.reader_base.specs.declared.fault.ReadError.{ReadError}
 use Rattle.reader_base.specs.declared.place.Place.{Place}
@@ -68,9 +67,6 @@ ReadsEnums before after result reader = Reads enum_list before after result read
 
 abbrev pub ReadsEnumBody : Place → Place → Result SizedEnumBody ReadError → Reader SomeEnumBody → Type 0
 ReadsEnumBody before after result reader = Reads (λ x. some_enum_body_from x.body) before after result reader
-
-abbrev pub ReadsDeclarator : Place → Place → Result PresentDeclr ReadError → Reader Declr → Type 0
-ReadsDeclarator before after result reader = Reads (λ x. declr_of x.declr.value) before after result reader
 
 abbrev pub ReadsMemDeclr : Place → Place → Result SizedMemDeclr ReadError → Reader MemDeclr → Type 0
 ReadsMemDeclr before after result reader = Reads (λ x. mem_declr_of x.declr) before after result reader
@@ -174,9 +170,6 @@ enum_at depth room s ts = enum_with (knot depth) room s ts
 
 -- structs and unions
 
-abbrev pub named_declr_at : ℕ → ℕ → Reader Declr
-named_declr_at depth room s ts = named_declr (knot depth) None room s ts
-
 abbrev pub width_at : ℕ → ℕ → Reader MemDeclr
 width_at depth room s ts = width_with (knot depth) room s ts
 
@@ -203,9 +196,6 @@ more_members_at depth known room s ts = run (member_turn depth room) (member_lis
 
 abbrev pub mem_declrs_at : ℕ → ℕ → Reader (List MemberItem)
 mem_declrs_at depth room s ts = mem_declrs_with (knot depth) room s ts
-
-abbrev pub specs_here_at : ℕ → ℕ → Reader SpecWords
-specs_here_at depth room s ts = specs_here (knot depth) room s ts
 
 abbrev pub member_at : ℕ → ℕ → Reader StructItem
 member_at depth room s ts = member_with (knot depth) room s ts

@@ -1,16 +1,16 @@
 //! Structs and unions with their members (C99, 6.7.2.1).
 
-ghost use Rattle.reader_base.specs.Lent.{Lends, ReadsSpecs};
+ghost use Rattle.reader_base.specs.Lent.{Lends};
 ghost use Rattle.reader_base.specs.Looping.{IsLoop, Turns};
-ghost use Rattle.spec_forms.specs.Forms.{ReadsWord, ReadsDeclarator, ReadsMemDeclr, ReadsMember, ReadsMemberList, ReadsMembers, ReadsStructItem, ReadsStructItems, ReadsItems, ReadsBody, member_list, struct_items};
-ghost use Rattle.spec_forms.specs.Forms.{named_declr_at, width_at, field_at, mem_declr_at, first_member_at, member_behind, member_turn, more_members_at, mem_declrs_at, specs_here_at, member_at, struct_item_at, struct_item_turn, more_items_at, items_at, members_at, body_at, struct_at};
+ghost use Rattle.spec_forms.specs.Forms.{ReadsWord, ReadsMemDeclr, ReadsMember, ReadsMemberList, ReadsMembers, ReadsStructItem, ReadsStructItems, ReadsItems, ReadsBody, member_list, struct_items};
+ghost use Rattle.spec_forms.specs.Forms.{width_at, field_at, mem_declr_at, first_member_at, member_behind, member_turn, more_members_at, mem_declrs_at, member_at, struct_item_at, struct_item_turn, more_items_at, items_at, members_at, body_at, struct_at};
 
 use crate::values::value;
 use c_nodes::{
-    PresentDeclr, SizedBody, SizedMemDeclr, SizedMember, SizedMembers, SizedSpecs, SizedStructItem,
-    SizedStructItems, SizedWord, present,
+    SizedBody, SizedMemDeclr, SizedMember, SizedMembers, SizedStructItem, SizedStructItems,
+    SizedWord,
 };
-use c_reading::{Fault, Mode, Reach, Role, turns_take_tokens};
+use c_reading::{Fault, Reach, turns_take_tokens};
 use c_syntax::{Identifier, Word};
 use c_words::Keyword;
 use decl_nodes::{
@@ -19,31 +19,11 @@ use decl_nodes::{
 };
 use qual_base::TokenId;
 use reader_base::{
-    Answer, Ask, Begun, Place, ReadError, attrs, begins_specs, close_brace, declr_inside,
+    Answer, Ask, Begun, Place, ReadError, attrs, close_brace,
     expr_inside, extensions, is_close_brace, is_colon, is_comma, is_open_brace, is_semicolon,
-    is_static_assert, kind_at, refused, room_for, semicolon, specs_inside, static_assert, tag,
+    is_static_assert, kind_at, named_declr, refused, room_for, semicolon, specs_here, static_assert, tag,
     take_one,
 };
-
-/// A declarator with a name.
-#[tactic(auto, unfolding(c_reading::specs::Specifying::named_declr, c_reading::specs::Reading::and_then))]
-fn named_declr<'a, F>(
-    lent: &F,
-    room: u16,
-    place: &mut Place<'a>,
-    depth: u32,
-) -> Result<PresentDeclr, ReadError>
-where
-    F: Fn(Ask, &mut Place<'a>) -> Result<Answer, ReadError>,
-    requires { Lends F.Fn lent.now depth }
-    ensures { ReadsDeclarator place.old place.new result (named_declr_at depth room) }
-{
-    let found = declr_inside(lent, Mode::Named, None, false, room, place, depth)?;
-    match present(found.declr) {
-        Some(declr) => Ok(declr),
-        None => Err(refused(Fault::Unexpected, place.rest)),
-    }
-}
 
 /// A width alone, the colon of which stands first.
 #[tactic(auto, unfolding(c_reading::specs::Specifying::width_with, c_reading::specs::Reading::fits, c_reading::specs::Reading::and_then))]
@@ -86,7 +66,7 @@ where
     requires { Lends F.Fn lent.now depth }
     ensures { ReadsMemDeclr place.old place.new result (field_at depth room) }
 {
-    let declr = named_declr(lent, room.saturating_sub(1), place, depth)?;
+    let declr = named_declr(lent, None, room.saturating_sub(1), place, depth)?;
     let width = value(lent, is_colon(kind_at(place.rest)), room, place, depth)?;
     let attrs = attrs(room, place)?;
     Ok(named(declr, width, attrs))
@@ -224,34 +204,6 @@ where
     known.push(first)?;
     more_members(lent, &mut known, room, place, depth)?;
     Ok(known)
-}
-
-/// The specifiers that a member begins with.
-#[tactic(auto, unfolding(c_reading::specs::Specifying::specs_here, c_reading::specs::Reading::fits))]
-fn specs_here<'a, F>(
-    lent: &F,
-    room: u16,
-    place: &mut Place<'a>,
-    depth: u32,
-) -> Result<SizedSpecs, ReadError>
-where
-    F: Fn(Ask, &mut Place<'a>) -> Result<Answer, ReadError>,
-    requires { Lends F.Fn lent.now depth }
-    ensures { ReadsSpecs place.old place.new result (specs_here_at depth room) }
-{
-    if !begins_specs(&place.scopes, kind_at(place.rest)) {
-        return Err(refused(Fault::Unexpected, place.rest));
-    }
-    room_for(2, room, place)?;
-    let known = SizedSpecs::new(place.alloc);
-    specs_inside(
-        lent,
-        Role::Declaring,
-        known,
-        room.saturating_sub(1),
-        place,
-        depth,
-    )
 }
 
 /// `Member = ext* Specs [MemDeclr (, Attr* MemDeclr)*] ;`.
