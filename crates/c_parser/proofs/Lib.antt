@@ -1,3 +1,1 @@
-pub mod Pushing
-pub mod Words
 pub mod Numbering

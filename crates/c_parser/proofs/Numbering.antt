@@ -4,7 +4,7 @@ use Rattle.std.specs.Prelude.{slice_get, option_map}
 use Rattle.c_words.specs.declared.kinds.TokenKind.{TokenKind}
 use Rattle.c_lexer.specs.declared.token.Token.{Token}
 use Rattle.c_tree.specs.declared.lexeme.Lexeme.{Lexeme}
-use Rattle.c_grammar.specs.Reading.{IsNumbered}
+use Rattle.c_reading.specs.Reading.{IsNumbered}
 use Rattle.c_parser.specs.Parsing.{numbered}
 
 numbered_on : (first : ℕ) (tokens : List Token) (n at : ℕ) (kind : TokenKind) → option_map (λ token. token.kind) (slice_get tokens n) ≡ Some kind → at ≡ first + n →

@@ -1,127 +1,44 @@
 //! The readers of all nonterminals, each over the readers of lower trees.
 
 ghost use Rattle.std.specs.Prelude.{◌≡◌};
-ghost use Rattle.c_tree.specs.Lists.{some_declr_from};
-ghost use Rattle.c_tree.specs.View.{expr_of};
-ghost use Rattle.c_tree.specs.Unit.{spec_words_from};
-ghost use Rattle.c_grammar.specs.Declaring.{spec_words_of_quals};
-ghost use Rattle.c_grammar.specs.Gives.{Gives};
-ghost use Rattle.c_grammar.specs.Inside.{type_name_from};
-ghost use Rattle.c_grammar.specs.Kinds.{reach_of, role_of, mode_of};
-ghost use Rattle.c_grammar.specs.Knot.{expr_at, type_name_at, specs_at, declr_at};
+ghost use Rattle.reader_base.specs.Lent.{ReadsAsked, asked_at};
 
-use c_grammar::{Fault, Mode, Reach, ReadError, Role, number_at, refused, type_name};
-use c_syntax::{Declr, Expr, Qual, Specs, TypeName};
-use c_tree::Lexeme;
-use declr_reader::declarator;
-use expr_reader::expression;
-use specs_reader::specifiers;
-use std::alloc::Global;
-use typedef_scope::{Kind, Scopes};
+use declr_forms::{declarator, type_name};
+use expr_rows::expr;
+use init_forms::init_list;
+use reader_base::{Answer, Ask, Place, ReadError};
+use spec_forms::specifiers;
+use stmt_forms::{block, statement};
 
-/// An expression of a reach that is lower than `depth`.
+/// Reads what is asked for, by the readers of the number `depth`.
+///
+/// A part inside has a room that is lower by one at least, and nothing is read inside at room 0. So where a room is below
+/// the number, as that of a unit is, no reader of number 0 is asked; it answers want of memory.
 #[cycle(knot)]
-pub(crate) fn read_expr<'a>(
-    alloc: Global,
-    reach: Reach,
-    scopes: &mut Scopes,
-    tokens: &'a [Lexeme],
-    depth: u32,
-) -> Result<(Box<Expr>, &'a [Lexeme]), ReadError>
-    ensures { Gives (λ x. ((expr_of x.0.value, scopes.new), x.1.now)) result (expr_at depth (reach_of reach) scopes.old tokens.now) }
+#[tactic(auto, unfolding(c_reading::specs::Knot::knot))]
+pub(crate) fn read<'a>(ask: Ask, place: &mut Place<'a>, depth: u32) -> Result<Answer, ReadError>
+    ensures { ReadsAsked place.old place.new result (asked_at depth ask) }
 {
     if depth == 0 {
-        return Err(refused(Fault::TooDeep, tokens));
+        return Err(ReadError::NoMemory);
     }
     let below = depth - 1;
-    let expr = |alloc, reach, scopes: &mut Scopes, ts|
-        ensures { Gives (λ x. ((expr_of x.0.value, scopes.new), x.1.now)) result (expr_at below (reach_of reach) scopes.old ts.now) }
-    { read_expr(alloc, reach, scopes, ts, below) };
-    let type_name = |alloc, scopes: &mut Scopes, ts|
-        ensures { Gives (λ x. ((type_name_from x.0, scopes.new), x.1.now)) result (type_name_at below scopes.old ts.now) }
-    { read_type_name(alloc, scopes, ts, below) };
-    expression(&expr, &type_name, alloc, reach, scopes, tokens, below)
-}
-
-/// The name of a type that is lower than `depth`.
-#[cycle(knot)]
-pub(crate) fn read_type_name<'a>(
-    alloc: Global,
-    scopes: &mut Scopes,
-    tokens: &'a [Lexeme],
-    depth: u32,
-) -> Result<(TypeName, &'a [Lexeme]), ReadError>
-    ensures { Gives (λ x. ((type_name_from x.0, scopes.new), x.1.now)) result (type_name_at depth scopes.old tokens.now) }
-{
-    if depth == 0 {
-        return Err(refused(Fault::TooDeep, tokens));
+    let inner = |ask: Ask, place: &mut Place|
+        ensures { ReadsAsked place.old place.new result (asked_at below ask) }
+    { read(ask, place, below) };
+    match ask {
+        Ask::Expr(reach, begun, room) => {
+            Ok(Answer::Expr(expr(&inner, reach, begun, room, place, below)?))
+        }
+        Ask::TypeName(room) => Ok(Answer::TypeName(type_name(&inner, room, place, below)?)),
+        Ask::Specs(role, known, room) => {
+            Ok(Answer::Specs(specifiers(&inner, role, known, room, place, below)?))
+        }
+        Ask::Declr(mode, wanted, flag, room) => {
+            Ok(Answer::Declr(declarator(&inner, mode, wanted, flag, room, place, below)?))
+        }
+        Ask::InitList(room) => Ok(Answer::InitList(init_list(&inner, room, place, below)?)),
+        Ask::Block(room) => Ok(Answer::Block(block(&inner, room, place, below)?)),
+        Ask::Stmt(room) => Ok(Answer::Stmt(statement(&inner, room, place, below)?)),
     }
-    let below = depth - 1;
-    let specs = |alloc, role, known: Vec<Qual>, scopes: &mut Scopes, ts|
-        ensures { Gives (λ x. ((spec_words_from x.0.words.items, scopes.new), x.1.now)) result (specs_at below (role_of role) (spec_words_of_quals known.items) scopes.old ts.now) }
-    { read_specs(alloc, role, known, scopes, ts, below) };
-    let declr = |alloc, mode, wanted, scopes: &mut Scopes, ts|
-        ensures { Gives (λ x. ((some_declr_from x.0, scopes.new), x.1.now)) result (declr_at below (mode_of mode) wanted scopes.old ts.now) }
-    { read_declr(alloc, mode, wanted, scopes, ts, below) };
-    type_name(&specs, &declr, alloc, scopes, tokens, below)
-}
-
-/// Specifiers that are lower than `depth`, and begin with qualifiers which were read already.
-#[cycle(knot)]
-pub(crate) fn read_specs<'a>(
-    alloc: Global,
-    role: Role,
-    known: Vec<Qual>,
-    scopes: &mut Scopes,
-    tokens: &'a [Lexeme],
-    depth: u32,
-) -> Result<(Specs, &'a [Lexeme]), ReadError>
-    ensures { Gives (λ x. ((spec_words_from x.0.words.items, scopes.new), x.1.now)) result (specs_at depth (role_of role) (spec_words_of_quals known.items) scopes.old tokens.now) }
-{
-    if depth == 0 {
-        return Err(refused(Fault::TooDeep, tokens));
-    }
-    let below = depth - 1;
-    let expr = |alloc, reach, scopes: &mut Scopes, ts|
-        ensures { Gives (λ x. ((expr_of x.0.value, scopes.new), x.1.now)) result (expr_at below (reach_of reach) scopes.old ts.now) }
-    { read_expr(alloc, reach, scopes, ts, below) };
-    let specs = |alloc, role, known: Vec<Qual>, scopes: &mut Scopes, ts|
-        ensures { Gives (λ x. ((spec_words_from x.0.words.items, scopes.new), x.1.now)) result (specs_at below (role_of role) (spec_words_of_quals known.items) scopes.old ts.now) }
-    { read_specs(alloc, role, known, scopes, ts, below) };
-    let declr = |alloc, mode, wanted, scopes: &mut Scopes, ts|
-        ensures { Gives (λ x. ((some_declr_from x.0, scopes.new), x.1.now)) result (declr_at below (mode_of mode) wanted scopes.old ts.now) }
-    { read_declr(alloc, mode, wanted, scopes, ts, below) };
-    specifiers(
-        &expr, &specs, &declr, alloc, role, known, scopes, tokens, below,
-    )
-}
-
-/// A declarator that is lower than `depth`, or none.
-#[cycle(knot)]
-pub(crate) fn read_declr<'a>(
-    alloc: Global,
-    mode: Mode,
-    wanted: Option<Kind>,
-    scopes: &mut Scopes,
-    tokens: &'a [Lexeme],
-    depth: u32,
-) -> Result<(Option<Box<Declr>>, &'a [Lexeme]), ReadError>
-    ensures { Gives (λ x. ((some_declr_from x.0, scopes.new), x.1.now)) result (declr_at depth (mode_of mode) wanted scopes.old tokens.now) }
-{
-    if depth == 0 {
-        return Err(refused(Fault::TooDeep, tokens));
-    }
-    let below = depth - 1;
-    let expr = |alloc, reach, scopes: &mut Scopes, ts|
-        ensures { Gives (λ x. ((expr_of x.0.value, scopes.new), x.1.now)) result (expr_at below (reach_of reach) scopes.old ts.now) }
-    { read_expr(alloc, reach, scopes, ts, below) };
-    let specs = |alloc, role, known: Vec<Qual>, scopes: &mut Scopes, ts|
-        ensures { Gives (λ x. ((spec_words_from x.0.words.items, scopes.new), x.1.now)) result (specs_at below (role_of role) (spec_words_of_quals known.items) scopes.old ts.now) }
-    { read_specs(alloc, role, known, scopes, ts, below) };
-    let declr = |alloc, mode, wanted, scopes: &mut Scopes, ts|
-        ensures { Gives (λ x. ((some_declr_from x.0, scopes.new), x.1.now)) result (declr_at below (mode_of mode) wanted scopes.old ts.now) }
-    { read_declr(alloc, mode, wanted, scopes, ts, below) };
-    declarator(
-        &expr, &specs, &declr, alloc, mode, wanted, scopes, tokens, below,
-    )
 }

@@ -1,7 +1,6 @@
 //! The parser of C: the one well-formed unit that tokens have (C99, 6.9).
 #![tactic(auto)]
 
-mod items;
 mod knot;
 mod parsing;
 

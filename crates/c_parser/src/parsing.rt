@@ -1,40 +1,45 @@
 //! Units read from their tokens.
 
-ghost use Rattle.std.specs.Prelude.{◌≡◌, List, Ok, Err, IfOk};
-ghost use Rattle.c_tree.specs.Unit.{Item, items_of, item_of};
-ghost use Rattle.c_parser.specs.declared.parsing.ParseFault.TheVariants.{NotYet};
-ghost use Rattle.c_grammar.specs.Gives.{Gives};
-ghost use Rattle.c_tree.specs.Lists.{some_declr_from};
-ghost use Rattle.c_tree.specs.Unit.{spec_words_from};
-ghost use Rattle.c_grammar.specs.Declaring.{spec_words_of_quals};
-ghost use Rattle.c_grammar.specs.Kinds.{role_of, mode_of};
-ghost use Rattle.c_grammar.specs.Knot.{specs_at, declr_at, alone_with, unit_at};
-ghost use Rattle.c_parser.specs.Parsing.{lexemes_of};
-ghost use Rattle.c_grammar.specs.Units.{IsWellFormed};
+ghost use Rattle.std.specs.Prelude.{◌≡◌, ◌≢◌, List, Err, IfOk};
+ghost use Rattle.c_tree.specs.Unit.{Item, items_of};
+ghost use Rattle.c_units.specs.HeldScopes.{file_scope};
+ghost use Rattle.c_units.specs.Units.{IsWellFormed};
+ghost use Rattle.c_reading.specs.Knot.{alone, unit_at};
+ghost use Rattle.reader_base.specs.Gives.{Gives};
+ghost use Rattle.reader_base.specs.Lent.{ReadsAsked, asked_at};
+ghost use Rattle.c_parser.specs.declared.parsing.ParseFault.{ParseFault};
+ghost use Rattle.c_parser.specs.declared.parsing.ParseFault.TheVariants as faults;
+ghost use Rattle.c_parser.specs.Parsing.{lexemes_of, unit_found};
 
-use crate::items::items;
-use crate::knot::{read_declr, read_specs};
-use c_grammar::{
-    Fault, Mode, ReadError, Role, end, number_at, refused, unit_is_well_formed, well_formed_is_read,
-};
-use c_height::of_unit;
+use crate::knot::read;
 use c_lexer::Tokens;
-use c_syntax::{Qual, Unit};
+use c_reading::{Fault, unit_is_well_formed, well_formed_is_read};
+use c_syntax::Unit;
 use c_tree::Lexeme;
+use held_scopes::Scopes;
 use qual_base::{NoMemory, Numbered, TokenId};
+use reader_base::{Ask, Place, ReadError, end, refused};
 use std::alloc::Global;
-use typedef_scope::{Kind, Scopes};
+use unit_forms::items;
 
-/// Why a unit was not read.
+/// Why tokens are those of no well-formed unit, with the token that is refused.
 #[derive(Clone, Copy, PartialEq, Eq, Debug)]
 pub enum ParseFault {
-    /// No well-formed unit of today's grammar has these tokens.
-    NotYet,
+    /// No form of the grammar goes on with the token.
+    Syntax(TokenId),
+    /// The tree would be over 500 high.
+    TooDeep(TokenId),
+    /// The name has another kind in its scope already (C99, 6.2.1 and 6.2.3).
+    Redeclared(TokenId),
+    /// No mix of specifiers goes on with the word (C99, 6.7.1 and 6.7.2).
+    BadMix(TokenId),
+    /// The left side of the assignment is no unary form (C99, 6.5.16).
+    BadTarget(TokenId),
     /// There was not enough memory.
     NoMemory,
 }
 
-/// The greatest height of a unit.
+/// The number of the readers of a unit, and the greatest height of its tree.
 const MOST: u32 = 500;
 
 /// The tokens of a unit with their numbers. Linear in the tokens.
@@ -55,43 +60,50 @@ fn lexemes(alloc: Global, tokens: &Tokens) -> Result<Vec<Lexeme>, NoMemory>
 }
 
 /// The unit of these tokens, or the token that is refused.
-#[tactic(auto, unfolding(c_grammar::specs::Items::items_with))]
-fn unit(alloc: Global, all: &[Lexeme]) -> Result<(Unit, &[Lexeme]), ReadError>
-    ensures { Gives (λ x. (items_of x.0, x.1.now)) result (unit_at all.now) }
+#[tactic(auto, unfolding(c_reading::specs::Knot::unit_at, c_reading::specs::Reading::and_then))]
+fn unit(alloc: Global, all: &[Lexeme]) -> Result<Unit, ReadError>
+    ensures { Gives (λ x. unit_found (items_of x)) result (unit_at all.now) }
 {
-    let mut scopes = Scopes::new(alloc)?;
-    let specs = |alloc, role, known: Vec<Qual>, scopes: &mut Scopes, ts|
-        ensures { Gives (λ x. ((spec_words_from x.0.words.items, scopes.new), x.1.now)) result (specs_at 500 (role_of role) (spec_words_of_quals known.items) scopes.old ts.now) }
-    { read_specs(alloc, role, known, scopes, ts, MOST) };
-    let declr = |alloc, mode, wanted, scopes: &mut Scopes, ts|
-        ensures { Gives (λ x. ((some_declr_from x.0, scopes.new), x.1.now)) result (declr_at 500 (mode_of mode) wanted scopes.old ts.now) }
-    { read_declr(alloc, mode, wanted, scopes, ts, MOST) };
-    let (found, rest) = items(&specs, &declr, alloc, &mut scopes, all, MOST)?;
-    alone(Unit { items: found }, rest)
+    let scopes = Scopes::new(alloc)?;
+    let mut place = Place {
+        alloc,
+        rest: all,
+        scopes,
+    };
+    let inner = |ask: Ask, place: &mut Place|
+        ensures { ReadsAsked place.old place.new result (asked_at 500 ask) }
+    { read(ask, place, MOST) };
+    let found = items(&inner, 499, &mut place, MOST)?;
+    end(&mut place)?;
+    if !place.rest.is_empty() {
+        return Err(refused(Fault::Unexpected, place.rest));
+    }
+    Ok(Unit { items: found })
 }
 
-/// A unit whose end stands first, with nothing behind it.
-fn alone(found: Unit, tokens: &[Lexeme]) -> Result<(Unit, &[Lexeme]), ReadError>
-    ensures { Gives (λ x. (items_of x.0, x.1.now)) result (alone_with (items_of found) tokens.now) }
+/// What is wrong at the token.
+fn fault_at(fault: Fault, token: TokenId) -> ParseFault
+    ensures { result ≢ faults.NoMemory }
 {
-    let rest = end(tokens)?;
-    if !rest.is_empty() {
-        return Err(refused(Fault::Unexpected, rest));
+    match fault {
+        Fault::Unexpected => ParseFault::Syntax(token),
+        Fault::TooDeep => ParseFault::TooDeep(token),
+        Fault::Redeclared => ParseFault::Redeclared(token),
+        Fault::BadMix => ParseFault::BadMix(token),
+        Fault::BadTarget => ParseFault::BadTarget(token),
     }
-    if of_unit(&found) > MOST {
-        return Err(refused(Fault::TooDeep, tokens));
-    }
-    Ok((found, tokens))
 }
 
-/// The one well-formed unit that has these tokens, `NotYet` where there is none.
+/// The one well-formed unit that has these tokens, and else the first token up to which no such unit begins so.
 ///
-/// It takes time linear in the tokens for a height of the tree, and memory linear in the tokens. Trees above a height of
-/// 500 are refused, so its recursion is bounded.
+/// Time and memory are linear in the tokens. Trees above a height of 500 are refused, so the recursion is bounded. That
+/// the refused token is the first such one, and which fault is named of several, is tested and not proved.
 pub fn parse(alloc: Global, tokens: &Tokens) -> Result<Unit, ParseFault>
     ensures unit { IfOk result (λ unit. IsWellFormed (lexemes_of tokens.now) (items_of unit)) }
-    ensures only { (items : List Item) → IsWellFormed (lexemes_of tokens.now) items → IfOk result (λ unit. items_of unit ≡ items) }
-    ensures none { result ≡ Err NotYet → (items : List Item) → IsWellFormed (lexemes_of tokens.now) items → ⊥ }
+    ensures only { (items : List Item) → IsWellFormed (lexemes_of tokens.now) items →
+        IfOk result (λ unit. items_of unit ≡ items) }
+    ensures none { (fault : ParseFault) → result ≡ Err fault → fault ≢ faults.NoMemory →
+        (items : List Item) → IsWellFormed (lexemes_of tokens.now) items → ⊥ }
 {
     unit_is_well_formed();
     well_formed_is_read();
@@ -99,8 +111,8 @@ pub fn parse(alloc: Global, tokens: &Tokens) -> Result<Unit, ParseFault>
         return Err(ParseFault::NoMemory);
     };
     match unit(alloc, all.as_slice()) {
-        Ok((found, _)) => Ok(found),
-        Err(ReadError::Fault(_, _)) => Err(ParseFault::NotYet),
+        Ok(found) => Ok(found),
+        Err(ReadError::Fault(fault, token)) => Err(fault_at(fault, token)),
         Err(ReadError::NoMemory) => Err(ParseFault::NoMemory),
     }
 }

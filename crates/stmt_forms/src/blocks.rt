@@ -65,9 +65,9 @@ where
     Ok(known)
 }
 
-/// `{ (decl | stmt)* }` at its brace, in a scope that is open.
+/// `{ (decl | stmt)* }` at its brace, in a scope that is open. Linear in the tokens.
 #[tactic(auto, unfolding(c_reading::specs::Stating::block_body, c_reading::specs::Reading::and_then), using(crate::proofs::Rows::items_same))]
-fn block_body<'a, F>(
+pub fn block_body<'a, F>(
     lent: &F,
     room: u16,
     place: &mut Place<'a>,

@@ -12,5 +12,5 @@ mod jumps;
 mod labelled;
 mod statements;
 
-pub use blocks::block;
+pub use blocks::{block, block_body};
 pub use statements::statement;

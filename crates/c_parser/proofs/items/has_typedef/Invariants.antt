@@ -1,6 +1,0 @@
-use Rattle.std.proofs.Common.{◌≡◌, drop}
-use Rattle.c_parser.proofs.Words.{has_typedef_in}
-use Rattle.c_parser.proofs.items.has_typedef.Given as goal
-
-abbrev pub invariant-loop-word : goal.invariant-loop-word
-invariant-loop-word l = has_typedef_in (drop l.word-index l.words) ≡ has_typedef_in l.words

@@ -1,0 +1,8 @@
+//! Readers of the items of a unit (C99, 6.9), over readers of the parts inside.
+#![tactic(auto)]
+
+mod declared;
+mod functions;
+mod items;
+
+pub use items::items;
