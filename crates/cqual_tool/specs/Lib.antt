@@ -1,4 +1,5 @@
 pub mod Statuses
+pub mod Syntax
 pub mod Words
 pub mod Sending
 pub mod Texts

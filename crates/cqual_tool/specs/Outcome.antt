@@ -12,6 +12,11 @@ use Rattle.c_lexer.specs.Tokens.{Lexed, IsMarkedBy}
 use Rattle.c_lexer.specs.Refusals.{IsRefusal}
 use Rattle.c_lexer.specs.declared.lexing.LexFault.{LexFault}
 use Rattle.c_lexer.specs.declared.lexing.LexFault.TheVariants.{NoMemory as NoRoom}
+use Rattle.c_tree.specs.Unit.{Item}
+use Rattle.c_units.specs.Units.{IsWellFormed}
+use Rattle.c_parser.specs.Parsing.{lexemes_of}
+use Rattle.c_parser.specs.declared.parsing.ParseFault.{ParseFault}
+use Rattle.c_parser.specs.declared.parsing.ParseFault.TheVariants.{NoMemory as OutOfRoom}
 use Rattle.flow_graph.specs.System.{most_constraints, most_variables}
 use Rattle.cqual_tool.specs.declared.status.Status.{Status}
 use Rattle.cqual_tool.specs.declared.status.Status.TheVariants.{Accepted, Rejected, NotYet, Malformed, BadWords, ReadFault, WriteFault, NoMemory}
@@ -20,6 +25,7 @@ use Rattle.cqual_tool.specs.Texts.{usage_line, not_yet_line, malformed_line}
 use Rattle.cqual_tool.specs.Faults.{lattice_line, lex_line}
 use Rattle.cqual_tool.specs.Programs.{Program, IsProgram}
 use Rattle.cqual_tool.specs.Reports.{IsJudged}
+use Rattle.cqual_tool.specs.Syntax.{syntax_line}
 
 -- the most bytes that a lattice file and a source may have
 abbrev pub lattice_limit : ℕ
@@ -62,11 +68,15 @@ pub data OfProgram (file : List ℕ) (program : Program) : Status → List ℕ �
   Judged : (status : Status) (text : List ℕ) → length program.scene.positions ≤ most_variables → length program.system.constraints ≤ most_constraints →
       IsJudged program.scene program.system status text → OfProgram file program status text
 
--- The status and the whole text for lattices that were read and the tokens of a source.
+-- The status and the whole text for lattices that were read and the tokens of a source, which are first of all those of a
+-- well-formed unit.
 pub data OfTokens (file : List ℕ) (lattices : List LatticeView) (lexed : Lexed) : Status → List ℕ → Type 0 where
-  SourceNotYet : ((program : Program) → IsProgram file lattices lexed program → ⊥) → OfTokens file lattices lexed NotYet (not_yet_line file)
-  SourceRead : (program : Program) (status : Status) (text : List ℕ) → IsProgram file lattices lexed program → OfProgram file program status text →
-      OfTokens file lattices lexed status text
+  SourceUnparsed : (fault : ParseFault) → fault ≢ OutOfRoom → ((items : List Item) → IsWellFormed (lexemes_of lexed) items → ⊥) →
+      OfTokens file lattices lexed Malformed (syntax_line file lexed fault)
+  SourceNotYet : (items : List Item) → IsWellFormed (lexemes_of lexed) items → ((program : Program) → IsProgram file lattices lexed program → ⊥) →
+      OfTokens file lattices lexed NotYet (not_yet_line file)
+  SourceRead : (items : List Item) (program : Program) (status : Status) (text : List ℕ) → IsWellFormed (lexemes_of lexed) items →
+      IsProgram file lattices lexed program → OfProgram file program status text → OfTokens file lattices lexed status text
 
 -- The status and the whole text for lattices that were read and the bytes of a source.
 pub data OfSource (file : List ℕ) (lattices : List LatticeView) (bytes : List ℕ) : Status → List ℕ → Type 0 where

@@ -12,6 +12,7 @@ mod running;
 mod sending;
 mod solving;
 mod status;
+mod syntax;
 #[cfg(test)]
 mod tests;
 mod texts;

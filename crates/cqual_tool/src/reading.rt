@@ -12,8 +12,10 @@ ghost use Rattle.cqual_tool.specs.Outcome.{SourceLexes, OfTokens, OfSource, OfFi
 use crate::analysis::analyse;
 use crate::answer::{Answer, malformed, not_yet};
 use crate::faults::{lattice_refused, source_refused};
+use crate::syntax::unit_refused;
 use crate::words::Named;
 use c_lexer::{Tokens, lex};
+use c_parser::parse;
 use lattice_core::Lattices;
 use lattice_file::read_lattices;
 use qual_base::{Files, NoMemory, Numbered, TakeFault, UnitNo, take_all};
@@ -92,6 +94,9 @@ fn of_tokens(
     ensures outcome { IfOk result (λ answer. OfTokens file.now lattices.now tokens.now answer.status answer.text.items) }
     ensures decided { IfOk result (λ answer. IsDecided answer.status) }
 {
+    if let Err(fault) = parse(alloc, tokens) {
+        return unit_refused(alloc, file, tokens, fault);
+    }
     match read_items(alloc, tokens)? {
         Some(items) => analyse(alloc, file, lattices, tokens, &items),
         None => other_form(alloc, file),

@@ -11,6 +11,7 @@ use held_scopes::Scopes;
 use std::alloc::Global;
 
 /// Where a reader stands: the tokens that are left, and the scopes that are open.
+#[derive(Drop)]
 pub struct Place<'a> {
     pub alloc: Global,
     pub rest: &'a [Lexeme],

@@ -150,7 +150,15 @@ where
         (units.first_declr (knot depth) exts.items (sized_specs words) room) }
 {
     let below = room.saturating_sub(2);
-    let found = declr_inside(lent, Mode::Named, Some(Kind::Value), true, below, place, depth)?;
+    let found = declr_inside(
+        lent,
+        Mode::Named,
+        Some(Kind::Value),
+        true,
+        below,
+        place,
+        depth,
+    )?;
     let closed = found.closed;
     let declr = known_declr(found.declr, place)?;
     place.scopes.release(Kind::Value)?;

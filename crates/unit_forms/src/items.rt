@@ -75,12 +75,7 @@ where
 
 /// `item = Function | decl | AsmDecl | Semi`, by its first token.
 #[tactic(auto, unfolding(c_reading::specs::Items::item_with))]
-fn item<'a, F>(
-    lent: &F,
-    room: u16,
-    place: &mut Place<'a>,
-    depth: u32,
-) -> Result<Item, ReadError>
+fn item<'a, F>(lent: &F, room: u16, place: &mut Place<'a>, depth: u32) -> Result<Item, ReadError>
 where
     F: Fn(Ask, &mut Place<'a>) -> Result<Answer, ReadError>,
     requires { Lends F.Fn lent.now depth }
