@@ -68,15 +68,19 @@ pub data OfProgram (file : List ℕ) (program : Program) : Status → List ℕ �
   Judged : (status : Status) (text : List ℕ) → length program.scene.positions ≤ most_variables → length program.system.constraints ≤ most_constraints →
       IsJudged program.scene program.system status text → OfProgram file program status text
 
--- The status and the whole text for lattices that were read and the tokens of a source, which are first of all those of a
--- well-formed unit.
+-- The status and the whole text for lattices that were read and the tokens of a well-formed unit.
+pub data OfUnit (file : List ℕ) (lattices : List LatticeView) (lexed : Lexed) : Status → List ℕ → Type 0 where
+  SourceNotYet : ((program : Program) → IsProgram file lattices lexed program → ⊥) → OfUnit file lattices lexed NotYet (not_yet_line file)
+  SourceRead : (program : Program) (status : Status) (text : List ℕ) → IsProgram file lattices lexed program → OfProgram file program status text →
+      OfUnit file lattices lexed status text
+
+-- The status and the whole text for lattices that were read and the tokens of a source: a line that names one of them where
+-- they are those of no well-formed unit.
 pub data OfTokens (file : List ℕ) (lattices : List LatticeView) (lexed : Lexed) : Status → List ℕ → Type 0 where
   SourceUnparsed : (fault : ParseFault) → fault ≢ OutOfRoom → ((items : List Item) → IsWellFormed (lexemes_of lexed) items → ⊥) →
       OfTokens file lattices lexed Malformed (syntax_line file lexed fault)
-  SourceNotYet : (items : List Item) → IsWellFormed (lexemes_of lexed) items → ((program : Program) → IsProgram file lattices lexed program → ⊥) →
-      OfTokens file lattices lexed NotYet (not_yet_line file)
-  SourceRead : (items : List Item) (program : Program) (status : Status) (text : List ℕ) → IsWellFormed (lexemes_of lexed) items →
-      IsProgram file lattices lexed program → OfProgram file program status text → OfTokens file lattices lexed status text
+  SourceParsed : (items : List Item) (status : Status) (text : List ℕ) → IsWellFormed (lexemes_of lexed) items →
+      OfUnit file lattices lexed status text → OfTokens file lattices lexed status text
 
 -- The status and the whole text for lattices that were read and the bytes of a source.
 pub data OfSource (file : List ℕ) (lattices : List LatticeView) (bytes : List ℕ) : Status → List ℕ → Type 0 where

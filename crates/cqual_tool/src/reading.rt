@@ -7,7 +7,7 @@ ghost use Rattle.lattice_core.specs.View.{LatticeView};
 ghost use Rattle.cqual_tool.specs.declared.status.Status.TheVariants as Statuses;
 ghost use Rattle.cqual_tool.specs.Texts.{not_yet_line, malformed_line};
 ghost use Rattle.cqual_tool.specs.Words.{names_in};
-ghost use Rattle.cqual_tool.specs.Outcome.{SourceLexes, OfTokens, OfSource, OfFiles, IsDecided, RecordsAll, Starts, LatticesRead, lattice_limit, source_limit};
+ghost use Rattle.cqual_tool.specs.Outcome.{SourceLexes, OfUnit, OfTokens, OfSource, OfFiles, IsDecided, RecordsAll, Starts, LatticesRead, lattice_limit, source_limit};
 
 use crate::analysis::analyse;
 use crate::answer::{Answer, malformed, not_yet};
@@ -83,6 +83,23 @@ fn too_large(alloc: Global, file: &str) -> Result<Answer, NoMemory>
     Ok(malformed(alloc, file, b"F2")?)
 }
 
+/// The answer for the tokens of a well-formed unit.
+fn of_unit(
+    alloc: Global,
+    file: &str,
+    lattices: &Lattices,
+    tokens: &Tokens,
+) -> Result<Answer, NoMemory>
+    requires { (bytes : List ℕ) × SourceLexes lattices.now bytes tokens.now }
+    ensures outcome { IfOk result (λ answer. OfUnit file.now lattices.now tokens.now answer.status answer.text.items) }
+    ensures decided { IfOk result (λ answer. IsDecided answer.status) }
+{
+    match read_items(alloc, tokens)? {
+        Some(items) => analyse(alloc, file, lattices, tokens, &items),
+        None => other_form(alloc, file),
+    }
+}
+
 /// The answer for the tokens of a source.
 fn of_tokens(
     alloc: Global,
@@ -91,15 +108,13 @@ fn of_tokens(
     tokens: &Tokens,
 ) -> Result<Answer, NoMemory>
     requires { (bytes : List ℕ) × SourceLexes lattices.now bytes tokens.now }
-    ensures outcome { IfOk result (λ answer. OfTokens file.now lattices.now tokens.now answer.status answer.text.items) }
+    ensures outcome { IfOk result (λ answer.
+        OfTokens file.now lattices.now tokens.now answer.status answer.text.items) }
     ensures decided { IfOk result (λ answer. IsDecided answer.status) }
 {
-    if let Err(fault) = parse(alloc, tokens) {
-        return unit_refused(alloc, file, tokens, fault);
-    }
-    match read_items(alloc, tokens)? {
-        Some(items) => analyse(alloc, file, lattices, tokens, &items),
-        None => other_form(alloc, file),
+    match parse(alloc, tokens) {
+        Ok(_unit) => of_unit(alloc, file, lattices, tokens),
+        Err(fault) => unit_refused(alloc, file, tokens, fault),
     }
 }
 

@@ -7,9 +7,9 @@ use Rattle.second_form.specs.declared.source_form.Item.{Item}
 use Rattle.second_form.specs.Source.{ItemView, IsSource}
 use Rattle.second_form.specs.View.{items_of}
 use Rattle.cqual_tool.specs.Programs.{program_of}
-use Rattle.cqual_tool.specs.Outcome.{OfProgram, OfTokens, SourceRead, SourceNotYet}
+use Rattle.cqual_tool.specs.Outcome.{OfProgram, OfUnit, SourceRead, SourceNotYet}
 use Rattle.cqual_tool.proofs.Outcomes.{at_equal, decided_program}
-use Rattle.cqual_tool.proofs.reading.of_tokens.Goals as goal
+use Rattle.cqual_tool.proofs.reading.of_unit.Goals as goal
 
 pub returns-in-Some-clause-outcome : goal.returns-in-Some-clause-outcome
 returns-in-Some-clause-outcome c =
@@ -32,4 +32,4 @@ returns-in-None-clause-outcome c =
     let lexed = c.args.tokens.now in
     let Found : Option (Vec Item Global) → Type 0 = λ found. MatchOption found ((items : List ItemView) → IsSource lexed.tokens items → ⊥) (λ items. IsSource lexed.tokens (items_of items.items)) in
     let other : (items : List ItemView) → IsSource lexed.tokens items → ⊥ = subst Found c.in-None.is c.in_ok-items.ensures in
-    IfOk-weaker c.other_form.result _ _ (λ answer is. at_equal (OfTokens c.args.file.now c.args.lattices.now lexed) _ _ _ _ is.0 is.1 (SourceNotYet (λ program is_program. other is_program.items is_program.source))) c.other_form.ensures
+    IfOk-weaker c.other_form.result _ _ (λ answer is. at_equal (OfUnit c.args.file.now c.args.lattices.now lexed) _ _ _ _ is.0 is.1 (SourceNotYet (λ program is_program. other is_program.items is_program.source))) c.other_form.ensures
