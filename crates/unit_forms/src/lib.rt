@@ -3,6 +3,6 @@
 
 mod declared;
 mod functions;
-mod items;
+mod units;
 
-pub use items::items;
+pub use units::items;

@@ -1,7 +1,7 @@
 use Rattle.std.proofs.Common.{◌≡◌, length, []}
 use Rattle.c_reading.specs.Reading.{run}
 use Rattle.unit_forms.specs.Listed.{known_items, item_turn}
-use Rattle.unit_forms.proofs.items.items.Given as goal
+use Rattle.unit_forms.proofs.units.items.Given as goal
 
 abbrev pub invariant-loop-known : goal.invariant-loop-known
 invariant-loop-known g l =

@@ -1,6 +1,6 @@
 //! The items of a unit (C99, 6.9).
 
-ghost use Rattle.c_reading.specs.Items as units;
+ghost use Rattle.c_reading.specs.Items as listed;
 ghost use Rattle.c_reading.specs.Knot.{knot};
 ghost use Rattle.reader_base.specs.Gives.{Reads};
 ghost use Rattle.reader_base.specs.Lent.{Lends};
@@ -63,7 +63,7 @@ fn declared_item<'a, F>(
 where
     F: Fn(Ask, &mut Place<'a>) -> Result<Answer, ReadError>,
     requires { Lends F.Fn lent.now depth }
-    ensures { ReadsItem place.old place.new result (units.declared_item (knot depth) room) }
+    ensures { ReadsItem place.old place.new result (listed.declared_item (knot depth) room) }
 {
     let exts = extensions(room, place)?;
     let words = specs_here(lent, room, place, depth)?;
@@ -79,7 +79,7 @@ fn item<'a, F>(lent: &F, room: u16, place: &mut Place<'a>, depth: u32) -> Result
 where
     F: Fn(Ask, &mut Place<'a>) -> Result<Answer, ReadError>,
     requires { Lends F.Fn lent.now depth }
-    ensures { ReadsItem place.old place.new result (units.item_with (knot depth) room) }
+    ensures { ReadsItem place.old place.new result (listed.item_with (knot depth) room) }
 {
     if is_semicolon(kind_at(place.rest)) {
         return semi(room, place);
@@ -137,7 +137,7 @@ where
     F: Fn(Ask, &mut Place<'a>) -> Result<Answer, ReadError>,
     requires { Lends F.Fn lent.now depth }
     ensures { Reads (λ x. known_items x.items) place.old place.new result
-        (units.items_with (knot depth) room) }
+        (listed.items_with (knot depth) room) }
 {
     items_step(room, depth);
     let mut known = Vec::new(place.alloc);
