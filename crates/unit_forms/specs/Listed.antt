@@ -36,8 +36,8 @@ declaration_item_with depth exts words room s ts = as_decl (declaration_behind (
 abbrev pub semi_with : ℕ → Reader Item
 semi_with room s ts = fits 1 room ts (take_one s ts >>= λ semi. ends (semi_item (record { token = semi.tree })) semi.scopes semi.rest)
 
-abbrev pub asm_with : ℕ → Reader Item
-asm_with room s ts = fits 1 room ts (asm_item_with s ts)
+abbrev pub asm_with : ℕ → ℕ → Reader Item
+asm_with depth room s ts = fits 1 room ts (asm_item_with (knot depth) s ts)
 
 abbrev pub assert_with : ℕ → Reader Item
 assert_with room s ts = fits 1 room ts (assert_at s ts >>= λ it. ends (decl_item (decl_assert it.tree)) it.scopes it.rest)

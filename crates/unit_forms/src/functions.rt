@@ -1,9 +1,10 @@
 //! Functions with bodies (C99, 6.9.1), and declarations that begin as one.
 
-ghost use Rattle.std.specs.Prelude.{◌≡◌, option_map};
+ghost use Rattle.std.specs.Prelude.{◌≡◌};
 ghost use Rattle.c_tree.specs.View.{declr_of};
 ghost use Rattle.c_reading.specs.Items as units;
 ghost use Rattle.c_reading.specs.Knot.{knot};
+ghost use Rattle.c_reading.specs.Reading.{kind_at};
 ghost use Rattle.reader_base.specs.Lent.{Lends, sized_specs};
 ghost use Rattle.unit_forms.specs.Listed.{ReadsItem};
 
@@ -11,7 +12,6 @@ use crate::declared::{declaration_with_attrs, declaration_with_label};
 use c_nodes::{PresentDeclr, SizedSpecs, above};
 use c_reading::{Fault, Mode};
 use c_syntax::{Attr, Item};
-use c_words::TokenKind;
 use decl_nodes::function_item;
 use held_scopes::Closed;
 use qual_base::TokenId;
@@ -22,11 +22,13 @@ use reader_base::{
 use stmt_forms::block_body;
 use typedef_scope::Kind;
 
-/// Whether a declaration goes on so, behind a declarator and attributes.
-fn goes_on_declared(kind: TokenKind) -> bool
-    ensures { result ≡ units.goes_on_declared kind }
+/// Whether a declaration goes on here, behind a declarator and attributes.
+fn goes_on_declared(place: &Place) -> bool
+    ensures { result ≡ units.goes_on_declared (kind_at place.now.rest.now) }
 {
-    is_equal(kind) || is_comma(kind) || is_semicolon(kind)
+    is_equal(kind_at(place.rest))
+        || is_comma(kind_at(place.rest))
+        || is_semicolon(kind_at(place.rest))
 }
 
 /// The body of a function, behind its declarator and attributes, in the scope of its parameters.
@@ -77,7 +79,7 @@ where
     if is_open_brace(kind_at(place.rest)) {
         return function_here(lent, exts, words, declr, attrs, closed, room, place, depth);
     }
-    if goes_on_declared(kind_at(place.rest)) {
+    if goes_on_declared(place) {
         room_above(above(declr.height), room, place)?;
         return declaration_with_attrs(lent, exts, words, declr, attrs, room, place, depth);
     }

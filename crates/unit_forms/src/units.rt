@@ -31,8 +31,8 @@ fn semi(room: u16, place: &mut Place) -> Result<Item, ReadError>
 
 /// `AsmDecl = asm bal ;`.
 #[tactic(auto, unfolding(c_reading::specs::Items::asm_item_with, c_reading::specs::Reading::fits, c_reading::specs::Reading::and_then))]
-fn asm_item(room: u16, place: &mut Place) -> Result<Item, ReadError>
-    ensures { ReadsItem place.old place.new result (asm_with room) }
+fn asm_item(room: u16, place: &mut Place, depth: u32) -> Result<Item, ReadError>
+    ensures { ReadsItem place.old place.new result (asm_with depth room) }
 {
     room_for(1, room, place)?;
     let keyword = take_one(place)?;
@@ -85,7 +85,7 @@ where
         return semi(room, place);
     }
     if is_asm(kind_at(place.rest)) {
-        return asm_item(room, place);
+        return asm_item(room, place, depth);
     }
     if is_static_assert(kind_at(place.rest)) {
         return assert_item(room, place);
