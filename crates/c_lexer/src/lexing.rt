@@ -28,7 +28,8 @@ pub enum LexFault {
 fn fault_of(text: &Text, front: &Front, stop: Stop) -> LexFault
     requires small { length text.now.1 < 2 ^ 32 - 1 }
     requires stops { (words : _) × StopsBehind text.now.0 words text.now.1 front.now stop }
-    ensures { (words : _) → StopsBehind text.now.0 words text.now.1 front.now stop → IsRefusal text.now.0 words text.now.1 result }
+    ensures { (words : _) → StopsBehind text.now.0 words text.now.1 front.now stop →
+        IsRefusal text.now.0 words text.now.1 result }
 {
     match stop {
         Stop::BadByte => LexFault::BadByte(front.spot_in(text)),
@@ -73,7 +74,8 @@ pub fn lex(alloc: Global, unit: UnitNo, bytes: &[u8], words: &QualWords) -> Resu
     ensures spelled { IfOk result (λ tokens. IsSpelled words.now tokens) }
     ensures keywords { IfOk result (λ tokens. NamesKeywords words.now tokens) }
     ensures refused { IfErr result (λ fault. IsRefusal unit words.now bytes.now fault) }
-    ensures only { (tokens : _) (names : _) (marks : _) → Spells unit words.now bytes.now tokens names marks → IsOnly tokens marks result }
+    ensures only { (tokens : _) (names : _) (marks : _) →
+        Spells unit words.now bytes.now tokens names marks → IsOnly tokens marks result }
 {
     let Ok(text) = Text::new(alloc, unit, bytes) else {
         return Err(LexFault::NoMemory);

@@ -1,6 +1,7 @@
 //! The bytes of a unit, with a table of its lines.
 
-ghost use Rattle.std.specs.Prelude.{ℕ, List, ◌≡◌, ◌==◌, ◌<◌, ◌≤◌, ◌^◌, ◌-◌, length, take, count_by, IfOk};
+ghost use Rattle.std.specs.Prelude.{ℕ, List, ◌≡◌, ◌==◌, ◌<◌, ◌≤◌, ◌^◌, ◌-◌, length, take, count_by};
+ghost use Rattle.std.specs.Prelude.{IfOk};
 ghost use Rattle.std.specs.List.Sorted.{IsNonDecreasingBy};
 ghost use Rattle.memchr.specs.Find.{is_byte, places};
 ghost use Rattle.c_lexer.specs.Places.{Governs, IsLineOf, IsSpot, spot_at};
@@ -58,7 +59,8 @@ impl Model for Text {
 
     ghost view = { λ a. (a.unit, a.bytes.items) };
 
-    ghost invariant = { λ a. (length a.bytes.items < 2 ^ 32 - 1) × (a.feeds.items ≡ places (is_byte 10) a.bytes.items) };
+    ghost invariant = { λ a. (length a.bytes.items < 2 ^ 32 - 1)
+        × (a.feeds.items ≡ places (is_byte 10) a.bytes.items) };
 }
 
 impl Text {

@@ -1,6 +1,7 @@
 //! From lattices and the items of a source to a status and a report.
 
-ghost use Rattle.std.specs.Prelude.{◌≡◌, ◌≤◌, ◌<◌, ◌*◌, ◌^◌, ℕ, IfOk, length, slice_get, Some, IsTrue};
+ghost use Rattle.std.specs.Prelude.{◌≡◌, ◌≤◌, ◌<◌, ◌*◌, ◌^◌, ℕ, IfOk, length, slice_get, Some};
+ghost use Rattle.std.specs.Prelude.{IsTrue};
 ghost use Rattle.std.specs.Bool.{OnTrue, OnFalse};
 ghost use Rattle.flow_graph.specs.System.{IsWellOwned};
 ghost use Rattle.flow_graph.specs.Unfolding.{IsExceeded};
@@ -52,7 +53,8 @@ fn judge(alloc: Global, scene: &Scene<'_>, graph: &FlowGraph) -> Result<Answer, 
     requires objects { HasObjects scene.now }
     requires shown { IsShown scene.now graph.now }
     requires owned { IsWellOwned graph.now }
-    ensures { IfOk result (λ answer. IsJudged (scene_of scene.now) graph.now answer.status answer.text.items) }
+    ensures { IfOk result
+        (λ answer. IsJudged (scene_of scene.now) graph.now answer.status answer.text.items) }
 {
     let solutions = solve_all(alloc, graph, scene.lattices)?;
     if is_exceeded(scene, graph, &solutions) {
@@ -79,7 +81,8 @@ pub fn analyse(
 ) -> Result<Answer, NoMemory>
     requires source { IsSource tokens.now.tokens (items_of items.now) }
     requires lexes { (bytes : _) × SourceLexes lattices.now bytes tokens.now }
-    ensures { IfOk result (λ answer. OfProgram file.now (program_of file.now lattices.now tokens.now (items_of items.now)) answer.status answer.text.items) }
+    ensures { IfOk result (λ answer. OfProgram file.now (program_of file.now lattices.now tokens.now
+        (items_of items.now)) answer.status answer.text.items) }
 {
     let objects = object_tokens(alloc, tokens, items)?;
     let graph = match generate(alloc, lattices, tokens, items) {

@@ -17,7 +17,8 @@ pub struct Answer {
 
 /// The line of a source whose form is not built yet.
 pub fn not_yet(alloc: Global, file: &str) -> Result<Answer, AllocError>
-    ensures { IfOk result (λ answer. (answer.status ≡ Status.NotYet) × (answer.text.items ≡ not_yet_line file.now)) }
+    ensures { IfOk result
+        (λ answer. (answer.status ≡ Status.NotYet) × (answer.text.items ≡ not_yet_line file.now)) }
 {
     let text = format!(in alloc; "not yet {file}\n")?;
     Ok(Answer {
@@ -28,7 +29,8 @@ pub fn not_yet(alloc: Global, file: &str) -> Result<Answer, AllocError>
 
 /// The line of a fault, by where it is: a file, or a place in one.
 fn fault_line(alloc: Global, place: &[u8], code: &[u8]) -> Result<Answer, AllocError>
-    ensures { IfOk result (λ answer. (answer.status ≡ Status.Malformed) × (answer.text.items ≡ malformed_line place.now code.now)) }
+    ensures { IfOk result (λ answer. (answer.status ≡ Status.Malformed)
+        × (answer.text.items ≡ malformed_line place.now code.now)) }
 {
     let mut text = Vec::new(alloc);
     put(&mut text, b"malformed ")?;
@@ -44,14 +46,16 @@ fn fault_line(alloc: Global, place: &[u8], code: &[u8]) -> Result<Answer, AllocE
 
 /// The line of a fault of a whole file.
 pub fn malformed(alloc: Global, file: &str, code: &[u8]) -> Result<Answer, AllocError>
-    ensures { IfOk result (λ answer. (answer.status ≡ Status.Malformed) × (answer.text.items ≡ malformed_line file.now code.now)) }
+    ensures { IfOk result (λ answer. (answer.status ≡ Status.Malformed)
+        × (answer.text.items ≡ malformed_line file.now code.now)) }
 {
     fault_line(alloc, file.as_bytes(), code)
 }
 
 /// The line of a fault at a place that is written already.
 pub fn placed(alloc: Global, place: &[u8], code: &[u8]) -> Result<Answer, AllocError>
-    ensures { IfOk result (λ answer. (answer.status ≡ Status.Malformed) × (answer.text.items ≡ placed_line place.now code.now)) }
+    ensures { IfOk result (λ answer. (answer.status ≡ Status.Malformed)
+        × (answer.text.items ≡ placed_line place.now code.now)) }
 {
     fault_line(alloc, place, code)
 }

@@ -75,7 +75,8 @@ impl Link {
 
     /// The call that the link is.
     pub fn as_enter(self) -> Option<Crossing>
-        ensures { MatchOption result (IsNoEnter self) (λ call. self ≡ Enter call.site call.from call.to) }
+        ensures { MatchOption result
+            (IsNoEnter self) (λ call. self ≡ Enter call.site call.from call.to) }
     {
         match self {
             Link::Enter(site, from, to) => Some(Crossing { site, from, to }),
@@ -85,7 +86,8 @@ impl Link {
 
     /// The return that the link is.
     pub fn as_leave(self) -> Option<Crossing>
-        ensures { MatchOption result (IsNoLeave self) (λ back. self ≡ Leave back.site back.from back.to) }
+        ensures { MatchOption result
+            (IsNoLeave self) (λ back. self ≡ Leave back.site back.from back.to) }
     {
         match self {
             Link::Leave(site, from, to) => Some(Crossing { site, from, to }),
@@ -97,7 +99,8 @@ impl Link {
 impl Constraint {
     /// The bound that the constraint is in a lattice.
     pub fn bound_in(&self, lattice: LatticeNo) -> Option<Limit>
-        ensures { MatchOption result (IsNoBound self.now.link lattice) (λ limit. self.now.link ≡ Bound limit.at lattice limit.elem) }
+        ensures { MatchOption result (IsNoBound self.now.link lattice)
+            (λ limit. self.now.link ≡ Bound limit.at lattice limit.elem) }
     {
         match self.link {
             Link::Bound(at, named, elem) if named == lattice => Some(Limit { at, elem }),

@@ -15,8 +15,10 @@ use qual_base::VarId;
 /// Adds one constraint.
 pub fn add(graph: &mut FlowGraph, style: &Style, link: Link) -> Result<(), GraphFault>
     requires { IsWithin (length graph.old.sites) link }
-    ensures ok { OnOk result (graph.new ≡ with graph.old (marked style.now.lattices style.now.span (link ∷ []))) }
-    ensures err { IfErr result (λ fault. Stops graph.old graph.new fault (marked style.now.lattices style.now.span (link ∷ []))) }
+    ensures ok { OnOk result
+        (graph.new ≡ with graph.old (marked style.now.lattices style.now.span (link ∷ []))) }
+    ensures err { IfErr result (λ fault.
+        Stops graph.old graph.new fault (marked style.now.lattices style.now.span (link ∷ []))) }
 {
     let constraint = Constraint {
         link,
@@ -40,8 +42,8 @@ pub fn add_pair(
     requires arrow { IsArrow (length graph.old.sites) style.now.arrow }
     requires one { IsVar one }
     requires other { IsVar other }
-    ensures ok { OnOk result (graph.new
-        ≡ with graph.old (marked style.now.lattices style.now.span (pair style.now.arrow forward one other))) }
+    ensures ok { OnOk result (graph.new ≡ with graph.old
+        (marked style.now.lattices style.now.span (pair style.now.arrow forward one other))) }
     ensures err { IfErr result (λ fault. Stops graph.old graph.new fault
         (marked style.now.lattices style.now.span (pair style.now.arrow forward one other))) }
 {
@@ -81,8 +83,8 @@ pub fn add_both(
     requires arrow { IsArrow (length graph.old.sites) style.now.arrow }
     requires one { IsVar one }
     requires other { IsVar other }
-    ensures ok { OnOk result (graph.new
-        ≡ with graph.old (marked style.now.lattices style.now.span (both style.now.arrow forward one other))) }
+    ensures ok { OnOk result (graph.new ≡ with graph.old
+        (marked style.now.lattices style.now.span (both style.now.arrow forward one other))) }
     ensures err { IfErr result (λ fault. Stops graph.old graph.new fault
         (marked style.now.lattices style.now.span (both style.now.arrow forward one other))) }
 {
@@ -101,10 +103,10 @@ pub fn add_pair_some(
     requires arrow { IsArrow (length graph.old.sites) style.now.arrow }
     requires one { IsSomeVar one.now }
     requires other { IsSomeVar other.now }
-    ensures ok { OnOk result (graph.new
-        ≡ with graph.old (marked style.now.lattices style.now.span (pair_some style.now.arrow forward one.now other.now))) }
-    ensures err { IfErr result (λ fault. Stops graph.old graph.new fault
-        (marked style.now.lattices style.now.span (pair_some style.now.arrow forward one.now other.now))) }
+    ensures ok { OnOk result (graph.new ≡ with graph.old (marked style.now.lattices style.now.span
+        (pair_some style.now.arrow forward one.now other.now))) }
+    ensures err { IfErr result (λ fault. Stops graph.old graph.new fault (marked style.now.lattices
+        style.now.span (pair_some style.now.arrow forward one.now other.now))) }
 {
     match one {
         Some(one) => match other {
@@ -126,10 +128,10 @@ pub fn add_both_some(
     requires arrow { IsArrow (length graph.old.sites) style.now.arrow }
     requires one { IsSomeVar one.now }
     requires other { IsSomeVar other.now }
-    ensures ok { OnOk result (graph.new
-        ≡ with graph.old (marked style.now.lattices style.now.span (both_some style.now.arrow forward one.now other.now))) }
-    ensures err { IfErr result (λ fault. Stops graph.old graph.new fault
-        (marked style.now.lattices style.now.span (both_some style.now.arrow forward one.now other.now))) }
+    ensures ok { OnOk result (graph.new ≡ with graph.old (marked style.now.lattices style.now.span
+        (both_some style.now.arrow forward one.now other.now))) }
+    ensures err { IfErr result (λ fault. Stops graph.old graph.new fault (marked style.now.lattices
+        style.now.span (both_some style.now.arrow forward one.now other.now))) }
 {
     match one {
         Some(one) => match other {

@@ -1,6 +1,7 @@
 //! The lattices of a file.
 
-ghost use Rattle.std.specs.Prelude.{◌≡◌, ◌<◌, ◌≤◌, ◌++◌, ◌∷◌, [], length, Some, slice_get, OnOk, OnErr, IfOk};
+ghost use Rattle.std.specs.Prelude.{◌≡◌, ◌<◌, ◌≤◌, ◌++◌, ◌∷◌, [], length, Some, slice_get, OnOk};
+ghost use Rattle.std.specs.Prelude.{OnErr, IfOk};
 ghost use Rattle.qual_base.specs.Words.{meaning_of, MeansTheSame};
 ghost use Rattle.lattice_core.specs.Names.{words_of};
 ghost use Rattle.lattice_core.specs.View.{AreSized};

@@ -2,7 +2,14 @@
 
 ghost use Rattle.std.specs.Prelude.{◌≡◌, ◌==◌};
 ghost use Rattle.std.specs.Int.{bit_at};
-ghost use Rattle.flow_graph.specs.PathRules.{begins, ends, enters, leaves, is_const, is_bound, is_sub, agree, differ, site_entered, end_of, begins_group, is_after_sub, closes, is_unmatched_enter, is_unmatched_leave, is_unknown, is_headless, is_late_const, is_stray_bound, is_late_return, is_unmatched_in_sub, is_loose_sub, follows_bound, fails_b1, fails_b2, fails_b3, is_missing, is_foreign, is_outside};
+ghost use Rattle.flow_graph.specs.PathRules.{begins, ends, enters, leaves, is_const, is_bound};
+ghost use Rattle.flow_graph.specs.PathRules.{is_sub, agree, differ, site_entered, end_of};
+ghost use Rattle.flow_graph.specs.PathRules.{begins_group, is_after_sub, closes};
+ghost use Rattle.flow_graph.specs.PathRules.{is_unmatched_enter, is_unmatched_leave, is_unknown};
+ghost use Rattle.flow_graph.specs.PathRules.{is_headless, is_late_const, is_stray_bound};
+ghost use Rattle.flow_graph.specs.PathRules.{is_late_return, is_unmatched_in_sub, is_loose_sub};
+ghost use Rattle.flow_graph.specs.PathRules.{follows_bound, fails_b1, fails_b2, fails_b3};
+ghost use Rattle.flow_graph.specs.PathRules.{is_missing, is_foreign, is_outside};
 
 use flow_graph::{Constraint, FlowGraph, Link, Path, Place, Seen};
 use qual_base::{LatticeNo, Owner, SiteId, VarId};
