@@ -35,18 +35,18 @@ impl KeywordMarks {
     }
 }
 
-/// The tokens of a unit with its bytes. The last token is `End`.
+/// The tokens of a unit with its bytes, which it borrows. The last token is `End`.
 ///
-/// A token takes 16 bytes of memory, a line feed and a linemarker 4 and 16, beside a copy of the unit's bytes.
+/// A token takes 16 bytes of memory, a line feed and a linemarker 4 and 16.
 #[derive(Drop)]
-pub struct Tokens {
-    text: Text,
+pub struct Tokens<'a> {
+    text: Text<'a>,
     tokens: Vec<Token>,
     marks: Vec<Mark>,
     keywords: KeywordMarks,
 }
 
-impl Model for Tokens {
+impl<'a> Model for Tokens<'a> {
     ghost use Rattle.std.specs.Prelude.{ℕ, ◌≡◌, ◌<◌, ◌-◌, ◌^◌, length};
     ghost use Rattle.c_lexer.specs.Tokens.{Lexed, IsSound};
 
@@ -65,17 +65,17 @@ impl Model for Tokens {
     ghost invariant = { λ a. IsSound a.text.1 a.tokens.items a.marks.items };
 }
 
-impl Tokens {
+impl<'a> Tokens<'a> {
     pub(crate) fn new(
-        text: Text,
+        text: Text<'a>,
         tokens: Vec<Token>,
         marks: Vec<Mark>,
         keywords: KeywordMarks,
     ) -> Self
         requires { IsSound text.1 tokens.items marks.items }
         ensures { result ≡ record {
-          unit = text.0;
-          bytes = text.1;
+          unit = text.entry.0;
+          bytes = text.entry.1;
           tokens = tokens.items;
           marks = marks.items;
           constant = keywords.constant;

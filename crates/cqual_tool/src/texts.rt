@@ -20,7 +20,7 @@ use std::alloc::AllocError;
 #[derive(Clone, Copy)]
 pub struct Scene<'a> {
     pub file: &'a str,
-    pub tokens: &'a Tokens,
+    pub tokens: &'a Tokens<'a>,
     pub lattices: &'a Lattices,
     pub objects: &'a [TokenId],
 }

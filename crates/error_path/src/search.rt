@@ -15,7 +15,7 @@ ghost use Rattle.match_summary.specs.Summary.{HasPair, Summarises};
 ghost use Rattle.flow_graph.specs.Parts.{settled};
 ghost use Rattle.error_path.specs.Reaching.{AreStarted, ComesBy, Grows, IsClosed, IsFollowed};
 ghost use Rattle.error_path.specs.Reaching.{IsGood, IsMarked, IsOver, IsReachedAt, IsRounded};
-ghost use Rattle.error_path.specs.Reaching.{IsRoundedFrom, StandsAt};
+ghost use Rattle.error_path.specs.Reaching.{IsRoundedFrom, StandsAt, StaysGood};
 
 use crate::marks::Marks;
 use crate::passed::Passed;
@@ -186,8 +186,7 @@ impl Search {
         requires below { AllBelow graph.now (size_of self.old.marks) }
         requires origin { StandsAt self.old origin.now.place origin.now.phase origin.now.at }
         requires over { IsOver graph.now lattice summaries.now passed.old self.old }
-        ensures good { OnOk result ((elem : ℕ) → IsGood graph.now lattice
-            elem summaries.now self.old → IsGood graph.now lattice elem summaries.now self.new) }
+        ensures good { OnOk result (StaysGood graph.now lattice summaries.now self.old self.new) }
         ensures grows { OnOk result (Grows self.old self.new) }
         ensures done { OnOk result (IsFollowed graph.now
             lattice summaries.now self.new origin.now.phase origin.now.at edge) }
@@ -243,8 +242,7 @@ impl Search {
         requires call { Stands graph.now lattice call.now.enter
             (Enter call.now.site origin.now.at call.now.inner) }
         requires over { IsOver graph.now lattice summaries.now passed.old self.old }
-        ensures good { OnOk result ((elem : ℕ) → IsGood graph.now lattice
-            elem summaries.now self.old → IsGood graph.now lattice elem summaries.now self.new) }
+        ensures good { OnOk result (StaysGood graph.now lattice summaries.now self.old self.new) }
         ensures grows { OnOk result (Grows self.old self.new) }
         ensures done { OnOk result ((m : ℕ) → IsRounded graph.now
             lattice summaries.now self.new origin.now.phase call.now.site call.now.inner m) }
@@ -288,8 +286,7 @@ impl Search {
         requires call { Stands graph.now lattice call.now.enter
             (Enter call.now.site origin.now.at call.now.inner) }
         requires over { IsOver graph.now lattice summaries.now passed.old self.old }
-        ensures good { OnOk result ((elem : ℕ) → IsGood graph.now lattice
-            elem summaries.now self.old → IsGood graph.now lattice elem summaries.now self.new) }
+        ensures good { OnOk result (StaysGood graph.now lattice summaries.now self.old self.new) }
         ensures grows { OnOk result (Grows self.old self.new) }
         ensures done { OnOk result
             ((b m : ℕ) → HasPair summaries.now call.now.inner b → IsRoundedFrom graph.now
@@ -327,8 +324,7 @@ impl Search {
         requires call { Stands graph.now lattice call.now.enter
             (Enter call.now.site origin.now.at call.now.inner) }
         requires over { IsOver graph.now lattice summaries.now passed.old self.old }
-        ensures good { OnOk result ((elem : ℕ) → IsGood graph.now lattice
-            elem summaries.now self.old → IsGood graph.now lattice elem summaries.now self.new) }
+        ensures good { OnOk result (StaysGood graph.now lattice summaries.now self.old self.new) }
         ensures grows { OnOk result (Grows self.old self.new) }
         ensures done { OnOk result ((m : ℕ) → IsRoundedFrom graph.now
             lattice summaries.now self.new origin.now.phase call.now.site call.now.inner last m) }
@@ -370,8 +366,7 @@ impl Search {
         requires origin { StandsAt self.old origin.now.place origin.now.phase origin.now.at }
         requires call { Stands graph.now lattice call.now.enter
             (Enter call.now.site origin.now.at call.now.inner) }
-        ensures good { OnOk result ((elem : ℕ) → IsGood graph.now lattice
-            elem summaries.now self.old → IsGood graph.now lattice elem summaries.now self.new) }
+        ensures good { OnOk result (StaysGood graph.now lattice summaries.now self.old self.new) }
         ensures grows { OnOk result (Grows self.old self.new) }
         ensures done { OnOk result ((m : ℕ) → IsRoundedFrom graph.now
             lattice summaries.now self.new origin.now.phase call.now.site call.now.inner last m) }
@@ -406,8 +401,7 @@ impl Search {
         requires origin { StandsAt self.old origin.now.place origin.now.phase origin.now.at }
         requires call { Stands graph.now lattice call.now.enter
             (Enter call.now.site origin.now.at call.now.inner) }
-        ensures good { OnOk result ((elem : ℕ) → IsGood graph.now lattice
-            elem summaries.now self.old → IsGood graph.now lattice elem summaries.now self.new) }
+        ensures good { OnOk result (StaysGood graph.now lattice summaries.now self.old self.new) }
         ensures grows { OnOk result (Grows self.old self.new) }
         ensures done { OnOk result (IsRounded graph.now
             lattice summaries.now self.new origin.now.phase call.now.site call.now.inner leave) }
@@ -450,8 +444,7 @@ impl Search {
         requires below { AllBelow graph.now (size_of self.old.marks) }
         requires origin { StandsAt self.old origin.now.place origin.now.phase origin.now.at }
         requires over { IsOver graph.now lattice summaries.now passed.old self.old }
-        ensures good { OnOk result ((elem : ℕ) → IsGood graph.now lattice
-            elem summaries.now self.old → IsGood graph.now lattice elem summaries.now self.new) }
+        ensures good { OnOk result (StaysGood graph.now lattice summaries.now self.old self.new) }
         ensures grows { OnOk result (Grows self.old self.new) }
         ensures done { OnOk result ((n : ℕ) →
             IsFollowed graph.now lattice summaries.now self.new origin.now.phase origin.now.at n) }
@@ -493,8 +486,7 @@ impl Search {
         requires lattice { lattice < 16 }
         requires below { AllBelow graph.now (size_of self.old.marks) }
         requires over { IsOver graph.now lattice summaries.now passed.old self.old }
-        ensures good { OnOk result ((elem : ℕ) → IsGood graph.now lattice
-            elem summaries.now self.old → IsGood graph.now lattice elem summaries.now self.new) }
+        ensures good { OnOk result (StaysGood graph.now lattice summaries.now self.old self.new) }
         ensures grows { OnOk result (Grows self.old self.new) }
         ensures found { IfOk result (λ place. IfSome place (λ n. IsReachedAt self.new n target)) }
         ensures none { IfOk result

@@ -117,6 +117,7 @@ impl FlowGraph {
     /// What is true of every graph. It does nothing.
     pub fn law(&self)
         ensures few { length self.now.constraints ≤ MOST_CONSTRAINTS }
+        ensures within { AllWithin self.now }
     {
         let _ = &self.constraints;
     }

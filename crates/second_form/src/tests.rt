@@ -93,7 +93,11 @@ fn lattices(alloc: Global, texts: [&str; 2]) -> Result<Lattices, Fail> {
 }
 
 /// The tokens of a source of unit 1.
-fn lexed(alloc: Global, lattices: &Lattices, source: &[u8]) -> Result<Tokens, LexFault>
+fn lexed<'a>(
+    alloc: Global,
+    lattices: &Lattices,
+    source: &'a [u8],
+) -> Result<Tokens<'a>, LexFault>
     requires { length source.now < 1000 }
     ensures marked { IfOk result (λ tokens. IsMarkedBy (words_of lattices.now) tokens) }
     ensures bytes { IfOk result (λ tokens. tokens.bytes ≡ source.now) }
