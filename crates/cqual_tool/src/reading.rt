@@ -6,6 +6,7 @@ ghost use Rattle.qual_base.specs.Counts.{GoesOn, Rose};
 ghost use Rattle.qual_base.specs.Outside.{content_of, Records};
 ghost use Rattle.lattice_core.specs.View.{LatticeView};
 ghost use Rattle.cqual_tool.specs.declared.status.Status.TheVariants as Statuses;
+ghost use Rattle.cqual_tool.specs.Statuses.{Says};
 ghost use Rattle.cqual_tool.specs.Texts.{not_yet_line, malformed_line};
 ghost use Rattle.cqual_tool.specs.Words.{names_in};
 ghost use Rattle.cqual_tool.specs.Outcome.{SourceLexes, OfTokens, OfSource, OfFiles, IsDecided};
@@ -75,16 +76,14 @@ fn taken<F: Files>(
 
 /// The answer for a file of another form.
 fn other_form(alloc: Global, file: &str) -> Result<Answer, NoMemory>
-    ensures { IfOk result (λ answer. (answer.status ≡ Statuses.NotYet)
-        × (answer.text.items ≡ not_yet_line file.now)) }
+    ensures { IfOk result (Says Statuses.NotYet (not_yet_line file.now)) }
 {
     Ok(not_yet(alloc, file)?)
 }
 
 /// The answer for a file that has more bytes than its limit.
 fn too_large(alloc: Global, file: &str) -> Result<Answer, NoMemory>
-    ensures { IfOk result (λ answer. (answer.status ≡ Statuses.Malformed)
-        × (answer.text.items ≡ malformed_line file.now (codes "F2"))) }
+    ensures { IfOk result (Says Statuses.Malformed (malformed_line file.now (codes "F2"))) }
 {
     Ok(malformed(alloc, file, b"F2")?)
 }

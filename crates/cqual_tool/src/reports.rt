@@ -122,25 +122,6 @@ fn lattice_of(constraint: &Constraint) -> Option<LatticeNo>
     }
 }
 
-/// The lattice and the element of a bound.
-#[derive(Clone, Copy)]
-struct Limit {
-    lattice: LatticeNo,
-    elem: Elem,
-}
-
-/// The lattice and the element of a constraint that is a bound.
-fn limit_of(constraint: &Constraint) -> Limit
-    requires { (v : ℕ)
-        × (lattice : ℕ) × (limit : ℕ) × (constraint.now.link ≡ Bound v lattice limit) }
-    ensures { (v : ℕ) × (constraint.now.link ≡ Bound v result.lattice result.elem) }
-{
-    match constraint.link {
-        Link::Bound(_, lattice, elem) => Limit { lattice, elem },
-        _ => unreachable!(),
-    }
-}
-
 /// The constraint that a path begins with.
 fn first_edge(main: &[PathStep]) -> EdgeId
     requires { (number : ℕ) × (line : ℕ) × (first_of main.now ≡ Some (Take number line)) }
@@ -190,15 +171,9 @@ fn put_exceeded(
     let constraint = graph.constraint(bound);
     let start = graph.constraint(first_edge(&proof.main));
     let elem = elem_of(&start);
-    let limit = limit_of(&constraint);
-    put_error(
-        out,
-        scene,
-        limit.lattice,
-        elem,
-        limit.elem,
-        &constraint.span,
-    )?;
+    let lattice = solved.solver.lattice();
+    let limit = constraint.bound_in(lattice).unwrap();
+    put_error(out, scene, lattice, elem, limit.elem, &constraint.span)?;
     put_proof(out, scene, graph, &proof)?;
     Ok(())
 }

@@ -110,7 +110,6 @@ impl Constraint {
 
     /// Whether the constraint is in a lattice.
     pub fn is_in(&self, lattice: LatticeNo) -> bool
-        requires { lattice < 16 }
         ensures { IsTrue result ↔ IsInLattice lattice self.now.link self.now.lattices }
     {
         is_link_in(self.link, self.lattices, lattice)
@@ -119,7 +118,6 @@ impl Constraint {
 
 /// Whether a link with a mask is in a lattice.
 fn is_link_in(link: Link, mask: u16, lattice: LatticeNo) -> bool
-    requires { lattice < 16 }
     ensures { IsTrue result ↔ IsInLattice lattice link mask }
 {
     match link {
@@ -140,9 +138,11 @@ fn are_one(one: LatticeNo, other: LatticeNo) -> bool
 
 /// Whether a mask has a lattice's bit.
 fn has(mask: u16, lattice: LatticeNo) -> bool
-    requires { lattice < 16 }
     ensures { IsTrue result ↔ (bit_at mask lattice ≡ 1) }
 {
+    if lattice.number() >= 16 {
+        return false;
+    }
     (mask >> lattice.number()) & 1 == 1
 }
 

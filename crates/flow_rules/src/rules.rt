@@ -11,7 +11,7 @@ ghost use Rattle.qual_types.specs.Table.{IsVar};
 ghost use Rattle.flow_rules.specs.declared.arrow.Arrow.TheVariants.{Flow, Cross};
 ghost use Rattle.flow_rules.specs.Lists.{flow, equal, cross, smash, unsmash, cross_by, smash_by};
 ghost use Rattle.flow_rules.specs.Lists.{unsmash_by, pair, tied};
-ghost use Rattle.flow_rules.specs.Adding.{marked, with, Stops, IsArrow};
+ghost use Rattle.flow_rules.specs.Adding.{marked, with, Stops, IsArrow, Gains, StopsIn};
 
 use crate::adding::add_pair;
 use crate::arrow::{Arrow, Style};
@@ -142,10 +142,10 @@ fn smash_into(
 ) -> Result<(), GraphFault>
     requires arrow { IsArrow (length graph.old.sites) style.now.arrow }
     requires into { IsVar into }
-    ensures ok { OnOk result (graph.new ≡ with graph.old (marked style.now.lattices style.now.span
-        (smash_by style.now.arrow (skel_of vars.now from) into))) }
-    ensures err { IfErr result (λ fault. Stops graph.old graph.new fault (marked style.now.lattices
-        style.now.span (smash_by style.now.arrow (skel_of vars.now from) into))) }
+    ensures ok { OnOk result (Gains graph.old graph.new style.now
+        (smash_by style.now.arrow (skel_of vars.now from) into)) }
+    ensures err { IfErr result (StopsIn graph.old graph.new style.now
+        (smash_by style.now.arrow (skel_of vars.now from) into)) }
 {
     add_pair(graph, style, true, vars.var(from), into)?;
     tie_inner(vars, graph, style, from, into)
@@ -160,10 +160,10 @@ fn unsmash_into(
 ) -> Result<(), GraphFault>
     requires arrow { IsArrow (length graph.old.sites) style.now.arrow }
     requires from { IsVar from }
-    ensures ok { OnOk result (graph.new ≡ with graph.old (marked style.now.lattices style.now.span
-        (unsmash_by style.now.arrow from (skel_of vars.now to)))) }
-    ensures err { IfErr result (λ fault. Stops graph.old graph.new fault (marked style.now.lattices
-        style.now.span (unsmash_by style.now.arrow from (skel_of vars.now to)))) }
+    ensures ok { OnOk result (Gains graph.old graph.new style.now
+        (unsmash_by style.now.arrow from (skel_of vars.now to))) }
+    ensures err { IfErr result (StopsIn graph.old graph.new style.now
+        (unsmash_by style.now.arrow from (skel_of vars.now to))) }
 {
     add_pair(graph, style, true, from, vars.var(to))?;
     tie_inner(vars, graph, style, to, from)
@@ -177,11 +177,10 @@ fn cross_into(
     instance: SkelId,
 ) -> Result<(), GraphFault>
     requires arrow { IsArrow (length graph.old.sites) style.now.arrow }
-    ensures ok { OnOk result (graph.new ≡ with graph.old (marked style.now.lattices style.now.span
-        (cross_by style.now.arrow (skel_of vars.now signature) (skel_of vars.now instance)))) }
-    ensures err { IfErr result
-        (λ fault. Stops graph.old graph.new fault (marked style.now.lattices style.now.span
-        (cross_by style.now.arrow (skel_of vars.now signature) (skel_of vars.now instance)))) }
+    ensures ok { OnOk result (Gains graph.old graph.new style.now
+        (cross_by style.now.arrow (skel_of vars.now signature) (skel_of vars.now instance))) }
+    ensures err { IfErr result (StopsIn graph.old graph.new style.now
+        (cross_by style.now.arrow (skel_of vars.now signature) (skel_of vars.now instance))) }
 {
     match vars.look(signature) {
         Look::Ref(u, a) => match vars.look(instance) {

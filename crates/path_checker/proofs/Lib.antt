@@ -5,3 +5,4 @@ mod Reading
 mod WholeReports
 mod Placed
 mod Ordered
+mod Outside

@@ -1,7 +1,6 @@
 //! The rules of path proofs, each a test of where a step stands.
 
 ghost use Rattle.std.specs.Prelude.{◌≡◌, ◌==◌};
-ghost use Rattle.std.specs.Int.{bit_at};
 ghost use Rattle.flow_graph.specs.PathRules.{begins, ends, enters, leaves, is_const, is_bound};
 ghost use Rattle.flow_graph.specs.PathRules.{is_sub, agree, differ, site_entered, end_of};
 ghost use Rattle.flow_graph.specs.PathRules.{begins_group, is_after_sub, closes};
@@ -307,25 +306,12 @@ pub fn is_foreign(graph: &FlowGraph, path: &Path, step: &Seen) -> bool
     }
 }
 
-/// Whether a mask has a lattice.
-fn carries(mask: u16, lattice: LatticeNo) -> bool
-    ensures { result ≡ (bit_at mask lattice == 1) }
-{
-    lattice.number() < 16 && (mask >> lattice.number()) & 1 == 1
-}
-
 /// Rule B6: the step is not in the lattice of the main path's constant.
 pub fn is_outside(lattice: LatticeNo, step: &Seen) -> bool
     ensures { result ≡ is_outside lattice step.now }
 {
     match step {
-        Seen::Edge(c) => match &c.link {
-            Link::Const(named, _, _) => *named != lattice,
-            Link::Bound(_, named, _) => *named != lattice,
-            Link::Le(_, _) => !carries(c.lattices, lattice),
-            Link::Enter(_, _, _) => !carries(c.lattices, lattice),
-            Link::Leave(_, _, _) => !carries(c.lattices, lattice),
-        },
+        Seen::Edge(c) => !c.is_in(lattice),
         Seen::Through(_, _) => false,
         Seen::NoSub => false,
         Seen::NoEdge => false,
