@@ -5,4 +5,3 @@ mod Reading
 mod WholeReports
 mod Placed
 mod Ordered
-mod Outside
