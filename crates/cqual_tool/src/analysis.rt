@@ -22,7 +22,7 @@ use c_lexer::Tokens;
 use flow_graph::{FlowGraph, GraphFault};
 use lattice_core::Lattices;
 use qual_base::{LatticeNo, NoMemory};
-use second_form::{Item, generate, object_tokens};
+use second_form::{Item, generate};
 use std::alloc::Global;
 
 /// Whether a bound of some lattice is exceeded. Linear in the constraints and the lattices.
@@ -84,18 +84,17 @@ pub fn analyse(
     ensures { IfOk result (λ answer. OfProgram file.now (program_of file.now lattices.now tokens.now
         (items_of items.now)) answer.status answer.text.items) }
 {
-    let objects = object_tokens(alloc, tokens, items)?;
-    let graph = match generate(alloc, lattices, tokens, items) {
-        Ok(graph) => graph,
+    let made = match generate(alloc, lattices, tokens, items) {
+        Ok(made) => made,
         Err(GraphFault::TooMany) => return Ok(malformed(alloc, file, b"G1")?),
         Err(GraphFault::NoMemory) => return Err(NoMemory),
     };
-    graph.law();
+    made.graph.law();
     let scene = Scene {
         file,
         tokens,
         lattices,
-        objects: &objects,
+        objects: &made.objects,
     };
-    judge(alloc, &scene, &graph)
+    judge(alloc, &scene, &made.graph)
 }

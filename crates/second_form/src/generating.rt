@@ -10,13 +10,13 @@ ghost use Rattle.flow_graph.specs.declared.constraint.Link.TheVariants.{Le, Cons
 ghost use Rattle.flow_graph.specs.System.{IsWithin, IsWellOwned, most_constraints};
 ghost use Rattle.flow_graph.specs.Unfolding.{NamesElementsIn};
 ghost use Rattle.lattice_core.specs.Names.{words_of};
-ghost use Rattle.c_lexer.specs.Tokens.{IsMarkedBy, IsSpelled};
+ghost use Rattle.c_lexer.specs.Tokens.{IsMarkedBy};
 ghost use Rattle.second_form.specs.Source.{IsSource};
 ghost use Rattle.second_form.specs.View.{assign_of, item_of, items_of};
 ghost use Rattle.second_form.specs.Constraints.{reference_of, contents_of, span_from, in_lattice};
 ghost use Rattle.second_form.specs.Constraints.{in_all, by_sign, of_entry, of_mark, of_marks};
 ghost use Rattle.second_form.specs.Constraints.{marks_of, write_bounds, of_assign, of_item};
-ghost use Rattle.second_form.specs.Constraints.{objects_with, system_of};
+ghost use Rattle.second_form.specs.Constraints.{object_token, object_tokens, objects_with, system_of};
 ghost use Rattle.second_form.specs.Facts.{AreNamed, AreObjects};
 ghost use Rattle.second_form.specs.Adding.{IsNumbered, IsNumberedItem, AreNumbered, Adds};
 ghost use Rattle.second_form.specs.Adding.{OverLimit, of_token, of_writer, of_writers};
@@ -26,7 +26,7 @@ use c_lexer::Tokens;
 use flow_graph::{Constraint, FlowGraph, GraphFault, Link};
 use lattice_core::{Entry, Lattice, Lattices, Level, Sign};
 use qual_base::{Elem, LatticeNo, Numbered, Span, TokenId, UnitNo, VarId};
-use std::alloc::{AllocError, Global};
+use std::alloc::Global;
 
 /// The variable of the reference that an object's name is.
 fn reference_of(object: u32) -> VarId
@@ -414,78 +414,81 @@ fn objects_after(objects: u32, item: &Item) -> u32
     }
 }
 
-/// The constraints of items whose variables have numbers.
+/// Adds the name of an item that is an object.
+fn name_object(names: &mut Vec<TokenId>, item: &Item) -> Result<(), GraphFault>
+    ensures added { OnOk result
+        (names.new.items ≡ names.old.items ++ object_token (item_of item.now)) }
+    ensures memory { IsErrOf result GraphFault.TooMany → ⊥ }
+{
+    if let Item::Object { first: _, name } = item {
+        match names.push(*name) {
+            Ok(()) => {}
+            Err(_) => return Err(GraphFault::NoMemory),
+        }
+    }
+    Ok(())
+}
+
+/// The constraints of a source, and the tokens of its objects' names in order.
+#[derive(Drop)]
+pub struct Generated {
+    pub graph: FlowGraph,
+    pub objects: Vec<TokenId>,
+}
+
+/// The constraints of items whose variables have numbers, and the names of the objects among them.
 fn constraints(
     alloc: Global,
     lattices: &Lattices,
     tokens: &Tokens,
     items: &[Item],
-) -> Result<FlowGraph, GraphFault>
+) -> Result<Generated, GraphFault>
     requires { AreNumbered (length tokens.now.tokens) 0 (items_of items.now) }
     ensures graph { IfOk result
-        (λ graph. graph ≡ system_of lattices.now tokens.now (items_of items.now)) }
+        (λ made. made.graph ≡ system_of lattices.now tokens.now (items_of items.now)) }
+    ensures objects { IfOk result
+        (λ made. made.objects.items ≡ object_tokens (items_of items.now)) }
     ensures too_many { IsErrOf result GraphFault.TooMany → most_constraints
         < length (system_of lattices.now tokens.now (items_of items.now)).constraints }
 {
     let mut graph = FlowGraph::new(alloc);
+    let mut names = Vec::new(alloc);
     let mut objects = 0;
     for item in items {
         add_item(&mut graph, lattices, tokens, objects, item)?;
+        name_object(&mut names, item)?;
         objects = objects_after(objects, item);
     }
-    Ok(graph)
+    Ok(Generated {
+        graph,
+        objects: names,
+    })
 }
 
-/// The constraints of a source, in order. Linear in the source and, for each assignment, in the sizes of the lattices.
+/// The constraints of a source and the tokens of its objects' names, both in order. Time is linear in the source and, for
+/// each assignment, in the sizes of the lattices; memory is linear in the constraints and the objects.
 pub fn generate(
     alloc: Global,
     lattices: &Lattices,
     tokens: &Tokens,
     items: &[Item],
-) -> Result<FlowGraph, GraphFault>
+) -> Result<Generated, GraphFault>
     requires source { IsSource tokens.now.tokens (items_of items.now) }
     requires marked { IsMarkedBy (words_of lattices.now) tokens.now }
     requires small { length tokens.now.bytes ≤ 2 ^ 24 }
     ensures graph { IfOk result
-        (λ graph. graph ≡ system_of lattices.now tokens.now (items_of items.now)) }
+        (λ made. made.graph ≡ system_of lattices.now tokens.now (items_of items.now)) }
+    ensures objects { IfOk result
+        (λ made. made.objects.items ≡ object_tokens (items_of items.now)) }
     ensures too_many { IsErrOf result GraphFault.TooMany → most_constraints
         < length (system_of lattices.now tokens.now (items_of items.now)).constraints }
-    ensures owned { IfOk result (λ graph. IsWellOwned graph) }
-    ensures named { IfOk result (λ graph. AreNamed lattices.now tokens.now
-        (length (Rattle.second_form.specs.Constraints.object_tokens (items_of items.now))) graph) }
-    ensures elements { IfOk result (λ graph. (lattice : ℕ) (view : LatticeView) →
-        slice_get lattices.now lattice ≡ Some view → NamesElementsIn graph lattice view.order) }
+    ensures owned { IfOk result (λ made. IsWellOwned made.graph) }
+    ensures named { IfOk result (λ made. AreNamed lattices.now tokens.now
+        (length (object_tokens (items_of items.now))) made.graph) }
+    ensures elements { IfOk result (λ made. (lattice : ℕ) (view : LatticeView) →
+        slice_get lattices.now lattice ≡ Some view → NamesElementsIn made.graph lattice view.order) }
+    ensures there { AreObjects tokens.now (object_tokens (items_of items.now)) }
 {
     lattices.law();
     constraints(alloc, lattices, tokens, items)
-}
-
-/// The tokens of the objects' names.
-fn name_tokens(alloc: Global, items: &[Item]) -> Result<Vec<TokenId>, AllocError>
-    ensures { IfOk result (λ names. names.items
-        ≡ Rattle.second_form.specs.Constraints.object_tokens (items_of items.now)) }
-{
-    let mut names = Vec::new(alloc);
-    for item in items {
-        if let Item::Object { first: _, name } = item {
-            names.push(*name)?;
-        }
-    }
-    Ok(names)
-}
-
-/// The tokens of the objects' names, in order. Linear time and memory.
-pub fn object_tokens(
-    alloc: Global,
-    tokens: &Tokens,
-    items: &[Item],
-) -> Result<Vec<TokenId>, AllocError>
-    requires source { IsSource tokens.now.tokens (items_of items.now) }
-    requires spelled { (words : _) × IsSpelled words tokens.now }
-    requires small { length tokens.now.bytes ≤ 2 ^ 24 }
-    ensures tokens { IfOk result (λ names. names.items
-        ≡ Rattle.second_form.specs.Constraints.object_tokens (items_of items.now)) }
-    ensures there { IfOk result (λ names. AreObjects tokens.now names.items) }
-{
-    name_tokens(alloc, items)
 }
