@@ -35,7 +35,9 @@ pub enum LatticeFileFault {
 
 impl From<AllocError> for LatticeFileFault {
     ghost use Rattle.std.specs.Prelude.{◌≡◌};
-    ghost use Rattle.lattice_file.specs.declared.reading.LatticeFileFault.TheVariants.{NoMemory as OutOfMemory};
+    ghost use Rattle.lattice_file.specs.declared.reading.LatticeFileFault.TheVariants.{
+      NoMemory as OutOfMemory,
+    };
 
     ghost from_gives = { λ _ fault. fault ≡ OutOfMemory };
 
@@ -53,7 +55,9 @@ enum TextFault {
 
 impl From<NoMemory> for LatticeFileFault {
     ghost use Rattle.std.specs.Prelude.{◌≡◌};
-    ghost use Rattle.lattice_file.specs.declared.reading.LatticeFileFault.TheVariants.{NoMemory as OutOfMemory};
+    ghost use Rattle.lattice_file.specs.declared.reading.LatticeFileFault.TheVariants.{
+      NoMemory as OutOfMemory,
+    };
 
     ghost from_gives = { λ _ fault. fault ≡ OutOfMemory };
 
@@ -64,7 +68,9 @@ impl From<NoMemory> for LatticeFileFault {
 
 impl From<AllocError> for TextFault {
     ghost use Rattle.std.specs.Prelude.{◌≡◌};
-    ghost use Rattle.lattice_file.specs.declared.reading.TextFault.TheVariants.{NoMemory as OutOfMemory};
+    ghost use Rattle.lattice_file.specs.declared.reading.TextFault.TheVariants.{
+      NoMemory as OutOfMemory,
+    };
 
     ghost from_gives = { λ _ fault. fault ≡ OutOfMemory };
 

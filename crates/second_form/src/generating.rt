@@ -16,7 +16,8 @@ ghost use Rattle.second_form.specs.View.{assign_of, item_of, items_of};
 ghost use Rattle.second_form.specs.Constraints.{reference_of, contents_of, span_from, in_lattice};
 ghost use Rattle.second_form.specs.Constraints.{in_all, by_sign, of_entry, of_mark, of_marks};
 ghost use Rattle.second_form.specs.Constraints.{marks_of, write_bounds, of_assign, of_item};
-ghost use Rattle.second_form.specs.Constraints.{object_token, object_tokens, objects_with, system_of};
+ghost use Rattle.second_form.specs.Constraints.{object_token, object_tokens, objects_with};
+ghost use Rattle.second_form.specs.Constraints.{system_of};
 ghost use Rattle.second_form.specs.Facts.{AreNamed, AreObjects};
 ghost use Rattle.second_form.specs.Adding.{IsNumbered, IsNumberedItem, AreNumbered, Adds};
 ghost use Rattle.second_form.specs.Adding.{OverLimit, of_token, of_writer, of_writers};
@@ -486,7 +487,8 @@ pub fn generate(
     ensures named { IfOk result (λ made. AreNamed lattices.now tokens.now
         (length (object_tokens (items_of items.now))) made.graph) }
     ensures elements { IfOk result (λ made. (lattice : ℕ) (view : LatticeView) →
-        slice_get lattices.now lattice ≡ Some view → NamesElementsIn made.graph lattice view.order) }
+        slice_get lattices.now lattice ≡ Some view →
+        NamesElementsIn made.graph lattice view.order) }
     ensures there { AreObjects tokens.now (object_tokens (items_of items.now)) }
 {
     lattices.law();
