@@ -1,12 +1,18 @@
 //! How far a unit was read, and the next gap or token.
 
-ghost use Rattle.std.specs.Prelude.{ℕ, List, ◌≡◌, ◌≢◌, ◌==◌, ◌+◌, ◌-◌, ◌<◌, ◌≤◌, ◌^◌, [], ◌∷◌, ◌++◌, ◌⊎◌, length, take, drop, OnOk, IfOk, IfErr, OnErr, IfSome, IfNone, MatchOption, MatchResult, option_to_list, true, false, nat_eq, slice_range, if◌then◌else◌};
+ghost use Rattle.std.specs.Prelude.{ℕ, List, ◌≡◌, ◌≢◌, ◌==◌, ◌+◌, ◌-◌, ◌<◌, ◌≤◌, ◌^◌, [], ◌∷◌};
+ghost use Rattle.std.specs.Prelude.{◌++◌, ◌⊎◌, length, take, drop, OnOk, IfOk, IfErr, OnErr};
+ghost use Rattle.std.specs.Prelude.{IfSome, IfNone, MatchOption, MatchResult, option_to_list, true};
+ghost use Rattle.std.specs.Prelude.{false, nat_eq, slice_range, if◌then◌else◌};
 ghost use Rattle.std.specs.List.{starts_with};
 ghost use Rattle.c_lexer.specs.Gaps.{IsGap, HasNoGap, fresh_behind};
 ghost use Rattle.c_lexer.specs.Shapes.{HasShape};
-ghost use Rattle.c_lexer.specs.Spelling.{is_token, is_word, is_dollar, begins_comment, begins_with, IsLongestOf};
+ghost use Rattle.c_lexer.specs.Spelling.{is_token, is_word, is_dollar, begins_comment, begins_with};
+ghost use Rattle.c_lexer.specs.Spelling.{IsLongestOf};
 ghost use Rattle.c_lexer.specs.Names.{name_number, with_name};
-ghost use Rattle.c_lexer.specs.Reading.{begin, is_index, IsKind, names_behind, MarksBehind, Skips, Takes, IsStep, HasNoKind, Reaches, StopsAt, StopsBehind, IsCounted, opens};
+ghost use Rattle.c_lexer.specs.Reading.{begin, is_index, IsKind, names_behind, MarksBehind, Skips};
+ghost use Rattle.c_lexer.specs.Reading.{Takes, IsStep, HasNoKind, Reaches, StopsAt, StopsBehind};
+ghost use Rattle.c_lexer.specs.Reading.{IsCounted, opens};
 ghost use Rattle.qual_base.specs.Words.{meaning_of};
 ghost use Rattle.std.specs.List.Sorted.{IsNonDecreasingBy};
 ghost use Rattle.c_lexer.specs.Places.{spot_at};
@@ -37,7 +43,8 @@ pub(crate) enum Stop {
 fn word_token(spelling: &[u8], names: &mut Names) -> Result<TokenKind, OutOfMemory>
     requires room { length names.old < 2 ^ 32 }
     requires word { is_word spelling.now ≡ true }
-    ensures kind { IfOk result (λ kind. (unit : ℕ) (words : _) → IsKind unit words names.old spelling.now kind) }
+    ensures kind { IfOk result
+        (λ kind. (unit : ℕ) (words : _) → IsKind unit words names.old spelling.now kind) }
     ensures names { IfOk result (λ kind. names.new ≡ names_behind names.old spelling.now kind) }
 {
     match kind_of_word(spelling) {
@@ -50,9 +57,12 @@ fn word_token(spelling: &[u8], names: &mut Names) -> Result<TokenKind, OutOfMemo
 /// The kind of a `$` word, where it has one.
 fn dollar_token(unit: UnitNo, words: &QualWords, spelling: &[u8]) -> Option<TokenKind>
     requires { is_dollar spelling.now ≡ true }
-    ensures kind { IfSome result (λ kind. (names : _) → IsKind unit words.now names spelling.now kind) }
-    ensures names { IfSome result (λ kind. (names : _) → names_behind names spelling.now kind ≡ names) }
-    ensures unknown { IfNone result ((is_index unit spelling.now ≡ false) × (meaning_of words.now spelling.now ≡ None)) }
+    ensures kind { IfSome result
+        (λ kind. (names : _) → IsKind unit words.now names spelling.now kind) }
+    ensures names { IfSome result
+        (λ kind. (names : _) → names_behind names spelling.now kind ≡ names) }
+    ensures unknown { IfNone result
+        ((is_index unit spelling.now ≡ false) × (meaning_of words.now spelling.now ≡ None)) }
 {
     if unit.number() == 0 && spelling.starts_with(b"$_") {
         return Some(TokenKind::Index);
@@ -68,7 +78,8 @@ fn line_mark(bytes: &[u8], at: usize, n: usize) -> Option<Mark>
     requires inside { at + n ≤ length bytes.now }
     requires small { length bytes.now < 2 ^ 32 - 1 }
     requires hash { begins_with (λ c. c == 35) (slice_range bytes.now at (at + n)) ≡ true }
-    ensures { (marks : _) → MarksBehind bytes.now Gap.SkippedLine at n marks (marks ++ option_to_list result) }
+    ensures { (marks : _) →
+        MarksBehind bytes.now Gap.SkippedLine at n marks (marks ++ option_to_list result) }
 {
     match marker_of(&bytes[at..at + n]) {
         Some(marker) => Some(Mark {
@@ -110,7 +121,8 @@ pub(crate) fn push_token(
     start: u32,
     end: u32,
 ) -> Result<(), OutOfMemory>
-    ensures { OnOk result (tokens.new.items ≡ tokens.old.items ++ record { kind = kind; start = start; end = end } ∷ []) }
+    ensures { OnOk result (tokens.new.items
+        ≡ tokens.old.items ++ record { kind = kind; start = start; end = end } ∷ []) }
 {
     if tokens.push(Token { kind, start, end }).is_err() {
         return Err(OutOfMemory);
@@ -130,7 +142,8 @@ fn token_kind(
     requires shape { HasShape shape spelling.now }
     ensures kind { IfOk result (λ kind. IsKind unit words.now names.old spelling.now kind) }
     ensures names { IfOk result (λ kind. names.new ≡ names_behind names.old spelling.now kind) }
-    ensures none { IfErr result (λ stop. HasNoKind unit words.now spelling.now names.old names.new stop) }
+    ensures none { IfErr result
+        (λ stop. HasNoKind unit words.now spelling.now names.old names.new stop) }
 {
     match shape {
         Shape::Word => word_token(spelling, names).map_err(|_| Stop::NoMemory),
@@ -166,7 +179,13 @@ pub(crate) struct Front {
 impl Model for Front {
     ghost Value = { Rattle.c_lexer.specs.Reading.Front };
 
-    ghost view = { λ a. record { at = a.at; fresh = a.fresh; tokens = a.tokens.items; names = a.names; marks = a.marks.items } };
+    ghost view = { λ a. record {
+      at = a.at;
+      fresh = a.fresh;
+      tokens = a.tokens.items;
+      names = a.names;
+      marks = a.marks.items;
+    } };
 }
 
 impl Front {
@@ -235,7 +254,8 @@ impl Front {
         requires longest { IsLongestOf is_token (drop self.old.at bytes.now) n }
         requires shape { HasShape shape (take n (drop self.old.at bytes.now)) }
         ensures takes { OnOk result (Takes unit words.now bytes.now self.old self.new) }
-        ensures stops { IfErr result (λ stop. StopsAt unit words.now bytes.now self.old self.new stop) }
+        ensures stops { IfErr result
+            (λ stop. StopsAt unit words.now bytes.now self.old self.new stop) }
     {
         let start = self.at;
         let end = start + n;
@@ -254,7 +274,8 @@ impl Front {
         requires before { self.old.at < length bytes.now }
         requires counted { IsCounted self.old }
         ensures steps { OnOk result (IsStep unit words.now bytes.now self.old self.new) }
-        ensures stops { IfErr result (λ stop. StopsAt unit words.now bytes.now self.old self.new stop) }
+        ensures stops { IfErr result
+            (λ stop. StopsAt unit words.now bytes.now self.old self.new stop) }
     {
         let rest = &bytes[self.at..];
         if let Some((gap, n)) = gap_in_front(self.fresh, rest) {

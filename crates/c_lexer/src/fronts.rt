@@ -1,8 +1,12 @@
 //! How long the longest token of each kind is that stands in front of some bytes.
 
-ghost use Rattle.std.specs.Prelude.{true, false, not, ◌&&◌, ◌≡◌, ◌≢◌, ◌==◌, ◌<◌, ◌≤◌, ◌+◌, ◌^◌, ◌∷◌, [], ℕ, List, length, drop, MatchOption, OnSome, IfSome};
+ghost use Rattle.std.specs.Prelude.{true, false, not, ◌&&◌, ◌≡◌, ◌≢◌, ◌==◌, ◌<◌, ◌≤◌, ◌+◌, ◌^◌};
+ghost use Rattle.std.specs.Prelude.{◌∷◌, [], ℕ, List, length, drop, MatchOption, OnSome, IfSome};
 ghost use Rattle.std.specs.List.{prefix_len};
-ghost use Rattle.c_lexer.specs.Spelling.{is_digit, is_letter, is_word_byte, is_exponent, goes_on, is_word, is_number, is_number_tail, is_digits, is_quoted, is_quoted_tail, is_char, is_text, is_wide, is_dollar, begins_with, IsLongestOf, NoneShorter, HasNone};
+ghost use Rattle.c_lexer.specs.Spelling.{is_digit, is_letter, is_word_byte, is_exponent, goes_on};
+ghost use Rattle.c_lexer.specs.Spelling.{is_word, is_number, is_number_tail, is_digits, is_quoted};
+ghost use Rattle.c_lexer.specs.Spelling.{is_quoted_tail, is_char, is_text, is_wide, is_dollar};
+ghost use Rattle.c_lexer.specs.Spelling.{begins_with, IsLongestOf, NoneShorter, HasNone};
 
 pub(crate) fn is_letter_byte(byte: u8) -> bool
     ensures { result ≡ is_letter byte }
@@ -85,14 +89,16 @@ fn digits_len(bytes: &[u8]) -> usize
 
 /// Whether `.` and a digit stand in front.
 fn begins_with_fraction(bytes: &[u8]) -> bool
-    ensures { result ≡ (begins_with (λ c. c == 46) bytes.now && begins_with is_digit (drop 1 bytes.now)) }
+    ensures { result
+        ≡ (begins_with (λ c. c == 46) bytes.now && begins_with is_digit (drop 1 bytes.now)) }
 {
     bytes.len() > 1 && bytes[0] == b'.' && bytes[1].is_ascii_digit()
 }
 
 /// The length of the number in front.
 pub(crate) fn number_len(bytes: &[u8]) -> Option<usize>
-    ensures { MatchOption result (HasNone is_number bytes.now) (λ n. IsLongestOf is_number bytes.now n) }
+    ensures { MatchOption result
+        (HasNone is_number bytes.now) (λ n. IsLongestOf is_number bytes.now n) }
 {
     if begins_with_digit(bytes) {
         return Some(digits_len(bytes));
@@ -119,7 +125,8 @@ fn opens_escape(escaped: bool, byte: u8) -> bool
 fn quoted_tail_len(quote: u8, bytes: &[u8]) -> Option<usize>
     requires plain { quote ≢ 92 }
     requires inline { quote ≢ 10 }
-    ensures longest { MatchOption result (HasNone (is_quoted_tail quote) bytes.now) (λ n. IsLongestOf (is_quoted_tail quote) bytes.now n) }
+    ensures longest { MatchOption result (HasNone (is_quoted_tail quote) bytes.now)
+        (λ n. IsLongestOf (is_quoted_tail quote) bytes.now n) }
     ensures only { IfSome result (λ n. NoneShorter (is_quoted_tail quote) bytes.now n) }
 {
     let mut escaped = false;
@@ -148,7 +155,8 @@ fn begins_with_byte(byte: u8, bytes: &[u8]) -> bool
 pub(crate) fn quoted_len(quote: u8, bytes: &[u8]) -> Option<usize>
     requires plain { quote ≢ 92 }
     requires inline { quote ≢ 10 }
-    ensures longest { MatchOption result (HasNone (is_quoted quote) bytes.now) (λ n. IsLongestOf (is_quoted quote) bytes.now n) }
+    ensures longest { MatchOption result
+        (HasNone (is_quoted quote) bytes.now) (λ n. IsLongestOf (is_quoted quote) bytes.now n) }
     ensures only { IfSome result (λ n. NoneShorter (is_quoted quote) bytes.now n) }
 {
     if !begins_with_byte(quote, bytes) {
@@ -171,14 +179,16 @@ fn begins_with_wide(bytes: &[u8]) -> bool
 }
 
 fn begins_with_u8(bytes: &[u8]) -> bool
-    ensures { result ≡ (begins_with (λ c. c == 117) bytes.now && begins_with (λ c. c == 56) (drop 1 bytes.now)) }
+    ensures { result
+        ≡ (begins_with (λ c. c == 117) bytes.now && begins_with (λ c. c == 56) (drop 1 bytes.now)) }
 {
     bytes.len() > 1 && bytes[0] == b'u' && bytes[1] == b'8'
 }
 
 /// The length of the character constant in front.
 pub(crate) fn char_len(bytes: &[u8]) -> Option<usize>
-    ensures { MatchOption result (HasNone is_char bytes.now) (λ n. IsLongestOf is_char bytes.now n) }
+    ensures { MatchOption result
+        (HasNone is_char bytes.now) (λ n. IsLongestOf is_char bytes.now n) }
 {
     if !begins_with_wide(bytes) {
         return quoted_len(b'\'', bytes);
@@ -191,8 +201,10 @@ pub(crate) fn char_len(bytes: &[u8]) -> Option<usize>
 
 /// The length of the string literal in front that has a prefix of one byte or none.
 fn short_text_len(bytes: &[u8]) -> Option<usize>
-    requires { (begins_with (λ c. c == 117) bytes.now && begins_with (λ c. c == 56) (drop 1 bytes.now)) ≡ false }
-    ensures { MatchOption result (HasNone is_text bytes.now) (λ n. IsLongestOf is_text bytes.now n) }
+    requires { (begins_with
+        (λ c. c == 117) bytes.now && begins_with (λ c. c == 56) (drop 1 bytes.now)) ≡ false }
+    ensures { MatchOption result
+        (HasNone is_text bytes.now) (λ n. IsLongestOf is_text bytes.now n) }
 {
     if !begins_with_wide(bytes) {
         return quoted_len(b'"', bytes);
@@ -205,7 +217,8 @@ fn short_text_len(bytes: &[u8]) -> Option<usize>
 
 /// The length of the string literal in front.
 pub(crate) fn text_len(bytes: &[u8]) -> Option<usize>
-    ensures { MatchOption result (HasNone is_text bytes.now) (λ n. IsLongestOf is_text bytes.now n) }
+    ensures { MatchOption result
+        (HasNone is_text bytes.now) (λ n. IsLongestOf is_text bytes.now n) }
 {
     if !begins_with_u8(bytes) {
         return short_text_len(bytes);

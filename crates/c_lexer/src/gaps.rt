@@ -1,8 +1,10 @@
 //! Space, comments and skipped lines.
 
-ghost use Rattle.std.specs.Prelude.{ℕ, ◌≡◌, ◌≤◌, ◌==◌, ◌||◌, true, nat_eq, codes, length, MatchOption};
+ghost use Rattle.std.specs.Prelude.{ℕ, ◌≡◌, ◌≤◌, ◌==◌, ◌||◌, true, nat_eq, codes, length};
+ghost use Rattle.std.specs.Prelude.{MatchOption};
 ghost use Rattle.std.specs.List.{starts_with};
-ghost use Rattle.c_lexer.specs.Gaps.{is_blank, is_other_space, line_len, IsBlockComment, IsGap, HasNoGap, fresh_behind};
+ghost use Rattle.c_lexer.specs.Gaps.{is_blank, is_other_space, line_len, IsBlockComment, IsGap};
+ghost use Rattle.c_lexer.specs.Gaps.{HasNoGap, fresh_behind};
 ghost use Rattle.c_lexer.specs.Spelling.{begins_with, begins_comment};
 
 use memchr::{memchr, memmem};
@@ -42,7 +44,8 @@ fn rest_of_line(bytes: &[u8]) -> usize
 /// The length of the comment in front, where it ends.
 fn block_comment_len(bytes: &[u8]) -> Option<usize>
     requires { starts_with nat_eq bytes.now (codes "/*") ≡ true }
-    ensures { MatchOption result ((n : ℕ) → ¬ IsBlockComment bytes.now n) (λ n. IsBlockComment bytes.now n) }
+    ensures { MatchOption result
+        ((n : ℕ) → ¬ IsBlockComment bytes.now n) (λ n. IsBlockComment bytes.now n) }
 {
     match memmem::find(&bytes[2..], b"*/") {
         Some(n) => Some(n + 4),
@@ -90,7 +93,8 @@ fn begins_with_hash(bytes: &[u8]) -> bool
 ///
 /// A block comment that does not end is no gap.
 pub(crate) fn gap_in_front(fresh: bool, bytes: &[u8]) -> Option<(Gap, usize)>
-    ensures { MatchOption result (HasNoGap fresh bytes.now) (λ found. IsGap found.0 fresh bytes.now found.1) }
+    ensures { MatchOption result
+        (HasNoGap fresh bytes.now) (λ found. IsGap found.0 fresh bytes.now found.1) }
 {
     if begins_with_blank(bytes) {
         return Some((Gap::Blank, 1));

@@ -28,7 +28,8 @@ pub enum LexFault {
 fn fault_of(text: &Text, front: &Front, stop: Stop) -> LexFault
     requires small { length text.now.1 < 2 ^ 32 - 1 }
     requires stops { (words : _) × StopsBehind text.now.0 words text.now.1 front.now stop }
-    ensures { (words : _) → StopsBehind text.now.0 words text.now.1 front.now stop → IsRefusal text.now.0 words text.now.1 result }
+    ensures { (words : _) → StopsBehind text.now.0 words text.now.1 front.now stop →
+        IsRefusal text.now.0 words text.now.1 result }
 {
     match stop {
         Stop::BadByte => LexFault::BadByte(front.spot_in(text)),
@@ -39,12 +40,12 @@ fn fault_of(text: &Text, front: &Front, stop: Stop) -> LexFault
 }
 
 /// The tokens of a unit that was read to its end.
-fn finish(text: Text, front: Front, words: &QualWords) -> Result<Tokens, LexFault>
+fn finish<'a>(text: Text<'a>, front: Front, words: &QualWords) -> Result<Tokens<'a>, LexFault>
     requires small { length text.1 < 2 ^ 32 - 1 }
     requires whole { front.at ≡ length text.1 }
     requires reached { Reaches text.0 words.now text.1 front }
-    ensures unit { IfOk result (λ tokens. tokens.unit ≡ text.0) }
-    ensures bytes { IfOk result (λ tokens. tokens.bytes ≡ text.1) }
+    ensures unit { IfOk result (λ tokens. tokens.unit ≡ text.entry.0) }
+    ensures bytes { IfOk result (λ tokens. tokens.bytes ≡ text.entry.1) }
     ensures spelled { IfOk result (λ tokens. IsSpelled words.now tokens) }
     ensures keywords { IfOk result (λ tokens. NamesKeywords words.now tokens) }
     ensures memory { IfErr result (λ e. e ≡ LexFault.NoMemory) }
@@ -64,16 +65,22 @@ fn finish(text: Text, front: Front, words: &QualWords) -> Result<Tokens, LexFaul
 
 /// The tokens that the bytes of a unit spell.
 ///
-/// It takes time linear in the bytes, beside look-ups of names, each linear in the name. The fault is at the first
-/// place where the bytes stop to spell tokens.
-pub fn lex(alloc: Global, unit: UnitNo, bytes: &[u8], words: &QualWords) -> Result<Tokens, LexFault>
+/// It takes time linear in the bytes, beside look-ups of names, each linear in the name, and copies no bytes but those of
+/// names. The fault is at the first place where the bytes stop to spell tokens.
+pub fn lex<'a>(
+    alloc: Global,
+    unit: UnitNo,
+    bytes: &'a [u8],
+    words: &QualWords,
+) -> Result<Tokens<'a>, LexFault>
     requires { length bytes.now < 2 ^ 32 - 1 }
     ensures unit { IfOk result (λ tokens. tokens.unit ≡ unit) }
     ensures bytes { IfOk result (λ tokens. tokens.bytes ≡ bytes.now) }
     ensures spelled { IfOk result (λ tokens. IsSpelled words.now tokens) }
     ensures keywords { IfOk result (λ tokens. NamesKeywords words.now tokens) }
     ensures refused { IfErr result (λ fault. IsRefusal unit words.now bytes.now fault) }
-    ensures only { (tokens : _) (names : _) (marks : _) → Spells unit words.now bytes.now tokens names marks → IsOnly tokens marks result }
+    ensures only { (tokens : _) (names : _) (marks : _) →
+        Spells unit words.now bytes.now tokens names marks → IsOnly tokens marks result }
 {
     let Ok(text) = Text::new(alloc, unit, bytes) else {
         return Err(LexFault::NoMemory);

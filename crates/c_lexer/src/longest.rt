@@ -39,7 +39,8 @@ fn begins_with_dollar(bytes: &[u8]) -> bool
 
 /// The longest token in front, with its length, in the time of going over it once or twice.
 pub(crate) fn longest_token(bytes: &[u8]) -> Option<(Shape, usize)>
-    ensures longest { MatchOption result (HasNone is_token bytes.now) (λ found. IsLongestOf is_token bytes.now found.1) }
+    ensures longest { MatchOption result
+        (HasNone is_token bytes.now) (λ found. IsLongestOf is_token bytes.now found.1) }
     ensures shape { IfSome result (λ found. HasShape found.0 (take found.1 bytes.now)) }
 {
     if let Some(n) = char_len(bytes) {

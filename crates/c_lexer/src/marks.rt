@@ -1,6 +1,7 @@
 //! Linemarkers.
 
-ghost use Rattle.std.specs.Prelude.{ℕ, ◌≡◌, ◌+◌, ◌<◌, ◌≤◌, ◌==◌, ◌||◌, ◌&&◌, true, false, nat_lt, nat_le, length, drop, MatchOption};
+ghost use Rattle.std.specs.Prelude.{ℕ, ◌≡◌, ◌+◌, ◌<◌, ◌≤◌, ◌==◌, ◌||◌, ◌&&◌, true, false, nat_lt};
+ghost use Rattle.std.specs.Prelude.{nat_le, length, drop, MatchOption};
 ghost use Rattle.std.specs.List.{prefix_len, list_all};
 ghost use Rattle.c_lexer.specs.Spelling.{begins_with, is_digit};
 ghost use Rattle.c_lexer.specs.Gaps.{is_blank};
@@ -85,8 +86,10 @@ struct Parts {
 fn parts_of(line: &[u8]) -> Parts
     requires { begins_with (λ c. c == 35) line.now ≡ true }
     ensures digits_at { result.digits_at ≡ 1 + prefix_len is_blank (drop 1 line.now) }
-    ensures digits_end { result.digits_end ≡ result.digits_at + prefix_len is_digit (drop result.digits_at line.now) }
-    ensures quote_at { result.quote_at ≡ result.digits_end + prefix_len is_blank (drop result.digits_end line.now) }
+    ensures digits_end { result.digits_end
+        ≡ result.digits_at + prefix_len is_digit (drop result.digits_at line.now) }
+    ensures quote_at { result.quote_at
+        ≡ result.digits_end + prefix_len is_blank (drop result.digits_end line.now) }
     ensures inside { result.quote_at ≤ length line.now }
 {
     let digits_at = 1 + blank_len(&line[1..]);
@@ -101,7 +104,9 @@ fn parts_of(line: &[u8]) -> Parts
 
 /// Whether each part has as many bytes as a linemarker wants.
 fn are_long_enough(parts: Parts) -> bool
-    ensures { result ≡ (nat_lt 1 parts.digits_at && (nat_lt parts.digits_at parts.digits_end && (nat_le parts.digits_end (parts.digits_at + 9) && nat_lt parts.digits_end parts.quote_at))) }
+    ensures { result ≡ (nat_lt 1 parts.digits_at
+        && (nat_lt parts.digits_at parts.digits_end && (nat_le parts.digits_end
+        (parts.digits_at + 9) && nat_lt parts.digits_end parts.quote_at))) }
 {
     1 < parts.digits_at
         && parts.digits_at < parts.digits_end

@@ -80,7 +80,8 @@ fn sign_of_three(first: u8, second: u8, third: u8) -> Option<Punct>
 }
 
 fn three_in_front(bytes: &[u8]) -> Option<Punct>
-    ensures { result ≡ (if nat_le 3 (length bytes.now) then sign_kind (take 3 bytes.now) else None) }
+    ensures { result
+        ≡ (if nat_le 3 (length bytes.now) then sign_kind (take 3 bytes.now) else None) }
 {
     match bytes {
         [first, second, third, ..] => sign_of_three(*first, *second, *third),
@@ -89,7 +90,8 @@ fn three_in_front(bytes: &[u8]) -> Option<Punct>
 }
 
 fn two_in_front(bytes: &[u8]) -> Option<Punct>
-    ensures { result ≡ (if nat_le 2 (length bytes.now) then sign_kind (take 2 bytes.now) else None) }
+    ensures { result
+        ≡ (if nat_le 2 (length bytes.now) then sign_kind (take 2 bytes.now) else None) }
 {
     match bytes {
         [first, second, ..] => sign_of_two(*first, *second),
@@ -98,7 +100,8 @@ fn two_in_front(bytes: &[u8]) -> Option<Punct>
 }
 
 fn one_in_front(bytes: &[u8]) -> Option<Punct>
-    ensures { result ≡ (if nat_le 1 (length bytes.now) then sign_kind (take 1 bytes.now) else None) }
+    ensures { result
+        ≡ (if nat_le 1 (length bytes.now) then sign_kind (take 1 bytes.now) else None) }
 {
     match bytes {
         [first, ..] => sign_of_one(*first),
@@ -108,7 +111,8 @@ fn one_in_front(bytes: &[u8]) -> Option<Punct>
 
 /// The longest operator or bracket in front, with its length.
 pub(crate) fn sign_in_front(bytes: &[u8]) -> Option<(Punct, usize)>
-    ensures { MatchOption result (HasNone is_sign bytes.now) (λ found. (sign_kind (take found.1 bytes.now) ≡ Some found.0) × IsLongestOf is_sign bytes.now found.1) }
+    ensures { MatchOption result (HasNone is_sign bytes.now) (λ found. (sign_kind
+        (take found.1 bytes.now) ≡ Some found.0) × IsLongestOf is_sign bytes.now found.1) }
 {
     if let Some(sign) = three_in_front(bytes) {
         return Some((sign, 3));

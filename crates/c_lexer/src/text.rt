@@ -1,6 +1,7 @@
 //! The bytes of a unit, with a table of its lines.
 
-ghost use Rattle.std.specs.Prelude.{ℕ, List, ◌≡◌, ◌==◌, ◌<◌, ◌≤◌, ◌^◌, ◌-◌, length, take, count_by, IfOk};
+ghost use Rattle.std.specs.Prelude.{ℕ, List, ◌≡◌, ◌==◌, ◌<◌, ◌≤◌, ◌^◌, ◌-◌, length, take, count_by};
+ghost use Rattle.std.specs.Prelude.{IfOk};
 ghost use Rattle.std.specs.List.Sorted.{IsNonDecreasingBy};
 ghost use Rattle.memchr.specs.Find.{is_byte, places};
 ghost use Rattle.c_lexer.specs.Places.{Governs, IsLineOf, IsSpot, spot_at};
@@ -42,33 +43,33 @@ fn mark_at(marks: &[Mark], at: u32) -> Mark
     marks[count - 1]
 }
 
-/// The bytes of a unit. Clauses see the unit's number and its bytes.
+/// The bytes of a unit, which it borrows. Clauses see the unit's number and its bytes.
 #[derive(Drop)]
-pub(crate) struct Text {
+pub(crate) struct Text<'a> {
     unit: UnitNo,
-    bytes: Vec<u8>,
+    bytes: &'a [u8],
     feeds: Vec<u32>,
 }
 
-impl Model for Text {
+impl<'a> Model for Text<'a> {
     ghost use Rattle.std.specs.Prelude.{ℕ, List, ◌≡◌, ◌<◌, ◌-◌, ◌^◌, length};
     ghost use Rattle.memchr.specs.Find.{is_byte, places};
 
     ghost Value = { ℕ × List ℕ };
 
-    ghost view = { λ a. (a.unit, a.bytes.items) };
+    ghost view = { λ a. (a.unit, a.bytes.now) };
 
-    ghost invariant = { λ a. (length a.bytes.items < 2 ^ 32 - 1) × (a.feeds.items ≡ places (is_byte 10) a.bytes.items) };
+    ghost invariant = { λ a. (length a.bytes.now < 2 ^ 32 - 1)
+        × (a.feeds.items ≡ places (is_byte 10) a.bytes.now) };
 }
 
-impl Text {
-    /// A copy of the bytes with the table of their lines, in time linear in the bytes.
-    pub(crate) fn new(alloc: Global, unit: UnitNo, bytes: &[u8]) -> Result<Self, NoMemory>
+impl<'a> Text<'a> {
+    /// The bytes with the table of their lines, in time linear in the bytes.
+    pub(crate) fn new(alloc: Global, unit: UnitNo, bytes: &'a [u8]) -> Result<Self, NoMemory>
         requires { length bytes.now < 2 ^ 32 - 1 }
         ensures { IfOk result (λ text. text ≡ (unit, bytes.now)) }
     {
-        let bytes = Vec::from_slice(alloc, bytes)?;
-        let feeds = line_feeds(alloc, &bytes)?;
+        let feeds = line_feeds(alloc, bytes)?;
         Ok(Text { unit, bytes, feeds })
     }
 
@@ -81,7 +82,7 @@ impl Text {
     pub(crate) fn bytes(&self) -> &[u8]
         ensures { result.now ≡ self.now.1 }
     {
-        &self.bytes
+        self.bytes
     }
 
     /// How many line feeds stand before a place, in time logarithmic in the number of lines.

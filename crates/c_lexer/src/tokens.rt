@@ -1,8 +1,10 @@
 //! The tokens of a unit.
 
-ghost use Rattle.std.specs.Prelude.{ℕ, ◌≡◌, ◌+◌, ◌-◌, ◌<◌, ◌≤◌, ◌^◌, length, Some, option_map, slice_get, slice_range, IfSome, IfOk, IfErr};
+ghost use Rattle.std.specs.Prelude.{ℕ, ◌≡◌, ◌+◌, ◌-◌, ◌<◌, ◌≤◌, ◌^◌, length, Some, option_map};
+ghost use Rattle.std.specs.Prelude.{slice_get, slice_range, IfSome, IfOk, IfErr};
 ghost use Rattle.c_lexer.specs.Places.{IsSpot};
-ghost use Rattle.c_lexer.specs.Tokens.{Lexed, IsSound, keyword_meaning, mark_of_kind, start_of, token_spot};
+ghost use Rattle.c_lexer.specs.Tokens.{Lexed, IsSound, keyword_meaning, mark_of_kind, start_of};
+ghost use Rattle.c_lexer.specs.Tokens.{token_spot};
 
 use crate::places::Mark;
 use crate::text::Text;
@@ -21,7 +23,8 @@ pub(crate) struct KeywordMarks {
 
 impl KeywordMarks {
     fn of(&self, keyword: Keyword) -> Option<(LatticeNo, Elem)>
-        ensures { result ≡ keyword_meaning self.now.constant self.now.volatile self.now.restrict keyword }
+        ensures { result
+            ≡ keyword_meaning self.now.constant self.now.volatile self.now.restrict keyword }
     {
         match keyword {
             Keyword::Const => self.constant,
@@ -32,37 +35,53 @@ impl KeywordMarks {
     }
 }
 
-/// The tokens of a unit with its bytes. The last token is `End`.
+/// The tokens of a unit with its bytes, which it borrows. The last token is `End`.
 ///
-/// A token takes 16 bytes of memory, a line feed and a linemarker 4 and 16, beside a copy of the unit's bytes.
+/// A token takes 16 bytes of memory, a line feed and a linemarker 4 and 16.
 #[derive(Drop)]
-pub struct Tokens {
-    text: Text,
+pub struct Tokens<'a> {
+    text: Text<'a>,
     tokens: Vec<Token>,
     marks: Vec<Mark>,
     keywords: KeywordMarks,
 }
 
-impl Model for Tokens {
+impl<'a> Model for Tokens<'a> {
     ghost use Rattle.std.specs.Prelude.{ℕ, ◌≡◌, ◌<◌, ◌-◌, ◌^◌, length};
     ghost use Rattle.c_lexer.specs.Tokens.{Lexed, IsSound};
 
     ghost Value = { Lexed };
 
-    ghost view = { λ a. record { unit = a.text.0; bytes = a.text.1; tokens = a.tokens.items; marks = a.marks.items; constant = a.keywords.constant; volatile = a.keywords.volatile; restrict = a.keywords.restrict } };
+    ghost view = { λ a. record {
+      unit = a.text.0;
+      bytes = a.text.1;
+      tokens = a.tokens.items;
+      marks = a.marks.items;
+      constant = a.keywords.constant;
+      volatile = a.keywords.volatile;
+      restrict = a.keywords.restrict;
+    } };
 
     ghost invariant = { λ a. IsSound a.text.1 a.tokens.items a.marks.items };
 }
 
-impl Tokens {
+impl<'a> Tokens<'a> {
     pub(crate) fn new(
-        text: Text,
+        text: Text<'a>,
         tokens: Vec<Token>,
         marks: Vec<Mark>,
         keywords: KeywordMarks,
     ) -> Self
         requires { IsSound text.1 tokens.items marks.items }
-        ensures { result ≡ record { unit = text.0; bytes = text.1; tokens = tokens.items; marks = marks.items; constant = keywords.constant; volatile = keywords.volatile; restrict = keywords.restrict } }
+        ensures { result ≡ record {
+          unit = text.entry.0;
+          bytes = text.entry.1;
+          tokens = tokens.items;
+          marks = marks.items;
+          constant = keywords.constant;
+          volatile = keywords.volatile;
+          restrict = keywords.restrict;
+        } }
     {
         Tokens {
             text,
@@ -110,7 +129,8 @@ impl Tokens {
     /// The bytes that spell a token.
     pub fn bytes(&self, at: TokenId) -> &[u8]
         requires { at < length self.now.tokens }
-        ensures { option_map (λ token. slice_range self.now.bytes token.start token.end) (slice_get self.now.tokens at) ≡ Some result.now }
+        ensures { option_map (λ token. slice_range self.now.bytes token.start token.end)
+            (slice_get self.now.tokens at) ≡ Some result.now }
     {
         let token = self.token(at);
         &self.text.bytes()[token.start as usize..token.end as usize]
@@ -128,7 +148,8 @@ impl Tokens {
     pub fn place_of(&self, at: TokenId) -> Spot
         requires { at < length self.now.tokens }
         ensures spot { result ≡ token_spot self.now at }
-        ensures names { IsSpot self.now.unit self.now.bytes self.now.marks (start_of self.now.tokens at) result }
+        ensures names { IsSpot self.now.unit self.now.bytes self.now.marks
+            (start_of self.now.tokens at) result }
     {
         let start = self.start(at);
         self.text.spot_of(&self.marks, start)
@@ -137,7 +158,8 @@ impl Tokens {
     /// What a token means in a lattice, where it is a `$` word, or a keyword that a lattice names.
     pub fn mark_of(&self, at: TokenId) -> Option<(LatticeNo, Elem)>
         requires { at < length self.now.tokens }
-        ensures { option_map (λ token. mark_of_kind self.now token.kind) (slice_get self.now.tokens at) ≡ Some result }
+        ensures { option_map (λ token. mark_of_kind self.now token.kind)
+            (slice_get self.now.tokens at) ≡ Some result }
     {
         match self.kind(at) {
             TokenKind::Qual(lattice, elem) => Some((lattice, elem)),

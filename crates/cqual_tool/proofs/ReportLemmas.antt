@@ -1,10 +1,12 @@
 -- Reports from their parts.
-use Rattle.std.proofs.Common.{◌≡◌, ℕ, suc, ◌+◌, ◌<◌, arith, List, [], ◌++◌, length, slice_get, Some, codes, refl, sym, ◌∙◌, ap, subst, append_assoc, append-nil}
+use Rattle.std.proofs.Common.{◌≡◌, ℕ, suc, ◌+◌, ◌<◌, arith, List, [], ◌++◌, length, slice_get, Option, Some, None, IsSome, MatchOption, codes, refl, sym, ◌∙◌, ap, subst, append_assoc, append-nil}
 use Rattle.std.proofs.lemmas.Option.{slice_get_within}
 use Rattle.lattice_core.specs.Order.{Order, size, leq, IsLattice, IsJoinOf}
 use Rattle.flow_graph.specs.declared.constraint.Constraint.{Constraint}
+use Rattle.flow_graph.specs.declared.constraint.Limit.{Limit}
+use Rattle.flow_graph.specs.declared.constraint.Link.{Link}
 use Rattle.flow_graph.specs.declared.constraint.Link.TheVariants.{Const, Bound}
-use Rattle.flow_graph.specs.System.{System}
+use Rattle.flow_graph.specs.System.{System, IsNoBound}
 use Rattle.flow_graph.specs.Unfolding.{IsAccepted, Printed}
 use Rattle.flow_graph.specs.declared.proof.PathProof.{PathProof}
 use Rattle.flow_graph.specs.PathProofs.{AreApart, Holds, last_of, steps_of}
@@ -19,6 +21,14 @@ use Rattle.lattice_core.specs.View.{LatticeView, orders_of, IsElement}
 
 some_is : {A : Type 0} {x y : A} → Some x ≡ Some y → x ≡ y
 some_is e = cc
+
+-- a constraint that is a bound is found as one in its lattice
+pub bound_found : (link : Link) (lattice v e : ℕ) (B : Limit → Type 0) (found : Option Limit) → link ≡ Bound v lattice e → MatchOption found (IsNoBound link lattice) B → IsSome found
+bound_found link lattice v e B None is none = absurd (none v e is)
+bound_found link lattice v e B (Some limit) is given = refl
+
+pub limit_given : (A : Type 0) (B : Limit → Type 0) (found : Option Limit) (limit : Limit) → found ≡ Some limit → MatchOption found A B → B limit
+limit_given A B found limit is given = let Of : Option Limit → Type 0 = λ x. MatchOption x A B in subst Of is given
 
 pub accepted_report : (scene : Scene) (sys : System) (text begun lines : List ℕ) → IsAccepted sys (orders_of scene.lattices) →
     ((lattice : ℕ) (order : Order) → slice_get (orders_of scene.lattices) lattice ≡ Some order → IsAtOnce sys lattice order) →
@@ -76,7 +86,7 @@ module _ (scene : Scene) (sys : System) (solution : Solution) (order : Order) (n
   same : exceeds.bound.constraint ≡ constraint
   same = constraint_is (sym exceeds.bound.there ∙ there)
 
-  link_is : constraint.link ≡ Bound exceeds.var solution.lattice exceeds.limit
+  pub link_is : constraint.link ≡ Bound exceeds.var solution.lattice exceeds.limit
   link_is = ap (λ (c : Constraint). c.link) (sym same) ∙ exceeds.bound.link_is
 
   pub limit_is : (v lattice limit : ℕ) → constraint.link ≡ Bound v lattice limit → (solution.lattice ≡ lattice) × (exceeds.limit ≡ limit)

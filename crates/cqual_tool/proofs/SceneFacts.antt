@@ -51,12 +51,11 @@ module _ (lent : Lent) (words : Meanings) (spelled : IsSpelled words lent.tokens
   }
 
 -- A source has no more variables than may be numbered.
-pub few_positions : (lexed : Lexed) (names objects : List ℕ) → names ≡ objects → AreObjects lexed names → length (positions_of objects) ≤ most_variables
-few_positions lexed names objects same are =
-    let Few : List ℕ → Type 0 = λ tokens. length (positions_of tokens) ≤ most_variables in
+pub few_positions : (lexed : Lexed) (objects : List ℕ) → AreObjects lexed objects → length (positions_of objects) ≤ most_variables
+few_positions lexed objects are =
     let count = are.count in
     let few = are.few in
-    subst Few same (omega (arith, count, few))
+    omega (arith, count, few)
 
 -- ---- a solution for each lattice, one after the other
 

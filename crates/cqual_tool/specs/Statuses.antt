@@ -1,5 +1,6 @@
--- The number with which the program exits.
-use Rattle.std.specs.Prelude.{ℕ}
+-- What the program answers, and the number with which it exits.
+use Rattle.std.specs.Prelude.{◌≡◌, ℕ, List}
+use Rattle.cqual_tool.specs.declared.answer.Answer.{Answer}
 use Rattle.cqual_tool.specs.declared.status.Status.{Status}
 use Rattle.cqual_tool.specs.declared.status.Status.TheVariants.{Accepted, Rejected, NotYet, Malformed, BadWords, ReadFault, WriteFault, NoMemory}
 
@@ -12,3 +13,7 @@ exit_of ReadFault = 4
 exit_of WriteFault = 5
 exit_of NoMemory = 6
 exit_of NotYet = 7
+
+-- an answer of this status and this text
+abbrev pub Says : Status → List ℕ → Answer → Type 0
+Says status text answer = (answer.status ≡ status) × (answer.text.items ≡ text)

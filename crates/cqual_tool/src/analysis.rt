@@ -1,6 +1,7 @@
 //! From lattices and the items of a source to a status and a report.
 
-ghost use Rattle.std.specs.Prelude.{◌≡◌, ◌≤◌, ◌<◌, ◌*◌, ◌^◌, ℕ, IfOk, length, slice_get, Some, IsTrue};
+ghost use Rattle.std.specs.Prelude.{◌≡◌, ◌≤◌, ◌<◌, ◌*◌, ◌^◌, ℕ, IfOk, length, slice_get, Some};
+ghost use Rattle.std.specs.Prelude.{IsTrue};
 ghost use Rattle.std.specs.Bool.{OnTrue, OnFalse};
 ghost use Rattle.flow_graph.specs.System.{IsWellOwned};
 ghost use Rattle.flow_graph.specs.Unfolding.{IsExceeded};
@@ -21,7 +22,7 @@ use c_lexer::Tokens;
 use flow_graph::{FlowGraph, GraphFault};
 use lattice_core::Lattices;
 use qual_base::{LatticeNo, NoMemory};
-use second_form::{Item, generate, object_tokens};
+use second_form::{Item, generate};
 use std::alloc::Global;
 
 /// Whether a bound of some lattice is exceeded. Linear in the constraints and the lattices.
@@ -52,7 +53,8 @@ fn judge(alloc: Global, scene: &Scene<'_>, graph: &FlowGraph) -> Result<Answer, 
     requires objects { HasObjects scene.now }
     requires shown { IsShown scene.now graph.now }
     requires owned { IsWellOwned graph.now }
-    ensures { IfOk result (λ answer. IsJudged (scene_of scene.now) graph.now answer.status answer.text.items) }
+    ensures { IfOk result
+        (λ answer. IsJudged (scene_of scene.now) graph.now answer.status answer.text.items) }
 {
     let solutions = solve_all(alloc, graph, scene.lattices)?;
     if is_exceeded(scene, graph, &solutions) {
@@ -79,20 +81,20 @@ pub fn analyse(
 ) -> Result<Answer, NoMemory>
     requires source { IsSource tokens.now.tokens (items_of items.now) }
     requires lexes { (bytes : _) × SourceLexes lattices.now bytes tokens.now }
-    ensures { IfOk result (λ answer. OfProgram file.now (program_of file.now lattices.now tokens.now (items_of items.now)) answer.status answer.text.items) }
+    ensures { IfOk result (λ answer. OfProgram file.now (program_of file.now lattices.now tokens.now
+        (items_of items.now)) answer.status answer.text.items) }
 {
-    let objects = object_tokens(alloc, tokens, items)?;
-    let graph = match generate(alloc, lattices, tokens, items) {
-        Ok(graph) => graph,
+    let made = match generate(alloc, lattices, tokens, items) {
+        Ok(made) => made,
         Err(GraphFault::TooMany) => return Ok(malformed(alloc, file, b"G1")?),
         Err(GraphFault::NoMemory) => return Err(NoMemory),
     };
-    graph.law();
+    made.graph.law();
     let scene = Scene {
         file,
         tokens,
         lattices,
-        objects: &objects,
+        objects: &made.objects,
     };
-    judge(alloc, &scene, &graph)
+    judge(alloc, &scene, &made.graph)
 }

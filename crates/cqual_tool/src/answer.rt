@@ -3,6 +3,7 @@
 ghost use Rattle.std.specs.Prelude.{◌≡◌, ℕ, ◌++◌, [], ◌∷◌, IfOk, codes};
 ghost use Rattle.cqual_tool.specs.Texts.{not_yet_line, malformed_line};
 ghost use Rattle.cqual_tool.specs.Faults.{placed_line};
+ghost use Rattle.cqual_tool.specs.Statuses.{Says};
 
 use crate::places::put;
 use crate::status::Status;
@@ -17,7 +18,7 @@ pub struct Answer {
 
 /// The line of a source whose form is not built yet.
 pub fn not_yet(alloc: Global, file: &str) -> Result<Answer, AllocError>
-    ensures { IfOk result (λ answer. (answer.status ≡ Status.NotYet) × (answer.text.items ≡ not_yet_line file.now)) }
+    ensures { IfOk result (Says Status.NotYet (not_yet_line file.now)) }
 {
     let text = format!(in alloc; "not yet {file}\n")?;
     Ok(Answer {
@@ -28,7 +29,7 @@ pub fn not_yet(alloc: Global, file: &str) -> Result<Answer, AllocError>
 
 /// The line of a fault, by where it is: a file, or a place in one.
 fn fault_line(alloc: Global, place: &[u8], code: &[u8]) -> Result<Answer, AllocError>
-    ensures { IfOk result (λ answer. (answer.status ≡ Status.Malformed) × (answer.text.items ≡ malformed_line place.now code.now)) }
+    ensures { IfOk result (Says Status.Malformed (malformed_line place.now code.now)) }
 {
     let mut text = Vec::new(alloc);
     put(&mut text, b"malformed ")?;
@@ -44,14 +45,14 @@ fn fault_line(alloc: Global, place: &[u8], code: &[u8]) -> Result<Answer, AllocE
 
 /// The line of a fault of a whole file.
 pub fn malformed(alloc: Global, file: &str, code: &[u8]) -> Result<Answer, AllocError>
-    ensures { IfOk result (λ answer. (answer.status ≡ Status.Malformed) × (answer.text.items ≡ malformed_line file.now code.now)) }
+    ensures { IfOk result (Says Status.Malformed (malformed_line file.now code.now)) }
 {
     fault_line(alloc, file.as_bytes(), code)
 }
 
 /// The line of a fault at a place that is written already.
 pub fn placed(alloc: Global, place: &[u8], code: &[u8]) -> Result<Answer, AllocError>
-    ensures { IfOk result (λ answer. (answer.status ≡ Status.Malformed) × (answer.text.items ≡ placed_line place.now code.now)) }
+    ensures { IfOk result (Says Status.Malformed (placed_line place.now code.now)) }
 {
     fault_line(alloc, place, code)
 }

@@ -5,7 +5,9 @@ ghost use Rattle.lattice_file.specs.declared.reading.LatticeFileFault.TheVariant
 ghost use Rattle.c_lexer.specs.declared.lexing.LexFault.TheVariants as Stops;
 ghost use Rattle.cqual_tool.specs.declared.status.Status.TheVariants as Statuses;
 ghost use Rattle.cqual_tool.specs.Texts.{spot_text, at_text};
-ghost use Rattle.cqual_tool.specs.Faults.{block_code, named_code, block_text, lattice_line, lex_line, placed_line};
+ghost use Rattle.cqual_tool.specs.Faults.{block_code, named_code, block_text, lattice_line};
+ghost use Rattle.cqual_tool.specs.Faults.{lex_line, placed_line};
+ghost use Rattle.cqual_tool.specs.Statuses.{Says};
 
 use crate::answer::{Answer, malformed, placed};
 use crate::places::{put, put_at, put_decimal, put_spot};
@@ -41,7 +43,8 @@ fn put_two_named(
     one: &Name,
     other: &Name,
 ) -> Result<(), AllocError>
-    ensures { OnOk result (out.new.items ≡ out.old.items ++ (named_code code.now number one.now ++ codes " " ++ other.now)) }
+    ensures { OnOk result (out.new.items
+        ≡ out.old.items ++ (named_code code.now number one.now ++ codes " " ++ other.now)) }
 {
     put_named(out, code, number, one)?;
     put(out, b" ")?;
@@ -70,7 +73,8 @@ fn block_refused(
     number: u32,
     fault: &LatticeFault,
 ) -> Result<Answer, NoMemory>
-    ensures { IfOk result (λ answer. (answer.status ≡ Statuses.Malformed) × (answer.text.items ≡ lattice_line file.now (Faults.Block number fault.now))) }
+    ensures { IfOk result
+        (Says Statuses.Malformed (lattice_line file.now (Faults.Block number fault.now))) }
 {
     let mut code = Vec::new(alloc);
     put_block_fault(&mut code, number, fault)?;
@@ -79,7 +83,8 @@ fn block_refused(
 
 /// The answer for a text that is none of blocks from a place on.
 fn grammar_refused(alloc: Global, file: &str, line: u64, column: u64) -> Result<Answer, NoMemory>
-    ensures { IfOk result (λ answer. (answer.status ≡ Statuses.Malformed) × (answer.text.items ≡ lattice_line file.now (Faults.Grammar line column))) }
+    ensures { IfOk result
+        (Says Statuses.Malformed (lattice_line file.now (Faults.Grammar line column))) }
 {
     let mut place = Vec::new(alloc);
     put_at(&mut place, file.as_bytes(), line, column)?;
@@ -88,7 +93,8 @@ fn grammar_refused(alloc: Global, file: &str, line: u64, column: u64) -> Result<
 
 /// The answer for a name that an earlier block has.
 fn shared_refused(alloc: Global, file: &str, name: &Name) -> Result<Answer, NoMemory>
-    ensures { IfOk result (λ answer. (answer.status ≡ Statuses.Malformed) × (answer.text.items ≡ lattice_line file.now (Faults.SharedName name.now))) }
+    ensures { IfOk result
+        (Says Statuses.Malformed (lattice_line file.now (Faults.SharedName name.now))) }
 {
     let mut code = Vec::new(alloc);
     put(&mut code, b"L9 ")?;
@@ -98,7 +104,7 @@ fn shared_refused(alloc: Global, file: &str, name: &Name) -> Result<Answer, NoMe
 
 /// The answer for more than 16 blocks.
 fn many_refused(alloc: Global, file: &str) -> Result<Answer, NoMemory>
-    ensures { IfOk result (λ answer. (answer.status ≡ Statuses.Malformed) × (answer.text.items ≡ lattice_line file.now Faults.TooManyLattices)) }
+    ensures { IfOk result (Says Statuses.Malformed (lattice_line file.now Faults.TooManyLattices)) }
 {
     Ok(malformed(alloc, file, b"L8")?)
 }
@@ -109,7 +115,7 @@ pub fn lattice_refused(
     file: &str,
     fault: &LatticeFileFault,
 ) -> Result<Answer, NoMemory>
-    ensures line { IfOk result (λ answer. (answer.status ≡ Statuses.Malformed) × (answer.text.items ≡ lattice_line file.now fault.now)) }
+    ensures line { IfOk result (Says Statuses.Malformed (lattice_line file.now fault.now)) }
     ensures reason { IfOk result (λ _. fault.now ≢ Faults.NoMemory) }
 {
     match fault {
@@ -129,7 +135,8 @@ fn spot_refused(
     spot: &Spot,
     code: &[u8],
 ) -> Result<Answer, NoMemory>
-    ensures { IfOk result (λ answer. (answer.status ≡ Statuses.Malformed) × (answer.text.items ≡ placed_line (spot_text file.now bytes.now spot.now) code.now)) }
+    ensures { IfOk result
+        (Says Statuses.Malformed (placed_line (spot_text file.now bytes.now spot.now) code.now)) }
 {
     let mut place = Vec::new(alloc);
     put_spot(&mut place, file, bytes, spot)?;
@@ -143,7 +150,7 @@ pub fn source_refused(
     bytes: &[u8],
     fault: &LexFault,
 ) -> Result<Answer, NoMemory>
-    ensures line { IfOk result (λ answer. (answer.status ≡ Statuses.Malformed) × (answer.text.items ≡ lex_line file.now bytes.now fault.now)) }
+    ensures line { IfOk result (Says Statuses.Malformed (lex_line file.now bytes.now fault.now)) }
     ensures reason { IfOk result (λ _. fault.now ≢ Stops.NoMemory) }
 {
     match fault {

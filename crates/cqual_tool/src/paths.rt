@@ -3,7 +3,8 @@
 ghost use Rattle.std.specs.Prelude.{◌≡◌, ◌++◌, codes, slice_get, OnOk};
 ghost use Rattle.std.specs.Fmt.{decimal};
 ghost use Rattle.flow_graph.specs.PathProofs.{steps_of};
-ghost use Rattle.cqual_tool.specs.Texts.{line, constraint_text, step_text, steps_text, subs_text, proof_text};
+ghost use Rattle.cqual_tool.specs.Texts.{line, constraint_text, step_text, steps_text, subs_text};
+ghost use Rattle.cqual_tool.specs.Texts.{proof_text};
 ghost use Rattle.cqual_tool.specs.Scenes.{scene_of, IsShown};
 
 use crate::places::{put, put_decimal};
@@ -31,7 +32,8 @@ fn put_take(
     at: EdgeId,
 ) -> Result<(), AllocError>
     requires { IsShown scene.now graph.now }
-    ensures { OnOk result (out.new.items ≡ out.old.items ++ constraint_text (scene_of scene.now) at (slice_get graph.now.constraints at)) }
+    ensures { OnOk result (out.new.items ≡ out.old.items
+        ++ constraint_text (scene_of scene.now) at (slice_get graph.now.constraints at)) }
 {
     match constraint_of(graph, at) {
         Some(constraint) => put_constraint(out, scene, at, &constraint),
@@ -41,7 +43,8 @@ fn put_take(
 
 /// The line of a step that goes through a sub-path.
 fn put_through(out: &mut Vec<u8>, number: u32) -> Result<(), AllocError>
-    ensures { OnOk result (out.new.items ≡ out.old.items ++ line (codes "  sub " ++ decimal number)) }
+    ensures { OnOk result
+        (out.new.items ≡ out.old.items ++ line (codes "  sub " ++ decimal number)) }
 {
     put(out, b"  sub ")?;
     put_decimal(out, u64::from(number))?;
@@ -56,7 +59,8 @@ fn put_step(
     step: &PathStep,
 ) -> Result<(), AllocError>
     requires { IsShown scene.now graph.now }
-    ensures { OnOk result (out.new.items ≡ out.old.items ++ step_text (scene_of scene.now) graph.now step.now) }
+    ensures { OnOk result
+        (out.new.items ≡ out.old.items ++ step_text (scene_of scene.now) graph.now step.now) }
 {
     match step {
         PathStep::Take { edge, .. } => put_take(out, scene, graph, *edge),
@@ -72,7 +76,8 @@ fn put_steps(
     steps: &[PathStep],
 ) -> Result<(), AllocError>
     requires { IsShown scene.now graph.now }
-    ensures { OnOk result (out.new.items ≡ out.old.items ++ steps_text (scene_of scene.now) graph.now steps.now) }
+    ensures { OnOk result
+        (out.new.items ≡ out.old.items ++ steps_text (scene_of scene.now) graph.now steps.now) }
 {
     for step in steps {
         put_step(out, scene, graph, step)?;
@@ -97,7 +102,8 @@ fn put_subs(
     subs: &[SubPath],
 ) -> Result<(), AllocError>
     requires { IsShown scene.now graph.now }
-    ensures { OnOk result (out.new.items ≡ out.old.items ++ subs_text (scene_of scene.now) graph.now 1 (steps_of subs.now)) }
+    ensures { OnOk result (out.new.items
+        ≡ out.old.items ++ subs_text (scene_of scene.now) graph.now 1 (steps_of subs.now)) }
 {
     for n in 0..subs.len() {
         put_heading(out, n as u64 + 1)?;
@@ -114,7 +120,8 @@ pub fn put_proof(
     proof: &PathProof,
 ) -> Result<(), AllocError>
     requires { IsShown scene.now graph.now }
-    ensures { OnOk result (out.new.items ≡ out.old.items ++ proof_text (scene_of scene.now) graph.now (steps_of proof.now.subs.items) proof.now.main.items) }
+    ensures { OnOk result (out.new.items ≡ out.old.items ++ proof_text
+        (scene_of scene.now) graph.now (steps_of proof.now.subs.items) proof.now.main.items) }
 {
     put_subs(out, scene, graph, &proof.subs)?;
     put(out, b"path\n")?;

@@ -1,13 +1,17 @@
 //! Taking the files in order, and what is answered of their bytes.
 
-ghost use Rattle.std.specs.Prelude.{◌≡◌, ◌<◌, ◌≤◌, ℕ, List, IfOk, IfSome, IsErrOf, MatchOption, length, map, codes};
+ghost use Rattle.std.specs.Prelude.{◌≡◌, ◌<◌, ◌≤◌, ℕ, List, IfOk, IfSome, IsErrOf, MatchOption};
+ghost use Rattle.std.specs.Prelude.{length, map, codes};
 ghost use Rattle.qual_base.specs.Counts.{GoesOn, Rose};
 ghost use Rattle.qual_base.specs.Outside.{content_of, Records};
 ghost use Rattle.lattice_core.specs.View.{LatticeView};
 ghost use Rattle.cqual_tool.specs.declared.status.Status.TheVariants as Statuses;
+ghost use Rattle.cqual_tool.specs.Statuses.{Says};
 ghost use Rattle.cqual_tool.specs.Texts.{not_yet_line, malformed_line};
 ghost use Rattle.cqual_tool.specs.Words.{names_in};
-ghost use Rattle.cqual_tool.specs.Outcome.{SourceLexes, OfUnit, OfTokens, OfSource, OfFiles, IsDecided, RecordsAll, Starts, LatticesRead, lattice_limit, source_limit};
+ghost use Rattle.cqual_tool.specs.Outcome.{SourceLexes, OfUnit, OfTokens, OfSource, OfFiles, IsDecided};
+ghost use Rattle.cqual_tool.specs.Outcome.{RecordsAll, Starts, LatticesRead, lattice_limit};
+ghost use Rattle.cqual_tool.specs.Outcome.{source_limit};
 
 use crate::analysis::analyse;
 use crate::answer::{Answer, malformed, not_yet};
@@ -54,9 +58,12 @@ fn taken<F: Files>(
     limit: usize,
 ) -> Result<Option<Vec<u8>>, Stop>
     requires { limit < usize.MAX }
-    ensures whole { IfOk result (λ found. IfSome (F.contents files.old) (λ all. MatchOption found (limit < length (content_of all name.now)) (λ bytes. bytes.items ≡ content_of all name.now))) }
+    ensures whole { IfOk result
+        (λ found. IfSome (F.contents files.old) (λ all. MatchOption found (limit
+        < length (content_of all name.now)) (λ bytes. bytes.items ≡ content_of all name.now))) }
     ensures within { IfOk result (λ found. IfSome found (λ bytes. length bytes.items ≤ limit)) }
-    ensures read_fault { IsErrOf result Stop.ReadFault → Rose (F.faults files.old) (F.faults files.new) }
+    ensures read_fault { IsErrOf result Stop.ReadFault →
+        Rose (F.faults files.old) (F.faults files.new) }
     ensures count { GoesOn (F.faults files.old) (F.faults files.new) }
     ensures started { Records (F.started files.old) (F.started files.new) name.now }
     ensures contents { F.contents files.new ≡ F.contents files.old }
@@ -71,14 +78,14 @@ fn taken<F: Files>(
 
 /// The answer for a file of another form.
 fn other_form(alloc: Global, file: &str) -> Result<Answer, NoMemory>
-    ensures { IfOk result (λ answer. (answer.status ≡ Statuses.NotYet) × (answer.text.items ≡ not_yet_line file.now)) }
+    ensures { IfOk result (Says Statuses.NotYet (not_yet_line file.now)) }
 {
     Ok(not_yet(alloc, file)?)
 }
 
 /// The answer for a file that has more bytes than its limit.
 fn too_large(alloc: Global, file: &str) -> Result<Answer, NoMemory>
-    ensures { IfOk result (λ answer. (answer.status ≡ Statuses.Malformed) × (answer.text.items ≡ malformed_line file.now (codes "F2"))) }
+    ensures { IfOk result (Says Statuses.Malformed (malformed_line file.now (codes "F2"))) }
 {
     Ok(malformed(alloc, file, b"F2")?)
 }
@@ -91,7 +98,8 @@ fn of_unit(
     tokens: &Tokens,
 ) -> Result<Answer, NoMemory>
     requires { (bytes : List ℕ) × SourceLexes lattices.now bytes tokens.now }
-    ensures outcome { IfOk result (λ answer. OfUnit file.now lattices.now tokens.now answer.status answer.text.items) }
+    ensures outcome { IfOk result
+        (λ answer. OfUnit file.now lattices.now tokens.now answer.status answer.text.items) }
     ensures decided { IfOk result (λ answer. IsDecided answer.status) }
 {
     match read_items(alloc, tokens)? {
@@ -126,7 +134,8 @@ fn of_source(
     bytes: &[u8],
 ) -> Result<Answer, NoMemory>
     requires { length bytes.now ≤ source_limit }
-    ensures outcome { IfOk result (λ answer. OfSource file.now lattices.now bytes.now answer.status answer.text.items) }
+    ensures outcome { IfOk result
+        (λ answer. OfSource file.now lattices.now bytes.now answer.status answer.text.items) }
     ensures decided { IfOk result (λ answer. IsDecided answer.status) }
 {
     let words = lattices.words(alloc)?;
@@ -143,9 +152,11 @@ fn take_source<F: Files>(
     lattices: &Lattices,
     files: &mut F,
 ) -> Result<Answer, Stop>
-    ensures outcome { IfOk result (λ answer. IfSome (F.contents files.old) (λ all. OfSource file.now lattices.now (content_of all file.now) answer.status answer.text.items)) }
+    ensures outcome { IfOk result (λ answer. IfSome (F.contents files.old) (λ all.
+        OfSource file.now lattices.now (content_of all file.now) answer.status answer.text.items)) }
     ensures decided { IfOk result (λ answer. IsDecided answer.status) }
-    ensures read_fault { IsErrOf result Stop.ReadFault → Rose (F.faults files.old) (F.faults files.new) }
+    ensures read_fault { IsErrOf result Stop.ReadFault →
+        Rose (F.faults files.old) (F.faults files.new) }
     ensures count { GoesOn (F.faults files.old) (F.faults files.new) }
     ensures started { Records (F.started files.old) (F.started files.new) file.now }
 {
@@ -157,12 +168,15 @@ fn take_source<F: Files>(
 
 /// The answer for two files that are named, in the order in which they are read.
 pub fn answer<F: Files>(alloc: Global, named: Named<'_>, files: &mut F) -> Result<Answer, Stop>
-    ensures outcome { IfOk result (λ answer. IfSome (F.contents files.old) (λ all.
-        OfFiles (names_in named.entry) (content_of all named.entry.lattice.now) (content_of all named.entry.source.now) answer.status answer.text.items)) }
+    ensures outcome { IfOk result (λ answer. IfSome (F.contents files.old)
+        (λ all. OfFiles (names_in named.entry) (content_of all named.entry.lattice.now)
+        (content_of all named.entry.source.now) answer.status answer.text.items)) }
     ensures decided { IfOk result (λ answer. IsDecided answer.status) }
-    ensures read_fault { IsErrOf result Stop.ReadFault → Rose (F.faults files.old) (F.faults files.new) }
+    ensures read_fault { IsErrOf result Stop.ReadFault →
+        Rose (F.faults files.old) (F.faults files.new) }
     ensures count { GoesOn (F.faults files.old) (F.faults files.new) }
-    ensures started { (names : List (List ℕ)) × RecordsAll (F.started files.old) (F.started files.new) names × Starts (names_in named.entry) (F.contents files.old) names }
+    ensures started { (names : List (List ℕ)) × RecordsAll (F.started files.old)
+        (F.started files.new) names × Starts (names_in named.entry) (F.contents files.old) names }
 {
     match taken(alloc, files, named.lattice, LATTICE_LIMIT)? {
         Some(bytes) => match read_lattices(alloc, &bytes) {

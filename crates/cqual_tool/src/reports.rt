@@ -1,14 +1,17 @@
 //! The two reports of a program.
 
-ghost use Rattle.std.specs.Prelude.{◌≡◌, ◌<◌, ◌++◌, ◌*◌, ◌≤◌, ◌^◌, ℕ, List, IfOk, OnOk, MatchOption, length, slice_get, Some};
+ghost use Rattle.std.specs.Prelude.{◌≡◌, ◌<◌, ◌++◌, ◌*◌, ◌≤◌, ◌^◌, ℕ, List, IfOk, OnOk};
+ghost use Rattle.std.specs.Prelude.{MatchOption, length, slice_get, Some};
 ghost use Rattle.lattice_core.specs.View.{LatticeView, orders_of};
 ghost use Rattle.flow_graph.specs.declared.constraint.Link.TheVariants.{Const, Bound};
 ghost use Rattle.flow_graph.specs.declared.proof.PathStep.TheVariants.{Take};
 ghost use Rattle.flow_graph.specs.PathProofs.{first_of};
 ghost use Rattle.flow_graph.specs.System.{IsWellOwned};
 ghost use Rattle.lattice_solver.specs.Solution.{IsKept};
-ghost use Rattle.cqual_tool.specs.Scenes.{scene_of, HasVar, IsShown, IsLineIn, AreSolutions, AreKept, HasObjects, IsOverIn, IsNoBound};
-ghost use Rattle.cqual_tool.specs.Reports.{IsOver, VarLines, Lines, IsError, IsErrorOf, Errors, IsAcceptedReport, IsRejectedReport};
+ghost use Rattle.cqual_tool.specs.Scenes.{scene_of, HasVar, IsShown, IsLineIn, AreSolutions};
+ghost use Rattle.cqual_tool.specs.Scenes.{AreKept, HasObjects, IsOverIn, IsNoBound};
+ghost use Rattle.cqual_tool.specs.Reports.{IsOver, VarLines, Lines, IsError, IsErrorOf, Errors};
+ghost use Rattle.cqual_tool.specs.Reports.{IsAcceptedReport, IsRejectedReport};
 
 use crate::paths::put_proof;
 use crate::places::put;
@@ -33,8 +36,10 @@ fn put_line(
     requires var { HasVar scene.now var }
     requires there { number < length scene.now.lattices.now }
     requires lattice { solver.now.lattice ≡ number }
-    requires kept { (view : LatticeView) → slice_get scene.now.lattices.now number ≡ Some view → IsKept graph.now solver.now view.order }
-    ensures { OnOk result ((line : List ℕ) × (out.new.items ≡ out.old.items ++ line) × IsLineIn (scene_of scene.now) graph.now number var line) }
+    requires kept { (view : LatticeView) → slice_get scene.now.lattices.now number ≡ Some view →
+        IsKept graph.now solver.now view.order }
+    ensures { OnOk result ((line : List ℕ) × (out.new.items ≡ out.old.items ++ line)
+        × IsLineIn (scene_of scene.now) graph.now number var line) }
 {
     let lattice = scene.lattices.get(number);
     lattice.law();
@@ -56,7 +61,8 @@ fn put_var_lines(
     requires var { HasVar scene.now var }
     requires solutions { AreSolutions graph.now scene.now.lattices.now solutions.now }
     requires kept { AreKept graph.now scene.now.lattices.now solutions.now }
-    ensures { OnOk result ((lines : List ℕ) × (out.new.items ≡ out.old.items ++ lines) × VarLines (scene_of scene.now) graph.now var (length scene.now.lattices.now) lines) }
+    ensures { OnOk result ((lines : List ℕ) × (out.new.items ≡ out.old.items ++ lines)
+        × VarLines (scene_of scene.now) graph.now var (length scene.now.lattices.now) lines) }
 {
     for n in 0..scene.lattices.len() {
         let number = LatticeNo::new(n);
@@ -77,7 +83,8 @@ fn put_lines(
     requires objects { HasObjects scene.now }
     requires solutions { AreSolutions graph.now scene.now.lattices.now solutions.now }
     requires kept { AreKept graph.now scene.now.lattices.now solutions.now }
-    ensures { OnOk result ((lines : List ℕ) × (out.new.items ≡ out.old.items ++ lines) × Lines (scene_of scene.now) graph.now (scene_of scene.now).listed lines) }
+    ensures { OnOk result ((lines : List ℕ) × (out.new.items ≡ out.old.items ++ lines)
+        × Lines (scene_of scene.now) graph.now (scene_of scene.now).listed lines) }
 {
     for n in 0..2 * scene.objects.len() as u32 {
         put_var_lines(out, scene, graph, solutions, VarId::new(n))?;
@@ -106,29 +113,12 @@ pub fn accepted(
 
 /// The lattice of a constraint that is a bound.
 fn lattice_of(constraint: &Constraint) -> Option<LatticeNo>
-    ensures { MatchOption result (IsNoBound constraint.now.link) (λ lattice. (v : ℕ) × (limit : ℕ) × (constraint.now.link ≡ Bound v lattice limit)) }
+    ensures { MatchOption result (IsNoBound constraint.now.link)
+        (λ lattice. (v : ℕ) × (limit : ℕ) × (constraint.now.link ≡ Bound v lattice limit)) }
 {
     match constraint.link {
         Link::Bound(_, lattice, _) => Some(lattice),
         _ => None,
-    }
-}
-
-/// The lattice and the element of a bound.
-#[derive(Clone, Copy)]
-struct Limit {
-    lattice: LatticeNo,
-    elem: Elem,
-}
-
-/// The lattice and the element of a constraint that is a bound.
-fn limit_of(constraint: &Constraint) -> Limit
-    requires { (v : ℕ) × (lattice : ℕ) × (limit : ℕ) × (constraint.now.link ≡ Bound v lattice limit) }
-    ensures { (v : ℕ) × (constraint.now.link ≡ Bound v result.lattice result.elem) }
-{
-    match constraint.link {
-        Link::Bound(_, lattice, elem) => Limit { lattice, elem },
-        _ => unreachable!(),
     }
 }
 
@@ -166,7 +156,8 @@ fn put_exceeded(
     requires shown { IsShown scene.now graph.now }
     requires owned { IsWellOwned graph.now }
     requires exceeds { IsOverIn scene.now.lattices.now graph.now solved.now bound }
-    ensures { OnOk result ((error : List ℕ) × (out.new.items ≡ out.old.items ++ error) × IsError (scene_of scene.now) graph.now bound error) }
+    ensures { OnOk result ((error : List ℕ) × (out.new.items ≡ out.old.items ++ error)
+        × IsError (scene_of scene.now) graph.now bound error) }
 {
     scene.lattices.law();
     let proof = show(
@@ -180,15 +171,9 @@ fn put_exceeded(
     let constraint = graph.constraint(bound);
     let start = graph.constraint(first_edge(&proof.main));
     let elem = elem_of(&start);
-    let limit = limit_of(&constraint);
-    put_error(
-        out,
-        scene,
-        limit.lattice,
-        elem,
-        limit.elem,
-        &constraint.span,
-    )?;
+    let lattice = solved.solver.lattice();
+    let limit = constraint.bound_in(lattice).unwrap();
+    put_error(out, scene, lattice, elem, limit.elem, &constraint.span)?;
     put_proof(out, scene, graph, &proof)?;
     Ok(())
 }
@@ -206,7 +191,8 @@ fn put_error_of(
     requires owned { IsWellOwned graph.now }
     requires solutions { AreSolutions graph.now scene.now.lattices.now solutions.now }
     requires number { number < length graph.now.constraints }
-    ensures { OnOk result ((error : List ℕ) × (out.new.items ≡ out.old.items ++ error) × IsErrorOf (scene_of scene.now) graph.now number error) }
+    ensures { OnOk result ((error : List ℕ) × (out.new.items ≡ out.old.items ++ error)
+        × IsErrorOf (scene_of scene.now) graph.now number error) }
 {
     let Some(lattice) = lattice_of(&graph.constraint(number)) else {
         return Ok(());
@@ -230,7 +216,8 @@ fn put_errors(
     requires shown { IsShown scene.now graph.now }
     requires owned { IsWellOwned graph.now }
     requires solutions { AreSolutions graph.now scene.now.lattices.now solutions.now }
-    ensures { OnOk result ((errors : List ℕ) × (out.new.items ≡ out.old.items ++ errors) × Errors (scene_of scene.now) graph.now (length graph.now.constraints) errors) }
+    ensures { OnOk result ((errors : List ℕ) × (out.new.items ≡ out.old.items ++ errors)
+        × Errors (scene_of scene.now) graph.now (length graph.now.constraints) errors) }
 {
     for n in 0..graph.len() {
         put_error_of(alloc, out, scene, graph, solutions, EdgeId::new(n))?;

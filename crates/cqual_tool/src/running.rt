@@ -1,6 +1,7 @@
 //! The tool as one call.
 
-ghost use Rattle.std.specs.Prelude.{◌≡◌, ◌⊎◌, ℕ, List, IfSome, IsNone, None, Some, map, string_bytes, take};
+ghost use Rattle.std.specs.Prelude.{◌≡◌, ◌⊎◌, ℕ, List, IfSome, IsNone, None, Some, map};
+ghost use Rattle.std.specs.Prelude.{string_bytes, take};
 ghost use Rattle.std.specs.Io.KnownBytes.{Appends};
 ghost use Rattle.qual_base.specs.Counts.{GoesOn, Rose};
 ghost use Rattle.cqual_tool.specs.declared.status.Status.TheVariants as Statuses;
@@ -23,7 +24,8 @@ const USAGE: &[u8] =
 /// Writes a text and gives the status that it belongs to, or that a write failed.
 fn finish<O: Sink>(out: &mut O, status: Status, text: &[u8]) -> Status
     ensures sent { Sends (O.written out.old) (O.written out.new) status text.now result }
-    ensures cause { result ≡ Statuses.WriteFault → (status ≡ Statuses.WriteFault → ⊥) → Rose (O.faults out.old) (O.faults out.new) }
+    ensures cause { result ≡ Statuses.WriteFault →
+        (status ≡ Statuses.WriteFault → ⊥) → Rose (O.faults out.old) (O.faults out.new) }
     ensures count { GoesOn (O.faults out.old) (O.faults out.new) }
 {
     match send(out, text) {
@@ -39,22 +41,30 @@ fn finish<O: Sink>(out: &mut O, status: Status, text: &[u8]) -> Status
 pub fn run<F: Files, O: Sink>(alloc: Global, words: &[String], files: &mut F, out: &mut O) -> Status
     // Where no read and no write failed and memory was found, the status and the bytes that were written are those of the
     // words and of the whole contents of the files.
-    ensures outcome { IsAnswer result → IfSome (F.contents files.old) (λ all.
-        (text : List ℕ) × Outcome (map string_bytes words.now) all result text × Appends (O.written out.old) (O.written out.new) text) }
+    ensures outcome { IsAnswer result → IfSome (F.contents files.old)
+        (λ all. (text : List ℕ) × Outcome (map string_bytes words.now) all result text
+        × Appends (O.written out.old) (O.written out.new) text) }
 
     // After a write that failed, a front of the text of some such answer was written.
     ensures front { result ≡ Statuses.WriteFault → IfSome (F.contents files.old) (λ all.
-        (status : Statuses.the_data) × (text : List ℕ) × Outcome (map string_bytes words.now) all status text × AppendsFront (O.written out.old) (O.written out.new) text) }
-    ensures write_fault { result ≡ Statuses.WriteFault → Rose (O.faults out.old) (O.faults out.new) }
+        (status : Statuses.the_data) × (text : List ℕ) × Outcome (map string_bytes words.now)
+        all status text × AppendsFront (O.written out.old) (O.written out.new) text) }
+    ensures write_fault { result ≡ Statuses.WriteFault →
+        Rose (O.faults out.old) (O.faults out.new) }
 
     // After a read that failed, or where memory ran out, nothing was written.
-    ensures read_fault { result ≡ Statuses.ReadFault → Rose (F.faults files.old) (F.faults files.new) }
+    ensures read_fault { result ≡ Statuses.ReadFault →
+        Rose (F.faults files.old) (F.faults files.new) }
     ensures no_read { result ≡ Statuses.ReadFault → O.written out.new ≡ O.written out.old }
     ensures no_memory { result ≡ Statuses.NoMemory → O.written out.new ≡ O.written out.old }
 
-    ensures bad_words { result ≡ Statuses.BadWords → meaning_of (map string_bytes words.now) ≡ None }
-    ensures no_meaning { meaning_of (map string_bytes words.now) ≡ None → (result ≡ Statuses.BadWords) ⊎ (result ≡ Statuses.WriteFault) }
-    ensures started { (names : List (List ℕ)) × RecordsAll (F.started files.old) (F.started files.new) names × StartsFor (map string_bytes words.now) (F.contents files.old) names }
+    ensures bad_words { result ≡ Statuses.BadWords →
+        meaning_of (map string_bytes words.now) ≡ None }
+    ensures no_meaning { meaning_of (map string_bytes words.now) ≡ None →
+        (result ≡ Statuses.BadWords) ⊎ (result ≡ Statuses.WriteFault) }
+    ensures started { (names : List (List ℕ))
+        × RecordsAll (F.started files.old) (F.started files.new) names
+        × StartsFor (map string_bytes words.now) (F.contents files.old) names }
     ensures reads { GoesOn (F.faults files.old) (F.faults files.new) }
     ensures writes { GoesOn (O.faults out.old) (O.faults out.new) }
 {

@@ -1,8 +1,9 @@
 //! The answers for sources that are no well-formed unit.
 
-ghost use Rattle.std.specs.Prelude.{◌≡◌, ◌≢◌, IfOk};
+ghost use Rattle.std.specs.Prelude.{◌≢◌, IfOk};
 ghost use Rattle.c_parser.specs.declared.parsing.ParseFault.TheVariants as Stops;
 ghost use Rattle.cqual_tool.specs.declared.status.Status.TheVariants as Statuses;
+ghost use Rattle.cqual_tool.specs.Statuses.{Says};
 ghost use Rattle.cqual_tool.specs.Syntax.{syntax_line, token_line};
 
 use crate::answer::{Answer, placed};
@@ -20,8 +21,8 @@ fn token_refused(
     token: TokenId,
     code: &[u8],
 ) -> Result<Answer, NoMemory>
-    ensures { IfOk result (λ answer. (answer.status ≡ Statuses.Malformed)
-        × (answer.text.items ≡ token_line file.now tokens.now token code.now)) }
+    ensures { IfOk result
+        (Says Statuses.Malformed (token_line file.now tokens.now token code.now)) }
 {
     let mut place = Vec::new(alloc);
     let spot = tokens.place_of(token);
@@ -36,8 +37,7 @@ pub fn unit_refused(
     tokens: &Tokens,
     fault: ParseFault,
 ) -> Result<Answer, NoMemory>
-    ensures line { IfOk result (λ answer. (answer.status ≡ Statuses.Malformed)
-        × (answer.text.items ≡ syntax_line file.now tokens.now fault)) }
+    ensures line { IfOk result (Says Statuses.Malformed (syntax_line file.now tokens.now fault)) }
     ensures reason { IfOk result (λ _. fault ≢ Stops.NoMemory) }
 {
     match fault {

@@ -2,7 +2,9 @@
 
 ghost use Rattle.std.specs.Prelude.{◌≡◌, ◌++◌, OnOk, Some, codes};
 ghost use Rattle.std.specs.Fmt.{decimal};
-ghost use Rattle.cqual_tool.specs.Texts.{place_text, name_text, step_mark, marks_text, var_text, elem_text, link_text, constraint_text, value_line, error_line};
+ghost use Rattle.cqual_tool.specs.Texts.{place_text, name_text, step_mark, marks_text, var_text};
+ghost use Rattle.cqual_tool.specs.Texts.{elem_text, link_text, constraint_text, value_line};
+ghost use Rattle.cqual_tool.specs.Texts.{error_line};
 ghost use Rattle.cqual_tool.specs.Scenes.{scene_of, HasVar, HasElem, HasLink, HasSpan, HasToken};
 
 use crate::places::{put, put_decimal, put_spot};
@@ -18,7 +20,7 @@ use std::alloc::AllocError;
 #[derive(Clone, Copy)]
 pub struct Scene<'a> {
     pub file: &'a str,
-    pub tokens: &'a Tokens,
+    pub tokens: &'a Tokens<'a>,
     pub lattices: &'a Lattices,
     pub objects: &'a [TokenId],
 }
@@ -26,7 +28,8 @@ pub struct Scene<'a> {
 /// FILE:LINE:COLUMN of a token.
 fn put_place(out: &mut Vec<u8>, scene: &Scene<'_>, token: TokenId) -> Result<(), AllocError>
     requires { HasToken scene.now token }
-    ensures { OnOk result (out.new.items ≡ out.old.items ++ place_text (scene_of scene.now) scene.now.tokens.now.unit token) }
+    ensures { OnOk result (out.new.items
+        ≡ out.old.items ++ place_text (scene_of scene.now) scene.now.tokens.now.unit token) }
 {
     let spot = scene.tokens.place_of(token);
     put_spot(out, scene.file, scene.tokens.unit_bytes(), &spot)
@@ -35,7 +38,8 @@ fn put_place(out: &mut Vec<u8>, scene: &Scene<'_>, token: TokenId) -> Result<(),
 /// NAME@FILE:LINE:COLUMN of a token.
 fn put_name(out: &mut Vec<u8>, scene: &Scene<'_>, token: TokenId) -> Result<(), AllocError>
     requires { HasToken scene.now token }
-    ensures { OnOk result (out.new.items ≡ out.old.items ++ name_text (scene_of scene.now) scene.now.tokens.now.unit token) }
+    ensures { OnOk result (out.new.items
+        ≡ out.old.items ++ name_text (scene_of scene.now) scene.now.tokens.now.unit token) }
 {
     put(out, scene.tokens.bytes(token))?;
     put(out, b"@")?;
@@ -85,7 +89,8 @@ fn put_elem(
     elem: Elem,
 ) -> Result<(), AllocError>
     requires { HasElem scene.now lattice elem }
-    ensures { OnOk result (out.new.items ≡ out.old.items ++ elem_text (scene_of scene.now) lattice elem) }
+    ensures { OnOk result
+        (out.new.items ≡ out.old.items ++ elem_text (scene_of scene.now) lattice elem) }
 {
     let lattice = scene.lattices.get(lattice);
     lattice.law();
@@ -102,7 +107,8 @@ fn put_flow(
 ) -> Result<(), AllocError>
     requires first { HasVar scene.now from }
     requires second { HasVar scene.now to }
-    ensures { OnOk result (out.new.items ≡ out.old.items ++ (word.now ++ var_text (scene_of scene.now) from ++ codes " to " ++ var_text (scene_of scene.now) to)) }
+    ensures { OnOk result (out.new.items ≡ out.old.items ++ (word.now ++ var_text
+        (scene_of scene.now) from ++ codes " to " ++ var_text (scene_of scene.now) to)) }
 {
     put(out, word)?;
     put_var(out, scene, from)?;
@@ -120,7 +126,8 @@ fn put_const(
 ) -> Result<(), AllocError>
     requires elem { HasElem scene.now lattice elem }
     requires var { HasVar scene.now var }
-    ensures { OnOk result (out.new.items ≡ out.old.items ++ (codes "const " ++ elem_text (scene_of scene.now) lattice elem ++ codes " in " ++ var_text (scene_of scene.now) var)) }
+    ensures { OnOk result (out.new.items ≡ out.old.items ++ (codes "const " ++ elem_text
+        (scene_of scene.now) lattice elem ++ codes " in " ++ var_text (scene_of scene.now) var)) }
 {
     put(out, b"const ")?;
     put_elem(out, scene, lattice, elem)?;
@@ -138,7 +145,8 @@ fn put_bound(
 ) -> Result<(), AllocError>
     requires var { HasVar scene.now var }
     requires elem { HasElem scene.now lattice elem }
-    ensures { OnOk result (out.new.items ≡ out.old.items ++ (codes "bound " ++ var_text (scene_of scene.now) var ++ codes " by " ++ elem_text (scene_of scene.now) lattice elem)) }
+    ensures { OnOk result (out.new.items ≡ out.old.items ++ (codes "bound " ++ var_text
+        (scene_of scene.now) var ++ codes " by " ++ elem_text (scene_of scene.now) lattice elem)) }
 {
     put(out, b"bound ")?;
     put_var(out, scene, var)?;
@@ -168,7 +176,8 @@ fn put_number(
     token: TokenId,
 ) -> Result<(), AllocError>
     requires { HasToken scene.now token }
-    ensures { OnOk result (out.new.items ≡ out.old.items ++ (codes "  " ++ decimal number ++ codes " " ++ place_text (scene_of scene.now) scene.now.tokens.now.unit token ++ codes " ")) }
+    ensures { OnOk result (out.new.items ≡ out.old.items ++ (codes "  " ++ decimal number ++ codes
+        " " ++ place_text (scene_of scene.now) scene.now.tokens.now.unit token ++ codes " ")) }
 {
     put(out, b"  ")?;
     put_decimal(out, u64::from(number.number()))?;
@@ -186,7 +195,8 @@ pub fn put_constraint(
 ) -> Result<(), AllocError>
     requires span { HasSpan scene.now constraint.now.span }
     requires link { HasLink scene.now constraint.now.link }
-    ensures { OnOk result (out.new.items ≡ out.old.items ++ constraint_text (scene_of scene.now) number (Some constraint.now)) }
+    ensures { OnOk result (out.new.items
+        ≡ out.old.items ++ constraint_text (scene_of scene.now) number (Some constraint.now)) }
 {
     put_number(out, scene, number, constraint.span.from)?;
     put_link(out, scene, constraint.link)?;
@@ -203,7 +213,8 @@ pub fn put_value(
 ) -> Result<(), AllocError>
     requires var { HasVar scene.now var }
     requires elem { HasElem scene.now lattice elem }
-    ensures { OnOk result (out.new.items ≡ out.old.items ++ value_line (scene_of scene.now) lattice var elem) }
+    ensures { OnOk result
+        (out.new.items ≡ out.old.items ++ value_line (scene_of scene.now) lattice var elem) }
 {
     put_var(out, scene, var)?;
     put(out, b" ")?;
@@ -223,7 +234,8 @@ pub fn put_error(
     requires elem { HasElem scene.now lattice elem }
     requires bound { HasElem scene.now lattice bound }
     requires span { HasSpan scene.now span.now }
-    ensures { OnOk result (out.new.items ≡ out.old.items ++ error_line (scene_of scene.now) lattice elem bound span.now) }
+    ensures { OnOk result (out.new.items
+        ≡ out.old.items ++ error_line (scene_of scene.now) lattice elem bound span.now) }
 {
     put(out, b"error ")?;
     put_elem(out, scene, lattice, elem)?;

@@ -63,6 +63,10 @@ pub record IsGood (sys : System) (lattice elem : ℕ) (rows : List Summary) (sea
   pub listed : (p : Phase) (v : ℕ) → IsMarked search p v → IsListed search.queue.items p v
   pub below : AllBelow sys (size_of search.marks)
 
+-- whatever the element, a search that was good is so afterwards
+abbrev pub StaysGood : System → ℕ → List Summary → Search → Search → Type 0
+StaysGood sys lattice rows old new = (elem : ℕ) → IsGood sys lattice elem rows old → IsGood sys lattice elem rows new
+
 -- a search after it went on: each item takes one of the marks that were left
 pub record Grows (old new : Search) : Type 0 where
   pub more : List Reached

@@ -53,7 +53,8 @@ impl Marks {
         requires { at < size_of self.old }
         ensures marking { Marking self.old self.new result }
         ensures here { mark_of self.new phase at ≡ true }
-        ensures others { (p : Phase) (v : ℕ) → (p ≡ phase → v ≢ at) → mark_of self.new p v ≡ mark_of self.old p v }
+        ensures others { (p : Phase) (v : ℕ) →
+            (p ≡ phase → v ≢ at) → mark_of self.new p v ≡ mark_of self.old p v }
     {
         match phase {
             Phase::First => set(&mut self.first, at),
@@ -87,7 +88,8 @@ fn is_set(marks: &[bool], at: VarId) -> bool
 fn set(marks: &mut [bool], at: VarId) -> bool
     requires { at < length marks.old }
     ensures here { slice_index_or marks.new at false ≡ true }
-    ensures others { (v : ℕ) → v ≢ at → slice_index_or marks.new v false ≡ slice_index_or marks.old v false }
+    ensures others { (v : ℕ) →
+        v ≢ at → slice_index_or marks.new v false ≡ slice_index_or marks.old v false }
     ensures less { OnTrue result (unset marks.new < unset marks.old) }
     ensures same { OnFalse result (marks.new ≡ marks.old) }
     ensures length { length marks.new ≡ length marks.old }

@@ -44,7 +44,8 @@ impl Passed {
     /// Marks a constraint in a phase. Constant time.
     pub fn add(&mut self, phase: Phase, at: EdgeId)
         requires { at < size_of self.old }
-        ensures only { (p : Phase) (n : ℕ) → mark_of self.new p n ≡ true → (mark_of self.old p n ≡ true) ⊎ ((phase ≡ p) × (at ≡ n)) }
+        ensures only { (p : Phase) (n : ℕ) →
+            mark_of self.new p n ≡ true → (mark_of self.old p n ≡ true) ⊎ ((phase ≡ p) × (at ≡ n)) }
         ensures size { size_of self.new ≡ size_of self.old }
     {
         self.marks.mark(phase, VarId::new(at.number()));

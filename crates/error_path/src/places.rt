@@ -33,7 +33,8 @@ impl Places {
     /// Gives a pair a place. Constant time but for growth.
     pub fn insert(&mut self, from: VarId, to: VarId, at: usize) -> Result<(), NoMemory>
         ensures here { OnOk result (place_in self.new.map from to ≡ Some at) }
-        ensures others { (u v : ℕ) → (u ≡ from → v ≢ to) → place_in self.new.map u v ≡ place_in self.old.map u v }
+        ensures others { (u v : ℕ) →
+            (u ≡ from → v ≢ to) → place_in self.new.map u v ≡ place_in self.old.map u v }
         ensures err { OnErr result (SamePlaces (place_in self.old.map) (place_in self.new.map)) }
     {
         match self.map.insert((from, to), at) {

@@ -1,6 +1,7 @@
 //! A breadth-first search over pairs of a variable and a phase, forwards from the constants of an element.
 
-ghost use Rattle.std.specs.Prelude.{◌≡◌, ◌≢◌, ℕ, ◌<◌, ◌↔◌, List, length, slice_get, Some, IsTrue, IfOk, IfSome, IfNone, OnOk};
+ghost use Rattle.std.specs.Prelude.{◌≡◌, ◌≢◌, ℕ, ◌<◌, ◌↔◌, List, length, slice_get, Some, IsTrue};
+ghost use Rattle.std.specs.Prelude.{IfOk, IfSome, IfNone, OnOk};
 ghost use Rattle.flow_graph.specs.Index.{IsIndexOf, IsKeyed, link_site};
 ghost use Rattle.flow_graph.specs.PathRules.{link_begins};
 ghost use Rattle.error_path.specs.Marks.{size_of};
@@ -12,7 +13,9 @@ ghost use Rattle.match_summary.specs.declared.reason.Summary.{Summary};
 ghost use Rattle.match_summary.specs.Crossings.{AreCrossings};
 ghost use Rattle.match_summary.specs.Summary.{HasPair, Summarises};
 ghost use Rattle.flow_graph.specs.Parts.{settled};
-ghost use Rattle.error_path.specs.Reaching.{AreStarted, ComesBy, Grows, IsClosed, IsFollowed, IsGood, IsMarked, IsOver, IsReachedAt, IsRounded, IsRoundedFrom, StandsAt};
+ghost use Rattle.error_path.specs.Reaching.{AreStarted, ComesBy, Grows, IsClosed, IsFollowed};
+ghost use Rattle.error_path.specs.Reaching.{IsGood, IsMarked, IsOver, IsReachedAt, IsRounded};
+ghost use Rattle.error_path.specs.Reaching.{IsRoundedFrom, StandsAt, StaysGood};
 
 use crate::marks::Marks;
 use crate::passed::Passed;
@@ -78,7 +81,8 @@ struct Call {
 impl Search {
     /// A search that has reached nothing: 2 bytes for each variable.
     fn new(alloc: Global, graph: &FlowGraph) -> Result<Search, NoMemory>
-        ensures good { IfOk result (λ search. (lattice elem : ℕ) (rows : List Summary) → IsGood graph.now lattice elem rows search) }
+        ensures good { IfOk result (λ search. (lattice elem : ℕ) (rows : List Summary) →
+            IsGood graph.now lattice elem rows search) }
         ensures below { IfOk result (λ search. AllBelow graph.now (size_of search.marks)) }
     {
         let marks = Marks::new(alloc, graph.vars())?;
@@ -105,7 +109,10 @@ impl Search {
         cause: Cause,
     ) -> Result<(), NoMemory>
         requires { at < size_of self.old.marks }
-        ensures good { OnOk result ((sys : System) (lattice elem : ℕ) (rows : List Summary) → ComesBy sys lattice elem rows self.old.queue.items (length self.old.queue.items) (settled (owner_of graph.now at) phase) at cause → IsGood sys lattice elem rows self.old → IsGood sys lattice elem rows self.new) }
+        ensures good { OnOk result ((sys : System) (lattice elem : ℕ) (rows : List Summary) →
+            ComesBy sys lattice elem rows self.old.queue.items
+            (length self.old.queue.items) (settled (owner_of graph.now at) phase) at cause →
+            IsGood sys lattice elem rows self.old → IsGood sys lattice elem rows self.new) }
         ensures grows { OnOk result (Grows self.old self.new) }
         ensures there { OnOk result (IsMarked self.new (settled (owner_of graph.now at) phase) at) }
     {
@@ -129,9 +136,11 @@ impl Search {
     ) -> Result<(), NoMemory>
         requires edge { edge < length graph.now.constraints }
         requires below { AllBelow graph.now (size_of self.old.marks) }
-        ensures good { OnOk result ((rows : List Summary) → IsGood graph.now lattice elem rows self.old → IsGood graph.now lattice elem rows self.new) }
+        ensures good { OnOk result ((rows : List Summary) → IsGood
+            graph.now lattice elem rows self.old → IsGood graph.now lattice elem rows self.new) }
         ensures grows { OnOk result (Grows self.old self.new) }
-        ensures done { OnOk result ((v : ℕ) → Stands graph.now lattice edge (Const lattice elem v) → IsMarked self.new (settled (owner_of graph.now v) First) v) }
+        ensures done { OnOk result ((v : ℕ) → Stands graph.now lattice edge (Const lattice elem v) →
+            IsMarked self.new (settled (owner_of graph.now v) First) v) }
     {
         let link = graph.constraint(edge).link;
         match link {
@@ -149,7 +158,8 @@ impl Search {
     /// Starts at each constant of the element.
     fn start(&mut self, graph: &FlowGraph, lattice: LatticeNo, elem: Elem) -> Result<(), NoMemory>
         requires below { AllBelow graph.now (size_of self.old.marks) }
-        ensures good { OnOk result ((rows : List Summary) → IsGood graph.now lattice elem rows self.old → IsGood graph.now lattice elem rows self.new) }
+        ensures good { OnOk result ((rows : List Summary) → IsGood
+            graph.now lattice elem rows self.old → IsGood graph.now lattice elem rows self.new) }
         ensures started { OnOk result (AreStarted graph.now lattice elem self.new) }
         ensures below { OnOk result (AllBelow graph.now (size_of self.new.marks)) }
     {
@@ -176,9 +186,10 @@ impl Search {
         requires below { AllBelow graph.now (size_of self.old.marks) }
         requires origin { StandsAt self.old origin.now.place origin.now.phase origin.now.at }
         requires over { IsOver graph.now lattice summaries.now passed.old self.old }
-        ensures good { OnOk result ((elem : ℕ) → IsGood graph.now lattice elem summaries.now self.old → IsGood graph.now lattice elem summaries.now self.new) }
+        ensures good { OnOk result (StaysGood graph.now lattice summaries.now self.old self.new) }
         ensures grows { OnOk result (Grows self.old self.new) }
-        ensures done { OnOk result (IsFollowed graph.now lattice summaries.now self.new origin.now.phase origin.now.at edge) }
+        ensures done { OnOk result (IsFollowed graph.now
+            lattice summaries.now self.new origin.now.phase origin.now.at edge) }
         ensures over { OnOk result (IsOver graph.now lattice summaries.now passed.new self.new) }
     {
         let constraint = graph.constraint(edge);
@@ -228,11 +239,13 @@ impl Search {
         requires lattice { lattice < 16 }
         requires below { AllBelow graph.now (size_of self.old.marks) }
         requires origin { StandsAt self.old origin.now.place origin.now.phase origin.now.at }
-        requires call { Stands graph.now lattice call.now.enter (Enter call.now.site origin.now.at call.now.inner) }
+        requires call { Stands graph.now lattice call.now.enter
+            (Enter call.now.site origin.now.at call.now.inner) }
         requires over { IsOver graph.now lattice summaries.now passed.old self.old }
-        ensures good { OnOk result ((elem : ℕ) → IsGood graph.now lattice elem summaries.now self.old → IsGood graph.now lattice elem summaries.now self.new) }
+        ensures good { OnOk result (StaysGood graph.now lattice summaries.now self.old self.new) }
         ensures grows { OnOk result (Grows self.old self.new) }
-        ensures done { OnOk result ((m : ℕ) → IsRounded graph.now lattice summaries.now self.new origin.now.phase call.now.site call.now.inner m) }
+        ensures done { OnOk result ((m : ℕ) → IsRounded graph.now
+            lattice summaries.now self.new origin.now.phase call.now.site call.now.inner m) }
         ensures over { OnOk result (IsOver graph.now lattice summaries.now passed.new self.new) }
     {
         let end = InnerEnd {
@@ -270,11 +283,14 @@ impl Search {
         requires lattice { lattice < 16 }
         requires below { AllBelow graph.now (size_of self.old.marks) }
         requires origin { StandsAt self.old origin.now.place origin.now.phase origin.now.at }
-        requires call { Stands graph.now lattice call.now.enter (Enter call.now.site origin.now.at call.now.inner) }
+        requires call { Stands graph.now lattice call.now.enter
+            (Enter call.now.site origin.now.at call.now.inner) }
         requires over { IsOver graph.now lattice summaries.now passed.old self.old }
-        ensures good { OnOk result ((elem : ℕ) → IsGood graph.now lattice elem summaries.now self.old → IsGood graph.now lattice elem summaries.now self.new) }
+        ensures good { OnOk result (StaysGood graph.now lattice summaries.now self.old self.new) }
         ensures grows { OnOk result (Grows self.old self.new) }
-        ensures done { OnOk result ((b m : ℕ) → HasPair summaries.now call.now.inner b → IsRoundedFrom graph.now lattice summaries.now self.new origin.now.phase call.now.site call.now.inner b m) }
+        ensures done { OnOk result
+            ((b m : ℕ) → HasPair summaries.now call.now.inner b → IsRoundedFrom graph.now
+            lattice summaries.now self.new origin.now.phase call.now.site call.now.inner b m) }
         ensures over { OnOk result (IsOver graph.now lattice summaries.now passed.new self.new) }
     {
         let mut next = summaries.newest_from(call.inner);
@@ -305,11 +321,13 @@ impl Search {
         requires lattice { lattice < 16 }
         requires below { AllBelow graph.now (size_of self.old.marks) }
         requires origin { StandsAt self.old origin.now.place origin.now.phase origin.now.at }
-        requires call { Stands graph.now lattice call.now.enter (Enter call.now.site origin.now.at call.now.inner) }
+        requires call { Stands graph.now lattice call.now.enter
+            (Enter call.now.site origin.now.at call.now.inner) }
         requires over { IsOver graph.now lattice summaries.now passed.old self.old }
-        ensures good { OnOk result ((elem : ℕ) → IsGood graph.now lattice elem summaries.now self.old → IsGood graph.now lattice elem summaries.now self.new) }
+        ensures good { OnOk result (StaysGood graph.now lattice summaries.now self.old self.new) }
         ensures grows { OnOk result (Grows self.old self.new) }
-        ensures done { OnOk result ((m : ℕ) → IsRoundedFrom graph.now lattice summaries.now self.new origin.now.phase call.now.site call.now.inner last m) }
+        ensures done { OnOk result ((m : ℕ) → IsRoundedFrom graph.now
+            lattice summaries.now self.new origin.now.phase call.now.site call.now.inner last m) }
         ensures over { OnOk result (IsOver graph.now lattice summaries.now passed.new self.new) }
     {
         if !summaries.leads(call.inner, last) {
@@ -346,10 +364,12 @@ impl Search {
         requires lattice { lattice < 16 }
         requires below { AllBelow graph.now (size_of self.old.marks) }
         requires origin { StandsAt self.old origin.now.place origin.now.phase origin.now.at }
-        requires call { Stands graph.now lattice call.now.enter (Enter call.now.site origin.now.at call.now.inner) }
-        ensures good { OnOk result ((elem : ℕ) → IsGood graph.now lattice elem summaries.now self.old → IsGood graph.now lattice elem summaries.now self.new) }
+        requires call { Stands graph.now lattice call.now.enter
+            (Enter call.now.site origin.now.at call.now.inner) }
+        ensures good { OnOk result (StaysGood graph.now lattice summaries.now self.old self.new) }
         ensures grows { OnOk result (Grows self.old self.new) }
-        ensures done { OnOk result ((m : ℕ) → IsRoundedFrom graph.now lattice summaries.now self.new origin.now.phase call.now.site call.now.inner last m) }
+        ensures done { OnOk result ((m : ℕ) → IsRoundedFrom graph.now
+            lattice summaries.now self.new origin.now.phase call.now.site call.now.inner last m) }
     {
         let end = InnerEnd {
             way: Way::Out,
@@ -379,10 +399,12 @@ impl Search {
         requires lattice { lattice < 16 }
         requires below { AllBelow graph.now (size_of self.old.marks) }
         requires origin { StandsAt self.old origin.now.place origin.now.phase origin.now.at }
-        requires call { Stands graph.now lattice call.now.enter (Enter call.now.site origin.now.at call.now.inner) }
-        ensures good { OnOk result ((elem : ℕ) → IsGood graph.now lattice elem summaries.now self.old → IsGood graph.now lattice elem summaries.now self.new) }
+        requires call { Stands graph.now lattice call.now.enter
+            (Enter call.now.site origin.now.at call.now.inner) }
+        ensures good { OnOk result (StaysGood graph.now lattice summaries.now self.old self.new) }
         ensures grows { OnOk result (Grows self.old self.new) }
-        ensures done { OnOk result (IsRounded graph.now lattice summaries.now self.new origin.now.phase call.now.site call.now.inner leave) }
+        ensures done { OnOk result (IsRounded graph.now
+            lattice summaries.now self.new origin.now.phase call.now.site call.now.inner leave) }
     {
         let back = graph.constraint(leave);
         if !back.is_in(lattice) {
@@ -422,9 +444,10 @@ impl Search {
         requires below { AllBelow graph.now (size_of self.old.marks) }
         requires origin { StandsAt self.old origin.now.place origin.now.phase origin.now.at }
         requires over { IsOver graph.now lattice summaries.now passed.old self.old }
-        ensures good { OnOk result ((elem : ℕ) → IsGood graph.now lattice elem summaries.now self.old → IsGood graph.now lattice elem summaries.now self.new) }
+        ensures good { OnOk result (StaysGood graph.now lattice summaries.now self.old self.new) }
         ensures grows { OnOk result (Grows self.old self.new) }
-        ensures done { OnOk result ((n : ℕ) → IsFollowed graph.now lattice summaries.now self.new origin.now.phase origin.now.at n) }
+        ensures done { OnOk result ((n : ℕ) →
+            IsFollowed graph.now lattice summaries.now self.new origin.now.phase origin.now.at n) }
         ensures over { OnOk result (IsOver graph.now lattice summaries.now passed.new self.new) }
     {
         for edge in index.out(origin.at) {
@@ -463,10 +486,11 @@ impl Search {
         requires lattice { lattice < 16 }
         requires below { AllBelow graph.now (size_of self.old.marks) }
         requires over { IsOver graph.now lattice summaries.now passed.old self.old }
-        ensures good { OnOk result ((elem : ℕ) → IsGood graph.now lattice elem summaries.now self.old → IsGood graph.now lattice elem summaries.now self.new) }
+        ensures good { OnOk result (StaysGood graph.now lattice summaries.now self.old self.new) }
         ensures grows { OnOk result (Grows self.old self.new) }
         ensures found { IfOk result (λ place. IfSome place (λ n. IsReachedAt self.new n target)) }
-        ensures none { IfOk result (λ place. IfNone place (IsClosed graph.now lattice summaries.now self.new target)) }
+        ensures none { IfOk result
+            (λ place. IfNone place (IsClosed graph.now lattice summaries.now self.new target)) }
     {
         let mut place = 0;
         while place < self.queue.len() {
@@ -523,8 +547,10 @@ pub fn reach(
     requires crossings { AreCrossings graph.now crossings.now }
     requires lattice { lattice < 16 }
     ensures good { IfOk result (λ found. IsGood graph.now lattice elem summaries.now found.search) }
-    ensures found { IfOk result (λ found. IfSome found.place (λ n. IsReachedAt found.search n target)) }
-    ensures none { IfOk result (λ found. Summarises graph.now lattice summaries.now → IfNone found.place (Lead graph.now lattice elem target → ⊥)) }
+    ensures found { IfOk result
+        (λ found. IfSome found.place (λ n. IsReachedAt found.search n target)) }
+    ensures none { IfOk result (λ found. Summarises graph.now lattice summaries.now →
+        IfNone found.place (Lead graph.now lattice elem target → ⊥)) }
 {
     let mut search = Search::new(alloc, graph)?;
     search.start(graph, lattice, elem)?;

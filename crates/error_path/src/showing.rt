@@ -1,6 +1,7 @@
 //! The path proof of an exceeded bound.
 
-ghost use Rattle.std.specs.Prelude.{◌≡◌, ℕ, ◌<◌, List, length, slice_get, IfOk, IfSome, OnOk, MatchOption, Some, reverse};
+ghost use Rattle.std.specs.Prelude.{◌≡◌, ℕ, ◌<◌, List, length, slice_get, IfOk, IfSome, OnOk};
+ghost use Rattle.std.specs.Prelude.{MatchOption, Some, reverse};
 ghost use Rattle.lattice_core.specs.View.{orders_of};
 ghost use Rattle.flow_graph.specs.declared.constraint.Link.TheVariants.{Bound};
 ghost use Rattle.flow_graph.specs.Index.{IsIndexOf};
@@ -16,7 +17,8 @@ ghost use Rattle.error_path.specs.declared.search.Reached.{Reached};
 ghost use Rattle.flow_graph.specs.Parts.{IsPath, Onward};
 ghost use Rattle.error_path.specs.Made.{subs_in, Extends, IsMade};
 ghost use Rattle.error_path.specs.Reaching.{AreSound, ComesBy, Earlier};
-ghost use Rattle.error_path.specs.Shown.{BeginsOver, EndsWith, HasNoLines, InLattice, IsExceededBySome, IsJoinedBy, IsShown};
+ghost use Rattle.error_path.specs.Shown.{BeginsOver, EndsWith, HasNoLines, InLattice};
+ghost use Rattle.error_path.specs.Shown.{IsExceededBySome, IsJoinedBy, IsShown};
 
 use crate::search::{Cause, Reached, reach};
 use crate::steps::{Pair, inner_ends, push_group, push_take};
@@ -41,7 +43,8 @@ fn number_of(
     requires joined { Leads summaries.now inner.now.from inner.now.to }
     ensures made { OnOk result (IsMade graph.now subs.new) }
     ensures extends { OnOk result (Extends subs.old subs.new) }
-    ensures number { IfOk result (λ number. IsJoinedBy graph.now (subs_in subs.new) number inner.now.from inner.now.to) }
+    ensures number { IfOk result
+        (λ number. IsJoinedBy graph.now (subs_in subs.new) number inner.now.from inner.now.to) }
 {
     if inner.from == inner.to {
         return Ok(None);
@@ -62,11 +65,20 @@ fn trace_step(
 ) -> Result<Option<usize>, NoMemory>
     requires made { IsMade graph.now subs.old }
     requires summaries { Summarises graph.now subs.old.lattice summaries.now }
-    requires comes { (elem : ℕ) × (queue : List Reached) × (place : ℕ) × (q : Phase) × (v : ℕ) × ComesBy graph.now subs.old.lattice elem summaries.now queue place q v cause.now }
+    requires comes { (elem : ℕ) × (queue : List Reached) × (place : ℕ) × (q : Phase) × (v : ℕ)
+        × ComesBy graph.now subs.old.lattice elem summaries.now queue place q v cause.now }
     ensures made { OnOk result (IsMade graph.now subs.new) }
     ensures extends { OnOk result (Extends subs.old subs.new) }
-    ensures earlier { IfOk result (λ next. (elem : ℕ) (queue : List Reached) (place : ℕ) (q : Phase) (v : ℕ) → ComesBy graph.now subs.old.lattice elem summaries.now queue place q v cause.now → IfSome next (λ from. Earlier queue from place)) }
-    ensures traced { IfOk result (λ next. (elem bound : ℕ) (queue : List Reached) (place : ℕ) (q : Phase) (v : ℕ) → ComesBy graph.now subs.old.lattice elem summaries.now queue place q v cause.now → Onward graph.now subs.old.lattice (subs_in subs.old) bound q v (reverse steps.old.items) → MatchOption next (IsPath graph.now subs.old.lattice (subs_in subs.new) elem bound (reverse steps.new.items)) (λ from. (e : Earlier queue from place) × Onward graph.now subs.old.lattice (subs_in subs.new) bound e.it.phase e.it.at (reverse steps.new.items))) }
+    ensures earlier { IfOk result (λ next. (elem : ℕ) (queue : List Reached) (place : ℕ) (q : Phase)
+        (v : ℕ) → ComesBy graph.now subs.old.lattice elem summaries.now queue place q v cause.now →
+        IfSome next (λ from. Earlier queue from place)) }
+    ensures traced { IfOk result
+        (λ next. (elem bound : ℕ) (queue : List Reached) (place : ℕ) (q : Phase) (v : ℕ) →
+        ComesBy graph.now subs.old.lattice elem summaries.now queue place q v cause.now →
+        Onward graph.now subs.old.lattice (subs_in subs.old) bound q v (reverse steps.old.items) →
+        MatchOption next (IsPath graph.now subs.old.lattice (subs_in subs.new) elem bound
+        (reverse steps.new.items)) (λ from. (e : Earlier queue from place) × Onward graph.now
+        subs.old.lattice (subs_in subs.new) bound e.it.phase e.it.at (reverse steps.new.items))) }
 {
     match cause {
         Cause::Start(edge) => {
@@ -99,10 +111,14 @@ fn trace(
     requires made { IsMade graph.now subs.old }
     requires summaries { Summarises graph.now subs.old.lattice summaries.now }
     requires place { place < length reached.now }
-    requires sound { (elem : ℕ) × AreSound graph.now subs.old.lattice elem summaries.now reached.now }
+    requires sound { (elem : ℕ)
+        × AreSound graph.now subs.old.lattice elem summaries.now reached.now }
     ensures made { OnOk result (IsMade graph.now subs.new) }
     ensures lattice { OnOk result (subs.new.lattice ≡ subs.old.lattice) }
-    ensures path { OnOk result ((elem bound : ℕ) (r : Reached) → AreSound graph.now subs.old.lattice elem summaries.now reached.now → slice_get reached.now place ≡ Some r → Onward graph.now subs.old.lattice (subs_in subs.old) bound r.phase r.at (reverse steps.old.items) → IsPath graph.now subs.old.lattice (subs_in subs.new) elem bound (reverse steps.new.items)) }
+    ensures path { OnOk result ((elem bound : ℕ) (r : Reached) → AreSound graph.now subs.old.lattice
+        elem summaries.now reached.now → slice_get reached.now place ≡ Some r → Onward
+        graph.now subs.old.lattice (subs_in subs.old) bound r.phase r.at (reverse steps.old.items) →
+        IsPath graph.now subs.old.lattice (subs_in subs.new) elem bound (reverse steps.new.items)) }
 {
     let mut place = place;
     loop {
@@ -136,9 +152,11 @@ fn show_from(
     requires crossings { AreCrossings graph.now crossings.now }
     requires lattice { target.now.lattice < 16 }
     requires summaries { Summarises graph.now target.now.lattice summaries.now }
-    requires bound { (e : ℕ) × Stands graph.now target.now.lattice target.now.bound (Bound target.now.at target.now.lattice e) }
+    requires bound { (e : ℕ) × Stands graph.now target.now.lattice target.now.bound
+        (Bound target.now.at target.now.lattice e) }
     requires lead { Lead graph.now target.now.lattice target.now.elem target.now.at }
-    ensures { IfOk result (λ proof. IsShown graph.now target.now.lattice target.now.elem target.now.bound proof) }
+    ensures { IfOk result
+        (λ proof. IsShown graph.now target.now.lattice target.now.elem target.now.bound proof) }
 {
     let found = reach(
         alloc,
@@ -190,12 +208,16 @@ pub fn show(
     requires solved { IsSolved graph.now solver.now }
     requires summaries { Summarises graph.now solver.now.lattice summaries.now }
     requires lattice { solver.now.lattice < length lattices.now }
-    requires named { InLattice lattices.now solver.now.lattice (NamesElementsIn graph.now solver.now.lattice) }
+    requires named { InLattice lattices.now solver.now.lattice
+        (NamesElementsIn graph.now solver.now.lattice) }
     requires bound { bound < length graph.now.constraints }
-    requires exceeded { InLattice lattices.now solver.now.lattice (λ order. IsExceededBySome graph.now solver.now order bound) }
-    ensures holds { IfOk result (λ proof. IsWellOwned graph.now → Holds graph.now (orders_of lattices.now) proof) }
+    requires exceeded { InLattice lattices.now solver.now.lattice
+        (λ order. IsExceededBySome graph.now solver.now order bound) }
+    ensures holds { IfOk result
+        (λ proof. IsWellOwned graph.now → Holds graph.now (orders_of lattices.now) proof) }
     ensures ends { IfOk result (EndsWith bound) }
-    ensures begins { IfOk result (λ proof. InLattice lattices.now solver.now.lattice (λ order. BeginsOver graph.now solver.now order bound proof)) }
+    ensures begins { IfOk result (λ proof. InLattice lattices.now solver.now.lattice
+        (λ order. BeginsOver graph.now solver.now order bound proof)) }
     ensures apart { IfOk result (λ proof. AreApart graph.now (steps_of proof.subs.items)) }
     ensures lines { IfOk result HasNoLines }
 {
@@ -214,15 +236,19 @@ pub fn show(
 fn target_of(graph: &FlowGraph, solver: &Solver, lattices: &Lattices, bound: EdgeId) -> Target
     requires solved { IsSolved graph.now solver.now }
     requires lattice { solver.now.lattice < length lattices.now }
-    requires named { InLattice lattices.now solver.now.lattice (NamesElementsIn graph.now solver.now.lattice) }
+    requires named { InLattice lattices.now solver.now.lattice
+        (NamesElementsIn graph.now solver.now.lattice) }
     requires bound { bound < length graph.now.constraints }
-    requires exceeded { InLattice lattices.now solver.now.lattice (λ order. IsExceededBySome graph.now solver.now order bound) }
+    requires exceeded { InLattice lattices.now solver.now.lattice
+        (λ order. IsExceededBySome graph.now solver.now order bound) }
     ensures lattice { result.lattice ≡ solver.now.lattice }
     ensures bound { result.bound ≡ bound }
     ensures low { result.lattice < 16 }
-    ensures stands { (e : ℕ) × Stands graph.now solver.now.lattice bound (Bound result.at solver.now.lattice e) }
+    ensures stands { (e : ℕ)
+        × Stands graph.now solver.now.lattice bound (Bound result.at solver.now.lattice e) }
     ensures lead { Lead graph.now solver.now.lattice result.elem result.at }
-    ensures exceeds { InLattice lattices.now solver.now.lattice (λ order. Exceeds graph.now solver.now order bound result.elem) }
+    ensures exceeds { InLattice lattices.now solver.now.lattice
+        (λ order. Exceeds graph.now solver.now order bound result.elem) }
 {
     let lattice = lattices.get(solver.lattice());
     let elem = solver.exceeded(graph, lattice, bound).unwrap();

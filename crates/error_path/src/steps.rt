@@ -38,7 +38,8 @@ pub fn push_group(
     number: Option<u32>,
     leave: EdgeId,
 ) -> Result<(), NoMemory>
-    ensures { OnOk result (Fronts (group_steps enter number leave) steps.old.items steps.new.items) }
+    ensures { OnOk result
+        (Fronts (group_steps enter number leave) steps.old.items steps.new.items) }
 {
     push_take(steps, leave)?;
     match number {
@@ -49,7 +50,9 @@ pub fn push_group(
 
 /// Adds the number of a sub-path, and the `Enter` in front of it.
 fn push_through(steps: &mut Vec<PathStep>, enter: EdgeId, number: u32) -> Result<(), NoMemory>
-    ensures { OnOk result (Fronts (Take enter 0 ∷ Rattle.flow_graph.specs.declared.proof.PathStep.TheVariants.Sub number 0 ∷ []) steps.old.items steps.new.items) }
+    ensures { OnOk result
+        (Fronts (Take enter 0 ∷ Rattle.flow_graph.specs.declared.proof.PathStep.TheVariants.Sub
+        number 0 ∷ []) steps.old.items steps.new.items) }
 {
     push(steps, PathStep::Sub { number, line: 0 })?;
     push_take(steps, enter)

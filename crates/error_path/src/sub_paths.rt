@@ -1,13 +1,15 @@
 //! Sub-paths that are made from the reasons of summaries, each pair of variables once.
 
-ghost use Rattle.std.specs.Prelude.{◌≡◌, ◌≢◌, ℕ, ◌<◌, [], ◌∷◌, ◌++◌, Some, None, OnOk, IfOk, IfNone, IfSome, length, reverse};
+ghost use Rattle.std.specs.Prelude.{◌≡◌, ◌≢◌, ℕ, ◌<◌, [], ◌∷◌, ◌++◌, Some, None, OnOk, IfOk};
+ghost use Rattle.std.specs.Prelude.{IfNone, IfSome, length, reverse};
 ghost use Rattle.flow_graph.specs.declared.proof.PathStep.TheVariants.{Sub};
 ghost use Rattle.flow_graph.specs.declared.place.Seen.TheVariants.{Through};
 ghost use Rattle.flow_graph.specs.System.{System};
 ghost use Rattle.flow_graph.specs.PathProofs.{look};
 ghost use Rattle.match_summary.specs.Summary.{HasPair, Summarises};
 ghost use Rattle.flow_graph.specs.Parts.{IsSub};
-ghost use Rattle.error_path.specs.Drafts.{AddsGroup, AreDrafts, IsDraft, IsDraftAfter, IsMissing, IsWritten, StayDrafts};
+ghost use Rattle.error_path.specs.Drafts.{AddsGroup, AreDrafts, IsDraft, IsDraftAfter, IsMissing};
+ghost use Rattle.error_path.specs.Drafts.{IsWritten, StayDrafts};
 ghost use Rattle.error_path.specs.Made.{number_in, place_of, subs_in, Extends, IsInner, IsMade};
 
 use crate::places::Places;
@@ -77,10 +79,14 @@ impl SubPaths {
 
     /// Adds a sub-path from a variable to another. More than `MOST_SUB_PATHS` are answered as want of memory.
     fn push(&mut self, pair: Pair, steps: Vec<PathStep>) -> Result<(), NoMemory>
-        ensures made { OnOk result ((sys : System) → IsMade sys self.old → IsSub sys self.old.lattice (subs_in self.old) pair.from pair.to steps.items → place_of self.old pair.from pair.to ≡ None → IsMade sys self.new) }
+        ensures made { OnOk result ((sys : System) → IsMade sys self.old →
+            IsSub sys self.old.lattice (subs_in self.old) pair.from pair.to steps.items →
+            place_of self.old pair.from pair.to ≡ None → IsMade sys self.new) }
         ensures extends { OnOk result (Extends self.old self.new) }
-        ensures here { OnOk result (place_of self.new pair.from pair.to ≡ Some (length self.old.paths.items)) }
-        ensures others { (u v : ℕ) → (u ≡ pair.from → v ≢ pair.to) → place_of self.new u v ≡ place_of self.old u v }
+        ensures here { OnOk result
+            (place_of self.new pair.from pair.to ≡ Some (length self.old.paths.items)) }
+        ensures others { (u v : ℕ) →
+            (u ≡ pair.from → v ≢ pair.to) → place_of self.new u v ≡ place_of self.old u v }
     {
         let at = self.paths.len();
         if at >= MOST_SUB_PATHS {
@@ -107,7 +113,8 @@ impl SubPaths {
         requires joined { HasPair summaries.now pair.now.from pair.now.to }
         ensures made { OnOk result (IsMade graph.now self.new) }
         ensures extends { OnOk result (Extends self.old self.new) }
-        ensures number { IfOk result (λ k. look graph.now (subs_in self.new) (Sub k 0) ≡ Through pair.now.from pair.now.to) }
+        ensures number { IfOk result
+            (λ k. look graph.now (subs_in self.new) (Sub k 0) ≡ Through pair.now.from pair.now.to) }
     {
         let mut waiting = Vec::new(alloc);
         loop {
@@ -141,11 +148,16 @@ impl SubPaths {
         requires summaries { Summarises graph.now self.now.lattice summaries.now }
         requires joined { HasPair summaries.now pair.now.from pair.now.to }
         requires free { place_of self.now pair.now.from pair.now.to ≡ None }
-        requires waiting { AreDrafts graph.now self.now.lattice summaries.now (subs_in self.now) waiting.old.items }
-        ensures waiting { OnOk result (AreDrafts graph.now self.now.lattice summaries.now (subs_in self.now) waiting.new.items) }
-        ensures sub { IfOk result (λ draft. IsSub graph.now self.now.lattice (subs_in self.now) draft.pair.from draft.pair.to (reverse draft.steps.items)) }
-        ensures joined { IfOk result (λ draft. HasPair summaries.now draft.pair.from draft.pair.to) }
-        ensures free { IfOk result (λ draft. place_of self.now draft.pair.from draft.pair.to ≡ None) }
+        requires waiting { AreDrafts graph.now self.now.lattice summaries.now
+            (subs_in self.now) waiting.old.items }
+        ensures waiting { OnOk result (AreDrafts graph.now self.now.lattice summaries.now
+            (subs_in self.now) waiting.new.items) }
+        ensures sub { IfOk result (λ draft. IsSub graph.now self.now.lattice
+            (subs_in self.now) draft.pair.from draft.pair.to (reverse draft.steps.items)) }
+        ensures joined { IfOk result
+            (λ draft. HasPair summaries.now draft.pair.from draft.pair.to) }
+        ensures free { IfOk result
+            (λ draft. place_of self.now draft.pair.from draft.pair.to ≡ None) }
     {
         let mut draft = self.last_waiting(alloc, waiting, pair);
         loop {
@@ -185,11 +197,16 @@ impl SubPaths {
     ) -> Result<Option<Pair>, NoMemory>
         requires made { IsMade graph.now self.now }
         requires summaries { Summarises graph.now self.now.lattice summaries.now }
-        requires draft { IsDraft graph.now self.now.lattice summaries.now (subs_in self.now) draft.old }
+        requires draft { IsDraft graph.now self.now.lattice summaries.now
+            (subs_in self.now) draft.old }
         ensures pair { OnOk result (draft.new.pair ≡ draft.old.pair) }
-        ensures whole { IfOk result (λ missing. IfNone missing (IsSub graph.now self.now.lattice (subs_in self.now) draft.old.pair.from draft.old.pair.to (reverse draft.new.steps.items))) }
-        ensures draft { IfOk result (λ missing. IfSome missing (λ pair. IsDraft graph.now self.now.lattice summaries.now (subs_in self.now) draft.new)) }
-        ensures missing { IfOk result (λ missing. IfSome missing (IsMissing summaries.now self.now draft.old)) }
+        ensures whole { IfOk result
+            (λ missing. IfNone missing (IsSub graph.now self.now.lattice (subs_in self.now)
+            draft.old.pair.from draft.old.pair.to (reverse draft.new.steps.items))) }
+        ensures draft { IfOk result (λ missing. IfSome missing (λ pair.
+            IsDraft graph.now self.now.lattice summaries.now (subs_in self.now) draft.new)) }
+        ensures missing { IfOk result
+            (λ missing. IfSome missing (IsMissing summaries.now self.now draft.old)) }
     {
         loop {
             if let Some(missing) = self.add_part(graph, summaries, draft)? {
@@ -213,9 +230,12 @@ impl SubPaths {
         requires summaries { Summarises graph.now self.now.lattice summaries.now }
         requires joined { HasPair summaries.now draft.old.pair.from draft.old.at }
         ensures pair { OnOk result (draft.new.pair ≡ draft.old.pair) }
-        ensures written { IfOk result (λ missing. IfNone missing (IsWritten graph.now self.now.lattice summaries.now (subs_in self.now) draft.old draft.new)) }
-        ensures same { IfOk result (λ missing. IfSome missing (λ pair. (draft.new.at ≡ draft.old.at) × (draft.new.steps.items ≡ draft.old.steps.items))) }
-        ensures missing { IfOk result (λ missing. IfSome missing (IsMissing summaries.now self.now draft.old)) }
+        ensures written { IfOk result (λ missing. IfNone missing (IsWritten graph.now
+            self.now.lattice summaries.now (subs_in self.now) draft.old draft.new)) }
+        ensures same { IfOk result (λ missing. IfSome missing (λ pair. (draft.new.at ≡ draft.old.at)
+            × (draft.new.steps.items ≡ draft.old.steps.items))) }
+        ensures missing { IfOk result
+            (λ missing. IfSome missing (IsMissing summaries.now self.now draft.old)) }
     {
         let why = summaries.why(draft.pair.from, draft.at).unwrap();
         match why {
@@ -251,9 +271,12 @@ impl SubPaths {
         requires made { IsMade graph.now self.now }
         requires enter { enter < length graph.now.constraints }
         requires leave { leave < length graph.now.constraints }
-        ensures written { IfOk result (λ missing. IfNone missing (AddsGroup graph.now self.now.lattice (subs_in self.now) enter leave steps.old.items steps.new.items)) }
-        ensures same { IfOk result (λ missing. IfSome missing (λ pair. steps.new.items ≡ steps.old.items)) }
-        ensures missing { IfOk result (λ missing. IfSome missing (λ pair. IsInner graph.now enter leave pair × (pair.from ≢ pair.to) × (place_of self.now pair.from pair.to ≡ None))) }
+        ensures written { IfOk result (λ missing. IfNone missing (AddsGroup graph.now
+            self.now.lattice (subs_in self.now) enter leave steps.old.items steps.new.items)) }
+        ensures same { IfOk result
+            (λ missing. IfSome missing (λ pair. steps.new.items ≡ steps.old.items)) }
+        ensures missing { IfOk result (λ missing. IfSome missing (λ pair. IsInner graph.now enter
+            leave pair × (pair.from ≢ pair.to) × (place_of self.now pair.from pair.to ≡ None))) }
     {
         let inner = inner_ends(graph, enter, leave);
         if inner.from == inner.to {

@@ -75,7 +75,8 @@ impl Link {
 
     /// The call that the link is.
     pub fn as_enter(self) -> Option<Crossing>
-        ensures { MatchOption result (IsNoEnter self) (λ call. self ≡ Enter call.site call.from call.to) }
+        ensures { MatchOption result
+            (IsNoEnter self) (λ call. self ≡ Enter call.site call.from call.to) }
     {
         match self {
             Link::Enter(site, from, to) => Some(Crossing { site, from, to }),
@@ -85,7 +86,8 @@ impl Link {
 
     /// The return that the link is.
     pub fn as_leave(self) -> Option<Crossing>
-        ensures { MatchOption result (IsNoLeave self) (λ back. self ≡ Leave back.site back.from back.to) }
+        ensures { MatchOption result
+            (IsNoLeave self) (λ back. self ≡ Leave back.site back.from back.to) }
     {
         match self {
             Link::Leave(site, from, to) => Some(Crossing { site, from, to }),
@@ -97,7 +99,8 @@ impl Link {
 impl Constraint {
     /// The bound that the constraint is in a lattice.
     pub fn bound_in(&self, lattice: LatticeNo) -> Option<Limit>
-        ensures { MatchOption result (IsNoBound self.now.link lattice) (λ limit. self.now.link ≡ Bound limit.at lattice limit.elem) }
+        ensures { MatchOption result (IsNoBound self.now.link lattice)
+            (λ limit. self.now.link ≡ Bound limit.at lattice limit.elem) }
     {
         match self.link {
             Link::Bound(at, named, elem) if named == lattice => Some(Limit { at, elem }),
@@ -107,7 +110,6 @@ impl Constraint {
 
     /// Whether the constraint is in a lattice.
     pub fn is_in(&self, lattice: LatticeNo) -> bool
-        requires { lattice < 16 }
         ensures { IsTrue result ↔ IsInLattice lattice self.now.link self.now.lattices }
     {
         is_link_in(self.link, self.lattices, lattice)
@@ -116,7 +118,6 @@ impl Constraint {
 
 /// Whether a link with a mask is in a lattice.
 fn is_link_in(link: Link, mask: u16, lattice: LatticeNo) -> bool
-    requires { lattice < 16 }
     ensures { IsTrue result ↔ IsInLattice lattice link mask }
 {
     match link {
@@ -137,9 +138,11 @@ fn are_one(one: LatticeNo, other: LatticeNo) -> bool
 
 /// Whether a mask has a lattice's bit.
 fn has(mask: u16, lattice: LatticeNo) -> bool
-    requires { lattice < 16 }
     ensures { IsTrue result ↔ (bit_at mask lattice ≡ 1) }
 {
+    if lattice.number() >= 16 {
+        return false;
+    }
     (mask >> lattice.number()) & 1 == 1
 }
 

@@ -1,8 +1,10 @@
 //! The list of constraints, the call sites, and who owns each variable.
 
-ghost use Rattle.std.specs.Prelude.{◌≡◌, ◌<◌, ◌≤◌, ◌-◌, ◌^◌, ℕ, [], ◌∷◌, ◌++◌, Some, max, length, slice_get, slice_index_or, IfOk, OnErr, OnOk, IsErrOf, ◌↔◌};
+ghost use Rattle.std.specs.Prelude.{◌≡◌, ◌<◌, ◌≤◌, ◌-◌, ◌^◌, ℕ, [], ◌∷◌, ◌++◌, Some, max, length};
+ghost use Rattle.std.specs.Prelude.{slice_get, slice_index_or, IfOk, OnErr, OnOk, IsErrOf, ◌↔◌};
 ghost use Rattle.qual_base.specs.declared.places.Owner.TheVariants.{Nobody};
-ghost use Rattle.flow_graph.specs.System.{owner_of, vars_of, AllBelow, AllWithin, IsWithin, SetsOwner};
+ghost use Rattle.flow_graph.specs.System.{owner_of, vars_of, AllBelow, AllWithin, IsWithin};
+ghost use Rattle.flow_graph.specs.System.{SetsOwner};
 
 use crate::constraint::{Constraint, Link, Site};
 use qual_base::{EdgeId, NoMemory, Numbered, Owner, SiteId, VarId};
@@ -63,7 +65,8 @@ impl FlowGraph {
     pub fn add_site(&mut self, site: Site) -> Result<SiteId, NoMemory>
         requires { length self.old.sites < 2 ^ 32 - 1 }
         ensures number { IfOk result (λ at. at ≡ length self.old.sites) }
-        ensures ok { OnOk result (self.new ≡ record self.old { sites = self.old.sites ++ site ∷ [] }) }
+        ensures ok { OnOk result
+            (self.new ≡ record self.old { sites = self.old.sites ++ site ∷ [] }) }
         ensures err { OnErr result (self.new ≡ self.old) }
     {
         let at = self.sites.len() as u32;
@@ -91,9 +94,11 @@ impl FlowGraph {
     pub fn add(&mut self, constraint: Constraint) -> Result<EdgeId, GraphFault>
         requires { IsWithin (length self.old.sites) constraint.link }
         ensures number { IfOk result (λ at. at ≡ length self.old.constraints) }
-        ensures ok { OnOk result (self.new ≡ record self.old { constraints = self.old.constraints ++ constraint ∷ [] }) }
+        ensures ok { OnOk result
+            (self.new ≡ record self.old { constraints = self.old.constraints ++ constraint ∷ [] }) }
         ensures err { OnErr result (self.new ≡ self.old) }
-        ensures too_many { IsErrOf result GraphFault.TooMany ↔ (length self.old.constraints ≡ MOST_CONSTRAINTS) }
+        ensures too_many { IsErrOf result GraphFault.TooMany
+            ↔ (length self.old.constraints ≡ MOST_CONSTRAINTS) }
     {
         let at = self.constraints.len() as u32;
         if at == MOST_CONSTRAINTS {
@@ -112,6 +117,7 @@ impl FlowGraph {
     /// What is true of every graph. It does nothing.
     pub fn law(&self)
         ensures few { length self.now.constraints ≤ MOST_CONSTRAINTS }
+        ensures within { AllWithin self.now }
     {
         let _ = &self.constraints;
     }
@@ -169,7 +175,8 @@ impl FlowGraph {
 /// Gives at least so many variables a place in the table of owners. The new ones belong to nobody.
 fn make_room(owners: &mut Vec<Owner>, count: usize) -> Result<(), NoMemory>
     ensures room { OnOk result (length owners.new.items ≡ max (length owners.old.items) count) }
-    ensures same { (v : ℕ) → slice_index_or owners.new.items v Nobody ≡ slice_index_or owners.old.items v Nobody }
+    ensures same { (v : ℕ) →
+        slice_index_or owners.new.items v Nobody ≡ slice_index_or owners.old.items v Nobody }
     ensures err { OnErr result (owners.new.items ≡ owners.old.items) }
 {
     if count <= owners.len() {

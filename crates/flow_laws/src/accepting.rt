@@ -1,6 +1,7 @@
 //! When a well owned system is accepted, what is printed of it, and which of its bounds are exceeded.
 
-ghost use Rattle.flow_laws.specs.Accepting.{CopiesStand, KeptIsAccepted, SolutionIsPrinted, ExceededIsOver, OverIsExceeded};
+ghost use Rattle.flow_laws.specs.Accepting.{CopiesStand, KeptIsAccepted, SolutionIsPrinted};
+ghost use Rattle.flow_laws.specs.Accepting.{ExceededIsOver, OverIsExceeded};
 ghost use Rattle.flow_laws.specs.Deciding.{TestsDecide, TestsSolve};
 
 /// Where it can be tested what reaches a copy, a least element above that stands.

@@ -1,6 +1,7 @@
 //! What a path proof that holds shows.
 
-ghost use Rattle.flow_laws.specs.Holding.{HoldsLeads, HoldsRefutes, HoldsRefutesWithin, HoldsIsUnmet, HoldsRejects};
+ghost use Rattle.flow_laws.specs.Holding.{HoldsLeads, HoldsRefutes, HoldsRefutesWithin};
+ghost use Rattle.flow_laws.specs.Holding.{HoldsIsUnmet, HoldsRejects};
 
 /// A path proof that holds leads from a constant to the bound that it ends in, which is not above the constant.
 pub fn holds_leads()

@@ -1,6 +1,7 @@
 //! Laws of every system.
 
-ghost use Rattle.flow_laws.specs.Laws.{LowerIsMet, SolutionStands, SafeKeepsBounds, NamesInEach, JoinsAreSolution, ListIsSolution};
+ghost use Rattle.flow_laws.specs.Laws.{LowerIsMet, SolutionStands, SafeKeepsBounds, NamesInEach};
+ghost use Rattle.flow_laws.specs.Laws.{JoinsAreSolution, ListIsSolution};
 ghost use Rattle.flow_laws.specs.Refuting.{LeadsForce, PathsRefute, ExceededIsRefuted};
 
 /// What meets the unfolding at a depth meets it at each lower one.

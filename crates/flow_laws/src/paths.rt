@@ -1,6 +1,7 @@
 //! Laws of paths.
 
-ghost use Rattle.flow_laws.specs.PathLaws.{MatchesJoin, ReturningGoesOn, CallingGoesOn, ReachesLeads, LeadsInside, ReachedIsTested};
+ghost use Rattle.flow_laws.specs.PathLaws.{MatchesJoin, ReturningGoesOn, CallingGoesOn};
+ghost use Rattle.flow_laws.specs.PathLaws.{ReachesLeads, LeadsInside, ReachedIsTested};
 
 /// Two paths inside a function, one behind the other, are one.
 pub fn matches_join()

@@ -8,6 +8,7 @@ use Rattle.flow_graph.specs.declared.graph.GraphFault.TheVariants.{TooMany}
 use Rattle.flow_graph.specs.System.{System, most_constraints}
 use Rattle.qual_types.specs.Table.{IsLink, IsSomeVar}
 use Rattle.flow_rules.specs.declared.arrow.Parts.{Parts}
+use Rattle.flow_rules.specs.declared.arrow.Style.{Style}
 use Rattle.flow_rules.specs.declared.arrow.Arrow.{Arrow}
 use Rattle.flow_rules.specs.declared.arrow.Arrow.TheVariants.{Flow, Cross}
 
@@ -27,6 +28,14 @@ pub record Stops (old new : System) (fault : GraphFault) (list : List Constraint
   pub some_left : added < length list
   pub part : new ≡ with old (take added list)
   pub cause : (fault ≡ TooMany) ↔ (length new.constraints ≡ most_constraints)
+
+-- the constraints of these links, in the style's lattices and from its tokens, stand behind what the system had
+abbrev pub Gains : System → System → Style → List Link → Type 0
+Gains old new style links = new ≡ with old (marked style.lattices style.span links)
+
+-- the adding of these links in a style stopped
+abbrev pub StopsIn : System → System → Style → List Link → GraphFault → Type 0
+StopsIn old new style links fault = Stops old new fault (marked style.lattices style.span links)
 
 -- a site that a graph has
 abbrev pub IsArrow : ℕ → Arrow → Type 0

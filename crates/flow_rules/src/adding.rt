@@ -6,7 +6,7 @@ ghost use Rattle.flow_graph.specs.System.{IsWithin};
 ghost use Rattle.flow_graph.specs.declared.constraint.Link.TheVariants.{Le};
 ghost use Rattle.qual_types.specs.Table.{IsVar, IsSomeVar};
 ghost use Rattle.flow_rules.specs.Lists.{pair, both, pair_some, both_some};
-ghost use Rattle.flow_rules.specs.Adding.{marked, with, Stops, IsArrow};
+ghost use Rattle.flow_rules.specs.Adding.{IsArrow, Gains, StopsIn};
 
 use crate::arrow::{Arrow, Style};
 use flow_graph::{Constraint, FlowGraph, GraphFault, Link};
@@ -15,8 +15,8 @@ use qual_base::VarId;
 /// Adds one constraint.
 pub fn add(graph: &mut FlowGraph, style: &Style, link: Link) -> Result<(), GraphFault>
     requires { IsWithin (length graph.old.sites) link }
-    ensures ok { OnOk result (graph.new ≡ with graph.old (marked style.now.lattices style.now.span (link ∷ []))) }
-    ensures err { IfErr result (λ fault. Stops graph.old graph.new fault (marked style.now.lattices style.now.span (link ∷ []))) }
+    ensures ok { OnOk result (Gains graph.old graph.new style.now (link ∷ [])) }
+    ensures err { IfErr result (StopsIn graph.old graph.new style.now (link ∷ [])) }
 {
     let constraint = Constraint {
         link,
@@ -40,10 +40,10 @@ pub fn add_pair(
     requires arrow { IsArrow (length graph.old.sites) style.now.arrow }
     requires one { IsVar one }
     requires other { IsVar other }
-    ensures ok { OnOk result (graph.new
-        ≡ with graph.old (marked style.now.lattices style.now.span (pair style.now.arrow forward one other))) }
-    ensures err { IfErr result (λ fault. Stops graph.old graph.new fault
-        (marked style.now.lattices style.now.span (pair style.now.arrow forward one other))) }
+    ensures ok { OnOk result
+        (Gains graph.old graph.new style.now (pair style.now.arrow forward one other)) }
+    ensures err { IfErr result
+        (StopsIn graph.old graph.new style.now (pair style.now.arrow forward one other)) }
 {
     add(graph, style, link_of(style, forward, one, other))
 }
@@ -81,10 +81,10 @@ pub fn add_both(
     requires arrow { IsArrow (length graph.old.sites) style.now.arrow }
     requires one { IsVar one }
     requires other { IsVar other }
-    ensures ok { OnOk result (graph.new
-        ≡ with graph.old (marked style.now.lattices style.now.span (both style.now.arrow forward one other))) }
-    ensures err { IfErr result (λ fault. Stops graph.old graph.new fault
-        (marked style.now.lattices style.now.span (both style.now.arrow forward one other))) }
+    ensures ok { OnOk result
+        (Gains graph.old graph.new style.now (both style.now.arrow forward one other)) }
+    ensures err { IfErr result
+        (StopsIn graph.old graph.new style.now (both style.now.arrow forward one other)) }
 {
     add_pair(graph, style, forward, one, other)?;
     add_pair(graph, style, !forward, one, other)
@@ -101,10 +101,10 @@ pub fn add_pair_some(
     requires arrow { IsArrow (length graph.old.sites) style.now.arrow }
     requires one { IsSomeVar one.now }
     requires other { IsSomeVar other.now }
-    ensures ok { OnOk result (graph.new
-        ≡ with graph.old (marked style.now.lattices style.now.span (pair_some style.now.arrow forward one.now other.now))) }
-    ensures err { IfErr result (λ fault. Stops graph.old graph.new fault
-        (marked style.now.lattices style.now.span (pair_some style.now.arrow forward one.now other.now))) }
+    ensures ok { OnOk result (Gains graph.old graph.new style.now
+        (pair_some style.now.arrow forward one.now other.now)) }
+    ensures err { IfErr result (StopsIn graph.old graph.new style.now
+        (pair_some style.now.arrow forward one.now other.now)) }
 {
     match one {
         Some(one) => match other {
@@ -126,10 +126,10 @@ pub fn add_both_some(
     requires arrow { IsArrow (length graph.old.sites) style.now.arrow }
     requires one { IsSomeVar one.now }
     requires other { IsSomeVar other.now }
-    ensures ok { OnOk result (graph.new
-        ≡ with graph.old (marked style.now.lattices style.now.span (both_some style.now.arrow forward one.now other.now))) }
-    ensures err { IfErr result (λ fault. Stops graph.old graph.new fault
-        (marked style.now.lattices style.now.span (both_some style.now.arrow forward one.now other.now))) }
+    ensures ok { OnOk result (Gains graph.old graph.new style.now
+        (both_some style.now.arrow forward one.now other.now)) }
+    ensures err { IfErr result (StopsIn graph.old graph.new style.now
+        (both_some style.now.arrow forward one.now other.now)) }
 {
     match one {
         Some(one) => match other {

@@ -5,8 +5,9 @@ ghost use Rattle.std.specs.Prelude.{◌≡◌, ◌∷◌, ◌++◌, [], not, len
 ghost use Rattle.qual_types.specs.Skel.{root, flat};
 ghost use Rattle.qual_types.specs.Rows.{skel_of, params_from};
 ghost use Rattle.qual_types.specs.Table.{IsVar, IsSomeVar};
-ghost use Rattle.flow_rules.specs.Lists.{equal, equals, equal_uneven, extra, both, both_some, collapsed};
-ghost use Rattle.flow_rules.specs.Adding.{marked, with, Stops, IsArrow, AreParts};
+ghost use Rattle.flow_rules.specs.Lists.{equal, equals, equal_uneven, extra, both, both_some};
+ghost use Rattle.flow_rules.specs.Lists.{collapsed};
+ghost use Rattle.flow_rules.specs.Adding.{IsArrow, AreParts, Gains, StopsIn};
 
 use crate::adding::{add_both, add_both_some};
 use crate::arrow::{Parts, Style};
@@ -25,10 +26,10 @@ fn equate_uneven(
     other: SkelId,
 ) -> Result<(), GraphFault>
     requires arrow { IsArrow (length graph.old.sites) style.now.arrow }
-    ensures ok { OnOk result (graph.new
-        ≡ with graph.old (marked style.now.lattices style.now.span (equal_uneven style.now.arrow forward (skel_of vars.now one) (skel_of vars.now other)))) }
-    ensures err { IfErr result (λ fault. Stops graph.old graph.new fault
-        (marked style.now.lattices style.now.span (equal_uneven style.now.arrow forward (skel_of vars.now one) (skel_of vars.now other)))) }
+    ensures ok { OnOk result (Gains graph.old graph.new style.now
+        (equal_uneven style.now.arrow forward (skel_of vars.now one) (skel_of vars.now other))) }
+    ensures err { IfErr result (StopsIn graph.old graph.new style.now
+        (equal_uneven style.now.arrow forward (skel_of vars.now one) (skel_of vars.now other))) }
 {
     add_both(graph, style, forward, vars.var(one), vars.var(other))?;
     collapse(vars, graph, style, forward, one, other)
@@ -45,10 +46,10 @@ pub fn make_equal(
     other: SkelId,
 ) -> Result<(), GraphFault>
     requires arrow { IsArrow (length graph.old.sites) style.now.arrow }
-    ensures ok { OnOk result (graph.new
-        ≡ with graph.old (marked style.now.lattices style.now.span (equal style.now.arrow forward (skel_of vars.now one) (skel_of vars.now other)))) }
-    ensures err { IfErr result (λ fault. Stops graph.old graph.new fault
-        (marked style.now.lattices style.now.span (equal style.now.arrow forward (skel_of vars.now one) (skel_of vars.now other)))) }
+    ensures ok { OnOk result (Gains graph.old graph.new style.now
+        (equal style.now.arrow forward (skel_of vars.now one) (skel_of vars.now other))) }
+    ensures err { IfErr result (StopsIn graph.old graph.new style.now
+        (equal style.now.arrow forward (skel_of vars.now one) (skel_of vars.now other))) }
 {
     match vars.look(one) {
         Look::Flat(u, _) => match vars.look(other) {
@@ -110,16 +111,16 @@ fn equal_rest(
     requires arrow { IsArrow (length graph.old.sites) style.now.arrow }
     requires mine { AreParts (length vars.now) one mine.now }
     requires theirs { IsSomeVar theirs.now.ellipsis }
-    ensures ok { OnOk result (graph.new
-        ≡ with graph.old (marked style.now.lattices style.now.span (extra style.now.arrow forward
-        (params_from vars.now mine.now.first) mine.now.ellipsis (params_from vars.now theirs.now.first) theirs.now.ellipsis
-        ++ (equal style.now.arrow forward (skel_of vars.now mine.now.back) (skel_of vars.now theirs.now.back)
-        ++ both_some style.now.arrow forward mine.now.ellipsis theirs.now.ellipsis)))) }
-    ensures err { IfErr result (λ fault. Stops graph.old graph.new fault
-        (marked style.now.lattices style.now.span (extra style.now.arrow forward
-        (params_from vars.now mine.now.first) mine.now.ellipsis (params_from vars.now theirs.now.first) theirs.now.ellipsis
-        ++ (equal style.now.arrow forward (skel_of vars.now mine.now.back) (skel_of vars.now theirs.now.back)
-        ++ both_some style.now.arrow forward mine.now.ellipsis theirs.now.ellipsis)))) }
+    ensures ok { OnOk result (Gains graph.old graph.new style.now
+        (extra style.now.arrow forward (params_from vars.now mine.now.first) mine.now.ellipsis
+        (params_from vars.now theirs.now.first) theirs.now.ellipsis ++ (equal style.now.arrow
+        forward (skel_of vars.now mine.now.back) (skel_of vars.now theirs.now.back)
+        ++ both_some style.now.arrow forward mine.now.ellipsis theirs.now.ellipsis))) }
+    ensures err { IfErr result (StopsIn graph.old graph.new style.now
+        (extra style.now.arrow forward (params_from vars.now mine.now.first) mine.now.ellipsis
+        (params_from vars.now theirs.now.first) theirs.now.ellipsis ++ (equal style.now.arrow
+        forward (skel_of vars.now mine.now.back) (skel_of vars.now theirs.now.back)
+        ++ both_some style.now.arrow forward mine.now.ellipsis theirs.now.ellipsis))) }
 {
     add_extra(vars, graph, style, forward, mine, theirs)?;
     make_equal(vars, graph, style, forward, mine.back, theirs.back)?;
@@ -137,10 +138,10 @@ fn equal_params(
     other: SkelId,
 ) -> Result<(), GraphFault>
     requires arrow { IsArrow (length graph.old.sites) style.now.arrow }
-    ensures ok { OnOk result (graph.new
-        ≡ with graph.old (marked style.now.lattices style.now.span (equals style.now.arrow forward (params_from vars.now one) (params_from vars.now other)))) }
-    ensures err { IfErr result (λ fault. Stops graph.old graph.new fault
-        (marked style.now.lattices style.now.span (equals style.now.arrow forward (params_from vars.now one) (params_from vars.now other)))) }
+    ensures ok { OnOk result (Gains graph.old graph.new style.now
+        (equals style.now.arrow forward (params_from vars.now one) (params_from vars.now other))) }
+    ensures err { IfErr result (StopsIn graph.old graph.new style.now
+        (equals style.now.arrow forward (params_from vars.now one) (params_from vars.now other))) }
 {
     match vars.next_part(one) {
         Some(next) => match vars.next_part(other) {

@@ -5,8 +5,9 @@ ghost use Rattle.std.specs.Prelude.{◌≡◌, ◌∷◌, ◌++◌, [], not, len
 ghost use Rattle.qual_types.specs.Skel.{root, flat};
 ghost use Rattle.qual_types.specs.Rows.{skel_of, params_from};
 ghost use Rattle.qual_types.specs.Table.{IsVar, IsSomeVar};
-ghost use Rattle.flow_rules.specs.Lists.{flow, flows, flow_uneven, equal, extra, pair, pair_some, collapsed};
-ghost use Rattle.flow_rules.specs.Adding.{marked, with, Stops, IsArrow, AreParts};
+ghost use Rattle.flow_rules.specs.Lists.{flow, flows, flow_uneven, equal, extra, pair, pair_some};
+ghost use Rattle.flow_rules.specs.Lists.{collapsed};
+ghost use Rattle.flow_rules.specs.Adding.{IsArrow, AreParts, Gains, StopsIn};
 
 use crate::adding::{add_pair, add_pair_some};
 use crate::arrow::{Parts, Style};
@@ -26,10 +27,10 @@ fn flow_into_uneven(
     other: SkelId,
 ) -> Result<(), GraphFault>
     requires arrow { IsArrow (length graph.old.sites) style.now.arrow }
-    ensures ok { OnOk result (graph.new
-        ≡ with graph.old (marked style.now.lattices style.now.span (flow_uneven style.now.arrow forward (skel_of vars.now one) (skel_of vars.now other)))) }
-    ensures err { IfErr result (λ fault. Stops graph.old graph.new fault
-        (marked style.now.lattices style.now.span (flow_uneven style.now.arrow forward (skel_of vars.now one) (skel_of vars.now other)))) }
+    ensures ok { OnOk result (Gains graph.old graph.new style.now
+        (flow_uneven style.now.arrow forward (skel_of vars.now one) (skel_of vars.now other))) }
+    ensures err { IfErr result (StopsIn graph.old graph.new style.now
+        (flow_uneven style.now.arrow forward (skel_of vars.now one) (skel_of vars.now other))) }
 {
     add_pair(graph, style, forward, vars.var(one), vars.var(other))?;
     collapse(vars, graph, style, forward, one, other)
@@ -46,10 +47,10 @@ pub fn flow_into(
     other: SkelId,
 ) -> Result<(), GraphFault>
     requires arrow { IsArrow (length graph.old.sites) style.now.arrow }
-    ensures ok { OnOk result (graph.new
-        ≡ with graph.old (marked style.now.lattices style.now.span (flow style.now.arrow forward (skel_of vars.now one) (skel_of vars.now other)))) }
-    ensures err { IfErr result (λ fault. Stops graph.old graph.new fault
-        (marked style.now.lattices style.now.span (flow style.now.arrow forward (skel_of vars.now one) (skel_of vars.now other)))) }
+    ensures ok { OnOk result (Gains graph.old graph.new style.now
+        (flow style.now.arrow forward (skel_of vars.now one) (skel_of vars.now other))) }
+    ensures err { IfErr result (StopsIn graph.old graph.new style.now
+        (flow style.now.arrow forward (skel_of vars.now one) (skel_of vars.now other))) }
 {
     match vars.look(one) {
         Look::Flat(u, _) => match vars.look(other) {
@@ -111,16 +112,16 @@ fn flow_rest(
     requires arrow { IsArrow (length graph.old.sites) style.now.arrow }
     requires mine { AreParts (length vars.now) one mine.now }
     requires theirs { IsSomeVar theirs.now.ellipsis }
-    ensures ok { OnOk result (graph.new
-        ≡ with graph.old (marked style.now.lattices style.now.span (extra style.now.arrow forward
-        (params_from vars.now mine.now.first) mine.now.ellipsis (params_from vars.now theirs.now.first) theirs.now.ellipsis
-        ++ (flow style.now.arrow forward (skel_of vars.now mine.now.back) (skel_of vars.now theirs.now.back)
-        ++ pair_some style.now.arrow (not forward) mine.now.ellipsis theirs.now.ellipsis)))) }
-    ensures err { IfErr result (λ fault. Stops graph.old graph.new fault
-        (marked style.now.lattices style.now.span (extra style.now.arrow forward
-        (params_from vars.now mine.now.first) mine.now.ellipsis (params_from vars.now theirs.now.first) theirs.now.ellipsis
-        ++ (flow style.now.arrow forward (skel_of vars.now mine.now.back) (skel_of vars.now theirs.now.back)
-        ++ pair_some style.now.arrow (not forward) mine.now.ellipsis theirs.now.ellipsis)))) }
+    ensures ok { OnOk result (Gains graph.old graph.new style.now
+        (extra style.now.arrow forward (params_from vars.now mine.now.first) mine.now.ellipsis
+        (params_from vars.now theirs.now.first) theirs.now.ellipsis ++ (flow style.now.arrow forward
+        (skel_of vars.now mine.now.back) (skel_of vars.now theirs.now.back)
+        ++ pair_some style.now.arrow (not forward) mine.now.ellipsis theirs.now.ellipsis))) }
+    ensures err { IfErr result (StopsIn graph.old graph.new style.now
+        (extra style.now.arrow forward (params_from vars.now mine.now.first) mine.now.ellipsis
+        (params_from vars.now theirs.now.first) theirs.now.ellipsis ++ (flow style.now.arrow forward
+        (skel_of vars.now mine.now.back) (skel_of vars.now theirs.now.back)
+        ++ pair_some style.now.arrow (not forward) mine.now.ellipsis theirs.now.ellipsis))) }
 {
     add_extra(vars, graph, style, forward, mine, theirs)?;
     flow_into(vars, graph, style, forward, mine.back, theirs.back)?;
@@ -138,10 +139,10 @@ fn flow_params(
     other: SkelId,
 ) -> Result<(), GraphFault>
     requires arrow { IsArrow (length graph.old.sites) style.now.arrow }
-    ensures ok { OnOk result (graph.new
-        ≡ with graph.old (marked style.now.lattices style.now.span (flows style.now.arrow forward (params_from vars.now one) (params_from vars.now other)))) }
-    ensures err { IfErr result (λ fault. Stops graph.old graph.new fault
-        (marked style.now.lattices style.now.span (flows style.now.arrow forward (params_from vars.now one) (params_from vars.now other)))) }
+    ensures ok { OnOk result (Gains graph.old graph.new style.now
+        (flows style.now.arrow forward (params_from vars.now one) (params_from vars.now other))) }
+    ensures err { IfErr result (StopsIn graph.old graph.new style.now
+        (flows style.now.arrow forward (params_from vars.now one) (params_from vars.now other))) }
 {
     match vars.next_part(one) {
         Some(next) => match vars.next_part(other) {

@@ -14,8 +14,8 @@ pub fn flows_stay()
         AllIn own owner (nodes b) → AllStay own owner (flow Flow true a b) }
     ensures equate { (own : ℕ → Owner) (owner : Owner) (a b : Skel) → AllIn own owner (nodes a) →
         AllIn own owner (nodes b) → AllStay own owner (equal Flow true a b) }
-    ensures smash { (own : ℕ → Owner) (owner : Owner) (a : Skel) (e : ℕ) → AllIn own owner (nodes a) →
-        IsIn own owner e → AllStay own owner (smash a e) }
+    ensures smash { (own : ℕ → Owner) (owner : Owner) (a : Skel) (e : ℕ) →
+        AllIn own owner (nodes a) → IsIn own owner e → AllStay own owner (smash a e) }
     ensures unsmash { (own : ℕ → Owner) (owner : Owner) (e : ℕ) (b : Skel) → IsIn own owner e →
         AllIn own owner (nodes b) → AllStay own owner (unsmash e b) }
 {}
@@ -23,8 +23,8 @@ pub fn flows_stay()
 /// Where all variables of a signature belong to one owner and all of an instance to another, each call of the site leads
 /// from the instance's owner to the signature's, and each return back. It does nothing.
 pub fn crossings_lead()
-    ensures { (own : ℕ → Owner) (outer inner : Owner) (site : ℕ) (a b : Skel) → AllOwned own inner (nodes a) →
-        AllOwned own outer (nodes b) → AllLead own outer inner site (cross site a b) }
+    ensures { (own : ℕ → Owner) (outer inner : Owner) (site : ℕ) (a b : Skel) → AllOwned own inner
+        (nodes a) → AllOwned own outer (nodes b) → AllLead own outer inner site (cross site a b) }
 {}
 
 /// The list that is read with the flag turned is that of the skeletons exchanged. It does nothing.

@@ -9,8 +9,9 @@ ghost use Rattle.qual_types.specs.Skel.{root, strict_nodes};
 ghost use Rattle.qual_types.specs.Rows.{skel_of};
 ghost use Rattle.qual_types.specs.Table.{IsVar};
 ghost use Rattle.flow_rules.specs.declared.arrow.Arrow.TheVariants.{Flow, Cross};
-ghost use Rattle.flow_rules.specs.Lists.{flow, equal, cross, smash, unsmash, cross_by, smash_by, unsmash_by, pair, tied};
-ghost use Rattle.flow_rules.specs.Adding.{marked, with, Stops, IsArrow};
+ghost use Rattle.flow_rules.specs.Lists.{flow, equal, cross, smash, unsmash, cross_by, smash_by};
+ghost use Rattle.flow_rules.specs.Lists.{unsmash_by, pair, tied};
+ghost use Rattle.flow_rules.specs.Adding.{marked, with, Stops, IsArrow, Gains, StopsIn};
 
 use crate::adding::add_pair;
 use crate::arrow::{Arrow, Style};
@@ -31,8 +32,10 @@ pub fn flow(
     lattices: u16,
     span: Span,
 ) -> Result<(), GraphFault>
-    ensures ok { OnOk result (graph.new ≡ with graph.old (marked lattices span (flow Flow true (skel_of vars.now from) (skel_of vars.now to)))) }
-    ensures err { IfErr result (λ fault. Stops graph.old graph.new fault (marked lattices span (flow Flow true (skel_of vars.now from) (skel_of vars.now to)))) }
+    ensures ok { OnOk result (graph.new ≡ with graph.old
+        (marked lattices span (flow Flow true (skel_of vars.now from) (skel_of vars.now to)))) }
+    ensures err { IfErr result (λ fault. Stops graph.old graph.new fault
+        (marked lattices span (flow Flow true (skel_of vars.now from) (skel_of vars.now to)))) }
 {
     let style = plain(lattices, span);
     flow_into(vars, graph, &style, true, from, to)
@@ -47,8 +50,10 @@ pub fn equate(
     lattices: u16,
     span: Span,
 ) -> Result<(), GraphFault>
-    ensures ok { OnOk result (graph.new ≡ with graph.old (marked lattices span (equal Flow true (skel_of vars.now one) (skel_of vars.now other)))) }
-    ensures err { IfErr result (λ fault. Stops graph.old graph.new fault (marked lattices span (equal Flow true (skel_of vars.now one) (skel_of vars.now other)))) }
+    ensures ok { OnOk result (graph.new ≡ with graph.old
+        (marked lattices span (equal Flow true (skel_of vars.now one) (skel_of vars.now other)))) }
+    ensures err { IfErr result (λ fault. Stops graph.old graph.new fault
+        (marked lattices span (equal Flow true (skel_of vars.now one) (skel_of vars.now other)))) }
 {
     let style = plain(lattices, span);
     make_equal(vars, graph, &style, true, one, other)
@@ -66,8 +71,10 @@ pub fn cross(
     span: Span,
 ) -> Result<(), GraphFault>
     requires { site < length graph.old.sites }
-    ensures ok { OnOk result (graph.new ≡ with graph.old (marked lattices span (cross site (skel_of vars.now signature) (skel_of vars.now instance)))) }
-    ensures err { IfErr result (λ fault. Stops graph.old graph.new fault (marked lattices span (cross site (skel_of vars.now signature) (skel_of vars.now instance)))) }
+    ensures ok { OnOk result (graph.new ≡ with graph.old (marked lattices span
+        (cross site (skel_of vars.now signature) (skel_of vars.now instance)))) }
+    ensures err { IfErr result (λ fault. Stops graph.old graph.new fault (marked lattices span
+        (cross site (skel_of vars.now signature) (skel_of vars.now instance)))) }
 {
     let style = Style {
         arrow: Arrow::Cross(site),
@@ -87,8 +94,10 @@ pub fn smash(
     span: Span,
 ) -> Result<(), GraphFault>
     requires { IsVar into }
-    ensures ok { OnOk result (graph.new ≡ with graph.old (marked lattices span (smash (skel_of vars.now from) into))) }
-    ensures err { IfErr result (λ fault. Stops graph.old graph.new fault (marked lattices span (smash (skel_of vars.now from) into))) }
+    ensures ok { OnOk result
+        (graph.new ≡ with graph.old (marked lattices span (smash (skel_of vars.now from) into))) }
+    ensures err { IfErr result (λ fault. Stops graph.old graph.new fault
+        (marked lattices span (smash (skel_of vars.now from) into))) }
 {
     let style = plain(lattices, span);
     smash_into(vars, graph, &style, from, into)
@@ -104,8 +113,10 @@ pub fn unsmash(
     span: Span,
 ) -> Result<(), GraphFault>
     requires { IsVar from }
-    ensures ok { OnOk result (graph.new ≡ with graph.old (marked lattices span (unsmash from (skel_of vars.now to)))) }
-    ensures err { IfErr result (λ fault. Stops graph.old graph.new fault (marked lattices span (unsmash from (skel_of vars.now to)))) }
+    ensures ok { OnOk result
+        (graph.new ≡ with graph.old (marked lattices span (unsmash from (skel_of vars.now to)))) }
+    ensures err { IfErr result (λ fault. Stops graph.old graph.new fault
+        (marked lattices span (unsmash from (skel_of vars.now to)))) }
 {
     let style = plain(lattices, span);
     unsmash_into(vars, graph, &style, from, to)
@@ -131,10 +142,10 @@ fn smash_into(
 ) -> Result<(), GraphFault>
     requires arrow { IsArrow (length graph.old.sites) style.now.arrow }
     requires into { IsVar into }
-    ensures ok { OnOk result (graph.new
-        ≡ with graph.old (marked style.now.lattices style.now.span (smash_by style.now.arrow (skel_of vars.now from) into))) }
-    ensures err { IfErr result (λ fault. Stops graph.old graph.new fault
-        (marked style.now.lattices style.now.span (smash_by style.now.arrow (skel_of vars.now from) into))) }
+    ensures ok { OnOk result (Gains graph.old graph.new style.now
+        (smash_by style.now.arrow (skel_of vars.now from) into)) }
+    ensures err { IfErr result (StopsIn graph.old graph.new style.now
+        (smash_by style.now.arrow (skel_of vars.now from) into)) }
 {
     add_pair(graph, style, true, vars.var(from), into)?;
     tie_inner(vars, graph, style, from, into)
@@ -149,10 +160,10 @@ fn unsmash_into(
 ) -> Result<(), GraphFault>
     requires arrow { IsArrow (length graph.old.sites) style.now.arrow }
     requires from { IsVar from }
-    ensures ok { OnOk result (graph.new
-        ≡ with graph.old (marked style.now.lattices style.now.span (unsmash_by style.now.arrow from (skel_of vars.now to)))) }
-    ensures err { IfErr result (λ fault. Stops graph.old graph.new fault
-        (marked style.now.lattices style.now.span (unsmash_by style.now.arrow from (skel_of vars.now to)))) }
+    ensures ok { OnOk result (Gains graph.old graph.new style.now
+        (unsmash_by style.now.arrow from (skel_of vars.now to))) }
+    ensures err { IfErr result (StopsIn graph.old graph.new style.now
+        (unsmash_by style.now.arrow from (skel_of vars.now to))) }
 {
     add_pair(graph, style, true, from, vars.var(to))?;
     tie_inner(vars, graph, style, to, from)
@@ -166,10 +177,10 @@ fn cross_into(
     instance: SkelId,
 ) -> Result<(), GraphFault>
     requires arrow { IsArrow (length graph.old.sites) style.now.arrow }
-    ensures ok { OnOk result (graph.new
-        ≡ with graph.old (marked style.now.lattices style.now.span (cross_by style.now.arrow (skel_of vars.now signature) (skel_of vars.now instance)))) }
-    ensures err { IfErr result (λ fault. Stops graph.old graph.new fault
-        (marked style.now.lattices style.now.span (cross_by style.now.arrow (skel_of vars.now signature) (skel_of vars.now instance)))) }
+    ensures ok { OnOk result (Gains graph.old graph.new style.now
+        (cross_by style.now.arrow (skel_of vars.now signature) (skel_of vars.now instance))) }
+    ensures err { IfErr result (StopsIn graph.old graph.new style.now
+        (cross_by style.now.arrow (skel_of vars.now signature) (skel_of vars.now instance))) }
 {
     match vars.look(signature) {
         Look::Ref(u, a) => match vars.look(instance) {

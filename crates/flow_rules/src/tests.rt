@@ -17,7 +17,8 @@ use type_table::{Shape, TypeTable};
 /// A type without words.
 fn plain(alloc: Global, types: &mut TypeTable, shape: Shape) -> Result<TypeId, NoMemory>
     requires { AreParts (length types.old) shape }
-    ensures { IfOk result (λ ty. (ty ≡ length types.old) × (length types.new ≡ length types.old + 1)) }
+    ensures { IfOk result
+        (λ ty. (ty ≡ length types.old) × (length types.new ≡ length types.old + 1)) }
 {
     types.push(shape, Vec::new(alloc), Vec::new(alloc))
 }
@@ -93,7 +94,8 @@ fn function(
 ) -> Result<TypeId, NoMemory>
     requires params { AreBelow (length types.old) params.items }
     requires base { 0 < length types.old }
-    ensures { IfOk result (λ ty. (ty ≡ length types.old) × (length types.new ≡ length types.old + 1)) }
+    ensures { IfOk result
+        (λ ty. (ty ≡ length types.old) × (length types.new ≡ length types.old + 1)) }
 {
     plain(
         alloc,

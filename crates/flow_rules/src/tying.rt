@@ -6,7 +6,7 @@ ghost use Rattle.qual_types.specs.Skel.{root, nodes, all_nodes, strict_nodes, of
 ghost use Rattle.qual_types.specs.Rows.{skel_of, params_from};
 ghost use Rattle.qual_types.specs.Table.{IsVar, IsSomeVar};
 ghost use Rattle.flow_rules.specs.Lists.{tied, tied_some, collapsed, extra, past};
-ghost use Rattle.flow_rules.specs.Adding.{marked, with, Stops, AreParts};
+ghost use Rattle.flow_rules.specs.Adding.{AreParts, Gains, StopsIn};
 
 use crate::adding::add;
 use crate::arrow::{Arrow, Parts, Style};
@@ -19,10 +19,10 @@ use qual_types::{Look, VarTable};
 fn tie(graph: &mut FlowGraph, style: &Style, one: VarId, other: VarId) -> Result<(), GraphFault>
     requires one { IsVar one }
     requires other { IsVar other }
-    ensures ok { OnOk result (graph.new
-        ≡ with graph.old (marked style.now.lattices style.now.span (Rattle.flow_rules.specs.Lists.tie one other))) }
-    ensures err { IfErr result (λ fault. Stops graph.old graph.new fault
-        (marked style.now.lattices style.now.span (Rattle.flow_rules.specs.Lists.tie one other))) }
+    ensures ok { OnOk result
+        (Gains graph.old graph.new style.now (Rattle.flow_rules.specs.Lists.tie one other)) }
+    ensures err { IfErr result
+        (StopsIn graph.old graph.new style.now (Rattle.flow_rules.specs.Lists.tie one other)) }
 {
     add(graph, style, Link::Le(one, other))?;
     add(graph, style, Link::Le(other, one))
@@ -37,10 +37,9 @@ fn tie_some(
 ) -> Result<(), GraphFault>
     requires one { IsSomeVar one.now }
     requires other { IsVar other }
-    ensures ok { OnOk result (graph.new
-        ≡ with graph.old (marked style.now.lattices style.now.span (tied (of_some one.now) other))) }
-    ensures err { IfErr result (λ fault. Stops graph.old graph.new fault
-        (marked style.now.lattices style.now.span (tied (of_some one.now) other))) }
+    ensures ok { OnOk result (Gains graph.old graph.new style.now (tied (of_some one.now) other)) }
+    ensures err { IfErr result
+        (StopsIn graph.old graph.new style.now (tied (of_some one.now) other)) }
 {
     match one {
         Some(one) => tie(graph, style, *one, other),
@@ -58,10 +57,10 @@ pub fn tie_nodes(
     other: VarId,
 ) -> Result<(), GraphFault>
     requires { IsVar other }
-    ensures ok { OnOk result (graph.new
-        ≡ with graph.old (marked style.now.lattices style.now.span (tied (nodes (skel_of vars.now of)) other))) }
-    ensures err { IfErr result (λ fault. Stops graph.old graph.new fault
-        (marked style.now.lattices style.now.span (tied (nodes (skel_of vars.now of)) other))) }
+    ensures ok { OnOk result
+        (Gains graph.old graph.new style.now (tied (nodes (skel_of vars.now of)) other)) }
+    ensures err { IfErr result
+        (StopsIn graph.old graph.new style.now (tied (nodes (skel_of vars.now of)) other)) }
 {
     match vars.look(of) {
         Look::Flat(var, _) => tie(graph, style, var, other),
@@ -98,12 +97,12 @@ fn tie_parts(
 ) -> Result<(), GraphFault>
     requires other { IsVar other }
     requires parts { AreParts (length vars.now) of parts.now }
-    ensures ok { OnOk result (graph.new
-        ≡ with graph.old (marked style.now.lattices style.now.span (tied (all_nodes (params_from vars.now parts.now.first)
-        ++ (nodes (skel_of vars.now parts.now.back) ++ of_some parts.now.ellipsis)) other))) }
-    ensures err { IfErr result (λ fault. Stops graph.old graph.new fault
-        (marked style.now.lattices style.now.span (tied (all_nodes (params_from vars.now parts.now.first)
-        ++ (nodes (skel_of vars.now parts.now.back) ++ of_some parts.now.ellipsis)) other))) }
+    ensures ok { OnOk result
+        (Gains graph.old graph.new style.now (tied (all_nodes (params_from vars.now parts.now.first)
+        ++ (nodes (skel_of vars.now parts.now.back) ++ of_some parts.now.ellipsis)) other)) }
+    ensures err { IfErr result (StopsIn graph.old graph.new style.now
+        (tied (all_nodes (params_from vars.now parts.now.first)
+        ++ (nodes (skel_of vars.now parts.now.back) ++ of_some parts.now.ellipsis)) other)) }
 {
     tie_params(vars, graph, style, parts.first, other)?;
     tie_nodes(vars, graph, style, parts.back, other)?;
@@ -120,10 +119,10 @@ pub fn tie_params(
     other: VarId,
 ) -> Result<(), GraphFault>
     requires { IsVar other }
-    ensures ok { OnOk result (graph.new
-        ≡ with graph.old (marked style.now.lattices style.now.span (tied (all_nodes (params_from vars.now from)) other))) }
-    ensures err { IfErr result (λ fault. Stops graph.old graph.new fault
-        (marked style.now.lattices style.now.span (tied (all_nodes (params_from vars.now from)) other))) }
+    ensures ok { OnOk result
+        (Gains graph.old graph.new style.now (tied (all_nodes (params_from vars.now from)) other)) }
+    ensures err { IfErr result (StopsIn graph.old graph.new style.now
+        (tied (all_nodes (params_from vars.now from)) other)) }
 {
     match vars.next_part(from) {
         Some(next) => {
@@ -143,10 +142,10 @@ pub fn tie_inner(
     other: VarId,
 ) -> Result<(), GraphFault>
     requires { IsVar other }
-    ensures ok { OnOk result (graph.new
-        ≡ with graph.old (marked style.now.lattices style.now.span (tied (strict_nodes (skel_of vars.now of)) other))) }
-    ensures err { IfErr result (λ fault. Stops graph.old graph.new fault
-        (marked style.now.lattices style.now.span (tied (strict_nodes (skel_of vars.now of)) other))) }
+    ensures ok { OnOk result
+        (Gains graph.old graph.new style.now (tied (strict_nodes (skel_of vars.now of)) other)) }
+    ensures err { IfErr result
+        (StopsIn graph.old graph.new style.now (tied (strict_nodes (skel_of vars.now of)) other)) }
 {
     match vars.look(of) {
         Look::Flat(_, _) => Ok(()),
@@ -176,10 +175,10 @@ pub fn collapse(
     one: SkelId,
     other: SkelId,
 ) -> Result<(), GraphFault>
-    ensures ok { OnOk result (graph.new
-        ≡ with graph.old (marked style.now.lattices style.now.span (collapsed style.now.arrow forward (skel_of vars.now one) (skel_of vars.now other)))) }
-    ensures err { IfErr result (λ fault. Stops graph.old graph.new fault
-        (marked style.now.lattices style.now.span (collapsed style.now.arrow forward (skel_of vars.now one) (skel_of vars.now other)))) }
+    ensures ok { OnOk result (Gains graph.old graph.new style.now
+        (collapsed style.now.arrow forward (skel_of vars.now one) (skel_of vars.now other))) }
+    ensures err { IfErr result (StopsIn graph.old graph.new style.now
+        (collapsed style.now.arrow forward (skel_of vars.now one) (skel_of vars.now other))) }
 {
     match style.arrow {
         Arrow::Flow => {
@@ -200,8 +199,10 @@ pub fn collapse(
 /// The part of each of two functions behind the parameters that both have, from one of each on.
 #[tactic(auto, using(crate::proofs::AddingLemmas::past_none))]
 fn past_common(vars: &VarTable, one: SkelId, other: SkelId) -> (SkelId, SkelId)
-    ensures one { params_from vars.now result.0 ≡ past (params_from vars.now one) (params_from vars.now other) }
-    ensures other { params_from vars.now result.1 ≡ past (params_from vars.now other) (params_from vars.now one) }
+    ensures one { params_from vars.now result.0
+        ≡ past (params_from vars.now one) (params_from vars.now other) }
+    ensures other { params_from vars.now result.1
+        ≡ past (params_from vars.now other) (params_from vars.now one) }
 {
     let mut here = one;
     let mut there = other;
@@ -226,10 +227,10 @@ fn tie_rest(
     other: &Option<VarId>,
 ) -> Result<(), GraphFault>
     requires { IsSomeVar other.now }
-    ensures ok { OnOk result (graph.new
-        ≡ with graph.old (marked style.now.lattices style.now.span (tied_some (all_nodes (params_from vars.now from)) other.now))) }
-    ensures err { IfErr result (λ fault. Stops graph.old graph.new fault
-        (marked style.now.lattices style.now.span (tied_some (all_nodes (params_from vars.now from)) other.now))) }
+    ensures ok { OnOk result (Gains graph.old graph.new style.now
+        (tied_some (all_nodes (params_from vars.now from)) other.now)) }
+    ensures err { IfErr result (StopsIn graph.old graph.new style.now
+        (tied_some (all_nodes (params_from vars.now from)) other.now)) }
 {
     match other {
         Some(other) => tie_params(vars, graph, style, from, *other),
@@ -248,12 +249,12 @@ pub fn add_extra(
 ) -> Result<(), GraphFault>
     requires one { IsSomeVar one.now.ellipsis }
     requires other { IsSomeVar other.now.ellipsis }
-    ensures ok { OnOk result (graph.new
-        ≡ with graph.old (marked style.now.lattices style.now.span (extra style.now.arrow forward
-        (params_from vars.now one.now.first) one.now.ellipsis (params_from vars.now other.now.first) other.now.ellipsis))) }
-    ensures err { IfErr result (λ fault. Stops graph.old graph.new fault
-        (marked style.now.lattices style.now.span (extra style.now.arrow forward
-        (params_from vars.now one.now.first) one.now.ellipsis (params_from vars.now other.now.first) other.now.ellipsis))) }
+    ensures ok { OnOk result (Gains graph.old graph.new style.now
+        (extra style.now.arrow forward (params_from vars.now one.now.first) one.now.ellipsis
+        (params_from vars.now other.now.first) other.now.ellipsis)) }
+    ensures err { IfErr result (StopsIn graph.old graph.new style.now
+        (extra style.now.arrow forward (params_from vars.now one.now.first) one.now.ellipsis
+        (params_from vars.now other.now.first) other.now.ellipsis)) }
 {
     match style.arrow {
         Arrow::Flow => {

@@ -4,7 +4,7 @@ ghost use Rattle.std.specs.Prelude.{◌≡◌, ◌<◌, Some, length, slice_get}
 ghost use Rattle.flow_graph.specs.System.{IsWellOwned};
 ghost use Rattle.flow_graph.specs.Unfolding.{NamesElementsIn};
 ghost use Rattle.match_summary.specs.Summary.{Summarises};
-ghost use Rattle.lattice_solver.specs.Solution.{IsSolved, Exceeds};
+ghost use Rattle.lattice_solver.specs.Solution.{IsSolved};
 
 use crate::building::{graph_of, lattices_of};
 use crate::case::{Answers, Case};
@@ -15,7 +15,7 @@ use lattice_core::{Lattice, Lattices};
 use lattice_solver::Solver;
 use match_summary::{Summaries, summarise};
 use path_checker::check;
-use qual_base::{EdgeId, Elem, LatticeNo, NoMemory, Numbered, VarId};
+use qual_base::{EdgeId, LatticeNo, NoMemory, Numbered, VarId};
 use std::alloc::Global;
 use std::process::Abort;
 use std::test::Fail;
@@ -64,7 +64,7 @@ fn compare_reached(
     assert_eq!(rt; solver.reached(VarId::new(1_000_000)).number(), 0);
 }
 
-/// The path proof of a bound that an element exceeds.
+/// The path proof of a bound, none where no element exceeds it.
 pub fn shown(
     alloc: Global,
     graph: &FlowGraph,
@@ -73,18 +73,18 @@ pub fn shown(
     lattices: &Lattices,
     lattice: &Lattice,
     bound: EdgeId,
-    elem: Elem,
-) -> Result<PathProof, NoMemory>
+) -> Result<Option<PathProof>, NoMemory>
     requires solved { IsSolved graph.now solver.now }
     requires summaries { Summarises graph.now solver.now.lattice summaries.now }
     requires lattice { slice_get lattices.now solver.now.lattice ≡ Some lattice.now }
     requires named { NamesElementsIn graph.now solver.now.lattice lattice.now.order }
     requires bound { bound < length graph.now.constraints }
-    requires exceeds { Exceeds graph.now solver.now lattice.now.order bound elem }
 {
-    let _ = lattice;
-    let _ = elem;
-    show(alloc, graph, summaries, solver, lattices, bound)
+    if solver.exceeded(graph, lattice, bound).is_some() {
+        let proof = show(alloc, graph, summaries, solver, lattices, bound)?;
+        return Ok(Some(proof));
+    }
+    Ok(None)
 }
 
 /// Judges the path proof of a bound: it holds, and it ends with the bound.
@@ -128,14 +128,13 @@ fn compare_exceeded(
 {
     for n in 0..graph.len() {
         let at = EdgeId::new(n);
-        let over = solver.exceeded(graph, lattice, at);
+        let proof = shown(alloc, graph, summaries, solver, lattices, lattice, at)?;
         assert_eq!(rt;
-            over.is_some(),
+            proof.is_some(),
             answers.exceeded.contains(&n),
             "{name}: bound {n}"
         );
-        if let Some(elem) = over {
-            let proof = shown(alloc, graph, summaries, solver, lattices, lattice, at, elem)?;
+        if let Some(proof) = proof {
             judge(rt, name, graph, lattices, &proof, n);
         }
     }

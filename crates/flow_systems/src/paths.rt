@@ -152,8 +152,7 @@ fn compare_bounds(
     let mut worked: usize = 0;
     for n in 0..graph.len() {
         let at = EdgeId::new(n);
-        if let Some(elem) = solver.exceeded(graph, lattice, at) {
-            let proof = shown(alloc, graph, summaries, solver, lattices, lattice, at, elem)?;
+        if let Some(proof) = shown(alloc, graph, summaries, solver, lattices, lattice, at)? {
             worked = worked.wrapping_add(compare_worked(rt, name, &proof));
         }
     }

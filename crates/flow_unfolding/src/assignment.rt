@@ -20,7 +20,8 @@ pub struct Change {
 impl Change {
     /// The element that was given, at its own copy, and another one elsewhere.
     fn element_or(&self, at: VarId, sites: &[SiteId], other: Elem) -> Elem
-        ensures { result ≡ cond (is_same self.now.at self.now.sites at sites.now) self.now.elem other }
+        ensures { result
+            ≡ cond (is_same self.now.at self.now.sites at sites.now) self.now.elem other }
     {
         if self.at == at && self.sites.sites() == sites {
             self.elem
@@ -67,7 +68,8 @@ impl Assignment {
         sites: &[SiteId],
         elem: Elem,
     ) -> Result<(), NoMemory>
-        ensures { OnOk result ((v : ℕ) (w : List ℕ) → map_of self.new v w ≡ changed (map_of self.old) at sites.now elem v w) }
+        ensures { OnOk result ((v : ℕ) (w : List ℕ) →
+            map_of self.new v w ≡ changed (map_of self.old) at sites.now elem v w) }
     {
         let sites = string_of(alloc, sites)?;
         self.changes.push(Change { at, sites, elem })?;
@@ -85,7 +87,9 @@ impl Assignment {
     ) -> Result<bool, NoMemory>
         requires elem { elem < size lattice.now.order }
         requires held { map_of self.old at sites.now < size lattice.now.order }
-        ensures { IfOk result (λ grew. MatchBool grew (Raises lattice.now.order (map_of self.old) (map_of self.new) at sites.now elem) ((self.new ≡ self.old) × (leq lattice.now.order elem (map_of self.old at sites.now) ≡ true))) }
+        ensures { IfOk result (λ grew. MatchBool grew (Raises lattice.now.order
+            (map_of self.old) (map_of self.new) at sites.now elem) ((self.new ≡ self.old)
+            × (leq lattice.now.order elem (map_of self.old at sites.now) ≡ true))) }
     {
         let held = self.get(at, sites);
         if lattice.leq(elem, held) {

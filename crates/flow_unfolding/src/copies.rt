@@ -106,7 +106,8 @@ pub fn seen_from(owner: Owner, sites: &[SiteId]) -> &[SiteId]
 
 /// Whether a site is there, and a list of sites is a copy of its owner.
 fn is_outer_copy(graph: &FlowGraph, depth: u32, site: SiteId, sites: &[SiteId]) -> bool
-    ensures { result ≡ Copies.is_outer_copy graph.now depth (slice_get graph.now.sites site) sites.now }
+    ensures { result
+        ≡ Copies.is_outer_copy graph.now depth (slice_get graph.now.sites site) sites.now }
 {
     if site.number() >= graph.sites() {
         return false;

@@ -66,7 +66,8 @@ fn add_longer(
     all: &mut Vec<CallString>,
 ) -> Result<(), NoMemory>
     ensures kept { (w : List ℕ) → Contains all.old.items w → Contains all.new.items w }
-    ensures added { OnOk result ((w : List ℕ) → Contains strings.now w → Contains all.new.items (site ∷ w)) }
+    ensures added { OnOk result
+        ((w : List ℕ) → Contains strings.now w → Contains all.new.items (site ∷ w)) }
 {
     for string in strings {
         all.push(string_with(alloc, site, string.sites())?)?;
@@ -77,7 +78,8 @@ fn add_longer(
 /// No site, and each string of some with each of the first sites behind it.
 fn longer(alloc: Global, sites: u32, strings: &[CallString]) -> Result<Vec<CallString>, NoMemory>
     ensures empty { IfOk result (λ all. Contains all.items []) }
-    ensures added { IfOk result (λ all. (s : ℕ) (w : List ℕ) → s < sites → Contains strings.now w → Contains all.items (s ∷ w)) }
+    ensures added { IfOk result (λ all. (s : ℕ) (w : List ℕ) →
+        s < sites → Contains strings.now w → Contains all.items (s ∷ w)) }
 {
     let mut all = Vec::new(alloc);
     all.push(CallString::new(alloc))?;

@@ -8,7 +8,9 @@ ghost use Rattle.flow_graph.specs.Unfolding.{Meets, Rises, NamesElementsIn};
 ghost use Rattle.flow_unfolding.specs.Assignment.{map_of};
 ghost use Rattle.flow_unfolding.specs.Strings.{HasAll};
 ghost use Rattle.flow_unfolding.specs.Meeting;
-ghost use Rattle.flow_unfolding.specs.Meeting.{IsLow, AgreesAt, AgreesUpTo, AgreesBelow, AreElements, KeepsAt, KeepsUpTo, KeepsBelow, IsOver, IsUnmet};
+ghost use Rattle.flow_unfolding.specs.Meeting.{IsLow, AgreesAt, AgreesUpTo, AgreesBelow};
+ghost use Rattle.flow_unfolding.specs.Meeting.{AreElements, KeepsAt, KeepsUpTo, KeepsBelow, IsOver};
+ghost use Rattle.flow_unfolding.specs.Meeting.{IsUnmet};
 
 use crate::assignment::Assignment;
 use crate::copies::{behind, is_copy, seen_from, stands};
@@ -67,9 +69,11 @@ fn step(
     requires named { NamesElementsIn graph.now lattice_no lattice.now.order }
     requires at { at < length graph.now.constraints }
     requires low { IsLow graph.now lattice_no lattice.now.order depth (map_of map.old) }
-    ensures low { OnOk result (IsLow graph.now lattice_no lattice.now.order depth (map_of map.new)) }
+    ensures low { OnOk result
+        (IsLow graph.now lattice_no lattice.now.order depth (map_of map.new)) }
     ensures same { IfOk result (λ grew. OnFalse grew (map.new ≡ map.old)) }
-    ensures agrees { IfOk result (λ grew. OnFalse grew (AgreesAt graph.now lattice_no lattice.now.order depth (map_of map.old) at sites.now)) }
+    ensures agrees { IfOk result (λ grew. OnFalse grew
+        (AgreesAt graph.now lattice_no lattice.now.order depth (map_of map.old) at sites.now)) }
 {
     let constraint = graph.constraint(at);
     if !constraint.is_in(lattice_no) {
@@ -100,9 +104,11 @@ fn turn_at(
     requires named { NamesElementsIn graph.now lattice_no lattice.now.order }
     requires at { at < length graph.now.constraints }
     requires low { IsLow graph.now lattice_no lattice.now.order depth (map_of map.old) }
-    ensures low { OnOk result (IsLow graph.now lattice_no lattice.now.order depth (map_of map.new)) }
+    ensures low { OnOk result
+        (IsLow graph.now lattice_no lattice.now.order depth (map_of map.new)) }
     ensures same { IfOk result (λ grew. OnFalse grew (map.new ≡ map.old)) }
-    ensures agrees { IfOk result (λ grew. OnFalse grew (AgreesUpTo graph.now lattice_no lattice.now.order depth (map_of map.old) at strings.now (length strings.now))) }
+    ensures agrees { IfOk result (λ grew. OnFalse grew (AgreesUpTo graph.now
+        lattice_no lattice.now.order depth (map_of map.old) at strings.now (length strings.now))) }
 {
     let mut grew = false;
     for string in strings {
@@ -136,9 +142,11 @@ fn turn(
     requires order { IsLattice lattice.now.order }
     requires named { NamesElementsIn graph.now lattice_no lattice.now.order }
     requires low { IsLow graph.now lattice_no lattice.now.order depth (map_of map.old) }
-    ensures low { OnOk result (IsLow graph.now lattice_no lattice.now.order depth (map_of map.new)) }
+    ensures low { OnOk result
+        (IsLow graph.now lattice_no lattice.now.order depth (map_of map.new)) }
     ensures same { IfOk result (λ grew. OnFalse grew (map.new ≡ map.old)) }
-    ensures agrees { IfOk result (λ grew. OnFalse grew (AgreesBelow graph.now lattice_no lattice.now.order depth (map_of map.old) strings.now (length graph.now.constraints))) }
+    ensures agrees { IfOk result (λ grew. OnFalse grew (AgreesBelow graph.now lattice_no
+        lattice.now.order depth (map_of map.old) strings.now (length graph.now.constraints))) }
 {
     let mut grew = false;
     for n in 0..graph.len() {
@@ -173,8 +181,10 @@ fn raise_all(
     requires named { NamesElementsIn graph.now lattice_no lattice.now.order }
     requires all { HasAll strings.now (length graph.now.sites) depth }
     requires low { IsLow graph.now lattice_no lattice.now.order depth (map_of map.old) }
-    ensures low { OnOk result (IsLow graph.now lattice_no lattice.now.order depth (map_of map.new)) }
-    ensures rises { OnOk result (Rises graph.now lattice_no lattice.now.order depth (map_of map.new)) }
+    ensures low { OnOk result
+        (IsLow graph.now lattice_no lattice.now.order depth (map_of map.new)) }
+    ensures rises { OnOk result
+        (Rises graph.now lattice_no lattice.now.order depth (map_of map.new)) }
 {
     for _ in 0..u64::MAX {
         let grew = turn(alloc, graph, lattice_no, lattice, depth, strings, map)?;
@@ -199,7 +209,9 @@ fn keeps_at(
     requires named { NamesElementsIn graph.now lattice_no lattice.now.order }
     requires at { at < length graph.now.constraints }
     requires elements { AreElements lattice.now.order (map_of map.now) }
-    ensures { MatchBool result (KeepsAt graph.now lattice_no lattice.now.order depth (map_of map.now) at sites.now) (IsOver graph.now lattice_no lattice.now.order depth (map_of map.now)) }
+    ensures { MatchBool result
+        (KeepsAt graph.now lattice_no lattice.now.order depth (map_of map.now) at sites.now)
+        (IsOver graph.now lattice_no lattice.now.order depth (map_of map.now)) }
 {
     let constraint = graph.constraint(at);
     let Some(limit) = constraint.bound_in(lattice_no) else {
@@ -225,7 +237,9 @@ fn keeps_bound(
     requires named { NamesElementsIn graph.now lattice_no lattice.now.order }
     requires at { at < length graph.now.constraints }
     requires elements { AreElements lattice.now.order (map_of map.now) }
-    ensures { MatchBool result (KeepsUpTo graph.now lattice_no lattice.now.order depth (map_of map.now) at strings.now (length strings.now)) (IsOver graph.now lattice_no lattice.now.order depth (map_of map.now)) }
+    ensures { MatchBool result (KeepsUpTo graph.now lattice_no lattice.now.order depth
+        (map_of map.now) at strings.now (length strings.now))
+        (IsOver graph.now lattice_no lattice.now.order depth (map_of map.now)) }
 {
     for string in strings {
         if !keeps_at(graph, lattice_no, lattice, depth, at, string.sites(), map) {
@@ -247,7 +261,9 @@ fn keeps_bounds(
     requires lattice { lattice_no < 16 }
     requires named { NamesElementsIn graph.now lattice_no lattice.now.order }
     requires elements { AreElements lattice.now.order (map_of map.now) }
-    ensures { MatchBool result (KeepsBelow graph.now lattice_no lattice.now.order depth (map_of map.now) strings.now (length graph.now.constraints)) (IsOver graph.now lattice_no lattice.now.order depth (map_of map.now)) }
+    ensures { MatchBool result (KeepsBelow graph.now lattice_no lattice.now.order depth
+        (map_of map.now) strings.now (length graph.now.constraints))
+        (IsOver graph.now lattice_no lattice.now.order depth (map_of map.now)) }
 {
     for bound in 0..graph.len() {
         if !keeps_bound(
@@ -283,7 +299,9 @@ pub fn is_met(
     depth: u32,
 ) -> Result<bool, NoMemory>
     requires { lattice_no < 16 }
-    ensures { IfOk result (λ met. MatchBool met ((map : Unfolding.Assignment) × Meets graph.now lattice_no lattice.now.order depth map) (IsUnmet graph.now lattice_no lattice.now.order depth)) }
+    ensures { IfOk result (λ met. MatchBool met
+        ((map : Unfolding.Assignment) × Meets graph.now lattice_no lattice.now.order depth map)
+        (IsUnmet graph.now lattice_no lattice.now.order depth)) }
 {
     lattice.law();
     if !names_elements(graph, lattice_no, lattice) {

@@ -6,3 +6,4 @@ pub mod UpperLower
 pub mod Made
 pub mod Joins
 pub mod NameLemmas
+pub mod Pushed

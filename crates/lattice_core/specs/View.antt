@@ -1,6 +1,6 @@
 -- What callers see of a lattice: its entries, and the order on their numbers.
 use Rattle.std.specs.Prelude.{◌≡◌, ◌<◌, ℕ, List, length, map, slice_get, Some}
-use Rattle.lattice_core.specs.Order.{Order, size}
+use Rattle.lattice_core.specs.Order.{Order, size, IsLattice}
 use Rattle.lattice_core.specs.declared.Entry.{Entry}
 
 -- element n is entry n
@@ -21,3 +21,7 @@ pub record IsElement (lattices : List LatticeView) (lattice elem : ℕ) : Type 0
 -- the elements of each lattice are its entries
 abbrev pub AreSized : List LatticeView → Type 0
 AreSized lattices = (n : ℕ) (view : LatticeView) → slice_get lattices n ≡ Some view → size view.order ≡ length view.entries
+
+-- each is a lattice
+abbrev pub AreLattices : List LatticeView → Type 0
+AreLattices lattices = (n : ℕ) (view : LatticeView) → slice_get lattices n ≡ Some view → IsLattice view.order

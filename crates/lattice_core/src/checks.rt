@@ -1,9 +1,12 @@
 //! The tests that entries and order lines must pass, one for each reason to refuse them.
 
-ghost use Rattle.std.specs.Prelude.{◌≡◌, ◌≢◌, ℕ, ◌<◌, ◌≤◌, ◌↔◌, Some, None, length, vec_len, IfOk, IfErr, MatchOption, slice_index, take};
+ghost use Rattle.std.specs.Prelude.{◌≡◌, ◌≢◌, ℕ, ◌<◌, ◌≤◌, ◌↔◌, Some, None, length, vec_len, IfOk};
+ghost use Rattle.std.specs.Prelude.{IfErr, MatchOption, slice_index, take};
 ghost use Rattle.std.specs.Int.{bit_at};
-ghost use Rattle.lattice_core.specs.Entries.{number_of, name_at, AreDistinct, IsFirstRepeated, AreOfOneLevel, IsFirstMixed};
-ghost use Rattle.lattice_core.specs.Building.{IsWritten, first_unknown, IsUnknown, IsFirstUnknown, IsCycle, IsFirstPair, HasNoPair, IsNextTo, HasNone};
+ghost use Rattle.lattice_core.specs.Entries.{number_of, name_at, AreDistinct, IsFirstRepeated};
+ghost use Rattle.lattice_core.specs.Entries.{AreOfOneLevel, IsFirstMixed};
+ghost use Rattle.lattice_core.specs.Building.{IsWritten, first_unknown, IsUnknown, IsFirstUnknown};
+ghost use Rattle.lattice_core.specs.Building.{IsCycle, IsFirstPair, HasNoPair, IsNextTo, HasNone};
 ghost use Rattle.lattice_core.specs.Rows.{order_of};
 
 use crate::rows::{has, with};
@@ -27,7 +30,8 @@ pub fn name_of(alloc: Global, entries: &[Entry], at: usize) -> Result<Name, Allo
 
 /// The first entry whose name an earlier entry has.
 pub fn first_repeated(entries: &[Entry]) -> Option<usize>
-    ensures { MatchOption result (AreDistinct entries.now (length entries.now)) (IsFirstRepeated entries.now) }
+    ensures { MatchOption result
+        (AreDistinct entries.now (length entries.now)) (IsFirstRepeated entries.now) }
 {
     for (k, entry) in entries.iter().enumerate() {
         if find_name(&entries[..k], entry.name.bytes()).is_some() {
@@ -39,7 +43,8 @@ pub fn first_repeated(entries: &[Entry]) -> Option<usize>
 
 /// The first entry whose level is not that of the first entry.
 pub fn first_mixed(entries: &[Entry]) -> Option<usize>
-    ensures { MatchOption result (AreOfOneLevel entries.now (length entries.now)) (IsFirstMixed entries.now) }
+    ensures { MatchOption result
+        (AreOfOneLevel entries.now (length entries.now)) (IsFirstMixed entries.now) }
 {
     for (k, entry) in entries.iter().enumerate() {
         if entry.level != entries[0].level {
@@ -66,7 +71,8 @@ fn number(alloc: Global, entries: &[Entry], name: &Name) -> Result<u8, LatticeFa
 pub fn links(alloc: Global, entries: &[Entry], pairs: &[Pair]) -> Result<Vec<u64>, LatticeFault>
     requires { length entries.now ≤ 64 }
     ensures len { IfOk result (λ rows. vec_len rows ≡ length entries.now) }
-    ensures rows { IfOk result (λ rows. (a b : ℕ) → (bit_at (slice_index rows.items a) b ≡ 1) ↔ IsWritten entries.now pairs.now a b) }
+    ensures rows { IfOk result (λ rows. (a b : ℕ) →
+        (bit_at (slice_index rows.items a) b ≡ 1) ↔ IsWritten entries.now pairs.now a b) }
     ensures known { IfOk result (λ rows. first_unknown entries.now pairs.now ≡ None) }
     ensures unknown { IfErr result (IsFirstUnknown entries.now pairs.now) }
 {
@@ -83,7 +89,8 @@ pub fn links(alloc: Global, entries: &[Entry], pairs: &[Pair]) -> Result<Vec<u64
 fn cycle_from(above: &[u64], a: usize) -> Option<usize>
     requires few { length above.now ≤ 64 }
     requires within { a < length above.now }
-    ensures { MatchOption result (HasNone (IsCycle (order_of above.now)) a (length above.now)) (IsNextTo (IsCycle (order_of above.now)) (length above.now) a) }
+    ensures { MatchOption result (HasNone (IsCycle (order_of above.now)) a (length above.now))
+        (IsNextTo (IsCycle (order_of above.now)) (length above.now) a) }
 {
     for b in a + 1..above.len() {
         if has(above[a], b as u8) && has(above[b], a as u8) {
@@ -96,7 +103,8 @@ fn cycle_from(above: &[u64], a: usize) -> Option<usize>
 /// The first two different entries each of which is below the other.
 pub fn first_cycle(above: &[u64]) -> Option<(usize, usize)>
     requires { length above.now ≤ 64 }
-    ensures { MatchOption result (HasNoPair (IsCycle (order_of above.now)) (length above.now)) (λ (a, b). IsFirstPair (IsCycle (order_of above.now)) (length above.now) a b) }
+    ensures { MatchOption result (HasNoPair (IsCycle (order_of above.now)) (length above.now))
+        (λ (a, b). IsFirstPair (IsCycle (order_of above.now)) (length above.now) a b) }
 {
     for a in 0..above.len() {
         if let Some(b) = cycle_from(above, a) {

@@ -1,9 +1,10 @@
 //! The lattices of a file.
 
-ghost use Rattle.std.specs.Prelude.{◌≡◌, ◌<◌, ◌≤◌, ◌++◌, ◌∷◌, [], length, Some, slice_get, OnOk, OnErr, IfOk};
+ghost use Rattle.std.specs.Prelude.{◌≡◌, ◌<◌, ◌≤◌, ◌++◌, ◌∷◌, [], length, Some, slice_get, OnOk};
+ghost use Rattle.std.specs.Prelude.{OnErr, IfOk};
 ghost use Rattle.qual_base.specs.Words.{meaning_of, MeansTheSame};
 ghost use Rattle.lattice_core.specs.Names.{words_of};
-ghost use Rattle.lattice_core.specs.View.{AreSized};
+ghost use Rattle.lattice_core.specs.View.{AreLattices, AreSized};
 
 use crate::Lattice;
 use crate::checks::find_name;
@@ -19,13 +20,14 @@ pub struct Lattices {
 
 impl Model for Lattices {
     ghost use Rattle.std.specs.Prelude.{◌≤◌, List, length};
-    ghost use Rattle.lattice_core.specs.View.{LatticeView, AreSized};
+    ghost use Rattle.lattice_core.specs.View.{LatticeView, AreLattices, AreSized};
 
     ghost Value = { List LatticeView };
 
     ghost view = { λ a. a.items.items };
 
-    ghost invariant = { λ a. (length a.items.items ≤ 16) × AreSized a.items.items };
+    ghost invariant = { λ a. (length a.items.items ≤ 16)
+        × AreSized a.items.items × AreLattices a.items.items };
 }
 
 impl Lattices {
@@ -52,6 +54,7 @@ impl Lattices {
     /// What is true of the lattices of every file. It does nothing.
     pub fn law(&self)
         ensures sized { AreSized self.now }
+        ensures lattices { AreLattices self.now }
     {
         let _ = &self.items;
     }

@@ -1,6 +1,7 @@
 //! Relations on at most 64 elements as rows of bits: bit b of row a says that a is related to b.
 
-ghost use Rattle.std.specs.Prelude.{◌≡◌, ◌≢◌, ℕ, ◌<◌, ◌≤◌, ◌-◌, ◌^◌, ◌↔◌, ◌⊎◌, length, vec_len, IfOk, IsTrue, MatchOption, slice_index, nat_eq};
+ghost use Rattle.std.specs.Prelude.{◌≡◌, ◌≢◌, ℕ, ◌<◌, ◌≤◌, ◌-◌, ◌^◌, ◌↔◌, ◌⊎◌, length, vec_len};
+ghost use Rattle.std.specs.Prelude.{IfOk, IsTrue, MatchOption, slice_index, nat_eq};
 ghost use Rattle.std.specs.Int.{bit_at};
 ghost use Rattle.lattice_core.specs.Rows.{Leads, AreLed, IsClosed};
 
@@ -39,7 +40,8 @@ fn raised(grown: u64, row: u64, at: u8, upper: u64) -> u64
     ensures more { grown ≤ result }
     ensures kept { (i : ℕ) → bit_at grown i ≡ 1 → bit_at result i ≡ 1 }
     ensures added { (i : ℕ) → bit_at row at ≡ 1 → bit_at upper i ≡ 1 → bit_at result i ≡ 1 }
-    ensures only { (i : ℕ) → bit_at result i ≡ 1 → (bit_at grown i ≡ 1) ⊎ ((bit_at row at ≡ 1) × (bit_at upper i ≡ 1)) }
+    ensures only { (i : ℕ) →
+        bit_at result i ≡ 1 → (bit_at grown i ≡ 1) ⊎ ((bit_at row at ≡ 1) × (bit_at upper i ≡ 1)) }
 {
     if has(row, at) { grown | upper } else { grown }
 }
@@ -79,7 +81,8 @@ pub fn reach(start: u8, links: &[u64]) -> u64
 pub fn closure(alloc: Global, links: &[u64]) -> Result<Vec<u64>, AllocError>
     requires { length links.now ≤ 64 }
     ensures len { IfOk result (λ rows. vec_len rows ≡ length links.now) }
-    ensures rows { IfOk result (λ rows. (a b : ℕ) → a < length links.now → (bit_at (slice_index rows.items a) b ≡ 1) ↔ Leads links.now a b) }
+    ensures rows { IfOk result (λ rows. (a b : ℕ) →
+        a < length links.now → (bit_at (slice_index rows.items a) b ≡ 1) ↔ Leads links.now a b) }
 {
     let mut rows = Vec::new(alloc);
     for start in 0..links.len() {
@@ -115,7 +118,8 @@ fn column(rows: &[u64], at: u8) -> u64
 pub fn converse(alloc: Global, rows: &[u64]) -> Result<Vec<u64>, AllocError>
     requires { length rows.now ≤ 64 }
     ensures len { IfOk result (λ columns. vec_len columns ≡ length rows.now) }
-    ensures columns { IfOk result (λ columns. (a b : ℕ) → b < length rows.now → (bit_at (slice_index columns.items b) a ≡ 1) ↔ (bit_at (slice_index rows.now a) b ≡ 1)) }
+    ensures columns { IfOk result (λ columns. (a b : ℕ) → b < length rows.now →
+        (bit_at (slice_index columns.items b) a ≡ 1) ↔ (bit_at (slice_index rows.now a) b ≡ 1)) }
 {
     let mut columns = Vec::new(alloc);
     for b in 0..rows.len() {
@@ -127,7 +131,8 @@ pub fn converse(alloc: Global, rows: &[u64]) -> Result<Vec<u64>, AllocError>
 /// The first element with a given row, in at most 64 steps.
 pub fn find_row(rows: &[u64], row: u64) -> Option<u8>
     requires { length rows.now ≤ 64 }
-    ensures { MatchOption result ((k : ℕ) → k < length rows.now → slice_index rows.now k ≢ row) (λ k. (k < length rows.now) × (slice_index rows.now k ≡ row)) }
+    ensures { MatchOption result ((k : ℕ) → k < length rows.now → slice_index rows.now k ≢ row)
+        (λ k. (k < length rows.now) × (slice_index rows.now k ≡ row)) }
 {
     for (k, other) in rows.iter().enumerate() {
         if *other == row {
@@ -153,7 +158,8 @@ pub fn row_of(rows: &[u64], row: u64) -> u8
 /// What is left of a row behind the row of an element of a set.
 fn narrowed(left: u64, set: u64, at: u8, row: u64) -> u64
     requires { at < 64 }
-    ensures { (i : ℕ) → (bit_at result i ≡ 1) ↔ ((bit_at left i ≡ 1) × (bit_at set at ≡ 1 → bit_at row i ≡ 1)) }
+    ensures { (i : ℕ) →
+        (bit_at result i ≡ 1) ↔ ((bit_at left i ≡ 1) × (bit_at set at ≡ 1 → bit_at row i ≡ 1)) }
 {
     if has(set, at) { left & row } else { left }
 }
@@ -161,7 +167,8 @@ fn narrowed(left: u64, set: u64, at: u8, row: u64) -> u64
 /// What stands in `all` and in the row of each element of a set, in at most 64 steps.
 pub fn common(rows: &[u64], set: u64, all: u64) -> u64
     requires { length rows.now ≤ 64 }
-    ensures { (i : ℕ) → (bit_at result i ≡ 1) ↔ ((bit_at all i ≡ 1) × ((a : ℕ) → a < length rows.now → bit_at set a ≡ 1 → bit_at (slice_index rows.now a) i ≡ 1)) }
+    ensures { (i : ℕ) → (bit_at result i ≡ 1) ↔ ((bit_at all i ≡ 1) × ((a : ℕ) →
+        a < length rows.now → bit_at set a ≡ 1 → bit_at (slice_index rows.now a) i ≡ 1)) }
 {
     let mut left = all;
     for (a, row) in rows.iter().enumerate() {

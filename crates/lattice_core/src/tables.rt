@@ -1,7 +1,9 @@
 //! A lattice by tables: its order as rows of bits, upwards and downwards.
 
-ghost use Rattle.std.specs.Prelude.{◌≡◌, ℕ, ◌<◌, ◌≤◌, ◌↔◌, true, length, IfOk, IfErr, IsErrOf, OnOk, ◌++◌, Some, slice_get};
-ghost use Rattle.lattice_core.specs.Order.{size, leq, IsLattice, IsLeastUpper, IsGreatestLower, IsJoinOf};
+ghost use Rattle.std.specs.Prelude.{◌≡◌, ℕ, ◌<◌, ◌≤◌, ◌↔◌, true, length, IfOk, IfErr, IsErrOf};
+ghost use Rattle.std.specs.Prelude.{OnOk, ◌++◌, Some, slice_get};
+ghost use Rattle.lattice_core.specs.Order.{size, leq, IsLattice, IsLeastUpper, IsGreatestLower};
+ghost use Rattle.lattice_core.specs.Order.{IsJoinOf};
 ghost use Rattle.lattice_core.specs.Entries.{AreDistinct, name_at, number_of};
 ghost use Rattle.lattice_core.specs.Building.{AreBuilt, Refuses};
 ghost use Rattle.lattice_core.specs.Names.{entry_words};
@@ -168,7 +170,8 @@ impl Lattice {
 
     /// Adds the name of each element to words, as that of an element of the lattice with a number.
     pub(crate) fn add_words(&self, at: LatticeNo, words: &mut QualWords) -> Result<(), NoMemory>
-        ensures { OnOk result (MeansTheSame words.new (words.old ++ entry_words at 0 self.now.entries)) }
+        ensures { OnOk result
+            (MeansTheSame words.new (words.old ++ entry_words at 0 self.now.entries)) }
     {
         for (n, entry) in self.entries.iter().enumerate() {
             words.push(entry.name.bytes(), at, Elem::new(n as u8))?;

@@ -1,8 +1,10 @@
 //! The blocks of a lattice file, lexeme by lexeme.
 
-ghost use Rattle.std.specs.Prelude.{◌≡◌, ◌<◌, [], length, is_some, true, Some, IfOk, IfErr, OnOk, IfSome, IfNone};
-ghost use Rattle.lattice_file.specs.Steps.{WordLexeme, SignLexeme, TextLexeme, next, only_if, behind_entry, behind_block};
-ghost use Rattle.lattice_file.specs.Reading.{standing_of};
+ghost use Rattle.std.specs.Prelude.{◌≡◌, ◌<◌, [], length, is_some, true, Some, IfOk, IfErr, OnOk};
+ghost use Rattle.std.specs.Prelude.{IfSome, IfNone};
+ghost use Rattle.lattice_file.specs.Steps.{WordLexeme, SignLexeme, TextLexeme, next};
+ghost use Rattle.lattice_file.specs.Steps.{behind_entry, behind_block};
+ghost use Rattle.lattice_file.specs.Reading.{standing_of, GoesOnBy};
 ghost use Rattle.lattice_file.specs.Extents.{IsFront, may_come};
 ghost use Rattle.lattice_core.specs.Building.{AreBuilt, Refuses};
 
@@ -150,7 +152,7 @@ impl Reader {
 
     /// Takes a word, and says whether it may come next.
     pub fn take_word(&mut self, word: &[u8]) -> Result<bool, AllocError>
-        ensures { IfOk result (λ taken. next (standing_of self.old) (WordLexeme word.now) ≡ only_if taken (standing_of self.new)) }
+        ensures { IfOk result (λ taken. GoesOnBy self.old self.new (WordLexeme word.now) taken) }
     {
         match self.stage {
             Stage::Outside => Ok(self.begin_order(word)),
@@ -165,7 +167,7 @@ impl Reader {
 
     /// Takes a sign, and says whether it may come next.
     pub fn take_sign(&mut self, sign: u8) -> Result<bool, AllocError>
-        ensures { IfOk result (λ taken. next (standing_of self.old) (SignLexeme sign) ≡ only_if taken (standing_of self.new)) }
+        ensures { IfOk result (λ taken. GoesOnBy self.old self.new (SignLexeme sign) taken) }
     {
         match self.stage {
             Stage::Open => Ok(self.open_block(sign)),
@@ -181,7 +183,7 @@ impl Reader {
 
     fn begin_order(&mut self, word: &[u8]) -> bool
         requires { self.old.stage ≡ Stage.Outside }
-        ensures { next (standing_of self.old) (WordLexeme word.now) ≡ only_if result (standing_of self.new) }
+        ensures { GoesOnBy self.old self.new (WordLexeme word.now) result }
     {
         if word != b"partial".as_slice() {
             return false;
@@ -192,7 +194,7 @@ impl Reader {
 
     fn end_order(&mut self, word: &[u8]) -> bool
         requires { self.old.stage ≡ Stage.Order }
-        ensures { next (standing_of self.old) (WordLexeme word.now) ≡ only_if result (standing_of self.new) }
+        ensures { GoesOnBy self.old self.new (WordLexeme word.now) result }
     {
         if word != b"order".as_slice() {
             return false;
@@ -203,7 +205,7 @@ impl Reader {
 
     fn open_block(&mut self, sign: u8) -> bool
         requires { self.old.stage ≡ Stage.Open }
-        ensures { next (standing_of self.old) (SignLexeme sign) ≡ only_if result (standing_of self.new) }
+        ensures { GoesOnBy self.old self.new (SignLexeme sign) result }
     {
         if sign != b'{' {
             return false;
@@ -216,7 +218,7 @@ impl Reader {
 
     fn begin_item(&mut self, word: &[u8]) -> Result<bool, AllocError>
         requires { self.old.stage ≡ Stage.Items }
-        ensures { IfOk result (λ taken. next (standing_of self.old) (WordLexeme word.now) ≡ only_if taken (standing_of self.new)) }
+        ensures { IfOk result (λ taken. GoesOnBy self.old self.new (WordLexeme word.now) taken) }
     {
         if !is_name(word) {
             return Ok(false);
@@ -228,7 +230,7 @@ impl Reader {
 
     fn behind_name(&mut self, sign: u8) -> bool
         requires { self.old.stage ≡ Stage.Named }
-        ensures { next (standing_of self.old) (SignLexeme sign) ≡ only_if result (standing_of self.new) }
+        ensures { GoesOnBy self.old self.new (SignLexeme sign) result }
     {
         if sign == b'[' {
             self.given = Given::none();
@@ -244,7 +246,7 @@ impl Reader {
 
     fn end_line(&mut self, word: &[u8]) -> Result<bool, AllocError>
         requires { self.old.stage ≡ Stage.High }
-        ensures { IfOk result (λ taken. next (standing_of self.old) (WordLexeme word.now) ≡ only_if taken (standing_of self.new)) }
+        ensures { IfOk result (λ taken. GoesOnBy self.old self.new (WordLexeme word.now) taken) }
     {
         if !is_name(word) {
             return Ok(false);
@@ -258,7 +260,7 @@ impl Reader {
 
     fn begin_attribute(&mut self, word: &[u8]) -> bool
         requires { self.old.stage ≡ Stage.Attribute }
-        ensures { next (standing_of self.old) (WordLexeme word.now) ≡ only_if result (standing_of self.new) }
+        ensures { GoesOnBy self.old self.new (WordLexeme word.now) result }
     {
         match self.given.named(word) {
             Some(attribute) => {
@@ -271,7 +273,7 @@ impl Reader {
 
     fn begin_value(&mut self, attribute: Attribute, sign: u8) -> bool
         requires { self.old.stage ≡ Stage.Equals attribute }
-        ensures { next (standing_of self.old) (SignLexeme sign) ≡ only_if result (standing_of self.new) }
+        ensures { GoesOnBy self.old self.new (SignLexeme sign) result }
     {
         if sign != b'=' {
             return false;
@@ -282,7 +284,7 @@ impl Reader {
 
     fn end_value(&mut self, attribute: Attribute, word: &[u8]) -> bool
         requires { self.old.stage ≡ Stage.Value attribute }
-        ensures { next (standing_of self.old) (WordLexeme word.now) ≡ only_if result (standing_of self.new) }
+        ensures { GoesOnBy self.old self.new (WordLexeme word.now) result }
     {
         match self.given.give(attribute, word) {
             Some(given) => {
@@ -296,7 +298,7 @@ impl Reader {
 
     fn behind_attribute(&mut self, sign: u8) -> Result<bool, AllocError>
         requires { self.old.stage ≡ Stage.Attributed }
-        ensures { IfOk result (λ taken. next (standing_of self.old) (SignLexeme sign) ≡ only_if taken (standing_of self.new)) }
+        ensures { IfOk result (λ taken. GoesOnBy self.old self.new (SignLexeme sign) taken) }
     {
         if sign == b',' && !self.given.is_full() {
             self.stage = Stage::Attribute;
@@ -327,7 +329,7 @@ impl Reader {
 
     fn end_block(&mut self, sign: u8) -> Result<bool, AllocError>
         requires { self.old.stage ≡ Stage.Items }
-        ensures { IfOk result (λ taken. next (standing_of self.old) (SignLexeme sign) ≡ only_if taken (standing_of self.new)) }
+        ensures { IfOk result (λ taken. GoesOnBy self.old self.new (SignLexeme sign) taken) }
     {
         if sign != b'}' || self.entries.is_empty() {
             return Ok(false);

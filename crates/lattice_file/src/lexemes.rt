@@ -1,10 +1,13 @@
 //! Gaps, words and colour texts in the bytes of a lattice file.
 
-ghost use Rattle.std.specs.Prelude.{◌≡◌, ◌≤◌, ◌<◌, ◌+◌, true, false, length, drop, IfOk, IfErr, slice_index, ◌⊎◌};
+ghost use Rattle.std.specs.Prelude.{◌≡◌, ◌≤◌, ◌<◌, ◌+◌, true, false, length, drop, IfOk, IfErr};
+ghost use Rattle.std.specs.Prelude.{slice_index, ◌⊎◌};
 ghost use Rattle.std.specs.List.{list_all, slice_range};
 ghost use Rattle.std.specs.Str.{bytes_eq};
-ghost use Rattle.lattice_file.specs.Text.{StaysOpen, is_blank, lengthens, stands_in_words, stands_in_text};
-ghost use Rattle.lattice_file.specs.Extents.{CommentEnds, LineEnds, GapGoes, CommentFails, GapFails, begins_lexeme, IsFront};
+ghost use Rattle.lattice_file.specs.Text.{StaysOpen, is_blank, lengthens, stands_in_words};
+ghost use Rattle.lattice_file.specs.Text.{stands_in_text};
+ghost use Rattle.lattice_file.specs.Extents.{CommentEnds, LineEnds, GapGoes, CommentFails};
+ghost use Rattle.lattice_file.specs.Extents.{GapFails, begins_lexeme, IsFront};
 
 /// Whether a byte stands in words.
 pub fn is_word_byte(byte: u8) -> bool
@@ -132,7 +135,8 @@ pub fn text_end(bytes: &[u8], from: usize) -> usize
     ensures text { list_all stands_in_text (slice_range bytes.now from result) ≡ true }
     ensures later { from ≤ result }
     ensures within { result ≤ length bytes.now }
-    ensures ends { (result ≡ length bytes.now) ⊎ (stands_in_text (slice_index bytes.now result) ≡ false) }
+    ensures ends { (result ≡ length bytes.now)
+        ⊎ (stands_in_text (slice_index bytes.now result) ≡ false) }
 {
     let mut at = from;
     while at < bytes.len() && bytes[at] != b'"' && bytes[at] != b'\n' {

@@ -1,9 +1,11 @@
 //! Reading a lattice file: its blocks, then the lattice of each.
 
-ghost use Rattle.std.specs.Prelude.{◌≡◌, ◌≤◌, ◌<◌, ◌^◌, ◌-◌, true, false, length, is_some, slice_index, IfOk, IfErr};
+ghost use Rattle.std.specs.Prelude.{◌≡◌, ◌≤◌, ◌<◌, ◌^◌, ◌-◌, true, false, length, is_some};
+ghost use Rattle.std.specs.Prelude.{slice_index, IfOk, IfErr};
 ghost use Rattle.lattice_core.specs.Building.{AreBuilt};
 ghost use Rattle.lattice_file.specs.Blocks.{AreAllBuilt};
-ghost use Rattle.lattice_file.specs.Faults.{IsBlockFault, IsBuildFault, Reads, IsFileFault, IsAnswerFor};
+ghost use Rattle.lattice_file.specs.Faults.{IsBlockFault, IsBuildFault, Reads, IsFileFault};
+ghost use Rattle.lattice_file.specs.Faults.{IsAnswerFor};
 ghost use Rattle.lattice_file.specs.Text.{IsLatticeText, stands_in_words};
 ghost use Rattle.lattice_file.specs.Steps.{TextLexeme, next};
 ghost use Rattle.lattice_file.specs.Extents.{LexemeGoes};
@@ -33,7 +35,9 @@ pub enum LatticeFileFault {
 
 impl From<AllocError> for LatticeFileFault {
     ghost use Rattle.std.specs.Prelude.{◌≡◌};
-    ghost use Rattle.lattice_file.specs.declared.reading.LatticeFileFault.TheVariants.{NoMemory as OutOfMemory};
+    ghost use Rattle.lattice_file.specs.declared.reading.LatticeFileFault.TheVariants.{
+      NoMemory as OutOfMemory,
+    };
 
     ghost from_gives = { λ _ fault. fault ≡ OutOfMemory };
 
@@ -51,7 +55,9 @@ enum TextFault {
 
 impl From<NoMemory> for LatticeFileFault {
     ghost use Rattle.std.specs.Prelude.{◌≡◌};
-    ghost use Rattle.lattice_file.specs.declared.reading.LatticeFileFault.TheVariants.{NoMemory as OutOfMemory};
+    ghost use Rattle.lattice_file.specs.declared.reading.LatticeFileFault.TheVariants.{
+      NoMemory as OutOfMemory,
+    };
 
     ghost from_gives = { λ _ fault. fault ≡ OutOfMemory };
 
@@ -62,7 +68,9 @@ impl From<NoMemory> for LatticeFileFault {
 
 impl From<AllocError> for TextFault {
     ghost use Rattle.std.specs.Prelude.{◌≡◌};
-    ghost use Rattle.lattice_file.specs.declared.reading.TextFault.TheVariants.{NoMemory as OutOfMemory};
+    ghost use Rattle.lattice_file.specs.declared.reading.TextFault.TheVariants.{
+      NoMemory as OutOfMemory,
+    };
 
     ghost from_gives = { λ _ fault. fault ≡ OutOfMemory };
 
@@ -77,7 +85,8 @@ fn take_word(reader: &mut Reader, bytes: &[u8], at: usize) -> Result<usize, Text
     requires word { stands_in_words (slice_index bytes.now at) ≡ true }
     ensures later { IfOk result (λ end. at < end) }
     ensures within { IfOk result (λ end. end ≤ length bytes.now) }
-    ensures goes { IfOk result (LexemeGoes (standing_of reader.old) (standing_of reader.new) bytes.now at) }
+    ensures goes { IfOk result
+        (LexemeGoes (standing_of reader.old) (standing_of reader.new) bytes.now at) }
     ensures fails { IfErr result (IsLexemeFault reader.old bytes.now at) }
 {
     let end = word_end(bytes, at);
@@ -100,7 +109,8 @@ fn take_text(reader: &mut Reader, bytes: &[u8], at: usize) -> Result<usize, Text
     requires wanted { is_some (next (standing_of reader.old) TextLexeme) ≡ true }
     ensures later { IfOk result (λ end. at < end) }
     ensures within { IfOk result (λ end. end ≤ length bytes.now) }
-    ensures goes { IfOk result (LexemeGoes (standing_of reader.old) (standing_of reader.new) bytes.now at) }
+    ensures goes { IfOk result
+        (LexemeGoes (standing_of reader.old) (standing_of reader.new) bytes.now at) }
     ensures fails { IfErr result (IsLexemeFault reader.old bytes.now at) }
 {
     let end = text_end(bytes, at + 1);
@@ -115,10 +125,12 @@ fn take_text(reader: &mut Reader, bytes: &[u8], at: usize) -> Result<usize, Text
 fn take_sign(reader: &mut Reader, bytes: &[u8], at: usize) -> Result<usize, TextFault>
     requires within { at < length bytes.now }
     requires no_word { stands_in_words (slice_index bytes.now at) ≡ false }
-    requires no_text { slice_index bytes.now at ≡ 34 → is_some (next (standing_of reader.old) TextLexeme) ≡ false }
+    requires no_text { slice_index bytes.now at ≡ 34 →
+        is_some (next (standing_of reader.old) TextLexeme) ≡ false }
     ensures later { IfOk result (λ end. at < end) }
     ensures within { IfOk result (λ end. end ≤ length bytes.now) }
-    ensures goes { IfOk result (LexemeGoes (standing_of reader.old) (standing_of reader.new) bytes.now at) }
+    ensures goes { IfOk result
+        (LexemeGoes (standing_of reader.old) (standing_of reader.new) bytes.now at) }
     ensures fails { IfErr result (IsLexemeFault reader.old bytes.now at) }
 {
     if reader.take_sign(bytes[at])? {
@@ -133,7 +145,8 @@ fn take_lexeme(reader: &mut Reader, bytes: &[u8], at: usize) -> Result<usize, Te
     requires { at < length bytes.now }
     ensures later { IfOk result (λ end. at < end) }
     ensures within { IfOk result (λ end. end ≤ length bytes.now) }
-    ensures goes { IfOk result (LexemeGoes (standing_of reader.old) (standing_of reader.new) bytes.now at) }
+    ensures goes { IfOk result
+        (LexemeGoes (standing_of reader.old) (standing_of reader.new) bytes.now at) }
     ensures fails { IfErr result (IsLexemeFault reader.old bytes.now at) }
 {
     if is_word_byte(bytes[at]) {

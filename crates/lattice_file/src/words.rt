@@ -1,11 +1,15 @@
 //! The words of a lattice file, and how far a word can be one of them.
 
-ghost use Rattle.std.specs.Prelude.{◌≡◌, ◌≤◌, ◌<◌, ◌⊎◌, [], ◌∷◌, true, false, length, take, is_some, Some, slice_index};
+ghost use Rattle.std.specs.Prelude.{◌≡◌, ◌≤◌, ◌<◌, ◌⊎◌, [], ◌∷◌, true, false, length, take};
+ghost use Rattle.std.specs.Prelude.{is_some, Some, slice_index};
 ghost use Rattle.std.specs.List.{list_all};
-ghost use Rattle.lattice_file.specs.Text.{no_attribute, has_attribute, attribute_word, is_letter, is_name_byte, begins_with_dollar, is_element_name};
-ghost use Rattle.lattice_file.specs.Steps.{map_some, if_named, attribute_named, level_named, sign_named, with_value, is_full};
+ghost use Rattle.lattice_file.specs.Text.{no_attribute, has_attribute, attribute_word, is_letter};
+ghost use Rattle.lattice_file.specs.Text.{is_name_byte, begins_with_dollar, is_element_name};
+ghost use Rattle.lattice_file.specs.Steps.{map_some, if_named, attribute_named, level_named};
+ghost use Rattle.lattice_file.specs.Steps.{sign_named, with_value, is_full};
 ghost use Rattle.lattice_file.specs.Extents.{IsFront};
-ghost use Rattle.lattice_file.specs.declared.words.Attribute.TheVariants.{Write as WriteAttribute, Deref as DerefAttribute};
+ghost use Rattle.lattice_file.specs.declared.words.Attribute.TheVariants.{Write as WriteAttribute};
+ghost use Rattle.lattice_file.specs.declared.words.Attribute.TheVariants.{Deref as DerefAttribute};
 
 use crate::lexemes::shared_front;
 use lattice_core::{Level, Sign};
@@ -237,7 +241,8 @@ impl Attribute {
 
     /// How far a word can be a value of the attribute.
     pub fn value_front(self, word: &[u8]) -> usize
-        ensures { (given : Given) → IsFront (λ w. is_some (with_value self given w)) word.now result }
+        ensures { (given : Given) →
+            IsFront (λ w. is_some (with_value self given w)) word.now result }
     {
         match self {
             Attribute::Level => level_front(word),

@@ -63,7 +63,8 @@ impl Passed {
     /// Adds to the sets of a constraint what a variable had when it was taken. Constant time.
     pub fn add(&mut self, at: EdgeId, taken: &Taken)
         requires { at < size_of self.old }
-        ensures only { (p : Phase) (n e : ℕ) → HasIn self.new p n e → HasIn self.old p n e ⊎ ((n ≡ at) × (bit_at (had_of taken.now p) e ≡ 1)) }
+        ensures only { (p : Phase) (n e : ℕ) → HasIn self.new p n e →
+            HasIn self.old p n e ⊎ ((n ≡ at) × (bit_at (had_of taken.now p) e ≡ 1)) }
         ensures size { size_of self.new ≡ size_of self.old }
     {
         let at = VarId::new(at.number());

@@ -1,6 +1,7 @@
 //! The sets of constants that reach each variable, in two phases.
 
-ghost use Rattle.std.specs.Prelude.{◌≡◌, ◌≢◌, ◌<◌, ◌≤◌, ℕ, IsTrue, IfOk, length, slice_index, bit_or};
+ghost use Rattle.std.specs.Prelude.{◌≡◌, ◌≢◌, ◌<◌, ◌≤◌, ℕ, IsTrue, IfOk, length, slice_index};
+ghost use Rattle.std.specs.Prelude.{bit_or};
 ghost use Rattle.std.specs.Bool.{OnTrue, OnFalse};
 ghost use Rattle.lattice_solver.specs.Sets.{room};
 ghost use Rattle.lattice_solver.specs.Phases.{Moves, set_of, size_of};
@@ -69,7 +70,8 @@ impl Phases {
         requires { at < size_of self.old }
         ensures moves { Moves self.old self.new result }
         ensures here { set_of self.new phase at ≡ bit_or (set_of self.old phase at) elems }
-        ensures others { (p : Phase) (v : ℕ) → (p ≡ phase → v ≢ at) → set_of self.new p v ≡ set_of self.old p v }
+        ensures others { (p : Phase) (v : ℕ) →
+            (p ≡ phase → v ≢ at) → set_of self.new p v ≡ set_of self.old p v }
     {
         match phase {
             Phase::First => raise_set(&mut self.first, at, elems),

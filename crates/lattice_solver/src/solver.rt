@@ -1,6 +1,7 @@
 //! A solver for one lattice.
 
-ghost use Rattle.std.specs.Prelude.{◌≡◌, ◌<◌, ◌↔◌, ℕ, IsSome, IsTrue, IfNone, IfOk, IfSome, MatchOption, length};
+ghost use Rattle.std.specs.Prelude.{◌≡◌, ◌<◌, ◌↔◌, ℕ, IsSome, IsTrue, IfNone, IfOk, IfSome};
+ghost use Rattle.std.specs.Prelude.{MatchOption, length};
 ghost use Rattle.std.specs.Int.{bit_at};
 ghost use Rattle.lattice_core.specs.Order.{size, IsJoinOf, IsLattice};
 ghost use Rattle.flow_graph.specs.System.{IsWellOwned};
@@ -9,7 +10,9 @@ ghost use Rattle.flow_graph.specs.Paths.{Lead};
 ghost use Rattle.flow_laws.specs.Deciding.{TestsSolve};
 ghost use Rattle.flow_laws.specs.Laws.{SolutionStands};
 ghost use Rattle.match_summary.specs.Summary.{Summarises};
-ghost use Rattle.lattice_solver.specs.Solution.{AllUnder, Exceeds, Fits, HasElement, IsFirstExceeded, IsFirstOver, IsKept, IsOver, IsSolved, IsUnder, reached_at};
+ghost use Rattle.lattice_solver.specs.Solution.{AllUnder, Exceeds, Fits, HasElement};
+ghost use Rattle.lattice_solver.specs.Solution.{IsFirstExceeded, IsFirstOver, IsKept, IsOver};
+ghost use Rattle.lattice_solver.specs.Solution.{IsSolved, IsUnder, reached_at};
 
 use crate::passed::Passed;
 use crate::turns::{Flows, saturate};
@@ -38,7 +41,13 @@ impl Model for Solver {
 
     ghost Value = { Solution };
 
-    ghost view = { λ s. record { lattice = s.lattice; phases = s.work.sets; index = s.index; crossings = s.crossings; passed = s.passed } };
+    ghost view = { λ s. record {
+      lattice = s.lattice;
+      phases = s.work.sets;
+      index = s.index;
+      crossings = s.crossings;
+      passed = s.passed;
+    } };
 }
 
 impl Solver {
@@ -73,7 +82,8 @@ impl Solver {
         requires fits { Fits graph.now self.old }
         requires summaries { Summarises graph.now self.old.lattice summaries.now }
         ensures solved { IsSolved graph.now self.new }
-        ensures reached { (v e : ℕ) → HasElement self.new v e ↔ Lead graph.now self.old.lattice e v }
+        ensures reached { (v e : ℕ) →
+            HasElement self.new v e ↔ Lead graph.now self.old.lattice e v }
         ensures lattice { self.new.lattice ≡ self.old.lattice }
     {
         self.work.clear();
@@ -130,7 +140,8 @@ impl Solver {
         requires bound { bound < length graph.now.constraints }
         ensures element { IfSome result (Exceeds graph.now self.now lattice.now.order bound) }
         ensures none { IfNone result (IsUnder graph.now self.now lattice.now.order bound) }
-        ensures exceeded { IsWellOwned graph.now → (IsSome result ↔ IsExceeded graph.now self.now.lattice lattice.now.order bound) }
+        ensures exceeded { IsWellOwned graph.now →
+            (IsSome result ↔ IsExceeded graph.now self.now.lattice lattice.now.order bound) }
     {
         laws(lattice);
         let constraint = graph.constraint(bound);
@@ -145,8 +156,10 @@ impl Solver {
         requires named { NamesElementsIn graph.now self.now.lattice lattice.now.order }
         ensures over { IfSome result (IsFirstOver graph.now self.now lattice.now.order) }
         ensures under { IfNone result ((n : ℕ) → IsUnder graph.now self.now lattice.now.order n) }
-        ensures first { IsWellOwned graph.now → IfSome result (IsFirstExceeded graph.now self.now.lattice lattice.now.order) }
-        ensures kept { IsWellOwned graph.now → IfNone result (IsKept graph.now self.now lattice.now.order) }
+        ensures first { IsWellOwned graph.now →
+            IfSome result (IsFirstExceeded graph.now self.now.lattice lattice.now.order) }
+        ensures kept { IsWellOwned graph.now →
+            IfNone result (IsKept graph.now self.now lattice.now.order) }
     {
         laws(lattice);
         for n in 0..graph.len() {
@@ -161,7 +174,8 @@ impl Solver {
 /// The first element of a set that is not at or below an element.
 fn first_over(lattice: &Lattice, set: ElemSet, limit: Elem) -> Option<Elem>
     requires { limit < size lattice.now.order }
-    ensures { MatchOption result (AllUnder lattice.now.order set limit) (IsOver lattice.now.order set limit) }
+    ensures { MatchOption result
+        (AllUnder lattice.now.order set limit) (IsOver lattice.now.order set limit) }
 {
     lattice.law();
     for n in 0..lattice.size() {

@@ -8,8 +8,10 @@ ghost use Rattle.flow_graph.specs.Index.{IsKeyed, link_site};
 ghost use Rattle.flow_graph.specs.PathRules.{link_begins};
 ghost use Rattle.flow_graph.specs.System.{System, AllBelow, Stands};
 ghost use Rattle.match_summary.specs.Summary.{HasPair};
-ghost use Rattle.lattice_solver.specs.Phases.{AllLeadIn, AllLeadTo, HasIn, Includes, LeadsIn, set_of, size_of};
-ghost use Rattle.lattice_solver.specs.Stable.{AreBegun, AreOfSystem, IsCarried, IsOver, IsPassed, IsPassedFrom, StaySound};
+ghost use Rattle.lattice_solver.specs.Phases.{AllLeadIn, AllLeadTo, HasIn, Includes, LeadsIn};
+ghost use Rattle.lattice_solver.specs.Phases.{set_of, size_of};
+ghost use Rattle.lattice_solver.specs.Stable.{AreBegun, AreOfSystem, IsCarried, IsOver, IsPassed};
+ghost use Rattle.lattice_solver.specs.Stable.{IsPassedFrom, StaySound};
 ghost use Rattle.lattice_solver.specs.Waiting.{AreNone};
 ghost use Rattle.lattice_solver.specs.Working.{Gains, had_of};
 
@@ -41,7 +43,8 @@ pub fn saturate(work: &mut Work, passed: &mut Passed, flows: &Flows)
     requires room { length flows.now.graph.now.constraints ≤ size_of passed.old }
     requires none { (p : Phase) (n : ℕ) → set_of passed.old p n ≡ 0 }
     requires empty { (p : Phase) (v : ℕ) → set_of work.old.sets p v ≡ 0 }
-    ensures exact { (p : Phase) (v e : ℕ) → HasIn work.new.sets p v e ↔ LeadsIn flows.now.graph.now flows.now.lattice p e v }
+    ensures exact { (p : Phase) (v e : ℕ) →
+        HasIn work.new.sets p v e ↔ LeadsIn flows.now.graph.now flows.now.lattice p e v }
     ensures size { size_of work.new.sets ≡ size_of work.old.sets }
     ensures same { size_of passed.new ≡ size_of passed.old }
 {
@@ -56,7 +59,8 @@ fn begin_all(work: &mut Work, flows: &Flows)
     requires lattice { flows.now.lattice < 16 }
     requires below { AllBelow flows.now.graph.now (size_of work.old.sets) }
     ensures gains { Gains work.old work.new }
-    ensures sound { AllLeadIn flows.now.graph.now flows.now.lattice work.old.sets → AllLeadIn flows.now.graph.now flows.now.lattice work.new.sets }
+    ensures sound { AllLeadIn flows.now.graph.now flows.now.lattice work.old.sets →
+        AllLeadIn flows.now.graph.now flows.now.lattice work.new.sets }
     ensures begun { AreBegun flows.now.graph.now flows.now.lattice work.new.sets }
 {
     for n in 0..flows.graph.len() {
@@ -69,8 +73,10 @@ fn begin(work: &mut Work, flows: &Flows, edge: EdgeId)
     requires edge { edge < length flows.now.graph.now.constraints }
     requires below { AllBelow flows.now.graph.now (size_of work.old.sets) }
     ensures gains { Gains work.old work.new }
-    ensures sound { AllLeadIn flows.now.graph.now flows.now.lattice work.old.sets → AllLeadIn flows.now.graph.now flows.now.lattice work.new.sets }
-    ensures begun { (e v : ℕ) → Stands flows.now.graph.now flows.now.lattice edge (Const flows.now.lattice e v) → HasIn work.new.sets First v e }
+    ensures sound { AllLeadIn flows.now.graph.now flows.now.lattice work.old.sets →
+        AllLeadIn flows.now.graph.now flows.now.lattice work.new.sets }
+    ensures begun { (e v : ℕ) → Stands flows.now.graph.now flows.now.lattice edge
+        (Const flows.now.lattice e v) → HasIn work.new.sets First v e }
 {
     let link = flows.graph.constraint(edge).link;
     match link {
@@ -94,11 +100,14 @@ fn only(elem: Elem) -> u64
 /// Carries what a variable had on along each constraint that begins at it.
 fn pass_on(work: &mut Work, passed: &mut Passed, flows: &Flows, taken: &Taken)
     requires ready { AreOfSystem flows.now (size_of work.old.sets) }
-    requires over { IsOver flows.now.graph.now flows.now.lattice flows.now.summaries.now passed.old work.old.sets }
+    requires over { IsOver
+        flows.now.graph.now flows.now.lattice flows.now.summaries.now passed.old work.old.sets }
     ensures gains { Gains work.old work.new }
     ensures sound { StaySound flows.now taken.now work.old.sets work.new.sets }
-    ensures carried { (n : ℕ) → IsCarried flows.now.graph.now flows.now.lattice flows.now.summaries.now (had_of taken.now) work.new.sets taken.now.at n }
-    ensures over { IsOver flows.now.graph.now flows.now.lattice flows.now.summaries.now passed.new work.new.sets }
+    ensures carried { (n : ℕ) → IsCarried flows.now.graph.now
+        flows.now.lattice flows.now.summaries.now (had_of taken.now) work.new.sets taken.now.at n }
+    ensures over { IsOver
+        flows.now.graph.now flows.now.lattice flows.now.summaries.now passed.new work.new.sets }
     ensures same { size_of passed.new ≡ size_of passed.old }
 {
     for edge in flows.index.out(taken.at) {
@@ -109,12 +118,15 @@ fn pass_on(work: &mut Work, passed: &mut Passed, flows: &Flows, taken: &Taken)
 /// Carries what a variable had on along a constraint that begins at it, and round the groups that it begins.
 fn follow(work: &mut Work, passed: &mut Passed, flows: &Flows, taken: &Taken, edge: EdgeId)
     requires ready { AreOfSystem flows.now (size_of work.old.sets) }
-    requires over { IsOver flows.now.graph.now flows.now.lattice flows.now.summaries.now passed.old work.old.sets }
+    requires over { IsOver
+        flows.now.graph.now flows.now.lattice flows.now.summaries.now passed.old work.old.sets }
     requires begins { IsKeyed flows.now.graph.now link_begins taken.now.at edge }
     ensures gains { Gains work.old work.new }
     ensures sound { StaySound flows.now taken.now work.old.sets work.new.sets }
-    ensures carried { IsCarried flows.now.graph.now flows.now.lattice flows.now.summaries.now (had_of taken.now) work.new.sets taken.now.at edge }
-    ensures over { IsOver flows.now.graph.now flows.now.lattice flows.now.summaries.now passed.new work.new.sets }
+    ensures carried { IsCarried flows.now.graph.now flows.now.lattice flows.now.summaries.now
+        (had_of taken.now) work.new.sets taken.now.at edge }
+    ensures over { IsOver
+        flows.now.graph.now flows.now.lattice flows.now.summaries.now passed.new work.new.sets }
     ensures same { size_of passed.new ≡ size_of passed.old }
 {
     let constraint = flows.graph.constraint(edge);
@@ -138,7 +150,9 @@ fn follow(work: &mut Work, passed: &mut Passed, flows: &Flows, taken: &Taken, ed
 fn give_both(work: &mut Work, taken: &Taken, to: VarId)
     requires { to < size_of work.old.sets }
     ensures gains { Gains work.old work.new }
-    ensures sound { (sys : System) (lattice : ℕ) → ((p : Phase) → AllLeadTo sys lattice (had_of taken.now p) p to) → AllLeadIn sys lattice work.old.sets → AllLeadIn sys lattice work.new.sets }
+    ensures sound { (sys : System) (lattice : ℕ) →
+        ((p : Phase) → AllLeadTo sys lattice (had_of taken.now p) p to) →
+        AllLeadIn sys lattice work.old.sets → AllLeadIn sys lattice work.new.sets }
     ensures has { (p : Phase) → Includes (had_of taken.now p) work.new.sets p to }
 {
     work.gain(Phase::First, to, taken.first);
@@ -149,7 +163,9 @@ fn give_both(work: &mut Work, taken: &Taken, to: VarId)
 fn give_called(work: &mut Work, taken: &Taken, to: VarId)
     requires { to < size_of work.old.sets }
     ensures gains { Gains work.old work.new }
-    ensures sound { (sys : System) (lattice : ℕ) → ((p : Phase) → AllLeadTo sys lattice (had_of taken.now p) Second to) → AllLeadIn sys lattice work.old.sets → AllLeadIn sys lattice work.new.sets }
+    ensures sound { (sys : System) (lattice : ℕ) →
+        ((p : Phase) → AllLeadTo sys lattice (had_of taken.now p) Second to) →
+        AllLeadIn sys lattice work.old.sets → AllLeadIn sys lattice work.new.sets }
     ensures has { (p : Phase) → Includes (had_of taken.now p) work.new.sets Second to }
 {
     work.gain(Phase::Second, to, taken.first | taken.second);
@@ -159,12 +175,16 @@ fn give_called(work: &mut Work, taken: &Taken, to: VarId)
 /// of an `Enter` of the same site to the same variable.
 fn pass_groups(work: &mut Work, passed: &mut Passed, flows: &Flows, taken: &Taken, call: &Crossing)
     requires ready { AreOfSystem flows.now (size_of work.old.sets) }
-    requires over { IsOver flows.now.graph.now flows.now.lattice flows.now.summaries.now passed.old work.old.sets }
-    requires call { (n : ℕ) × Stands flows.now.graph.now flows.now.lattice n (Enter call.now.site taken.now.at call.now.to) }
+    requires over { IsOver
+        flows.now.graph.now flows.now.lattice flows.now.summaries.now passed.old work.old.sets }
+    requires call { (n : ℕ) × Stands flows.now.graph.now flows.now.lattice n
+        (Enter call.now.site taken.now.at call.now.to) }
     ensures gains { Gains work.old work.new }
     ensures sound { StaySound flows.now taken.now work.old.sets work.new.sets }
-    ensures passed { (m : ℕ) → IsPassed flows.now.graph.now flows.now.lattice flows.now.summaries.now (had_of taken.now) work.new.sets call.now.site call.now.to m }
-    ensures over { IsOver flows.now.graph.now flows.now.lattice flows.now.summaries.now passed.new work.new.sets }
+    ensures passed { (m : ℕ) → IsPassed flows.now.graph.now flows.now.lattice
+        flows.now.summaries.now (had_of taken.now) work.new.sets call.now.site call.now.to m }
+    ensures over { IsOver
+        flows.now.graph.now flows.now.lattice flows.now.summaries.now passed.new work.new.sets }
     ensures same { size_of passed.new ≡ size_of passed.old }
 {
     let end = InnerEnd {
@@ -186,12 +206,17 @@ fn pass_groups(work: &mut Work, passed: &mut Passed, flows: &Flows, taken: &Take
 /// Carries what a variable had round the groups of an `Enter` in which a pair leads to the `Leave`, the newest pair first.
 fn pass_pairs(work: &mut Work, passed: &mut Passed, flows: &Flows, taken: &Taken, call: &Crossing)
     requires ready { AreOfSystem flows.now (size_of work.old.sets) }
-    requires over { IsOver flows.now.graph.now flows.now.lattice flows.now.summaries.now passed.old work.old.sets }
-    requires call { (n : ℕ) × Stands flows.now.graph.now flows.now.lattice n (Enter call.now.site taken.now.at call.now.to) }
+    requires over { IsOver
+        flows.now.graph.now flows.now.lattice flows.now.summaries.now passed.old work.old.sets }
+    requires call { (n : ℕ) × Stands flows.now.graph.now flows.now.lattice n
+        (Enter call.now.site taken.now.at call.now.to) }
     ensures gains { Gains work.old work.new }
     ensures sound { StaySound flows.now taken.now work.old.sets work.new.sets }
-    ensures passed { (b m : ℕ) → HasPair flows.now.summaries.now call.now.to b → IsPassedFrom flows.now.graph.now flows.now.lattice flows.now.summaries.now (had_of taken.now) work.new.sets call.now.site call.now.to b m }
-    ensures over { IsOver flows.now.graph.now flows.now.lattice flows.now.summaries.now passed.new work.new.sets }
+    ensures passed { (b m : ℕ) → HasPair flows.now.summaries.now call.now.to b →
+        IsPassedFrom flows.now.graph.now flows.now.lattice flows.now.summaries.now
+        (had_of taken.now) work.new.sets call.now.site call.now.to b m }
+    ensures over { IsOver
+        flows.now.graph.now flows.now.lattice flows.now.summaries.now passed.new work.new.sets }
     ensures same { size_of passed.new ≡ size_of passed.old }
 {
     let mut next = flows.summaries.newest_from(call.to);
@@ -213,12 +238,16 @@ fn pass_leaves(
     last: VarId,
 )
     requires ready { AreOfSystem flows.now (size_of work.old.sets) }
-    requires over { IsOver flows.now.graph.now flows.now.lattice flows.now.summaries.now passed.old work.old.sets }
-    requires call { (n : ℕ) × Stands flows.now.graph.now flows.now.lattice n (Enter call.now.site taken.now.at call.now.to) }
+    requires over { IsOver
+        flows.now.graph.now flows.now.lattice flows.now.summaries.now passed.old work.old.sets }
+    requires call { (n : ℕ) × Stands flows.now.graph.now flows.now.lattice n
+        (Enter call.now.site taken.now.at call.now.to) }
     ensures gains { Gains work.old work.new }
     ensures sound { StaySound flows.now taken.now work.old.sets work.new.sets }
-    ensures passed { (m : ℕ) → IsPassedFrom flows.now.graph.now flows.now.lattice flows.now.summaries.now (had_of taken.now) work.new.sets call.now.site call.now.to last m }
-    ensures over { IsOver flows.now.graph.now flows.now.lattice flows.now.summaries.now passed.new work.new.sets }
+    ensures passed { (m : ℕ) → IsPassedFrom flows.now.graph.now flows.now.lattice
+        flows.now.summaries.now (had_of taken.now) work.new.sets call.now.site call.now.to last m }
+    ensures over { IsOver
+        flows.now.graph.now flows.now.lattice flows.now.summaries.now passed.new work.new.sets }
     ensures same { size_of passed.new ≡ size_of passed.old }
 {
     if !joins(flows.graph, flows.summaries, call.to, last) {
@@ -242,10 +271,12 @@ fn pass_leaves(
 /// Carries what a variable had round the groups of an `Enter` whose `Leave` begins at a variable, the last `Leave` first.
 fn pass_all(work: &mut Work, flows: &Flows, taken: &Taken, call: &Crossing, last: VarId)
     requires ready { AreOfSystem flows.now (size_of work.old.sets) }
-    requires call { (n : ℕ) × Stands flows.now.graph.now flows.now.lattice n (Enter call.now.site taken.now.at call.now.to) }
+    requires call { (n : ℕ) × Stands flows.now.graph.now flows.now.lattice n
+        (Enter call.now.site taken.now.at call.now.to) }
     ensures gains { Gains work.old work.new }
     ensures sound { StaySound flows.now taken.now work.old.sets work.new.sets }
-    ensures passed { (m : ℕ) → IsPassedFrom flows.now.graph.now flows.now.lattice flows.now.summaries.now (had_of taken.now) work.new.sets call.now.site call.now.to last m }
+    ensures passed { (m : ℕ) → IsPassedFrom flows.now.graph.now flows.now.lattice
+        flows.now.summaries.now (had_of taken.now) work.new.sets call.now.site call.now.to last m }
 {
     let end = InnerEnd {
         way: Way::Out,
@@ -263,11 +294,13 @@ fn pass_all(work: &mut Work, flows: &Flows, taken: &Taken, call: &Crossing, last
 /// lattice to which nothing or a summary leads inside one function.
 fn pass_group(work: &mut Work, flows: &Flows, taken: &Taken, call: &Crossing, leave: EdgeId)
     requires ready { AreOfSystem flows.now (size_of work.old.sets) }
-    requires call { (n : ℕ) × Stands flows.now.graph.now flows.now.lattice n (Enter call.now.site taken.now.at call.now.to) }
+    requires call { (n : ℕ) × Stands flows.now.graph.now flows.now.lattice n
+        (Enter call.now.site taken.now.at call.now.to) }
     requires site { IsKeyed flows.now.graph.now link_site call.now.site leave }
     ensures gains { Gains work.old work.new }
     ensures sound { StaySound flows.now taken.now work.old.sets work.new.sets }
-    ensures passed { IsPassed flows.now.graph.now flows.now.lattice flows.now.summaries.now (had_of taken.now) work.new.sets call.now.site call.now.to leave }
+    ensures passed { IsPassed flows.now.graph.now flows.now.lattice flows.now.summaries.now
+        (had_of taken.now) work.new.sets call.now.site call.now.to leave }
 {
     let back = flows.graph.constraint(leave);
     if !back.is_in(flows.lattice) {

@@ -1,6 +1,7 @@
 //! The variables that wait to be taken.
 
-ghost use Rattle.std.specs.Prelude.{◌≡◌, ◌≢◌, ◌<◌, ◌≤◌, ◌+◌, ℕ, false, true, length, slice_index_or, IfOk, IfSome, IfNone};
+ghost use Rattle.std.specs.Prelude.{◌≡◌, ◌≢◌, ◌<◌, ◌≤◌, ◌+◌, ℕ, false, true, length};
+ghost use Rattle.std.specs.Prelude.{slice_index_or, IfOk, IfSome, IfNone};
 ghost use Rattle.lattice_solver.specs.Waiting.{AreNone, IsTaken, waits};
 
 use qual_base::{NoMemory, Numbered, VarId};

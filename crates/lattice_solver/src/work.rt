@@ -2,7 +2,8 @@
 
 ghost use Rattle.std.specs.Prelude.{◌≡◌, ℕ, ◌<◌, IfOk, IfSome, IfNone};
 ghost use Rattle.flow_graph.specs.System.{System};
-ghost use Rattle.lattice_solver.specs.Phases.{AllLeadIn, AllLeadTo, Includes, IsRaised, StartsAnew, set_of, size_of};
+ghost use Rattle.lattice_solver.specs.Phases.{AllLeadIn, AllLeadTo, Includes, IsRaised, StartsAnew};
+ghost use Rattle.lattice_solver.specs.Phases.{set_of, size_of};
 ghost use Rattle.lattice_solver.specs.Waiting.{AreNone};
 ghost use Rattle.lattice_solver.specs.Working.{Gains, IsTakenUp};
 
@@ -70,7 +71,8 @@ impl Work {
         requires { at < size_of self.old.sets }
         ensures gains { Gains self.old self.new }
         ensures has { Includes elems self.new.sets phase at }
-        ensures sound { (sys : System) (lattice : ℕ) → AllLeadTo sys lattice elems phase at → AllLeadIn sys lattice self.old.sets → AllLeadIn sys lattice self.new.sets }
+        ensures sound { (sys : System) (lattice : ℕ) → AllLeadTo sys lattice elems phase at →
+            AllLeadIn sys lattice self.old.sets → AllLeadIn sys lattice self.new.sets }
     {
         if self.sets.raise(phase, at, elems) {
             self.waiting.push(at);
@@ -80,7 +82,8 @@ impl Work {
     /// Takes a variable that waits. At a variable of nobody the second phase starts the first anew. Constant time.
     pub fn take(&mut self, graph: &FlowGraph) -> Option<Taken>
         ensures taken { IfSome result (IsTakenUp graph.now self.old self.new) }
-        ensures sound { (lattice : ℕ) → AllLeadIn graph.now lattice self.old.sets → AllLeadIn graph.now lattice self.new.sets }
+        ensures sound { (lattice : ℕ) →
+            AllLeadIn graph.now lattice self.old.sets → AllLeadIn graph.now lattice self.new.sets }
         ensures none { IfNone result (AreNone self.old.waiting) }
         ensures same { IfNone result (self.new ≡ self.old) }
     {
@@ -99,7 +102,8 @@ fn start_anew(sets: &mut Phases, graph: &FlowGraph, at: VarId)
     requires { at < size_of sets.old }
     ensures raised { IsRaised sets.old sets.new at }
     ensures anew { StartsAnew graph.now sets.new at }
-    ensures sound { (lattice : ℕ) → AllLeadIn graph.now lattice sets.old → AllLeadIn graph.now lattice sets.new }
+    ensures sound { (lattice : ℕ) →
+        AllLeadIn graph.now lattice sets.old → AllLeadIn graph.now lattice sets.new }
 {
     let owner = graph.owner(at);
     match owner {

@@ -1,6 +1,7 @@
 //! The place of each pair of a list of summaries, by a hash of the pair.
 
-ghost use Rattle.std.specs.Prelude.{◌≡◌, ℕ, ◌<◌, ◌%◌, List, [], ◌∷◌, ◌++◌, ◌↔◌, slice_get, Some, IsTrue, IfOk, OnOk, OnErr, MatchOption};
+ghost use Rattle.std.specs.Prelude.{◌≡◌, ℕ, ◌<◌, ◌%◌, List, [], ◌∷◌, ◌++◌, ◌↔◌, slice_get, Some};
+ghost use Rattle.std.specs.Prelude.{IsTrue, IfOk, OnOk, OnErr, MatchOption};
 ghost use Rattle.match_summary.specs.declared.reason.Reason.{Reason};
 ghost use Rattle.match_summary.specs.declared.reason.Summary.{Summary};
 ghost use Rattle.match_summary.specs.Summary.{HasPair};
@@ -34,7 +35,8 @@ impl Buckets {
     /// The place of a pair. Constant time but for pairs with one hash.
     pub fn find(&self, rows: &[Summary], from: VarId, to: VarId) -> Option<usize>
         requires { AreHashed rows.now self.now }
-        ensures { MatchOption result (HasPair rows.now from to → ⊥) (λ at. (why : Reason) × (slice_get rows.now at ≡ Some (record { from = from; to = to; why = why }))) }
+        ensures { MatchOption result (HasPair rows.now from to → ⊥) (λ at. (why : Reason)
+            × (slice_get rows.now at ≡ Some (record { from = from; to = to; why = why }))) }
     {
         let mut next = self.chains.newest(bucket(self.count, from, to));
         while let Some(at) = next {
@@ -65,8 +67,10 @@ impl Buckets {
     /// Adds a pair. Constant time but for growth.
     pub fn push(&mut self, from: VarId, to: VarId) -> Result<(), NoMemory>
         requires { 0 < self.old.count }
-        ensures ok { OnOk result ((rows : List Summary) (why : Reason) → AreHashed rows self.old → AreHashed (rows ++ record { from = from; to = to; why = why } ∷ []) self.new) }
-        ensures err { OnErr result ((rows : List Summary) → AreHashed rows self.old → AreHashed rows self.new) }
+        ensures ok { OnOk result ((rows : List Summary) (why : Reason) → AreHashed rows self.old →
+            AreHashed (rows ++ record { from = from; to = to; why = why } ∷ []) self.new) }
+        ensures err { OnErr result
+            ((rows : List Summary) → AreHashed rows self.old → AreHashed rows self.new) }
         ensures count { self.new.count ≡ self.old.count }
     {
         self.chains.push(bucket(self.count, from, to))
@@ -75,7 +79,8 @@ impl Buckets {
     /// Takes the last pair away. Constant time.
     pub fn pop(&mut self, from: VarId, to: VarId)
         requires { 0 < self.old.count }
-        ensures { (rows : List Summary) (why : Reason) → AreHashed (rows ++ record { from = from; to = to; why = why } ∷ []) self.old → AreHashed rows self.new }
+        ensures { (rows : List Summary) (why : Reason) → AreHashed (rows
+            ++ record { from = from; to = to; why = why } ∷ []) self.old → AreHashed rows self.new }
     {
         self.chains.pop(bucket(self.count, from, to));
     }

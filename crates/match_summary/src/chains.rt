@@ -1,6 +1,7 @@
 //! Places of a list, chained by a key of each.
 
-ghost use Rattle.std.specs.Prelude.{◌≡◌, ◌≢◌, ℕ, ◌<◌, ◌≤◌, IfOk, List, [], ◌∷◌, ◌++◌, length, slice_get, slice_index, Some, OnOk, OnErr};
+ghost use Rattle.std.specs.Prelude.{◌≡◌, ◌≢◌, ℕ, ◌<◌, ◌≤◌, IfOk, List, [], ◌∷◌, ◌++◌, length};
+ghost use Rattle.std.specs.Prelude.{slice_get, slice_index, Some, OnOk, OnErr};
 ghost use Rattle.match_summary.specs.Chained.{AreChained, IsLink, link_of};
 
 use qual_base::NoMemory;
@@ -37,7 +38,8 @@ impl Chains {
 
     /// The last place with a key. Constant time.
     pub fn newest(&self, key: u32) -> Option<usize>
-        ensures { (keys : List ℕ) → AreChained keys self.now → IsLink keys key (length keys) (link_of result) }
+        ensures { (keys : List ℕ) →
+            AreChained keys self.now → IsLink keys key (length keys) (link_of result) }
     {
         match self.newest.get(key as usize) {
             Some(link) => place(*link),
@@ -47,7 +49,8 @@ impl Chains {
 
     /// The last place before another that has the same key. Constant time.
     pub fn before(&self, at: usize) -> Option<usize>
-        ensures { (keys : List ℕ) (key : ℕ) → AreChained keys self.now → slice_get keys at ≡ Some key → IsLink keys key at (link_of result) }
+        ensures { (keys : List ℕ) (key : ℕ) → AreChained keys self.now →
+            slice_get keys at ≡ Some key → IsLink keys key at (link_of result) }
     {
         match self.before.get(at) {
             Some(link) => place(*link),
@@ -58,8 +61,10 @@ impl Chains {
     /// Chains one place more. Constant time but for growth, and 4 bytes; the first place of a key takes 4 bytes for each key
     /// up to it.
     pub fn push(&mut self, key: u32) -> Result<(), NoMemory>
-        ensures ok { OnOk result ((keys : List ℕ) → AreChained keys self.old → AreChained (keys ++ key ∷ []) self.new) }
-        ensures err { OnErr result ((keys : List ℕ) → AreChained keys self.old → AreChained keys self.new) }
+        ensures ok { OnOk result
+            ((keys : List ℕ) → AreChained keys self.old → AreChained (keys ++ key ∷ []) self.new) }
+        ensures err { OnErr result
+            ((keys : List ℕ) → AreChained keys self.old → AreChained keys self.new) }
     {
         let Ok(at) = u32::try_from(self.before.len() + 1) else {
             return Err(NoMemory);
@@ -73,7 +78,8 @@ impl Chains {
 
     /// Takes the last place away, by its key. Constant time.
     pub fn pop(&mut self, key: u32)
-        ensures { (keys : List ℕ) → AreChained (keys ++ key ∷ []) self.old → AreChained keys self.new }
+        ensures { (keys : List ℕ) →
+            AreChained (keys ++ key ∷ []) self.old → AreChained keys self.new }
     {
         if let Some(link) = self.before.pop() {
             set(&mut self.newest, key, link);
@@ -105,7 +111,8 @@ fn make_room(links: &mut Vec<u32>, count: usize) -> Result<(), NoMemory>
 /// Sets the link of a key, if it has one.
 fn set(links: &mut Vec<u32>, key: u32, link: u32)
     ensures here { key < length links.old.items → slice_index links.new.items key ≡ link }
-    ensures others { (k : ℕ) → k ≢ key → slice_index links.new.items k ≡ slice_index links.old.items k }
+    ensures others { (k : ℕ) →
+        k ≢ key → slice_index links.new.items k ≡ slice_index links.old.items k }
 {
     let key = key as usize;
     if key < links.len() {

@@ -10,14 +10,18 @@
 //! Each pair is looked at once, as the first premise of flow and of group and as the third premise of group. Of two pairs
 //! that make a group together, the one that is looked at later finds the other.
 
-ghost use Rattle.std.specs.Prelude.{◌≡◌, ℕ, ◌<◌, ◌≤◌, ◌⊎◌, ◌↔◌, true, false, [], length, slice_index_or, IsTrue, IfOk, OnOk};
+ghost use Rattle.std.specs.Prelude.{◌≡◌, ℕ, ◌<◌, ◌≤◌, ◌⊎◌, ◌↔◌, true, false, [], length};
+ghost use Rattle.std.specs.Prelude.{slice_index_or, IsTrue, IfOk, OnOk};
 ghost use Rattle.flow_graph.specs.declared.constraint.Link.TheVariants.{Enter, Leave};
 ghost use Rattle.flow_graph.specs.System.{AllBelow, Stands};
 ghost use Rattle.flow_graph.specs.PathRules.{link_begins};
 ghost use Rattle.flow_graph.specs.Index.{link_site, IsKeyed};
 ghost use Rattle.match_summary.specs.Reason.{before_of};
-ghost use Rattle.match_summary.specs.Summary.{AreOfOne, EndsAt, HasPair, IsInnerEnd, Leads, Summarises};
-ghost use Rattle.match_summary.specs.Closing.{AllFollow, AreDone, AreEnds, AreReady, Follows, Grows, IsEntered, IsFollowed, IsKept, IsLeft, IsLeftFrom, IsLookedAt, Looked};
+ghost use Rattle.match_summary.specs.Summary.{AreOfOne, EndsAt, HasPair, IsInnerEnd, Leads};
+ghost use Rattle.match_summary.specs.Summary.{Summarises};
+ghost use Rattle.match_summary.specs.Closing.{AllFollow, AreDone, AreEnds, AreReady, Follows};
+ghost use Rattle.match_summary.specs.Closing.{Grows, IsEntered, IsFollowed, IsKept, IsLeft};
+ghost use Rattle.match_summary.specs.Closing.{IsLeftFrom, IsLookedAt, Looked};
 
 use crate::crossings::{Crossings, InnerEnd, Way};
 use crate::found::Found;
@@ -91,9 +95,12 @@ fn mark(graph: &FlowGraph, lattice: LatticeNo, at: EdgeId, ends: &mut Vec<bool>)
     requires at { at < length graph.now.constraints }
     requires below { AllBelow graph.now (length ends.old.items) }
     ensures size { length ends.new.items ≡ length ends.old.items }
-    ensures kept { (a : ℕ) → slice_index_or ends.old.items a false ≡ true → slice_index_or ends.new.items a false ≡ true }
-    ensures only { (a : ℕ) → slice_index_or ends.new.items a false ≡ true → (slice_index_or ends.old.items a false ≡ true) ⊎ IsInnerEnd graph.now lattice a }
-    ensures there { (s u a : ℕ) → Stands graph.now lattice at (Enter s u a) → slice_index_or ends.new.items a false ≡ true }
+    ensures kept { (a : ℕ) → slice_index_or ends.old.items a false ≡ true →
+        slice_index_or ends.new.items a false ≡ true }
+    ensures only { (a : ℕ) → slice_index_or ends.new.items a false ≡ true →
+        (slice_index_or ends.old.items a false ≡ true) ⊎ IsInnerEnd graph.now lattice a }
+    ensures there { (s u a : ℕ) →
+        Stands graph.now lattice at (Enter s u a) → slice_index_or ends.new.items a false ≡ true }
 {
     let constraint = graph.constraint(at);
     if !constraint.is_in(lattice) {
@@ -110,7 +117,8 @@ fn from_ends(given: &Premises, found: &mut Found) -> Result<(), NoMemory>
     requires kept { IsKept given.now.graph.now given.now.lattice found.old }
     requires none { found.old.known ≡ [] }
     ensures kept { OnOk result (IsKept given.now.graph.now given.now.lattice found.new) }
-    ensures done { OnOk result (AreDone given.now.graph.now given.now.lattice (Looked found.new.known given.now.vars 0) found.new.known) }
+    ensures done { OnOk result (AreDone given.now.graph.now given.now.lattice
+        (Looked found.new.known given.now.vars 0) found.new.known) }
 {
     for n in 0..given.vars {
         from_end(given, found, VarId::new(n))?;
@@ -124,7 +132,8 @@ fn from_end(given: &Premises, found: &mut Found, at: VarId) -> Result<(), NoMemo
     requires kept { IsKept given.now.graph.now given.now.lattice found.old }
     ensures kept { OnOk result (IsKept given.now.graph.now given.now.lattice found.new) }
     ensures grows { OnOk result (Grows found.old.known found.new.known) }
-    ensures done { OnOk result (IsInnerEnd given.now.graph.now given.now.lattice at → IsLookedAt given.now.graph.now given.now.lattice found.old.known found.new.known at at) }
+    ensures done { OnOk result (IsInnerEnd given.now.graph.now given.now.lattice at →
+        IsLookedAt given.now.graph.now given.now.lattice found.old.known found.new.known at at) }
 {
     if !is_end(given, at) {
         return Ok(());
@@ -136,9 +145,11 @@ fn from_end(given: &Premises, found: &mut Found, at: VarId) -> Result<(), NoMemo
 fn from_pairs(given: &Premises, found: &mut Found) -> Result<(), NoMemory>
     requires ready { AreReady given.now }
     requires kept { IsKept given.now.graph.now given.now.lattice found.old }
-    requires done { AreDone given.now.graph.now given.now.lattice (Looked found.old.known given.now.vars 0) found.old.known }
+    requires done { AreDone given.now.graph.now given.now.lattice
+        (Looked found.old.known given.now.vars 0) found.old.known }
     ensures kept { OnOk result (IsKept given.now.graph.now given.now.lattice found.new) }
-    ensures done { OnOk result (AreDone given.now.graph.now given.now.lattice (Looked found.new.known given.now.vars (length found.new.known)) found.new.known) }
+    ensures done { OnOk result (AreDone given.now.graph.now given.now.lattice
+        (Looked found.new.known given.now.vars (length found.new.known)) found.new.known) }
 {
     let mut at = 0;
     while at < found.len() {
@@ -168,7 +179,8 @@ fn look(given: &Premises, found: &mut Found, from: VarId, to: VarId) -> Result<(
     requires path { Leads found.old.known from to }
     ensures kept { OnOk result (IsKept given.now.graph.now given.now.lattice found.new) }
     ensures grows { OnOk result (Grows found.old.known found.new.known) }
-    ensures done { OnOk result (IsLookedAt given.now.graph.now given.now.lattice found.old.known found.new.known from to) }
+    ensures done { OnOk result
+        (IsLookedAt given.now.graph.now given.now.lattice found.old.known found.new.known from to) }
 {
     for edge in given.index.out(to) {
         follow(given, found, from, to, *edge)?;
@@ -191,7 +203,8 @@ fn follow(
     requires edge { IsKeyed given.now.graph.now link_begins to edge }
     ensures kept { OnOk result (IsKept given.now.graph.now given.now.lattice found.new) }
     ensures grows { OnOk result (Grows found.old.known found.new.known) }
-    ensures done { OnOk result (IsFollowed given.now.graph.now given.now.lattice found.old.known found.new.known from to edge) }
+    ensures done { OnOk result (IsFollowed given.now.graph.now
+        given.now.lattice found.old.known found.new.known from to edge) }
 {
     let constraint = given.graph.constraint(edge);
     if !constraint.is_in(given.lattice) {
@@ -232,10 +245,12 @@ fn enter(
     requires kept { IsKept given.now.graph.now given.now.lattice found.old }
     requires begins { IsInnerEnd given.now.graph.now given.now.lattice from }
     requires path { Leads found.old.known from call.now.from }
-    requires call { Stands given.now.graph.now given.now.lattice edge (Enter call.now.site call.now.from call.now.to) }
+    requires call { Stands given.now.graph.now given.now.lattice edge
+        (Enter call.now.site call.now.from call.now.to) }
     ensures kept { OnOk result (IsKept given.now.graph.now given.now.lattice found.new) }
     ensures grows { OnOk result (Grows found.old.known found.new.known) }
-    ensures done { OnOk result ((m : ℕ) → IsLeft given.now.graph.now given.now.lattice found.old.known found.new.known from call.now.site call.now.to m) }
+    ensures done { OnOk result ((m : ℕ) → IsLeft given.now.graph.now
+        given.now.lattice found.old.known found.new.known from call.now.site call.now.to m) }
 {
     close_all(given, found, from, edge, call, call.to)?;
     close_pairs(given, found, from, edge, call)?;
@@ -255,10 +270,13 @@ fn close_pairs(
     requires kept { IsKept given.now.graph.now given.now.lattice found.old }
     requires begins { IsInnerEnd given.now.graph.now given.now.lattice from }
     requires path { Leads found.old.known from call.now.from }
-    requires call { Stands given.now.graph.now given.now.lattice edge (Enter call.now.site call.now.from call.now.to) }
+    requires call { Stands given.now.graph.now given.now.lattice edge
+        (Enter call.now.site call.now.from call.now.to) }
     ensures kept { OnOk result (IsKept given.now.graph.now given.now.lattice found.new) }
     ensures grows { OnOk result (Grows found.old.known found.new.known) }
-    ensures done { OnOk result ((b m : ℕ) → HasPair found.old.known call.now.to b → IsLeftFrom given.now.graph.now given.now.lattice found.old.known found.new.known from call.now.site call.now.to b m) }
+    ensures done { OnOk result
+        ((b m : ℕ) → HasPair found.old.known call.now.to b → IsLeftFrom given.now.graph.now
+        given.now.lattice found.old.known found.new.known from call.now.site call.now.to b m) }
 {
     let mut next = found.known.newest_from(call.to);
     while let Some(at) = next {
@@ -282,10 +300,12 @@ fn close_all(
     requires kept { IsKept given.now.graph.now given.now.lattice found.old }
     requires begins { IsInnerEnd given.now.graph.now given.now.lattice from }
     requires path { Leads found.old.known from call.now.from }
-    requires call { Stands given.now.graph.now given.now.lattice edge (Enter call.now.site call.now.from call.now.to) }
+    requires call { Stands given.now.graph.now given.now.lattice edge
+        (Enter call.now.site call.now.from call.now.to) }
     ensures kept { OnOk result (IsKept given.now.graph.now given.now.lattice found.new) }
     ensures grows { OnOk result (Grows found.old.known found.new.known) }
-    ensures done { OnOk result ((m : ℕ) → IsLeftFrom given.now.graph.now given.now.lattice found.old.known found.new.known from call.now.site call.now.to last m) }
+    ensures done { OnOk result ((m : ℕ) → IsLeftFrom given.now.graph.now
+        given.now.lattice found.old.known found.new.known from call.now.site call.now.to last m) }
 {
     let end = InnerEnd {
         way: Way::Out,
@@ -314,11 +334,13 @@ fn close(
     requires kept { IsKept given.now.graph.now given.now.lattice found.old }
     requires begins { IsInnerEnd given.now.graph.now given.now.lattice from }
     requires path { Leads found.old.known from call.now.from }
-    requires call { Stands given.now.graph.now given.now.lattice edge (Enter call.now.site call.now.from call.now.to) }
+    requires call { Stands given.now.graph.now given.now.lattice edge
+        (Enter call.now.site call.now.from call.now.to) }
     requires other { IsKeyed given.now.graph.now link_site call.now.site other }
     ensures kept { OnOk result (IsKept given.now.graph.now given.now.lattice found.new) }
     ensures grows { OnOk result (Grows found.old.known found.new.known) }
-    ensures done { OnOk result (IsLeft given.now.graph.now given.now.lattice found.old.known found.new.known from call.now.site call.now.to other) }
+    ensures done { OnOk result (IsLeft given.now.graph.now
+        given.now.lattice found.old.known found.new.known from call.now.site call.now.to other) }
 {
     let constraint = given.graph.constraint(other);
     if !constraint.is_in(given.lattice) {
@@ -350,10 +372,13 @@ fn leave(
     requires ready { AreReady given.now }
     requires kept { IsKept given.now.graph.now given.now.lattice found.old }
     requires path { Leads found.old.known from back.now.from }
-    requires back { Stands given.now.graph.now given.now.lattice edge (Leave back.now.site back.now.from back.now.to) }
+    requires back { Stands given.now.graph.now given.now.lattice edge
+        (Leave back.now.site back.now.from back.now.to) }
     ensures kept { OnOk result (IsKept given.now.graph.now given.now.lattice found.new) }
     ensures grows { OnOk result (Grows found.old.known found.new.known) }
-    ensures done { OnOk result (AreOfOne given.now.graph.now from back.now.from → (m : ℕ) → IsEntered given.now.graph.now given.now.lattice found.old.known found.new.known from back.now.site back.now.to m) }
+    ensures done { OnOk result
+        (AreOfOne given.now.graph.now from back.now.from → (m : ℕ) → IsEntered given.now.graph.now
+        given.now.lattice found.old.known found.new.known from back.now.site back.now.to m) }
 {
     if !are_of_one(given.graph, from, back.from) {
         return Ok(());
@@ -385,11 +410,13 @@ fn open(
     requires kept { IsKept given.now.graph.now given.now.lattice found.old }
     requires path { Leads found.old.known from back.now.from }
     requires inside { AreOfOne given.now.graph.now from back.now.from }
-    requires back { Stands given.now.graph.now given.now.lattice edge (Leave back.now.site back.now.from back.now.to) }
+    requires back { Stands given.now.graph.now given.now.lattice edge
+        (Leave back.now.site back.now.from back.now.to) }
     requires other { IsKeyed given.now.graph.now link_site back.now.site other }
     ensures kept { OnOk result (IsKept given.now.graph.now given.now.lattice found.new) }
     ensures grows { OnOk result (Grows found.old.known found.new.known) }
-    ensures done { OnOk result (IsEntered given.now.graph.now given.now.lattice found.old.known found.new.known from back.now.site back.now.to other) }
+    ensures done { OnOk result (IsEntered given.now.graph.now
+        given.now.lattice found.old.known found.new.known from back.now.site back.now.to other) }
 {
     let constraint = given.graph.constraint(other);
     if !constraint.is_in(given.lattice) {
@@ -416,7 +443,8 @@ fn behind(given: &Premises, found: &mut Found, to: VarId, why: &Reason) -> Resul
     requires part { EndsAt given.now.graph.now given.now.lattice found.old.known why.now to }
     ensures kept { OnOk result (IsKept given.now.graph.now given.now.lattice found.new) }
     ensures grows { OnOk result (Grows found.old.known found.new.known) }
-    ensures done { OnOk result (AllFollow given.now.graph.now given.now.lattice found.old.known found.new.known (before_of why.now) to) }
+    ensures done { OnOk result (AllFollow given.now.graph.now
+        given.now.lattice found.old.known found.new.known (before_of why.now) to) }
 {
     behind_end(given, found, to, why)?;
     behind_pairs(given, found, to, why)?;
@@ -430,7 +458,8 @@ fn behind_end(given: &Premises, found: &mut Found, to: VarId, why: &Reason) -> R
     requires part { EndsAt given.now.graph.now given.now.lattice found.old.known why.now to }
     ensures kept { OnOk result (IsKept given.now.graph.now given.now.lattice found.new) }
     ensures grows { OnOk result (Grows found.old.known found.new.known) }
-    ensures done { OnOk result (IsInnerEnd given.now.graph.now given.now.lattice (before_of why.now) → Follows given.now.graph.now found.new.known (before_of why.now) to) }
+    ensures done { OnOk result (IsInnerEnd given.now.graph.now given.now.lattice
+        (before_of why.now) → Follows given.now.graph.now found.new.known (before_of why.now) to) }
 {
     let before = why.before();
     if !is_end(given, before) {
@@ -451,7 +480,8 @@ fn behind_pairs(
     requires part { EndsAt given.now.graph.now given.now.lattice found.old.known why.now to }
     ensures kept { OnOk result (IsKept given.now.graph.now given.now.lattice found.new) }
     ensures grows { OnOk result (Grows found.old.known found.new.known) }
-    ensures done { OnOk result ((t : ℕ) → HasPair found.old.known t (before_of why.now) → Follows given.now.graph.now found.new.known t to) }
+    ensures done { OnOk result ((t : ℕ) → HasPair found.old.known t (before_of why.now) →
+        Follows given.now.graph.now found.new.known t to) }
 {
     let mut next = found.newest(why.before());
     while let Some(at) = next {

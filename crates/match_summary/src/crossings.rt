@@ -3,7 +3,8 @@
 ghost use Rattle.std.specs.Prelude.{◌≡◌, ◌↔◌, ◌<◌, ◌^◌, ℕ, IsTrue, IfOk, length};
 ghost use Rattle.match_summary.specs.declared.crossings.Way.TheVariants.{In, Out};
 ghost use Rattle.match_summary.specs.Chained.{IsLink, link_of};
-ghost use Rattle.match_summary.specs.Crossings.{AreCrossings, Crosses, HasEnd, IsLastCrossing, bucket_at, bucket_in, buckets_in};
+ghost use Rattle.match_summary.specs.Crossings.{AreCrossings, Crosses, HasEnd, IsLastCrossing};
+ghost use Rattle.match_summary.specs.Crossings.{bucket_at, bucket_in, buckets_in};
 
 use crate::buckets::hash;
 use crate::chains::Chains;
@@ -70,8 +71,11 @@ impl Crossings {
     /// The first constraint of a chain, from a place on, that has an inner end.
     fn walk(&self, graph: &FlowGraph, end: &InnerEnd, from: Option<usize>) -> Option<EdgeId>
         requires crossings { AreCrossings graph.now self.now }
-        requires from { (bound : ℕ) × IsLink (buckets_in self.now.count graph.now.constraints) (bucket_at self.now.count end.now.way end.now.site end.now.at) bound (link_of from) }
-        ensures { (bound : ℕ) → IsLink (buckets_in self.now.count graph.now.constraints) (bucket_at self.now.count end.now.way end.now.site end.now.at) bound (link_of from) → IsLastCrossing graph.now end.now bound (link_of result) }
+        requires from { (bound : ℕ) × IsLink (buckets_in self.now.count graph.now.constraints)
+            (bucket_at self.now.count end.now.way end.now.site end.now.at) bound (link_of from) }
+        ensures { (bound : ℕ) → IsLink (buckets_in self.now.count graph.now.constraints)
+            (bucket_at self.now.count end.now.way end.now.site end.now.at) bound (link_of from) →
+            IsLastCrossing graph.now end.now bound (link_of result) }
     {
         graph.law();
         let mut next = from;

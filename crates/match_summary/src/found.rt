@@ -55,7 +55,8 @@ impl Found {
     /// The place of the last pair before another that leads to the same variable. Constant time.
     pub fn before(&self, at: usize) -> Option<usize>
         requires { AreChained (targets self.now.known) self.now.chains }
-        ensures { (to : ℕ) → slice_get (targets self.now.known) at ≡ Some to → IsLink (targets self.now.known) to at (link_of result) }
+        ensures { (to : ℕ) → slice_get (targets self.now.known) at ≡ Some to →
+            IsLink (targets self.now.known) to at (link_of result) }
     {
         self.chains.before(at)
     }
@@ -63,7 +64,8 @@ impl Found {
     /// Adds a pair. Constant time but for growth.
     pub fn push(&mut self, from: VarId, to: VarId, why: Reason) -> Result<(), NoMemory>
         requires { AreChained (targets self.old.known) self.old.chains }
-        ensures known { OnOk result (self.new.known ≡ self.old.known ++ record { from = from; to = to; why = why } ∷ []) }
+        ensures known { OnOk result
+            (self.new.known ≡ self.old.known ++ record { from = from; to = to; why = why } ∷ []) }
         ensures chained { OnOk result (AreChained (targets self.new.known) self.new.chains) }
     {
         self.known.push(from, to, why)?;

@@ -2,7 +2,8 @@
 
 ghost use Rattle.match_summary.specs.declared.reason.Reason.{Reason};
 ghost use Rattle.match_summary.specs.declared.reason.Summary.{Summary};
-ghost use Rattle.std.specs.Prelude.{◌≡◌, ℕ, List, ◌+◌, ◌<◌, ◌^◌, ◌↔◌, [], ◌∷◌, ◌++◌, length, slice_get, Some, IsTrue, IsSome, IfSome, OnOk, OnErr};
+ghost use Rattle.std.specs.Prelude.{◌≡◌, ℕ, List, ◌+◌, ◌<◌, ◌^◌, ◌↔◌, [], ◌∷◌, ◌++◌, length};
+ghost use Rattle.std.specs.Prelude.{slice_get, Some, IsTrue, IsSome, IfSome, OnOk, OnErr};
 ghost use Rattle.std.specs.List.{Contains};
 ghost use Rattle.match_summary.specs.Chained.{IsLink, link_of};
 ghost use Rattle.match_summary.specs.Starts.{IsFound, sources};
@@ -66,7 +67,8 @@ impl Summaries {
 
     /// Adds a summary. Constant time but for growth.
     pub fn push(&mut self, from: VarId, to: VarId, why: Reason) -> Result<(), NoMemory>
-        ensures ok { OnOk result (self.new ≡ self.old ++ record { from = from; to = to; why = why } ∷ []) }
+        ensures ok { OnOk result
+            (self.new ≡ self.old ++ record { from = from; to = to; why = why } ∷ []) }
         ensures err { OnErr result (self.new ≡ self.old) }
     {
         self.places.widen(self.rows.as_slice())?;
@@ -93,7 +95,8 @@ impl Summaries {
 
     /// The place of the last summary before another that begins at the same variable. Constant time.
     pub fn before_from(&self, at: usize) -> Option<usize>
-        ensures { (from : ℕ) → slice_get (sources self.now) at ≡ Some from → IsLink (sources self.now) from at (link_of result) }
+        ensures { (from : ℕ) → slice_get (sources self.now) at ≡ Some from →
+            IsLink (sources self.now) from at (link_of result) }
     {
         self.starts.before(at)
     }
@@ -101,7 +104,8 @@ impl Summaries {
     /// The last part of a matched path from one variable to another. Any variables are taken. Takes no memory, and
     /// constant time but for pairs with one hash.
     pub fn why(&self, from: VarId, to: VarId) -> Option<Reason>
-        ensures reason { IfSome result (λ why. Contains self.now (record { from = from; to = to; why = why })) }
+        ensures reason { IfSome result
+            (λ why. Contains self.now (record { from = from; to = to; why = why })) }
         ensures there { IsSome result ↔ HasPair self.now from to }
     {
         match self.places.find(self.rows.as_slice(), from, to) {
@@ -130,8 +134,11 @@ impl Summaries {
 /// Chains one summary more, by its pair and by the variable where it begins.
 fn chain(places: &mut Buckets, starts: &mut Chains, from: VarId, to: VarId) -> Result<(), NoMemory>
     requires { 0 < places.old.count }
-    ensures ok { OnOk result ((rows : List Summary) (why : Reason) → IsFound rows places.old starts.old → IsFound (rows ++ record { from = from; to = to; why = why } ∷ []) places.new starts.new) }
-    ensures err { OnErr result ((rows : List Summary) → IsFound rows places.old starts.old → IsFound rows places.new starts.new) }
+    ensures ok { OnOk result
+        ((rows : List Summary) (why : Reason) → IsFound rows places.old starts.old →
+        IsFound (rows ++ record { from = from; to = to; why = why } ∷ []) places.new starts.new) }
+    ensures err { OnErr result ((rows : List Summary) →
+        IsFound rows places.old starts.old → IsFound rows places.new starts.new) }
 {
     places.push(from, to)?;
     match starts.push(from.number()) {

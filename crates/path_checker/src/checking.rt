@@ -5,7 +5,10 @@ ghost use Rattle.lattice_core.specs.Order.{leq};
 ghost use Rattle.flow_graph.specs.System.{IsWellOwned};
 ghost use Rattle.flow_graph.specs.Unfolding.{NamesElements, IsAccepted};
 ghost use Rattle.flow_graph.specs.PathRules.{begins, ends, is_kept, rule_at};
-ghost use Rattle.flow_graph.specs.PathProofs.{edge_or, edge_at, look, line_of, first_of, last_of, of_step, through, ends_with_nobody, stays_in_call, first_failing, home_of, subs_fault, start_of, end_fault, main_fault, steps_of, fault_of, Holds};
+ghost use Rattle.flow_graph.specs.PathProofs.{edge_or, edge_at, look, line_of, first_of, last_of};
+ghost use Rattle.flow_graph.specs.PathProofs.{of_step, through, ends_with_nobody, stays_in_call};
+ghost use Rattle.flow_graph.specs.PathProofs.{first_failing, home_of, subs_fault, start_of};
+ghost use Rattle.flow_graph.specs.PathProofs.{end_fault, main_fault, steps_of, fault_of, Holds};
 ghost use Rattle.flow_laws.specs.Holding.{steps_in_proof, IsUnmetWithin};
 ghost use Rattle.path_checker.specs.Orders.{order_at, AreOrders};
 ghost use Rattle.lattice_core.specs.View.{orders_of};
@@ -22,13 +25,11 @@ use flow_laws::{holds_is_unmet, holds_rejects};
 use lattice_core::Lattices;
 use qual_base::{EdgeId, Elem, LatticeNo, Numbered, Owner, VarId};
 
-/// Each of the lattices is an order. Takes a step for each, at most 16.
+/// Each of the lattices is an order. It does nothing.
 fn are_orders(lattices: &Lattices)
     ensures { AreOrders (orders_of lattices.now) }
 {
-    for n in 0..lattices.len() {
-        lattices.get(LatticeNo::new(n)).law();
-    }
+    lattices.law();
 }
 
 /// Whether element a is at or below element b of a lattice. False where there is no such lattice or element.
@@ -230,7 +231,8 @@ fn path_fault(
     elem: Elem,
     steps: &[PathStep],
 ) -> Option<BadStep>
-    ensures { result ≡ first_failing graph.now (order_at lattices.now lattice) path.now lattice elem (look graph.now (steps_of earlier.now)) [] steps.now }
+    ensures { result ≡ first_failing graph.now (order_at lattices.now lattice) path.now lattice elem
+        (look graph.now (steps_of earlier.now)) [] steps.now }
 {
     let mut rest = steps;
     let mut two_before = None;
@@ -269,7 +271,8 @@ fn subs_fault(
     lattice: LatticeNo,
     elem: Elem,
 ) -> Option<BadStep>
-    ensures { result ≡ subs_fault graph.now (order_at lattices.now lattice) lattice elem [] (steps_of subs.now) }
+    ensures { result
+        ≡ subs_fault graph.now (order_at lattices.now lattice) lattice elem [] (steps_of subs.now) }
 {
     for (i, sub) in subs.iter().enumerate() {
         let path = Path::Sub(home_of(graph, &sub.steps));
@@ -299,7 +302,8 @@ fn start_fault(
     first: &PathStep,
     rest: &[PathStep],
 ) -> Option<BadStep>
-    ensures { result ≡ start_fault graph.now (order_at lattices.now lattice) lattice elem (steps_of subs.now) first.now rest.now }
+    ensures { result ≡ start_fault graph.now
+        (order_at lattices.now lattice) lattice elem (steps_of subs.now) first.now rest.now }
 {
     let place = Place {
         path: Path::Main,
@@ -346,7 +350,8 @@ fn main_fault(
     rest: &[PathStep],
 ) -> Option<BadStep>
     requires { proof.now.main.items ≡ first.now ∷ rest.now }
-    ensures { result ≡ main_fault graph.now (order_at lattices.now lattice) lattice elem (steps_of proof.now.subs.items) first.now rest.now proof.now.end }
+    ensures { result ≡ main_fault graph.now (order_at lattices.now lattice) lattice elem
+        (steps_of proof.now.subs.items) first.now rest.now proof.now.end }
 {
     if let Some(fault) = start_fault(graph, lattices, &proof.subs, lattice, elem, first, rest) {
         return Some(fault);
@@ -391,9 +396,13 @@ fn first_fault(graph: &FlowGraph, lattices: &Lattices, proof: &PathProof) -> Opt
 /// The line of the first step that fails, and the first of the rules that it fails.
 pub fn check(graph: &FlowGraph, lattices: &Lattices, proof: &PathProof) -> Result<(), BadStep>
     ensures holds { IsOk result ↔ Holds graph.now (orders_of lattices.now) proof.now }
-    ensures rejects { OnOk result (IsWellOwned graph.now → NamesElements graph.now (orders_of lattices.now) → IsAccepted graph.now (orders_of lattices.now) → ⊥) }
-    ensures unmet { OnOk result (IsWellOwned graph.now → NamesElements graph.now (orders_of lattices.now) → IsUnmetWithin graph.now (orders_of lattices.now) (steps_in_proof proof.now)) }
-    ensures fails { IfErr result (λ bad. fault_of graph.now (orders_of lattices.now) proof.now ≡ Some bad) }
+    ensures rejects { OnOk result (IsWellOwned graph.now → NamesElements graph.now
+        (orders_of lattices.now) → IsAccepted graph.now (orders_of lattices.now) → ⊥) }
+    ensures unmet { OnOk result
+        (IsWellOwned graph.now → NamesElements graph.now (orders_of lattices.now) →
+        IsUnmetWithin graph.now (orders_of lattices.now) (steps_in_proof proof.now)) }
+    ensures fails { IfErr result
+        (λ bad. fault_of graph.now (orders_of lattices.now) proof.now ≡ Some bad) }
 {
     match first_fault(graph, lattices, proof) {
         Some(bad) => Err(bad),

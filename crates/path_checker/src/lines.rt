@@ -1,8 +1,10 @@
 //! The lines of a report, one by one.
 
-ghost use Rattle.std.specs.Prelude.{◌≡◌, ◌+◌, ◌==◌, [], ◌∷◌, length, MatchOption, option_map, codes, IfSome};
+ghost use Rattle.std.specs.Prelude.{◌≡◌, ◌+◌, ◌==◌, [], ◌∷◌, length, MatchOption, option_map};
+ghost use Rattle.std.specs.Prelude.{codes, IfSome};
 ghost use Rattle.std.specs.List.{slice_split};
-ghost use Rattle.path_checker.specs.Lines.{behind, capped, number_behind, number_of, line_kind, step_kind, first_word, by_header};
+ghost use Rattle.path_checker.specs.Lines.{behind, capped, number_behind, number_of, line_kind};
+ghost use Rattle.path_checker.specs.Lines.{step_kind, first_word, by_header};
 
 use memchr::memchr;
 
@@ -35,7 +37,8 @@ const INDENT: &[u8] = b"  ";
 
 /// The part of a text before the first such byte, and what stands behind that byte.
 pub fn split_at_first(byte: u8, text: &[u8]) -> Option<(&[u8], &[u8])>
-    ensures parts { MatchOption result (slice_split (λ b. b == byte) text.now ≡ text.now ∷ []) (λ p. slice_split (λ b. b == byte) text.now ≡ p.0.now ∷ slice_split (λ b. b == byte) p.1.now) }
+    ensures parts { MatchOption result (slice_split (λ b. b == byte) text.now ≡ text.now ∷ []) (λ p.
+        slice_split (λ b. b == byte) text.now ≡ p.0.now ∷ slice_split (λ b. b == byte) p.1.now) }
     ensures shorter { IfSome result (λ p. length p.0.now + 1 + length p.1.now ≡ length text.now) }
 {
     match memchr(byte, text) {

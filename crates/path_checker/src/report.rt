@@ -1,7 +1,9 @@
 //! Reading the text of a report.
 
-ghost use Rattle.std.specs.Prelude.{◌≡◌, ◌+◌, ◌-◌, ◌<◌, ◌^◌, ◌⊎◌, ◌∷◌, ◌++◌, [], false, None, Some, length, map, IfOk, IfErr, OnOk, OnErr};
-ghost use Rattle.path_checker.specs.Report.{next, is_unknown, may_end, shape_of, report_fault, proofs_in};
+ghost use Rattle.std.specs.Prelude.{◌≡◌, ◌+◌, ◌-◌, ◌<◌, ◌^◌, ◌⊎◌, ◌∷◌, ◌++◌, [], false, None, Some};
+ghost use Rattle.std.specs.Prelude.{length, map, IfOk, IfErr, OnOk, OnErr};
+ghost use Rattle.path_checker.specs.Report.{next, is_unknown, may_end, shape_of, report_fault};
+ghost use Rattle.path_checker.specs.Report.{proofs_in};
 ghost use Rattle.path_checker.specs.Grammar.{IsReport, IsPlaced};
 ghost use Rattle.path_checker.specs.Lines.{lines_of};
 
@@ -119,7 +121,12 @@ impl Model for Reader {
 
     ghost Value = { Held };
 
-    ghost view = { λ r. record { section = r.section; proofs = map shape_of r.proofs.items; subs = steps_of r.subs.items; steps = r.steps.items } };
+    ghost view = { λ r. record {
+      section = r.section;
+      proofs = map shape_of r.proofs.items;
+      subs = steps_of r.subs.items;
+      steps = r.steps.items;
+    } };
 }
 
 impl Reader {
@@ -137,7 +144,8 @@ impl Reader {
     }
 
     fn push_step(&mut self, step: PathStep) -> Result<(), ReportFault>
-        ensures ok { OnOk result (self.new ≡ record self.old { steps = self.old.steps ++ step ∷ [] }) }
+        ensures ok { OnOk result
+            (self.new ≡ record self.old { steps = self.old.steps ++ step ∷ [] }) }
         ensures err { IfErr result (λ e. e ≡ ReportFault.NoMemory) }
     {
         match self.steps.push(step) {
@@ -206,7 +214,8 @@ impl Reader {
         edges: u32,
     ) -> Result<(), ReportFault>
         ensures ok { OnOk result (Takes edges number line self.old self.new) }
-        ensures err { IfErr result (λ e. (e ≡ ReportFault.NoMemory) ⊎ FailsAt edges self.old.section number line e) }
+        ensures err { IfErr result
+            (λ e. (e ≡ ReportFault.NoMemory) ⊎ FailsAt edges self.old.section number line e) }
     {
         let Some(section) = next(self.section, line) else {
             return Err(ReportFault::Grammar(number));
@@ -221,9 +230,11 @@ impl Reader {
 
     /// The proofs of a report that has no line from number `end` on.
     fn finish(mut self, alloc: Global, end: u32) -> Result<Vec<PathProof>, ReportFault>
-        ensures proofs { IfOk result (λ proofs. map shape_of proofs.items ≡ (close_proof Section.InPath end self).proofs) }
+        ensures proofs { IfOk result
+            (λ proofs. map shape_of proofs.items ≡ (close_proof Section.InPath end self).proofs) }
         ensures ok { OnOk result (self.section ≡ Section.InPath) }
-        ensures err { IfErr result (λ e. (e ≡ ReportFault.NoMemory) ⊎ ((may_end self.section ≡ false) × (e ≡ ReportFault.Grammar end))) }
+        ensures err { IfErr result (λ e. (e ≡ ReportFault.NoMemory)
+            ⊎ ((may_end self.section ≡ false) × (e ≡ ReportFault.Grammar end))) }
     {
         let Section::InPath = self.section else {
             return Err(ReportFault::Grammar(end));
@@ -242,9 +253,11 @@ impl Reader {
 /// Reads the lines of a report one by one.
 fn read_lines(alloc: Global, bytes: &[u8], edges: u32) -> Result<Vec<PathProof>, ReportFault>
     requires { length bytes.now < 2 ^ 32 - 1 }
-    ensures proofs { IfOk result (λ proofs. map shape_of proofs.items ≡ proofs_in (lines_of bytes.now)) }
+    ensures proofs { IfOk result
+        (λ proofs. map shape_of proofs.items ≡ proofs_in (lines_of bytes.now)) }
     ensures passes { OnOk result (report_fault edges (lines_of bytes.now) ≡ None) }
-    ensures fault { IfErr result (λ e. (e ≡ ReportFault.NoMemory) ⊎ (report_fault edges (lines_of bytes.now) ≡ Some e)) }
+    ensures fault { IfErr result
+        (λ e. (e ≡ ReportFault.NoMemory) ⊎ (report_fault edges (lines_of bytes.now) ≡ Some e)) }
 {
     let mut reader = Reader::new(alloc);
     let mut rest = bytes;
@@ -272,11 +285,14 @@ fn read_lines(alloc: Global, bytes: &[u8], edges: u32) -> Result<Vec<PathProof>,
 /// step that names no constraint, whichever comes first; or want of memory.
 pub fn read_report(alloc: Global, bytes: &[u8], edges: u32) -> Result<Vec<PathProof>, ReportFault>
     requires { length bytes.now < 2 ^ 32 - 1 }
-    ensures proofs { IfOk result (λ proofs. map shape_of proofs.items ≡ proofs_in (lines_of bytes.now)) }
+    ensures proofs { IfOk result
+        (λ proofs. map shape_of proofs.items ≡ proofs_in (lines_of bytes.now)) }
     ensures reads { OnOk result (IsReport edges (lines_of bytes.now)) }
-    ensures each { IsReport edges (lines_of bytes.now) → OnErr result (result ≡ Err ReportFault.NoMemory) }
+    ensures each { IsReport edges (lines_of bytes.now) →
+        OnErr result (result ≡ Err ReportFault.NoMemory) }
     ensures place { IfErr result (IsPlaced edges (lines_of bytes.now)) }
-    ensures fault { IfErr result (λ e. (e ≡ ReportFault.NoMemory) ⊎ (report_fault edges (lines_of bytes.now) ≡ Some e)) }
+    ensures fault { IfErr result
+        (λ e. (e ≡ ReportFault.NoMemory) ⊎ (report_fault edges (lines_of bytes.now) ≡ Some e)) }
 {
     read_lines(alloc, bytes, edges)
 }

@@ -1,8 +1,14 @@
 //! The rules of path proofs, each a test of where a step stands.
 
 ghost use Rattle.std.specs.Prelude.{◌≡◌, ◌==◌};
-ghost use Rattle.std.specs.Int.{bit_at};
-ghost use Rattle.flow_graph.specs.PathRules.{begins, ends, enters, leaves, is_const, is_bound, is_sub, agree, differ, site_entered, end_of, begins_group, is_after_sub, closes, is_unmatched_enter, is_unmatched_leave, is_unknown, is_headless, is_late_const, is_stray_bound, is_late_return, is_unmatched_in_sub, is_loose_sub, follows_bound, fails_b1, fails_b2, fails_b3, is_missing, is_foreign, is_outside};
+ghost use Rattle.flow_graph.specs.PathRules.{begins, ends, enters, leaves, is_const, is_bound};
+ghost use Rattle.flow_graph.specs.PathRules.{is_sub, agree, differ, site_entered, end_of};
+ghost use Rattle.flow_graph.specs.PathRules.{begins_group, is_after_sub, closes};
+ghost use Rattle.flow_graph.specs.PathRules.{is_unmatched_enter, is_unmatched_leave, is_unknown};
+ghost use Rattle.flow_graph.specs.PathRules.{is_headless, is_late_const, is_stray_bound};
+ghost use Rattle.flow_graph.specs.PathRules.{is_late_return, is_unmatched_in_sub, is_loose_sub};
+ghost use Rattle.flow_graph.specs.PathRules.{follows_bound, fails_b1, fails_b2, fails_b3};
+ghost use Rattle.flow_graph.specs.PathRules.{is_missing, is_foreign, is_outside};
 
 use flow_graph::{Constraint, FlowGraph, Link, Path, Place, Seen};
 use qual_base::{LatticeNo, Owner, SiteId, VarId};
@@ -300,25 +306,12 @@ pub fn is_foreign(graph: &FlowGraph, path: &Path, step: &Seen) -> bool
     }
 }
 
-/// Whether a mask has a lattice.
-fn carries(mask: u16, lattice: LatticeNo) -> bool
-    ensures { result ≡ (bit_at mask lattice == 1) }
-{
-    lattice.number() < 16 && (mask >> lattice.number()) & 1 == 1
-}
-
 /// Rule B6: the step is not in the lattice of the main path's constant.
 pub fn is_outside(lattice: LatticeNo, step: &Seen) -> bool
     ensures { result ≡ is_outside lattice step.now }
 {
     match step {
-        Seen::Edge(c) => match &c.link {
-            Link::Const(named, _, _) => *named != lattice,
-            Link::Bound(_, named, _) => *named != lattice,
-            Link::Le(_, _) => !carries(c.lattices, lattice),
-            Link::Enter(_, _, _) => !carries(c.lattices, lattice),
-            Link::Leave(_, _, _) => !carries(c.lattices, lattice),
-        },
+        Seen::Edge(c) => !c.is_in(lattice),
         Seen::Through(_, _) => false,
         Seen::NoSub => false,
         Seen::NoEdge => false,

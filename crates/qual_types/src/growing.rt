@@ -1,6 +1,7 @@
 //! The rows of a skeleton, behind those that are there.
 
-ghost use Rattle.std.specs.Prelude.{◌≡◌, ◌+◌, ◌<◌, ◌≤◌, ◌^◌, ◌++◌, ◌∷◌, [], MatchOption, length, vec_len, vec_capacity};
+ghost use Rattle.std.specs.Prelude.{◌≡◌, ◌+◌, ◌<◌, ◌≤◌, ◌^◌, ◌++◌, ◌∷◌, [], MatchOption, length};
+ghost use Rattle.std.specs.Prelude.{vec_len, vec_capacity};
 ghost use Rattle.type_table.specs.Types.{size, sizes};
 ghost use Rattle.type_table.specs.Rows.{type_of, types_of, types_at};
 ghost use Rattle.qual_types.specs.Skel.{within};
@@ -23,18 +24,22 @@ pub fn grow_skeleton(
     owner: Owner,
 )
     requires held { IsHeld rows.old.items }
-    requires room { vec_len rows.old + size (within outer (type_of types.now ty)) ≤ vec_capacity rows.old }
+    requires room { vec_len rows.old + size
+        (within outer (type_of types.now ty)) ≤ vec_capacity rows.old }
     requires few { vec_len rows.old + size (within outer (type_of types.now ty)) ≤ 2 ^ 24 }
-    ensures { Grown rows.old.items rows.new.items (within outer (type_of types.now ty)) owner (unit, token) }
+    ensures { Grown rows.old.items rows.new.items
+        (within outer (type_of types.now ty)) owner (unit, token) }
 {
     grow_within(rows, types, ty, outer, Place::top(unit, token, owner));
 }
 
 /// The rows of a type, inside one more reference where `outer` is true. There is room for them.
 fn grow_within(rows: &mut Vec<Row>, types: &TypeTable, ty: TypeId, outer: bool, place: Place)
-    requires room { vec_len rows.old + size (within outer (type_of types.now ty)) ≤ vec_capacity rows.old }
+    requires room { vec_len rows.old + size
+        (within outer (type_of types.now ty)) ≤ vec_capacity rows.old }
     requires few { vec_len rows.old + size (within outer (type_of types.now ty)) ≤ 2 ^ 24 }
-    ensures { rows.new.items ≡ rows.old.items ++ rows_of (within outer (type_of types.now ty)) (vec_len rows.old) place }
+    ensures { rows.new.items
+        ≡ rows.old.items ++ rows_of (within outer (type_of types.now ty)) (vec_len rows.old) place }
 {
     if outer {
         let at = SkelId::new(rows.len() as u32);
@@ -54,7 +59,8 @@ fn grow_within(rows: &mut Vec<Row>, types: &TypeTable, ty: TypeId, outer: bool, 
 fn grow(rows: &mut Vec<Row>, types: &TypeTable, ty: TypeId, place: Place)
     requires room { vec_len rows.old + size (type_of types.now ty) ≤ vec_capacity rows.old }
     requires few { vec_len rows.old + size (type_of types.now ty) ≤ 2 ^ 24 }
-    ensures items { rows.new.items ≡ rows.old.items ++ rows_of (type_of types.now ty) (vec_len rows.old) place }
+    ensures items { rows.new.items
+        ≡ rows.old.items ++ rows_of (type_of types.now ty) (vec_len rows.old) place }
     ensures len { vec_len rows.new ≡ vec_len rows.old + size (type_of types.now ty) }
     ensures capacity { vec_capacity rows.new ≡ vec_capacity rows.old }
 {
@@ -116,12 +122,14 @@ fn grow(rows: &mut Vec<Row>, types: &TypeTable, ty: TypeId, place: Place)
 #[cycle(grow)]
 #[tactic(auto, using(crate::proofs::Sizes::capped_small, crate::proofs::Sizes::rows_append, crate::proofs::Sizes::some_size, crate::proofs::Sizes::as_many))]
 fn grow_params(rows: &mut Vec<Row>, types: &TypeTable, params: &[TypeId], of: SkelId, index: u32)
-    requires room { vec_len rows.old + sizes (types_at (types_of types.now) params.now) ≤ vec_capacity rows.old }
+    requires room { vec_len rows.old + sizes
+        (types_at (types_of types.now) params.now) ≤ vec_capacity rows.old }
     requires few { vec_len rows.old + sizes (types_at (types_of types.now) params.now) ≤ 2 ^ 24 }
     requires index { index + length params.now < 2 ^ 32 }
-    ensures items { rows.new.items
-        ≡ rows.old.items ++ param_rows of index (types_at (types_of types.now) params.now) (vec_len rows.old) }
-    ensures len { vec_len rows.new ≡ vec_len rows.old + sizes (types_at (types_of types.now) params.now) }
+    ensures items { rows.new.items ≡ rows.old.items
+        ++ param_rows of index (types_at (types_of types.now) params.now) (vec_len rows.old) }
+    ensures len { vec_len rows.new
+        ≡ vec_len rows.old + sizes (types_at (types_of types.now) params.now) }
     ensures capacity { vec_capacity rows.new ≡ vec_capacity rows.old }
 {
     match parted(params) {

@@ -1,13 +1,20 @@
 //! The table of qualifier variables.
 
-ghost use Rattle.std.specs.Prelude.{◌≡◌, ◌≢◌, ◌+◌, ◌<◌, ◌≤◌, ◌^◌, ◌∷◌, ◌++◌, [], ℕ, length, slice_get, replicate, IfOk, OnErr, OnOk, IsErrOf, MatchOption, option_map, unwrap_or, Some, None, ◌↔◌};
+ghost use Rattle.std.specs.Prelude.{◌≡◌, ◌≢◌, ◌+◌, ◌<◌, ◌≤◌, ◌^◌, ◌∷◌, ◌++◌, [], ℕ, length};
+ghost use Rattle.std.specs.Prelude.{slice_get, replicate, IfOk, OnErr, OnOk, IsErrOf, MatchOption};
+ghost use Rattle.std.specs.Prelude.{option_map, unwrap_or, Some, None, ◌↔◌};
 ghost use Rattle.qual_base.specs.declared.places.Owner.TheVariants.{Nobody};
 ghost use Rattle.type_table.specs.Types.{size};
 ghost use Rattle.type_table.specs.Rows.{type_of};
 ghost use Rattle.qual_types.specs.Positions.{view_of};
-ghost use Rattle.qual_types.specs.Skel.{root, inside_of, params_of, param_at, result_of, ellipsis_of, numbered, within};
-ghost use Rattle.qual_types.specs.Rows.{owner_set, owners_of, skel_of, params_from, seen_in, tree_seen, ellipsis_seen, next_seen};
-ghost use Rattle.qual_types.specs.Table.{owner_of, mark_of, looked, part_seen, IsVar, IsSomeVar, IsLook, IsPartLink, Keeps, Stands, AreMarkedApart, HaveOwnPositions, IsHeld, IsPast, IsTop, IsPart, RowStands, IsNodeLinked};
+ghost use Rattle.qual_types.specs.Skel.{root, inside_of, params_of, param_at, result_of};
+ghost use Rattle.qual_types.specs.Skel.{ellipsis_of, numbered, within};
+ghost use Rattle.qual_types.specs.Rows.{owner_set, owners_of, skel_of, params_from, seen_in};
+ghost use Rattle.qual_types.specs.Rows.{tree_seen, ellipsis_seen, next_seen};
+ghost use Rattle.qual_types.specs.Table.{owner_of, mark_of, looked, part_seen, IsVar, IsSomeVar};
+ghost use Rattle.qual_types.specs.Table.{IsLook, IsPartLink, Keeps, Stands, AreMarkedApart};
+ghost use Rattle.qual_types.specs.Table.{HaveOwnPositions, IsHeld, IsPast, IsTop, IsPart};
+ghost use Rattle.qual_types.specs.Table.{RowStands, IsNodeLinked};
 
 use crate::growing::grow_skeleton;
 use crate::look::{Kind, Look};
@@ -205,7 +212,8 @@ impl VarTable {
 
     /// A function's parameter of a number from 0. Linear in that number; all of them in turn are walked by `next_part`.
     pub fn param(&self, at: SkelId, i: u32) -> Option<SkelId>
-        ensures { option_map (skel_of self.now) result ≡ param_at (params_of (skel_of self.now at)) i }
+        ensures { option_map (skel_of self.now) result
+            ≡ param_at (params_of (skel_of self.now at)) i }
     {
         match self.look(at) {
             Look::Fun { first, .. } => self.param_from(first, i),
@@ -281,7 +289,8 @@ impl VarTable {
     /// Where a variable stands: its skeleton's unit and token, and the path from there. Linear in the length of the path, in
     /// time and memory. Past the table it is unit 0, token 0 and no path.
     pub fn position(&self, alloc: Global, at: VarId) -> Result<Position, NoMemory>
-        ensures { IfOk result (λ position. at < length self.now → Stands self.now (view_of position) at) }
+        ensures { IfOk result
+            (λ position. at < length self.now → Stands self.now (view_of position) at) }
     {
         self.law();
         let mut path = Vec::new(alloc);
@@ -300,8 +309,8 @@ impl VarTable {
 
     /// The constructor around a part, and the step from there; none at a skeleton's root and past the table.
     fn above(&self, at: SkelId) -> Option<(SkelId, Step)>
-        ensures { MatchOption result (at < length self.now → IsTop self.now at)
-            (λ x. IsPart (skel_of self.now) (owner_of self.now) at x.0 x.1 × (at < length self.now)) }
+        ensures { MatchOption result (at < length self.now → IsTop self.now at) (λ x.
+            IsPart (skel_of self.now) (owner_of self.now) at x.0 x.1 × (at < length self.now)) }
     {
         match self.row(at) {
             Some(row) => row.place.above(),

@@ -1,6 +1,8 @@
 //! The constraints of a source.
 
-ghost use Rattle.std.specs.Prelude.{◌≡◌, ℕ, ◌<◌, ◌≤◌, ◌+◌, ◌-◌, ◌*◌, ◌^◌, ◌++◌, [], ◌∷◌, All, IfOk, IfSome, OnOk, IsErrOf, length, map, option_map, slice_get, Some};
+ghost use Rattle.std.specs.Prelude.{◌≡◌, ℕ, ◌<◌, ◌≤◌, ◌+◌, ◌-◌, ◌*◌, ◌^◌, ◌++◌, [], ◌∷◌, All, IfOk};
+ghost use Rattle.std.specs.Prelude.{IfSome, OnOk, IsErrOf, length, map, option_map, slice_get};
+ghost use Rattle.std.specs.Prelude.{Some};
 ghost use Rattle.std.specs.List.{flat_map};
 ghost use Rattle.lattice_core.specs.Order.{size};
 ghost use Rattle.lattice_core.specs.View.{LatticeView};
@@ -8,19 +10,24 @@ ghost use Rattle.flow_graph.specs.declared.constraint.Link.TheVariants.{Le, Cons
 ghost use Rattle.flow_graph.specs.System.{IsWithin, IsWellOwned, most_constraints};
 ghost use Rattle.flow_graph.specs.Unfolding.{NamesElementsIn};
 ghost use Rattle.lattice_core.specs.Names.{words_of};
-ghost use Rattle.c_lexer.specs.Tokens.{IsMarkedBy, IsSpelled};
+ghost use Rattle.c_lexer.specs.Tokens.{IsMarkedBy};
 ghost use Rattle.second_form.specs.Source.{IsSource};
 ghost use Rattle.second_form.specs.View.{assign_of, item_of, items_of};
-ghost use Rattle.second_form.specs.Constraints.{reference_of, contents_of, span_from, in_lattice, in_all, by_sign, of_entry, of_mark, of_marks, marks_of, write_bounds, of_assign, of_item, objects_with, system_of};
+ghost use Rattle.second_form.specs.Constraints.{reference_of, contents_of, span_from, in_lattice};
+ghost use Rattle.second_form.specs.Constraints.{in_all, by_sign, of_entry, of_mark, of_marks};
+ghost use Rattle.second_form.specs.Constraints.{marks_of, write_bounds, of_assign, of_item};
+ghost use Rattle.second_form.specs.Constraints.{object_token, object_tokens, objects_with};
+ghost use Rattle.second_form.specs.Constraints.{system_of};
 ghost use Rattle.second_form.specs.Facts.{AreNamed, AreObjects};
-ghost use Rattle.second_form.specs.Adding.{IsNumbered, IsNumberedItem, AreNumbered, Adds, OverLimit, of_token, of_writer, of_writers};
+ghost use Rattle.second_form.specs.Adding.{IsNumbered, IsNumberedItem, AreNumbered, Adds};
+ghost use Rattle.second_form.specs.Adding.{OverLimit, of_token, of_writer, of_writers};
 
 use crate::source_form::{Assign, Item, ObjectNo};
 use c_lexer::Tokens;
 use flow_graph::{Constraint, FlowGraph, GraphFault, Link};
 use lattice_core::{Entry, Lattice, Lattices, Level, Sign};
 use qual_base::{Elem, LatticeNo, Numbered, Span, TokenId, UnitNo, VarId};
-use std::alloc::{AllocError, Global};
+use std::alloc::Global;
 
 /// The variable of the reference that an object's name is.
 fn reference_of(object: u32) -> VarId
@@ -47,7 +54,8 @@ fn add(
     to: TokenId,
 ) -> Result<(), GraphFault>
     requires { IsWithin (length graph.old.sites) link }
-    ensures added { OnOk result (Adds graph.old graph.new (record { link = link; lattices = lattices; span = span_from from to } ∷ [])) }
+    ensures added { OnOk result (Adds graph.old graph.new
+        (record { link = link; lattices = lattices; span = span_from from to } ∷ [])) }
     ensures too_many { IsErrOf result GraphFault.TooMany → OverLimit graph.old 1 }
 {
     let span = Span {
@@ -83,8 +91,10 @@ fn add_by_sign(
     requires lattice { lattice < 16 }
     requires elem { elem < 64 }
     requires var { var < 2 ^ 24 }
-    ensures added { OnOk result (Adds graph.old graph.new (by_sign sign lattice elem var (span_from word word))) }
-    ensures too_many { IsErrOf result GraphFault.TooMany → OverLimit graph.old (length (by_sign sign lattice elem var (span_from word word))) }
+    ensures added { OnOk result
+        (Adds graph.old graph.new (by_sign sign lattice elem var (span_from word word))) }
+    ensures too_many { IsErrOf result GraphFault.TooMany →
+        OverLimit graph.old (length (by_sign sign lattice elem var (span_from word word))) }
 {
     let mask = mask_of(lattice);
     match sign {
@@ -99,7 +109,8 @@ fn add_by_sign(
 
 /// An element of the lattices by its numbers, none where there is no such element.
 fn entry_at(lattices: &Lattices, lattice: LatticeNo, elem: Elem) -> Option<&Entry>
-    ensures entry { option_map (λ entry. entry.now) result ≡ Rattle.second_form.specs.Constraints.entry_at lattices.now lattice elem }
+    ensures entry { option_map (λ entry. entry.now) result
+        ≡ Rattle.second_form.specs.Constraints.entry_at lattices.now lattice elem }
     ensures lattice { IfSome result (λ _. lattice < 16) }
     ensures elem { IfSome result (λ _. elem < 64) }
 {
@@ -139,8 +150,10 @@ fn add_at_level(
     requires lattice { lattice < 16 }
     requires elem { elem < 64 }
     requires var { var < 2 ^ 24 }
-    ensures added { OnOk result (Adds graph.old graph.new (of_entry (Some entry.now) level var (record { token = word; lattice = lattice; elem = elem }))) }
-    ensures too_many { IsErrOf result GraphFault.TooMany → OverLimit graph.old (length (of_entry (Some entry.now) level var (record { token = word; lattice = lattice; elem = elem }))) }
+    ensures added { OnOk result (Adds graph.old graph.new (of_entry
+        (Some entry.now) level var (record { token = word; lattice = lattice; elem = elem }))) }
+    ensures too_many { IsErrOf result GraphFault.TooMany → OverLimit graph.old (length (of_entry
+        (Some entry.now) level var (record { token = word; lattice = lattice; elem = elem }))) }
 {
     if same_level(entry.level, level) {
         add_by_sign(graph, entry.sign, lattice, elem, var, word)
@@ -160,8 +173,10 @@ fn annotate(
     elem: Elem,
 ) -> Result<(), GraphFault>
     requires var { var < 2 ^ 24 }
-    ensures added { OnOk result (Adds graph.old graph.new (of_mark lattices.now level var (record { token = word; lattice = lattice; elem = elem }))) }
-    ensures too_many { IsErrOf result GraphFault.TooMany → OverLimit graph.old (length (of_mark lattices.now level var (record { token = word; lattice = lattice; elem = elem }))) }
+    ensures added { OnOk result (Adds graph.old graph.new (of_mark lattices.now level var
+        (record { token = word; lattice = lattice; elem = elem }))) }
+    ensures too_many { IsErrOf result GraphFault.TooMany → OverLimit graph.old (length (of_mark
+        lattices.now level var (record { token = word; lattice = lattice; elem = elem }))) }
 {
     match entry_at(lattices, lattice, elem) {
         Some(entry) => add_at_level(graph, entry, level, lattice, elem, var, word),
@@ -180,8 +195,10 @@ fn annotate_by_token(
 ) -> Result<(), GraphFault>
     requires var { var < 2 ^ 24 }
     requires at { at < length tokens.now.tokens }
-    ensures added { OnOk result (Adds graph.old graph.new (of_token lattices.now tokens.now level var at)) }
-    ensures too_many { IsErrOf result GraphFault.TooMany → OverLimit graph.old (length (of_token lattices.now tokens.now level var at)) }
+    ensures added { OnOk result
+        (Adds graph.old graph.new (of_token lattices.now tokens.now level var at)) }
+    ensures too_many { IsErrOf result GraphFault.TooMany →
+        OverLimit graph.old (length (of_token lattices.now tokens.now level var at)) }
 {
     match tokens.mark_of(at) {
         Some((lattice, elem)) => annotate(graph, lattices, level, var, at, lattice, elem),
@@ -202,8 +219,10 @@ fn annotate_by_words(
     requires var { var < 2 ^ 24 }
     requires order { first < name }
     requires within { name < length tokens.now.tokens }
-    ensures added { OnOk result (Adds graph.old graph.new (flat_map (of_mark lattices.now level var) (marks_of tokens.now first name))) }
-    ensures too_many { IsErrOf result GraphFault.TooMany → OverLimit graph.old (length (flat_map (of_mark lattices.now level var) (marks_of tokens.now first name))) }
+    ensures added { OnOk result (Adds graph.old graph.new
+        (flat_map (of_mark lattices.now level var) (marks_of tokens.now first name))) }
+    ensures too_many { IsErrOf result GraphFault.TooMany → OverLimit graph.old
+        (length (flat_map (of_mark lattices.now level var) (marks_of tokens.now first name))) }
 {
     let type_at = name.number() - 1;
     let mut at = first.number();
@@ -226,8 +245,10 @@ fn annotate_object(
     requires object { 2 * object + 1 < 2 ^ 24 }
     requires order { first < name }
     requires within { name < length tokens.now.tokens }
-    ensures added { OnOk result (Adds graph.old graph.new (of_marks lattices.now object (marks_of tokens.now first name))) }
-    ensures too_many { IsErrOf result GraphFault.TooMany → OverLimit graph.old (length (of_marks lattices.now object (marks_of tokens.now first name))) }
+    ensures added { OnOk result
+        (Adds graph.old graph.new (of_marks lattices.now object (marks_of tokens.now first name))) }
+    ensures too_many { IsErrOf result GraphFault.TooMany → OverLimit graph.old
+        (length (of_marks lattices.now object (marks_of tokens.now first name))) }
 {
     let reference = reference_of(object);
     let contents = contents_of(object);
@@ -248,8 +269,10 @@ fn bound_by_entry(
     requires lattice { lattice < 16 }
     requires elem { elem < 64 }
     requires var { var < 2 ^ 24 }
-    ensures added { OnOk result (Adds graph.old graph.new (of_writer lattice var (span_from from to) elem entry.now)) }
-    ensures too_many { IsErrOf result GraphFault.TooMany → OverLimit graph.old (length (of_writer lattice var (span_from from to) elem entry.now)) }
+    ensures added { OnOk result
+        (Adds graph.old graph.new (of_writer lattice var (span_from from to) elem entry.now)) }
+    ensures too_many { IsErrOf result GraphFault.TooMany →
+        OverLimit graph.old (length (of_writer lattice var (span_from from to) elem entry.now)) }
 {
     if entry.write {
         add(
@@ -275,8 +298,10 @@ fn bound_by_lattice(
 ) -> Result<(), GraphFault>
     requires at { at < 16 }
     requires var { var < 2 ^ 24 }
-    ensures added { OnOk result (Adds graph.old graph.new (of_writers at var (span_from from to) lattice.now)) }
-    ensures too_many { IsErrOf result GraphFault.TooMany → OverLimit graph.old (length (of_writers at var (span_from from to) lattice.now)) }
+    ensures added { OnOk result
+        (Adds graph.old graph.new (of_writers at var (span_from from to) lattice.now)) }
+    ensures too_many { IsErrOf result GraphFault.TooMany →
+        OverLimit graph.old (length (of_writers at var (span_from from to) lattice.now)) }
 {
     lattice.law();
     let mut elem = 0;
@@ -297,8 +322,10 @@ fn bound_written(
     to: TokenId,
 ) -> Result<(), GraphFault>
     requires var { var < 2 ^ 24 }
-    ensures added { OnOk result (Adds graph.old graph.new (write_bounds 0 lattices.now var (span_from from to))) }
-    ensures too_many { IsErrOf result GraphFault.TooMany → OverLimit graph.old (length (write_bounds 0 lattices.now var (span_from from to))) }
+    ensures added { OnOk result
+        (Adds graph.old graph.new (write_bounds 0 lattices.now var (span_from from to))) }
+    ensures too_many { IsErrOf result GraphFault.TooMany →
+        OverLimit graph.old (length (write_bounds 0 lattices.now var (span_from from to))) }
 {
     let mut at = 0;
     while at < lattices.len() {
@@ -320,8 +347,10 @@ fn all_lattices(count: u8) -> u16
 /// Adds what an assignment gives: the write bounds of the target's reference, then the flow between the contents.
 fn assign(graph: &mut FlowGraph, lattices: &Lattices, one: &Assign) -> Result<(), GraphFault>
     requires { IsNumbered (assign_of one.now) }
-    ensures added { OnOk result (Adds graph.old graph.new (of_assign lattices.now (assign_of one.now))) }
-    ensures too_many { IsErrOf result GraphFault.TooMany → OverLimit graph.old (length (of_assign lattices.now (assign_of one.now))) }
+    ensures added { OnOk result
+        (Adds graph.old graph.new (of_assign lattices.now (assign_of one.now))) }
+    ensures too_many { IsErrOf result GraphFault.TooMany →
+        OverLimit graph.old (length (of_assign lattices.now (assign_of one.now))) }
 {
     let target = one.target;
     let value = one.value;
@@ -339,8 +368,10 @@ fn assign_all(
     assigns: &[Assign],
 ) -> Result<(), GraphFault>
     requires { All IsNumbered (map assign_of assigns.now) }
-    ensures added { OnOk result (Adds graph.old graph.new (flat_map (of_assign lattices.now) (map assign_of assigns.now))) }
-    ensures too_many { IsErrOf result GraphFault.TooMany → OverLimit graph.old (length (flat_map (of_assign lattices.now) (map assign_of assigns.now))) }
+    ensures added { OnOk result
+        (Adds graph.old graph.new (flat_map (of_assign lattices.now) (map assign_of assigns.now))) }
+    ensures too_many { IsErrOf result GraphFault.TooMany → OverLimit graph.old
+        (length (flat_map (of_assign lattices.now) (map assign_of assigns.now))) }
 {
     for one in assigns {
         assign(graph, lattices, one)?;
@@ -357,8 +388,10 @@ fn add_item(
     item: &Item,
 ) -> Result<(), GraphFault>
     requires { IsNumberedItem (length tokens.now.tokens) objects (item_of item.now) }
-    ensures added { OnOk result (Adds graph.old graph.new (of_item lattices.now tokens.now objects (item_of item.now))) }
-    ensures too_many { IsErrOf result GraphFault.TooMany → OverLimit graph.old (length (of_item lattices.now tokens.now objects (item_of item.now))) }
+    ensures added { OnOk result
+        (Adds graph.old graph.new (of_item lattices.now tokens.now objects (item_of item.now))) }
+    ensures too_many { IsErrOf result GraphFault.TooMany →
+        OverLimit graph.old (length (of_item lattices.now tokens.now objects (item_of item.now))) }
 {
     match item {
         Item::Object { first, name } => {
@@ -382,70 +415,82 @@ fn objects_after(objects: u32, item: &Item) -> u32
     }
 }
 
-/// The constraints of items whose variables have numbers.
+/// Adds the name of an item that is an object.
+fn name_object(names: &mut Vec<TokenId>, item: &Item) -> Result<(), GraphFault>
+    ensures added { OnOk result
+        (names.new.items ≡ names.old.items ++ object_token (item_of item.now)) }
+    ensures memory { IsErrOf result GraphFault.TooMany → ⊥ }
+{
+    if let Item::Object { first: _, name } = item {
+        match names.push(*name) {
+            Ok(()) => {}
+            Err(_) => return Err(GraphFault::NoMemory),
+        }
+    }
+    Ok(())
+}
+
+/// The constraints of a source, and the tokens of its objects' names in order.
+#[derive(Drop)]
+pub struct Generated {
+    pub graph: FlowGraph,
+    pub objects: Vec<TokenId>,
+}
+
+/// The constraints of items whose variables have numbers, and the names of the objects among them.
 fn constraints(
     alloc: Global,
     lattices: &Lattices,
     tokens: &Tokens,
     items: &[Item],
-) -> Result<FlowGraph, GraphFault>
+) -> Result<Generated, GraphFault>
     requires { AreNumbered (length tokens.now.tokens) 0 (items_of items.now) }
-    ensures graph { IfOk result (λ graph. graph ≡ system_of lattices.now tokens.now (items_of items.now)) }
-    ensures too_many { IsErrOf result GraphFault.TooMany → most_constraints < length (system_of lattices.now tokens.now (items_of items.now)).constraints }
+    ensures graph { IfOk result
+        (λ made. made.graph ≡ system_of lattices.now tokens.now (items_of items.now)) }
+    ensures objects { IfOk result
+        (λ made. made.objects.items ≡ object_tokens (items_of items.now)) }
+    ensures too_many { IsErrOf result GraphFault.TooMany → most_constraints
+        < length (system_of lattices.now tokens.now (items_of items.now)).constraints }
 {
     let mut graph = FlowGraph::new(alloc);
+    let mut names = Vec::new(alloc);
     let mut objects = 0;
     for item in items {
         add_item(&mut graph, lattices, tokens, objects, item)?;
+        name_object(&mut names, item)?;
         objects = objects_after(objects, item);
     }
-    Ok(graph)
+    Ok(Generated {
+        graph,
+        objects: names,
+    })
 }
 
-/// The constraints of a source, in order. Linear in the source and, for each assignment, in the sizes of the lattices.
+/// The constraints of a source and the tokens of its objects' names, both in order. Time is linear in the source and, for
+/// each assignment, in the sizes of the lattices; memory is linear in the constraints and the objects.
 pub fn generate(
     alloc: Global,
     lattices: &Lattices,
     tokens: &Tokens,
     items: &[Item],
-) -> Result<FlowGraph, GraphFault>
+) -> Result<Generated, GraphFault>
     requires source { IsSource tokens.now.tokens (items_of items.now) }
     requires marked { IsMarkedBy (words_of lattices.now) tokens.now }
     requires small { length tokens.now.bytes ≤ 2 ^ 24 }
-    ensures graph { IfOk result (λ graph. graph ≡ system_of lattices.now tokens.now (items_of items.now)) }
-    ensures too_many { IsErrOf result GraphFault.TooMany → most_constraints < length (system_of lattices.now tokens.now (items_of items.now)).constraints }
-    ensures owned { IfOk result (λ graph. IsWellOwned graph) }
-    ensures named { IfOk result (λ graph. AreNamed lattices.now tokens.now (length (Rattle.second_form.specs.Constraints.object_tokens (items_of items.now))) graph) }
-    ensures elements { IfOk result (λ graph. (lattice : ℕ) (view : LatticeView) → slice_get lattices.now lattice ≡ Some view → NamesElementsIn graph lattice view.order) }
+    ensures graph { IfOk result
+        (λ made. made.graph ≡ system_of lattices.now tokens.now (items_of items.now)) }
+    ensures objects { IfOk result
+        (λ made. made.objects.items ≡ object_tokens (items_of items.now)) }
+    ensures too_many { IsErrOf result GraphFault.TooMany → most_constraints
+        < length (system_of lattices.now tokens.now (items_of items.now)).constraints }
+    ensures owned { IfOk result (λ made. IsWellOwned made.graph) }
+    ensures named { IfOk result (λ made. AreNamed lattices.now tokens.now
+        (length (object_tokens (items_of items.now))) made.graph) }
+    ensures elements { IfOk result (λ made. (lattice : ℕ) (view : LatticeView) →
+        slice_get lattices.now lattice ≡ Some view →
+        NamesElementsIn made.graph lattice view.order) }
+    ensures there { AreObjects tokens.now (object_tokens (items_of items.now)) }
 {
     lattices.law();
     constraints(alloc, lattices, tokens, items)
-}
-
-/// The tokens of the objects' names.
-fn name_tokens(alloc: Global, items: &[Item]) -> Result<Vec<TokenId>, AllocError>
-    ensures { IfOk result (λ names. names.items ≡ Rattle.second_form.specs.Constraints.object_tokens (items_of items.now)) }
-{
-    let mut names = Vec::new(alloc);
-    for item in items {
-        if let Item::Object { first: _, name } = item {
-            names.push(*name)?;
-        }
-    }
-    Ok(names)
-}
-
-/// The tokens of the objects' names, in order. Linear time and memory.
-pub fn object_tokens(
-    alloc: Global,
-    tokens: &Tokens,
-    items: &[Item],
-) -> Result<Vec<TokenId>, AllocError>
-    requires source { IsSource tokens.now.tokens (items_of items.now) }
-    requires spelled { (words : _) × IsSpelled words tokens.now }
-    requires small { length tokens.now.bytes ≤ 2 ^ 24 }
-    ensures tokens { IfOk result (λ names. names.items ≡ Rattle.second_form.specs.Constraints.object_tokens (items_of items.now)) }
-    ensures there { IfOk result (λ names. AreObjects tokens.now names.items) }
-{
-    name_tokens(alloc, items)
 }

@@ -12,7 +12,7 @@ mod source_form;
 #[cfg(test)]
 mod tests;
 
-pub use generating::{generate, object_tokens};
+pub use generating::{Generated, generate};
 pub use laws::one_source;
 pub use positions::position_of;
 pub use reading::read_items;

@@ -22,7 +22,8 @@ fn path_of(alloc: Global, holds: bool) -> Result<Vec<Step>, AllocError>
 /// The position of a variable, by the tokens of the objects' names. Constant time.
 pub fn position_of(alloc: Global, objects: &[TokenId], at: VarId) -> Result<Position, AllocError>
     requires { at < 2 * length objects.now }
-    ensures { IfOk result (λ position. slice_get (positions_of objects.now) at ≡ Some (view_of position)) }
+    ensures { IfOk result
+        (λ position. slice_get (positions_of objects.now) at ≡ Some (view_of position)) }
 {
     let number = at.number();
     let path = path_of(alloc, number % 2 == 1)?;

@@ -1,11 +1,16 @@
 //! Reading the items of a source.
 
-ghost use Rattle.std.specs.Prelude.{◌≡◌, ◌<◌, ◌≤◌, ◌+◌, ◌^◌, ◌↔◌, IsTrue, true, length, List, ℕ, Some, IfOk, IfSome, OnOk, MatchOption, map};
+ghost use Rattle.std.specs.Prelude.{◌≡◌, ◌<◌, ◌≤◌, ◌+◌, ◌^◌, ◌↔◌, IsTrue, true, length, List, ℕ};
+ghost use Rattle.std.specs.Prelude.{Some, IfOk, IfSome, OnOk, MatchOption, map};
 ghost use Rattle.c_words.specs.declared.kinds.TokenKind.{TokenKind as KindView};
 ghost use Rattle.c_words.specs.declared.kinds.TokenKind.TheVariants.{Name};
 ghost use Rattle.c_words.specs.declared.kinds.Keyword.TheVariants.{Int, Void};
-ghost use Rattle.c_words.specs.declared.kinds.Punct.TheVariants.{OpenParen, CloseParen, OpenBrace, CloseBrace, Semicolon, Equal};
-ghost use Rattle.second_form.specs.Source.{AssignView, ItemView, Scope, no_names, Declares, Is, IsNewName, IsObject, IsAssign, AreAssigns, IsInt, IsHead, IsItem, AreItems, IsSource, declared_with, end_of};
+ghost use Rattle.c_words.specs.declared.kinds.Punct.TheVariants.{OpenParen, CloseParen, OpenBrace};
+ghost use Rattle.c_words.specs.declared.kinds.Punct.TheVariants.{CloseBrace, Semicolon, Equal};
+ghost use Rattle.second_form.specs.Source.{AssignView, ItemView, Scope, no_names, Declares, Is};
+ghost use Rattle.second_form.specs.Source.{IsNewName, IsObject, IsAssign, AreAssigns, IsInt};
+ghost use Rattle.second_form.specs.Source.{IsHead, IsItem, AreItems, IsSource, declared_with};
+ghost use Rattle.second_form.specs.Source.{end_of};
 ghost use Rattle.second_form.specs.View.{assign_of, item_of, items_of};
 ghost use Rattle.second_form.specs.Reading.{AreAllWords, IsNamedInt};
 
@@ -116,7 +121,8 @@ fn is_end(tokens: &Tokens, at: usize) -> bool
 
 /// The name that a kind of token is.
 fn name_of(kind: &TokenKind) -> Option<NameId>
-    ensures { MatchOption result ((name : ℕ) → kind.now ≡ Name name → ⊥) (λ name. kind.now ≡ Name name) }
+    ensures { MatchOption result
+        ((name : ℕ) → kind.now ≡ Name name → ⊥) (λ name. kind.now ≡ Name name) }
 {
     match kind {
         TokenKind::Name(name) => Some(*name),
@@ -184,7 +190,8 @@ fn is_qualifier(keyword: Keyword) -> bool
 
 /// Whether token `at` is a qualifier word.
 fn is_word_at(tokens: &Tokens, at: usize) -> bool
-    ensures { IsTrue result ↔ ((kind : KindView) × Is tokens.now.tokens at kind × (Rattle.second_form.specs.Source.is_word kind ≡ true)) }
+    ensures { IsTrue result ↔ ((kind : KindView)
+        × Is tokens.now.tokens at kind × (Rattle.second_form.specs.Source.is_word kind ≡ true)) }
 {
     match kind_at(tokens, at) {
         Some(kind) => is_word(kind),
@@ -307,9 +314,10 @@ fn function_at(
     requires early { at ≤ length tokens.now.tokens }
     requires few { length names.now.objects ≤ at }
     requires size { length tokens.now.tokens < 2 ^ 32 }
-    ensures { IfOk result (λ found. MatchOption found
-        ((assigns : List AssignView) → IsHead tokens.now.tokens names.now at → AreAssigns tokens.now.tokens names.now (at + 6) assigns → ⊥)
-        (λ assigns. IsHead tokens.now.tokens names.now at × AreAssigns tokens.now.tokens names.now (at + 6) (map assign_of assigns.items))) }
+    ensures { IfOk result (λ found. MatchOption found ((assigns : List AssignView) →
+        IsHead tokens.now.tokens names.now at → AreAssigns tokens.now.tokens names.now
+        (at + 6) assigns → ⊥) (λ assigns. IsHead tokens.now.tokens names.now at
+        × AreAssigns tokens.now.tokens names.now (at + 6) (map assign_of assigns.items))) }
 {
     if is_head(tokens, names, at) {
         assigns_at(alloc, tokens, names, at + 6)
@@ -373,7 +381,8 @@ fn name_number(tokens: &Tokens, at: TokenId) -> NameId
 /// Adds the name of an item.
 fn declare(names: &mut Names, tokens: &Tokens, item: &Item) -> Result<(), NoMemory>
     requires { (at : ℕ) × IsItem tokens.now.tokens names.old at (item_of item.now) }
-    ensures { OnOk result (names.new ≡ declared_with tokens.now.tokens names.old (item_of item.now)) }
+    ensures { OnOk result
+        (names.new ≡ declared_with tokens.now.tokens names.old (item_of item.now)) }
 {
     match item {
         Item::Object { name, .. } => names.add_object(name_number(tokens, *name)),

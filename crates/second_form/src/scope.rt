@@ -23,7 +23,8 @@ impl Model for Names {
 }
 
 impl Names {
-    ghost use Rattle.std.specs.Prelude.{◌≡◌, ◌++◌, [], ◌∷◌, ◌↔◌, IsTrue, OnOk, OnErr, MatchOption, IfSome, slice_get, Some, Contains, ◌<◌, length};
+    ghost use Rattle.std.specs.Prelude.{◌≡◌, ◌++◌, [], ◌∷◌, ◌↔◌, IsTrue, OnOk, OnErr, MatchOption};
+    ghost use Rattle.std.specs.Prelude.{IfSome, slice_get, Some, Contains, ◌<◌, length};
     ghost use Rattle.second_form.specs.Source.{Scope, no_names, Declares};
 
     /// No names.
@@ -45,7 +46,8 @@ impl Names {
 
     /// The number of an object that has this name, or none: how many objects were declared before it.
     pub(crate) fn object(&self, name: NameId) -> Option<usize>
-        ensures place { MatchOption result (Contains self.now.objects name → ⊥) (λ number. slice_get self.now.objects number ≡ Some name) }
+        ensures place { MatchOption result (Contains self.now.objects name → ⊥)
+            (λ number. slice_get self.now.objects number ≡ Some name) }
         ensures within { IfSome result (λ number. number < length self.now.objects) }
     {
         self.objects.get_index_of(&name)
@@ -54,7 +56,8 @@ impl Names {
     /// Adds an object of a new name. For want of memory the names stay as they were.
     pub(crate) fn add_object(&mut self, name: NameId) -> Result<(), NoMemory>
         requires { Declares self.old name → ⊥ }
-        ensures added { OnOk result (self.new ≡ record self.old { objects = self.old.objects ++ name ∷ [] }) }
+        ensures added { OnOk result
+            (self.new ≡ record self.old { objects = self.old.objects ++ name ∷ [] }) }
         ensures unchanged { OnErr result (self.new ≡ self.old) }
     {
         self.objects.insert(name)?;
@@ -64,7 +67,8 @@ impl Names {
     /// Adds a function of a new name. For want of memory the names stay as they were.
     pub(crate) fn add_function(&mut self, name: NameId) -> Result<(), NoMemory>
         requires { Declares self.old name → ⊥ }
-        ensures added { OnOk result (self.new ≡ record self.old { functions = self.old.functions ++ name ∷ [] }) }
+        ensures added { OnOk result
+            (self.new ≡ record self.old { functions = self.old.functions ++ name ∷ [] }) }
         ensures unchanged { OnErr result (self.new ≡ self.old) }
     {
         self.functions.insert(name)?;

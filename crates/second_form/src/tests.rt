@@ -6,13 +6,13 @@ ghost use Rattle.c_lexer.specs.Tokens.{IsMarkedBy};
 ghost use Rattle.second_form.specs.Source.{IsSource};
 ghost use Rattle.second_form.specs.View.{items_of};
 
-use crate::generating::{generate, object_tokens};
+use crate::generating::generate;
 use crate::reading::read_items;
 use crate::source_form::Item;
 use c_lexer::{LexFault, Tokens, lex};
 use flow_graph::{FlowGraph, Link};
 use lattice_core::{Entry, Lattice, LatticeFault, Lattices, Level, Name, Pair, Sign};
-use qual_base::{EdgeId, Numbered, TokenId, UnitNo};
+use qual_base::{EdgeId, Numbered, UnitNo};
 use std::alloc::{AllocError, Global};
 use std::test::Fail;
 
@@ -93,7 +93,7 @@ fn lattices(alloc: Global, texts: [&str; 2]) -> Result<Lattices, Fail> {
 }
 
 /// The tokens of a source of unit 1.
-fn lexed(alloc: Global, lattices: &Lattices, source: &[u8]) -> Result<Tokens, LexFault>
+fn lexed<'a>(alloc: Global, lattices: &Lattices, source: &'a [u8]) -> Result<Tokens<'a>, LexFault>
     requires { length source.now < 1000 }
     ensures marked { IfOk result (λ tokens. IsMarkedBy (words_of lattices.now) tokens) }
     ensures bytes { IfOk result (λ tokens. tokens.bytes ≡ source.now) }
@@ -253,21 +253,6 @@ fn other_texts_are_none(rt: HostRuntime) -> Result<(), Fail> {
     Ok(())
 }
 
-/// The tokens of the objects of a source that these lattices mark.
-fn objects(
-    alloc: Global,
-    known: &Lattices,
-    tokens: &Tokens,
-    items: &[Item],
-) -> Result<Vec<TokenId>, AllocError>
-    requires source { IsSource tokens.now.tokens (items_of items.now) }
-    requires marked { IsMarkedBy (words_of known.now) tokens.now }
-    requires small { length tokens.now.bytes ≤ 2 ^ 24 }
-{
-    let _ = known;
-    object_tokens(alloc, tokens, items)
-}
-
 /// The constraints of a source with these lattices, and then the tokens of its objects.
 fn generated(alloc: Global, texts: [&str; 2], source: &[u8]) -> Result<String, Fail>
     requires { length source.now < 1000 }
@@ -276,9 +261,9 @@ fn generated(alloc: Global, texts: [&str; 2], source: &[u8]) -> Result<String, F
     let tokens = lexed(alloc, &known, source).map_err(|_| "tokens")?;
     let items = read_items(alloc, &tokens).map_err(|_| "memory")?;
     let items = items.ok_or("items")?;
-    let graph = generate(alloc, &known, &tokens, &items).map_err(|_| "graph")?;
-    let mut text = graph_text(alloc, &graph)?;
-    for token in &objects(alloc, &known, &tokens, &items)? {
+    let made = generate(alloc, &known, &tokens, &items).map_err(|_| "graph")?;
+    let mut text = graph_text(alloc, &made.graph)?;
+    for token in &made.objects {
         let one = format!(in alloc; "{} ", token.number())?;
         text.push_str(&one)?;
     }

@@ -1,8 +1,10 @@
 //! The table of types.
 
-ghost use Rattle.std.specs.Prelude.{◌≡◌, ◌+◌, ◌<◌, ◌-◌, ◌^◌, ◌∷◌, ◌++◌, [], ℕ, length, slice_get, IfOk, MatchOption, OnErr, OnOk, Some};
+ghost use Rattle.std.specs.Prelude.{◌≡◌, ◌+◌, ◌<◌, ◌-◌, ◌^◌, ◌∷◌, ◌++◌, [], ℕ, length, slice_get};
+ghost use Rattle.std.specs.Prelude.{IfOk, MatchOption, OnErr, OnOk, Some};
 ghost use Rattle.type_table.specs.Types.{Words, base, size, sizes, words_of, ellipsis_words_of};
-ghost use Rattle.type_table.specs.Rows.{shown, types_at, types_of, type_of, AreParts, AreMade, capped, Keeps, Stands};
+ghost use Rattle.type_table.specs.Rows.{shown, types_at, types_of, type_of, AreParts, AreMade};
+ghost use Rattle.type_table.specs.Rows.{capped, Keeps, Stands};
 
 use crate::row::{Row, Shape};
 use qual_base::{NoMemory, Numbered, TokenId, TypeId, UnitNo};
@@ -80,7 +82,8 @@ impl TypeTable {
 
     /// How many constructors a type of that shape has, at most 2^32 - 1.
     fn size_of(&self, shape: &Shape) -> u32
-        ensures { (ws es : Words) → result ≡ capped (size (shown (types_of self.now) shape.now ws es)) }
+        ensures { (ws es : Words) →
+            result ≡ capped (size (shown (types_of self.now) shape.now ws es)) }
     {
         match shape {
             Shape::Base => 1,

@@ -13,7 +13,8 @@ use std::test::Fail;
 /// A type without words.
 fn plain(alloc: Global, types: &mut TypeTable, shape: Shape) -> Result<TypeId, NoMemory>
     requires { AreParts (length types.old) shape }
-    ensures { IfOk result (λ ty. (ty ≡ length types.old) × (length types.new ≡ length types.old + 1)) }
+    ensures { IfOk result
+        (λ ty. (ty ≡ length types.old) × (length types.new ≡ length types.old + 1)) }
 {
     types.push(shape, Vec::new(alloc), Vec::new(alloc))
 }

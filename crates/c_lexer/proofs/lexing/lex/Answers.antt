@@ -15,14 +15,14 @@ fault_of-requires-clause-stops c =
     let P : ℕ × List ℕ → Type 0 = λ t. StopsBehind t.0 c.args.words.now t.1 c.read_all.new.front c.in-Err.stop in
     (c.args.words.now, subst P (sym c.in-Ok.ensures) c.in-Err.ensures.stops)
 
-pub returns-in-Err-clause-refused : goal.returns-in-Err-clause-refused
-returns-in-Err-clause-refused c =
+pub returns-clause-refused : goal.returns-clause-refused
+returns-clause-refused c =
     let P : ℕ × List ℕ → Type 0 = λ t. StopsBehind t.0 c.args.words.now t.1 c.read_all.new.front c.in-Err.stop in
     let Q : ℕ × List ℕ → Type 0 = λ t. IsRefusal t.0 c.args.words.now t.1 c.fault_of.result in
     subst Q c.in-Ok.ensures (c.fault_of.ensures c.args.words.now (subst P (sym c.in-Ok.ensures) c.in-Err.ensures.stops))
 
-pub returns-in-Err-clause-only : goal.returns-in-Err-clause-only
-returns-in-Err-clause-only c =
+pub returns-clause-only : goal.returns-clause-only
+returns-clause-only c =
     let P : ℕ × List ℕ → Type 0 = λ t. StopsBehind t.0 c.args.words.now t.1 c.read_all.new.front c.in-Err.stop in
     let Q : ℕ × List ℕ → Type 0 = λ t. IsRefusal t.0 c.args.words.now t.1 c.fault_of.result in
     refused-once c.args.unit c.args.words.now c.args.bytes.now c.fault_of.result (subst Q c.in-Ok.ensures (c.fault_of.ensures c.args.words.now (subst P (sym c.in-Ok.ensures) c.in-Err.ensures.stops)))

@@ -1,12 +1,13 @@
-use Rattle.std.proofs.Common.{◌≡◌, ℕ, ◌++◌, sym, ◌∙◌, ap}
+use Rattle.std.proofs.Common.{◌≡◌, ℕ, ◌++◌, sym, ◌∙◌, ap, subst}
 use Rattle.std.proofs.lemmas.Option.{slice_get_within}
+use Rattle.flow_graph.specs.declared.constraint.Link.TheVariants.{Bound}
 use Rattle.flow_graph.specs.Unfolding.{NamesElementsIn}
 use Rattle.flow_graph.specs.PathProofs.{first_of, steps_of}
 use Rattle.error_path.specs.Shown.{IsExceededBySome}
 use Rattle.cqual_tool.specs.Texts.{error_line, proof_text}
 use Rattle.cqual_tool.specs.Scenes.{scene_of}
 use Rattle.error_path.proofs.InLattices.{in_lattice}
-use Rattle.cqual_tool.proofs.ReportLemmas.{in_parts, limit_is, error_as, edge_within, start_link, element_is, entry_of}
+use Rattle.cqual_tool.proofs.ReportLemmas.{bound_found, limit_given, in_parts, link_is, limit_is, error_as, edge_within, start_link, element_is, entry_of}
 use Rattle.cqual_tool.proofs.reports.put_exceeded.Goals as goal
 
 pub show-requires-clause-lattice : goal.show-requires-clause-lattice
@@ -43,6 +44,13 @@ elem_of-elem-requires c =
       start_link c.args.graph.now c.args.solved.now.solver c.requires.exceeds.view.order c.args.bound c.in_ok-proof.proof b c.first_edge.result edge c.constraint-start.result c.constraint-start.ensures.there,
     )
 
+pub unwrap-limit-requires : goal.unwrap-limit-requires
+unwrap-limit-requires c =
+    let e = c.requires.exceeds in
+    let link = link_is (scene_of c.args.scene.now) c.args.graph.now c.args.solved.now.solver e.view.order c.args.bound c.in_ok-proof.proof c.constraint-constraint.result c.constraint-constraint.ensures.there e.elem e.exceeds in
+    let At : ℕ → Type 0 = λ lattice. c.constraint-constraint.result.link ≡ Bound e.exceeds.var lattice e.exceeds.limit in
+    bound_found c.constraint-constraint.result.link c.lattice-lattice.result e.exceeds.var e.exceeds.limit _ c.bound_in.result (subst At (sym c.lattice-lattice.ensures) link) c.bound_in.ensures
+
 pub put_error-requires-clause-span : goal.put_error-requires-clause-span
 put_error-requires-clause-span c = c.requires.shown.spans c.args.bound c.constraint-constraint.result c.constraint-constraint.ensures.there
 
@@ -52,10 +60,10 @@ put_error-requires-clause-elem c =
     let b = c.in_ok-proof.ensures.begins e.view e.there in
     let edge = c.first_edge.ensures b.number 0 (ap first_of c.deref.ensures.value ∙ b.first) in
     let limit = limit_is (scene_of c.args.scene.now) c.args.graph.now c.args.solved.now.solver e.view.order c.args.bound c.in_ok-proof.proof c.constraint-constraint.result c.constraint-constraint.ensures.there e.elem e.exceeds
-    c.limit_of-limit.ensures.0 c.limit_of-limit.result.lattice c.limit_of-limit.result.elem c.limit_of-limit.ensures.1 in
+    c.unwrap-limit.result.at c.lattice-lattice.result c.unwrap-limit.result.elem (limit_given _ _ c.bound_in.result c.unwrap-limit.result c.unwrap-limit.ensures c.bound_in.ensures) in
     let element = element_is c.args.graph.now c.args.solved.now.solver e.view.order c.args.bound c.in_ok-proof.proof b c.first_edge.result edge c.constraint-start.result c.constraint-start.ensures.there
     c.elem_of-elem.ensures.0 c.elem_of-elem.result c.elem_of-elem.ensures.1 c.elem_of-elem.ensures.2 in
-    entry_of c.args.scene.now.lattices.now e.view c.args.solved.now.solver.lattice c.limit_of-limit.result.lattice c.elem_of-elem.result b.element e.there limit.0
+    entry_of c.args.scene.now.lattices.now e.view c.args.solved.now.solver.lattice c.lattice-lattice.result c.elem_of-elem.result b.element e.there limit.0
     (c.law.ensures.sized c.args.solved.now.solver.lattice e.view e.there) b.exceeds.element element
 
 pub returns : goal.returns
@@ -65,13 +73,13 @@ returns c =
     let b = c.in_ok-proof.ensures.begins e.view e.there in
     let edge = c.first_edge.ensures b.number 0 (ap first_of c.deref.ensures.value ∙ b.first) in
     let limit = limit_is scene c.args.graph.now c.args.solved.now.solver e.view.order c.args.bound c.in_ok-proof.proof c.constraint-constraint.result c.constraint-constraint.ensures.there e.elem e.exceeds
-    c.limit_of-limit.ensures.0 c.limit_of-limit.result.lattice c.limit_of-limit.result.elem c.limit_of-limit.ensures.1 in
+    c.unwrap-limit.result.at c.lattice-lattice.result c.unwrap-limit.result.elem (limit_given _ _ c.bound_in.result c.unwrap-limit.result c.unwrap-limit.ensures c.bound_in.ensures) in
     let element = element_is c.args.graph.now c.args.solved.now.solver e.view.order c.args.bound c.in_ok-proof.proof b c.first_edge.result edge c.constraint-start.result c.constraint-start.ensures.there
     c.elem_of-elem.ensures.0 c.elem_of-elem.result c.elem_of-elem.ensures.1 c.elem_of-elem.ensures.2 in (
-      error_line scene c.limit_of-limit.result.lattice c.elem_of-elem.result c.limit_of-limit.result.elem c.constraint-constraint.result.span
+      error_line scene c.lattice-lattice.result c.elem_of-elem.result c.unwrap-limit.result.elem c.constraint-constraint.result.span
           ++ proof_text scene c.args.graph.now (steps_of c.in_ok-proof.proof.subs.items) c.in_ok-proof.proof.main.items,
       in_parts c.args.out.now.items _ _ c.put_error.new.out.items c.put_proof.new.out.items c.in_ok-put_error.ensures c.in_ok-put_proof.ensures,
       error_as scene c.args.graph.now c.args.solved.now.solver e.view.order c.args.bound c.in_ok-proof.proof c.constraint-constraint.result c.constraint-constraint.ensures.there e.elem e.exceeds
           (c.in_ok-proof.ensures.holds c.requires.owned) c.in_ok-proof.ensures.ends c.in_ok-proof.ensures.apart b
-          c.limit_of-limit.result.lattice c.elem_of-elem.result c.limit_of-limit.result.elem limit.0 element limit.1,
+          c.lattice-lattice.result c.elem_of-elem.result c.unwrap-limit.result.elem limit.0 element limit.1,
     )

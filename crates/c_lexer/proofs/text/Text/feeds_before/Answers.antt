@@ -6,7 +6,7 @@ use Rattle.c_lexer.proofs.text.Text.feeds_before.Goals as goal
 
 pub returns : goal.returns
 returns c =
-    let bytes : List ℕ = c.self.inside.bytes.items in
+    let bytes : List ℕ = c.self.inside.bytes.now in
     let same : bytes ≡ c.args.self.now.1 = ap (λ (v : ℕ × List ℕ). v.1) c.self.view_is in
     let Fits : List ℕ → Type 0 = λ l. c.args.at ≤ length l in
     let table : c.deref.result.now ≡ _ = c.deref.ensures.value ∙ c.self.invariant.1 in

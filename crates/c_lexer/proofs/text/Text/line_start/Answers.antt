@@ -10,7 +10,7 @@ returns-then-before-eq0 c =
 
 pub index-requires : goal.index-requires
 index-requires c =
-    let bytes : List ℕ = c.self.inside.bytes.items in
+    let bytes : List ℕ = c.self.inside.bytes.now in
     let same : bytes ≡ c.args.self.now.1 = ap (λ (v : ℕ × List ℕ). v.1) c.self.view_is in
     let le : c.args.at ≤ length bytes = (let size = ap length same in let h = c.requires in omega arith) in
     let size : c.feeds_before-before.result ≡ length (feeds bytes c.args.at) = c.feeds_before-before.ensures ∙ ap (λ (l : List ℕ). count_by (λ b. b == 10) (take c.args.at l)) (sym same) ∙ sym (feeds-count bytes c.args.at le) in
@@ -19,7 +19,7 @@ index-requires c =
 
 pub overflow_add-result : goal.overflow_add-result
 overflow_add-result c =
-    let bytes : List ℕ = c.self.inside.bytes.items in
+    let bytes : List ℕ = c.self.inside.bytes.now in
     let same : bytes ≡ c.args.self.now.1 = ap (λ (v : ℕ × List ℕ). v.1) c.self.view_is in
     let le : c.args.at ≤ length bytes = (let size = ap length same in let h = c.requires in omega arith) in
     let size : c.feeds_before-before.result ≡ length (feeds bytes c.args.at) = c.feeds_before-before.ensures ∙ ap (λ (l : List ℕ). count_by (λ b. b == 10) (take c.args.at l)) (sym same) ∙ sym (feeds-count bytes c.args.at le) in
@@ -31,7 +31,7 @@ overflow_add-result c =
 
 pub returns : goal.returns
 returns c =
-    let bytes : List ℕ = c.self.inside.bytes.items in
+    let bytes : List ℕ = c.self.inside.bytes.now in
     let same : bytes ≡ c.args.self.now.1 = ap (λ (v : ℕ × List ℕ). v.1) c.self.view_is in
     let le : c.args.at ≤ length bytes = (let size = ap length same in let h = c.requires in omega arith) in
     let size : c.feeds_before-before.result ≡ length (feeds bytes c.args.at) = c.feeds_before-before.ensures ∙ ap (λ (l : List ℕ). count_by (λ b. b == 10) (take c.args.at l)) (sym same) ∙ sym (feeds-count bytes c.args.at le) in
