@@ -1,12 +1,13 @@
 //! Units read from their tokens.
 
-ghost use Rattle.std.specs.Prelude.{◌≡◌, ◌≢◌, List, Err, IfOk};
+ghost use Rattle.std.specs.Prelude.{◌≡◌, ◌≢◌, ℕ, List, Err, IfOk};
 ghost use Rattle.c_tree.specs.Unit.{Item, items_of};
 ghost use Rattle.c_units.specs.HeldScopes.{file_scope};
 ghost use Rattle.c_units.specs.Units.{IsWellFormed};
 ghost use Rattle.c_reading.specs.Knot.{alone, unit_at};
 ghost use Rattle.reader_base.specs.Gives.{Gives};
 ghost use Rattle.reader_base.specs.Lent.{ReadsAsked, asked_at};
+ghost use Rattle.reader_base.specs.declared.fault.ReadError.TheVariants as errors;
 ghost use Rattle.c_parser.specs.declared.parsing.ParseFault.{ParseFault};
 ghost use Rattle.c_parser.specs.declared.parsing.ParseFault.TheVariants as faults;
 ghost use Rattle.c_parser.specs.Parsing.{lexemes_of, unit_found};
@@ -94,6 +95,17 @@ fn fault_at(fault: Fault, token: TokenId) -> ParseFault
     }
 }
 
+/// Why no unit was read.
+fn fault_of(error: ReadError) -> ParseFault
+    ensures { result ≢ faults.NoMemory →
+        (fault : Fault) × (token : ℕ) × (error ≡ errors.Fault fault token) }
+{
+    match error {
+        ReadError::Fault(fault, token) => fault_at(fault, token),
+        ReadError::NoMemory => ParseFault::NoMemory,
+    }
+}
+
 /// The one well-formed unit that has these tokens, and else the first token up to which no such unit begins so.
 ///
 /// Time and memory are linear in the tokens. Trees above a height of 500 are refused, so the recursion is bounded. That
@@ -112,7 +124,6 @@ pub fn parse(alloc: Global, tokens: &Tokens) -> Result<Unit, ParseFault>
     };
     match unit(alloc, all.as_slice()) {
         Ok(found) => Ok(found),
-        Err(ReadError::Fault(fault, token)) => Err(fault_at(fault, token)),
-        Err(ReadError::NoMemory) => Err(ParseFault::NoMemory),
+        Err(error) => Err(fault_of(error)),
     }
 }
