@@ -10,7 +10,8 @@ ghost use Rattle.reader_base.specs.Lent.{ReadsAsked, asked_at};
 ghost use Rattle.reader_base.specs.declared.fault.ReadError.TheVariants as errors;
 ghost use Rattle.c_parser.specs.declared.parsing.ParseFault.{ParseFault};
 ghost use Rattle.c_parser.specs.declared.parsing.ParseFault.TheVariants as faults;
-ghost use Rattle.c_parser.specs.Parsing.{lexemes_of, unit_found};
+ghost use Rattle.c_parser.specs.Parsing.{lexemes_of};
+ghost use Rattle.c_parser.specs.Whole.{unit_found};
 
 use crate::knot::read;
 use c_lexer::Tokens;

@@ -9,7 +9,8 @@ use Rattle.reader_base.specs.declared.fault.ReadError.TheVariants as errors
 use Rattle.reader_base.specs.Gives.{Fails}
 use Rattle.c_parser.specs.declared.parsing.ParseFault.{ParseFault}
 use Rattle.c_parser.specs.declared.parsing.ParseFault.TheVariants as faults
-use Rattle.c_parser.specs.Parsing.{lexemes_of, unit_found}
+use Rattle.c_parser.specs.Parsing.{lexemes_of}
+use Rattle.c_parser.specs.Whole.{unit_found}
 use Rattle.c_parser.proofs.Numbering.{numbered_from_zero}
 use Rattle.c_parser.proofs.parsing.parse.Goals as goal
 
