@@ -1,13 +1,16 @@
 -- The lines of sources whose tokens are those of no well-formed unit.
-use Rattle.std.specs.Prelude.{ℕ, List, [], codes}
+use Rattle.std.specs.Prelude.{ℕ, List, [], codes, length, nat_lt, if◌then◌else◌}
 use Rattle.c_lexer.specs.Tokens.{Lexed, token_spot}
 use Rattle.c_parser.specs.declared.parsing.ParseFault.{ParseFault}
 use Rattle.c_parser.specs.declared.parsing.ParseFault.TheVariants.{Syntax, TooDeep, Redeclared, BadMix, BadTarget, NoMemory}
 use Rattle.cqual_tool.specs.Faults.{placed_line}
-use Rattle.cqual_tool.specs.Texts.{spot_text}
+use Rattle.cqual_tool.specs.Texts.{malformed_line, spot_text}
 
+-- a fault at a token, or of the whole file where there is no such token
 abbrev pub token_line : List ℕ → Lexed → ℕ → List ℕ → List ℕ
-token_line file lexed token code = placed_line (spot_text file lexed.bytes (token_spot lexed token)) code
+token_line file lexed token code =
+    if nat_lt token (length lexed.tokens) then placed_line (spot_text file lexed.bytes (token_spot lexed token)) code
+    else malformed_line file code
 
 -- the line of the token that is refused; want of memory has none
 abbrev pub syntax_line : List ℕ → Lexed → ParseFault → List ℕ

@@ -6,14 +6,14 @@ ghost use Rattle.cqual_tool.specs.declared.status.Status.TheVariants as Statuses
 ghost use Rattle.cqual_tool.specs.Statuses.{Says};
 ghost use Rattle.cqual_tool.specs.Syntax.{syntax_line, token_line};
 
-use crate::answer::{Answer, placed};
+use crate::answer::{Answer, malformed, placed};
 use crate::places::put_spot;
 use c_lexer::Tokens;
 use c_parser::ParseFault;
-use qual_base::{NoMemory, TokenId};
+use qual_base::{NoMemory, Numbered, TokenId};
 use std::alloc::Global;
 
-/// The answer for a token that is refused.
+/// The answer for a token that is refused; for the whole file where there is no such token.
 fn token_refused(
     alloc: Global,
     file: &str,
@@ -24,6 +24,9 @@ fn token_refused(
     ensures { IfOk result
         (Says Statuses.Malformed (token_line file.now tokens.now token code.now)) }
 {
+    if token.number() >= tokens.len() {
+        return Ok(malformed(alloc, file, code)?);
+    }
     let mut place = Vec::new(alloc);
     let spot = tokens.place_of(token);
     put_spot(&mut place, file, tokens.unit_bytes(), &spot)?;
