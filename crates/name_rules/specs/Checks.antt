@@ -1,5 +1,5 @@
--- The faults of operators, of calls and of members, by what their operands are. A rule is judged wherever the types that it
--- needs are known, and never fails for want of a part's type.
+-- The faults of operators, of calls and of members, by what their operands are. A rule is judged wherever the types
+-- that it needs are known, and never fails for want of a part's type.
 use Rattle.std.specs.Prelude.{ℕ, Bool, true, false, ◌&&◌, not, List, [], ◌++◌, Option, None, Some}
 use Rattle.c_words.specs.declared.kinds.Punct.{Punct}
 use Rattle.c_words.specs.declared.kinds.Punct.TheVariants as signs
@@ -20,11 +20,14 @@ is_star signs.Star = true
 is_star p = false
 
 abbrev pub prefix_faults : Place → Punct → Shape → List Fault
-prefix_faults at p e = fault_where (wants_place p && not e.is_place) at not_place ++ fault_where (is_star p && is_no_pointer (value e)) at not_pointer
+prefix_faults at p e =
+    fault_where (wants_place p && not e.is_place) at not_place
+    ++ fault_where (is_star p && is_no_pointer (value e)) at not_pointer
 
 abbrev pub call_faults : Place → Option CType → ℕ → List Fault
 call_faults at None n = []
-call_faults at (Some t) n = fault_where (not (points_to_function t)) at not_function ++ fault_where (not (takes t n)) at argument_count
+call_faults at (Some t) n =
+    fault_where (not (points_to_function t)) at not_function ++ fault_where (not (takes t n)) at argument_count
 
 abbrev pub type_declared : Option Declared → Option CType
 type_declared None = None

@@ -28,7 +28,9 @@ is_missing called = false
 is_missing missing = true
 
 abbrev pub used_as : Place → Use → Names → Names
-used_as at it s = with_faults (fault_where (is_missing it) at undeclared) (record s { uses = s.uses ++ record { at = at; use_of = it } ∷ [] })
+used_as at it s =
+    with_faults (fault_where (is_missing it) at undeclared)
+    (record s { uses = s.uses ++ record { at = at; use_of = it } ∷ [] })
 
 abbrev pub used : Spelling → Bool → ℕ → ℕ → Names → Names
 used u is_called token name s = used_as (place u token) (use_by (meaning s (u.key name)) is_called) s
@@ -55,10 +57,13 @@ abbrev pub found_or_new : Option ℕ → Spelling → TagKind → ℕ → ℕ �
 found_or_new (Some n) u kind token tag s = record { number = n; names = s }
 found_or_new None u kind token tag s = record { number = length s.aggregates; names = new_tag u kind token tag s }
 
--- what a tag without a body means: the visible one or a new one, and in a declaration of nothing else one of the innermost scope
+-- what a tag without a body means: the visible one or a new one, and in a declaration of nothing else one of the
+-- innermost scope
 abbrev pub tag_used : Spelling → Bool → TagKind → ℕ → ℕ → Names → Numbered
 tag_used u is_alone kind token tag s =
-    found_or_new (if is_alone then tag_in (innermost s.scopes).tags kind (u.key tag) else tag_through s.scopes kind (u.key tag)) u kind token tag s
+    found_or_new
+    (if is_alone then tag_in (innermost s.scopes).tags kind (u.key tag) else tag_through s.scopes kind (u.key tag))
+    u kind token tag s
 
 -- the type of specifiers with a tag, by that of their words before it, which an enumeration leaves as it is
 abbrev pub tag_type : TagKind → ℕ → CType → CType
@@ -81,7 +86,12 @@ opened n s = with_body n (λ body. body) s
 
 abbrev pub begun_in : Bool → Place → TagKind → Numbered → Begun
 begun_in true at kind it =
-    record { number = it.number; members_of = length it.names.aggregates; names = with_faults (fault_where true at defined_twice) (opened (length it.names.aggregates) (with_aggregate kind at it.names)) }
+    record {
+      number = it.number;
+      members_of = length it.names.aggregates;
+      names = with_faults (fault_where true at defined_twice)
+          (opened (length it.names.aggregates) (with_aggregate kind at it.names));
+    }
 begun_in false at kind it = record { number = it.number; members_of = it.number; names = opened it.number it.names }
 
 abbrev pub begun_body : Place → TagKind → Numbered → Begun
@@ -110,12 +120,14 @@ abbrev pub owner_where : Names → Place → Place → Option Place → Option P
 owner_where s first at own = if is_place first at then own else owner_at s first
 
 abbrev pub declaring : Place → Role → Place → CType → Option Place → Names → Names
-declaring at role first t own s = with_declared (record { at = at; role = role; first = first; type = t; owner = owner_where s first at own }) s
+declaring at role first t own s =
+    with_declared (record { at = at; role = role; first = first; type = t; owner = owner_where s first at own }) s
 
 -- a declaration in its scope, of what the scope declares already or of something new
 abbrev pub declared_here : Place → ℕ → Role → CType → Option Place → Names → Names
 declared_here at name role t own s =
-    bound name (means_thing (the_thing (inner_meaning s name) at)) (declaring at role (the_thing (inner_meaning s name) at) t own s)
+    bound name (means_thing (the_thing (inner_meaning s name) at))
+    (declaring at role (the_thing (inner_meaning s name) at) t own s)
 
 abbrev pub linked : ℕ → Place → Names → Place
 linked name at s = or_at (thing_named s.things name) at
@@ -123,7 +135,9 @@ linked name at s = or_at (thing_named s.things name) at
 -- an object or function of the file
 abbrev pub declared_thing : Place → ℕ → CType → Names → Names
 declared_thing at name t s =
-    bound name (means_thing (linked name at s)) (declaring at (if is_function t then function_role else object_role) (linked name at s) t (if is_function t then Some at else None)
+    bound name (means_thing (linked name at s))
+    (declaring at (if is_function t then function_role else object_role) (linked name at s) t
+    (if is_function t then Some at else None)
     (record s { things = (name, linked name at s) ∷ s.things }))
 
 abbrev pub is_word : Keyword → Keyword → Bool
@@ -148,19 +162,22 @@ declared_by words at name t s =
 
 abbrev pub declared_some : Spelling → Option Named → List Keyword → CType → Names → Names
 declared_some u None words t s = s
-declared_some u (Some it) words t s = declared_by words (place u it.token) (u.key it.name) t (sized (place u it.token) t s)
+declared_some u (Some it) words t s =
+    declared_by words (place u it.token) (u.key it.name) t (sized (place u it.token) t s)
 
 -- a parameter, with its number; it belongs to the function whose own parameters these are
 abbrev pub declared_param : Spelling → Option Named → ℕ → Option Place → CType → Names → Names
 declared_param u None i own t s = s
-declared_param u (Some it) i own t s = declared_here (place u it.token) (u.key it.name) (parameter_role i) t own (sized (place u it.token) t s)
+declared_param u (Some it) i own t s =
+    declared_here (place u it.token) (u.key it.name) (parameter_role i) t own (sized (place u it.token) t s)
 
 -- a member of the struct of this number
 abbrev pub declared_member : Spelling → Option Named → ℕ → CType → Names → Names
 declared_member u None n t s = s
 declared_member u (Some it) n t s =
     sized (place u it.token) t (with_body n (with_member (u.key it.name) (place u it.token) t)
-    (declaring (place u it.token) (field_role n (length (or_no_body (body_of s.aggregates n)).own)) (place u it.token) t None s))
+    (declaring (place u it.token) (field_role n (length (or_no_body (body_of s.aggregates n)).own))
+    (place u it.token) t None s))
 
 abbrev pub struct_number : CType → ℕ
 struct_number (struct ws n) = n
@@ -196,7 +213,11 @@ scope_kept (Some scope) scopes = scope ∷ scopes
 -- a body begins, in the scope of its function's own parameters
 abbrev pub body_entered : Place → Place → Names → Names
 body_entered at first s =
-    record (with_faults (fault_where (has_place s.bodies first) at defined_twice) s) { bodies = first ∷ s.bodies; scopes = scope_kept s.kept s.scopes; enclosing = Some first }
+    record (with_faults (fault_where (has_place s.bodies first) at defined_twice) s) {
+      bodies = first ∷ s.bodies;
+      scopes = scope_kept s.kept s.scopes;
+      enclosing = Some first;
+    }
 
 abbrev pub body_left : Names → Names
 body_left s = leave (record s { enclosing = None })

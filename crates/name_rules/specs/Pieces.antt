@@ -1,5 +1,5 @@
--- What a declarator makes of a type (C99, 6.7.5). An array is a pointer to its element. A parameter or result of function type
--- is a pointer to the function.
+-- What a declarator makes of a type (C99, 6.7.5). An array is a pointer to its element. A parameter or result of
+-- function type is a pointer to the function.
 use Rattle.std.specs.Prelude.{Bool, true, false, List, [], ◌∷◌, ◌++◌, Option}
 use Rattle.type_table.specs.Types.{Words, CType, base, void, struct, pointer, function, CTypes, no_types}
 
@@ -34,8 +34,8 @@ abbrev pub piece_of : Piece → CType → CType
 piece_of (to_pointer ws) t = pointer ws t
 piece_of (to_function ps e) t = function [] ps (decayed t) e
 
--- the type of a name, by its declarator and the type of its specifiers: the piece that is farthest from the name is nearest
--- to the specifiers
+-- the type of a name, by its declarator and the type of its specifiers: the piece that is farthest from the name is
+-- nearest to the specifiers
 abbrev pub applied : List Piece → CType → CType
 applied [] t = t
 applied (p ∷ ps) t = piece_of p (applied ps t)

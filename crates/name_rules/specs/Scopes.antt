@@ -55,7 +55,8 @@ pub data Role : Type 0 where
   field_role : ℕ → ℕ → Role
   enumerator_role : Role
 
--- a declaration; its thing was first declared at `first`, and belongs to the function that was first declared at `owner`
+-- a declaration; its thing was first declared at `first`, and belongs to the function that was first declared at
+-- `owner`
 pub record Declared : Type 0 where
   pub at : Place
   pub role : Role
@@ -185,10 +186,18 @@ abbrev pub leave : Names → Names
 leave s = record s { scopes = outer_scopes s.scopes }
 
 abbrev pub bound : ℕ → Meaning → Names → Names
-bound name meaning s = record s { scopes = record (innermost s.scopes) { names = (name, meaning) ∷ (innermost s.scopes).names } ∷ outer_scopes s.scopes }
+bound name meaning s =
+    record s {
+      scopes = record (innermost s.scopes) { names = (name, meaning) ∷ (innermost s.scopes).names } ∷ outer_scopes s.scopes;
+    }
 
 abbrev pub tag_bound : TagKind → ℕ → ℕ → Names → Names
-tag_bound kind tag n s = record s { scopes = record (innermost s.scopes) { tags = record { kind = kind; tag = tag; number = n } ∷ (innermost s.scopes).tags } ∷ outer_scopes s.scopes }
+tag_bound kind tag n s =
+    record s {
+      scopes =
+          record (innermost s.scopes) { tags = record { kind = kind; tag = tag; number = n } ∷ (innermost s.scopes).tags }
+          ∷ outer_scopes s.scopes;
+    }
 
 abbrev pub with_faults : List Fault → Names → Names
 with_faults faults s = record s { faults = s.faults ++ faults }
@@ -227,11 +236,16 @@ has_body None = false
 has_body (Some body) = true
 
 abbrev pub with_body : ℕ → (Body → Body) → Names → Names
-with_body n change s = record s { aggregates = changed_at s.aggregates n (λ it. record it { body = Some (change (or_no_body it.body)) }) }
+with_body n change s =
+    record s { aggregates = changed_at s.aggregates n (λ it. record it { body = Some (change (or_no_body it.body)) }) }
 
 -- one more own member, which has a name
 abbrev pub with_member : ℕ → Place → CType → Body → Body
-with_member name at type body = record { own = body.own ++ record { at = at; type = type } ∷ []; known = body.known ++ record { name = name; at = at; type = type; own = length body.own } ∷ [] }
+with_member name at type body =
+    record {
+      own = body.own ++ record { at = at; type = type } ∷ [];
+      known = body.known ++ record { name = name; at = at; type = type; own = length body.own } ∷ [];
+    }
 
 abbrev pub lying_in : ℕ → List Known → List Known
 lying_in own [] = []
@@ -239,4 +253,8 @@ lying_in own (it ∷ known) = record it { own = own } ∷ lying_in own known
 
 -- one more own member without a name, whose members are members of the outer one too
 abbrev pub with_unnamed : Place → CType → List Known → Body → Body
-with_unnamed at type inner body = record { own = body.own ++ record { at = at; type = type } ∷ []; known = body.known ++ lying_in (length body.own) inner }
+with_unnamed at type inner body =
+    record {
+      own = body.own ++ record { at = at; type = type } ∷ [];
+      known = body.known ++ lying_in (length body.own) inner;
+    }

@@ -6,9 +6,9 @@ use Rattle.type_table.specs.Types.{Words}
 abbrev pub Place : Type 0
 Place = ℕ × ℕ
 
--- What is read from the tokens of a unit: whether the word at a token is an annotation, as a `$` word is, an index word,
--- or a keyword that a lattice names; whether the number at a token is spelled `0`; and the number of a name's spelling,
--- which is the same in all units.
+-- What is read from the tokens of a unit: whether the word at a token is an annotation, as a `$` word is, an index
+-- word, or a keyword that a lattice names; whether the number at a token is spelled `0`; and the number of a name's
+-- spelling, which is the same in all units.
 pub record Spelling : Type 0 where
   pub unit : ℕ
   pub annotates : ℕ → Bool

@@ -4,7 +4,20 @@ use Rattle.name_rules.specs.Spellings.{Place}
 use Rattle.name_rules.specs.Scopes.{Meaning, means_type, means_thing, no_scope, innermost, Role, typedef_role, object_role, function_role, parameter_role, field_role, enumerator_role, Declared, declared_at, Names}
 
 abbrev pub no_names : Names
-no_names = record { declared = []; scopes = no_scope ∷ []; aggregates = []; things = []; round = []; uses = []; type_names = []; faults = []; bodies = []; enclosing = None; kept = None }
+no_names =
+    record {
+      declared = [];
+      scopes = no_scope ∷ [];
+      aggregates = [];
+      things = [];
+      round = [];
+      uses = [];
+      type_names = [];
+      faults = [];
+      bodies = [];
+      enclosing = None;
+      kept = None;
+    }
 
 abbrev pub is_shared : Option Declared → Bool
 is_shared None = false

@@ -87,15 +87,18 @@ is_additive p = false
 abbrev pub sum_type : Option CType → Option CType → Option CType
 sum_type None b = None
 sum_type (Some a) None = None
-sum_type (Some a) (Some b) = Some (if is_pointer a then (if is_pointer b then base [] else a) else if is_pointer b then b else base [])
+sum_type (Some a) (Some b) =
+    Some (if is_pointer a then (if is_pointer b then base [] else a) else if is_pointer b then b else base [])
 
 abbrev pub binary_type : Punct → Option CType → Option CType → Option CType
 binary_type p a b = if is_additive p then sum_type a b else Some (base [])
 
--- of a condition with no zero in its branches: the first pointer to anything but `void`, else the first pointer, else the first
+-- of a condition with no zero in its branches: the first pointer to anything but `void`, else the first pointer, else
+-- the first
 abbrev pub second_branch : CType → Option CType → Option CType
 second_branch a None = None
-second_branch a (Some b) = Some (if points_to_some b then b else if is_pointer a then a else if is_pointer b then b else a)
+second_branch a (Some b) =
+    Some (if points_to_some b then b else if is_pointer a then a else if is_pointer b then b else a)
 
 abbrev pub branches_type : Option CType → Option CType → Option CType
 branches_type None b = None

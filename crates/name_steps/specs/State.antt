@@ -1,4 +1,5 @@
--- What is known at a place of a tape: names, and what is begun and not yet at its end, the innermost of each kind first.
+-- What is known at a place of a tape: names, and what is begun and not yet at its end, the innermost of each kind
+-- first.
 use Rattle.std.specs.Prelude.{ℕ, List, [], ◌∷◌, Option, None}
 use Rattle.c_words.specs.declared.kinds.Keyword.{Keyword}
 use Rattle.type_table.specs.Types.{Words, CType, base, CTypes, no_types, more_types}
@@ -11,14 +12,14 @@ pub record Specifiers : Type 0 where
   pub words : Words
   pub storage : List Keyword
 
--- a body of a tag: the specifiers that it is a word of, with the type that they have behind it, and the number of the struct
--- whose members stand in it
+-- a body of a tag: the specifiers that it is a word of, with the type that they have behind it, and the number of the
+-- struct whose members stand in it
 pub record OpenBody : Type 0 where
   pub outer : Specifiers
   pub members_of : ℕ
 
--- a declaration whose specifiers are whole: their type and storage words; and of the declarator that is being read the name,
--- where it has one, and the type so far
+-- a declaration whose specifiers are whole: their type and storage words; and of the declarator that is being read the
+-- name, where it has one, and the type so far
 pub record OpenDeclaration : Type 0 where
   pub type : CType
   pub storage : List Keyword
@@ -46,7 +47,15 @@ no_specifiers = record { type = base []; words = []; storage = [] }
 
 -- names, with nothing begun
 abbrev pub with_names : Names → State
-with_names names = record { names = names; specifiers = no_specifiers; bodies = []; declarations = []; parameters = []; finished = [] }
+with_names names =
+    record {
+      names = names;
+      specifiers = no_specifiers;
+      bodies = [];
+      declarations = [];
+      parameters = [];
+      finished = [];
+    }
 
 abbrev pub no_declaration : OpenDeclaration
 no_declaration = record { type = base []; storage = []; name = None; declared = base [] }

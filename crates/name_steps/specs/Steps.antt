@@ -38,7 +38,8 @@ abbrev pub with_type : CType → State → State
 with_type t st = record st { specifiers = record st.specifiers { type = t } }
 
 abbrev pub with_word : Spelling → ℕ → State → State
-with_word u token st = record st { specifiers = record st.specifiers { words = st.specifiers.words ++ annotation_at u token } }
+with_word u token st =
+    record st { specifiers = record st.specifiers { words = st.specifiers.words ++ annotation_at u token } }
 
 abbrev pub with_storage : Keyword → State → State
 with_storage word st = record st { specifiers = record st.specifiers { storage = st.specifiers.storage ++ word ∷ [] } }
@@ -51,7 +52,10 @@ with_body kind it st =
     record st {
       names = it.names;
       specifiers = no_specifiers;
-      bodies = record { outer = (with_type (tag_type kind it.number st.specifiers.type) st).specifiers; members_of = it.members_of } ∷ st.bodies;
+      bodies = record {
+        outer = (with_type (tag_type kind it.number st.specifiers.type) st).specifiers;
+        members_of = it.members_of;
+      } ∷ st.bodies;
     }
 
 abbrev pub body_ended : State → State
@@ -61,7 +65,12 @@ abbrev pub specifiers_ended : State → State
 specifiers_ended st =
     record st {
       specifiers = no_specifiers;
-      declarations = record { type = with_words st.specifiers.words st.specifiers.type; storage = st.specifiers.storage; name = None; declared = with_words st.specifiers.words st.specifiers.type } ∷ st.declarations;
+      declarations = record {
+        type = with_words st.specifiers.words st.specifiers.type;
+        storage = st.specifiers.storage;
+        name = None;
+        declared = with_words st.specifiers.words st.specifiers.type;
+      } ∷ st.declarations;
     }
 
 abbrev pub with_enumerator : Place → ℕ → State → State
@@ -88,12 +97,18 @@ specifier_step u st specs.SpecsEnd = specifiers_ended st
 
 abbrev pub with_name : ℕ → ℕ → State → State
 with_name token name st =
-    record st { declarations = with_innermost (record (declaration st) { name = Some (record { token = token; name = name }) }) st.declarations }
+    record st {
+      declarations = with_innermost
+          (record (declaration st) { name = Some (record { token = token; name = name }) }) st.declarations;
+    }
 
 -- the type so far, of which this is made, uses the annotation words before it
 abbrev pub with_declared : CType → State → State
 with_declared t st =
-    record st { specifiers = no_specifiers; declarations = with_innermost (record (declaration st) { declared = t }) st.declarations }
+    record st {
+      specifiers = no_specifiers;
+      declarations = with_innermost (record (declaration st) { declared = t }) st.declarations;
+    }
 
 abbrev pub pointed : State → State
 pointed st = with_declared (piece_of (to_pointer st.specifiers.words) (declaration st).declared) st
@@ -104,7 +119,8 @@ ellipsis_where false words = None
 
 abbrev pub called_with : Bool → State → State
 called_with has_ellipsis st =
-    record (with_declared (piece_of (to_function (types_in (innermost_or [] st.finished)) (ellipsis_where has_ellipsis st.specifiers.words)) (declaration st).declared) st)
+    record (with_declared (piece_of (to_function (types_in (innermost_or [] st.finished))
+    (ellipsis_where has_ellipsis st.specifiers.words)) (declaration st).declared) st)
     { finished = without_innermost st.finished }
 
 -- the object or function of the file that has this name
@@ -113,7 +129,8 @@ linked_some u None s = None
 linked_some u (Some it) s = Some (linked (u.key it.name) (place u it.token) s)
 
 abbrev pub parameters_begun : Option Place → State → State
-parameters_begun own st = record st { names = enter st.names; parameters = record { own = own; types = [] } ∷ st.parameters }
+parameters_begun own st =
+    record st { names = enter st.names; parameters = record { own = own; types = [] } ∷ st.parameters }
 
 -- a declaration ends
 abbrev pub let_go : State → State
@@ -122,33 +139,48 @@ let_go st = record st { declarations = without_innermost st.declarations }
 abbrev pub with_parameter : Spelling → State → State
 with_parameter u st =
     record (let_go st) {
-      names = declared_param u (declaration st).name (length (parameters st).types) (parameters st).own (decayed (declaration st).declared) st.names;
-      parameters = with_innermost (record (parameters st) { types = (parameters st).types ++ decayed (declaration st).declared ∷ [] }) st.parameters;
+      names = declared_param u (declaration st).name (length (parameters st).types) (parameters st).own
+          (decayed (declaration st).declared) st.names;
+      parameters = with_innermost
+          (record (parameters st) { types = (parameters st).types ++ decayed (declaration st).declared ∷ [] })
+          st.parameters;
     }
 
 abbrev pub parameters_ended : State → State
 parameters_ended st =
-    record st { names = keep (parameters st).own st.names; parameters = without_innermost st.parameters; finished = (parameters st).types ∷ st.finished }
+    record st {
+      names = keep (parameters st).own st.names;
+      parameters = without_innermost st.parameters;
+      finished = (parameters st).types ∷ st.finished;
+    }
 
 -- a declarator ends: the next one, without a name so far, is made of the type of the specifiers
 abbrev pub declarator_ended : State → State
 declarator_ended st =
-    record st { declarations = with_innermost (record (declaration st) { name = None; declared = (declaration st).type }) st.declarations }
+    record st {
+      declarations = with_innermost
+          (record (declaration st) { name = None; declared = (declaration st).type }) st.declarations;
+    }
 
 abbrev pub name_declared : Spelling → State → State
 name_declared u st =
-    record (declarator_ended st) { names = declared_some u (declaration st).name (declaration st).storage (declaration st).declared st.names }
+    record (declarator_ended st) {
+      names = declared_some u (declaration st).name (declaration st).storage (declaration st).declared st.names;
+    }
 
 abbrev pub with_member : Spelling → State → State
 with_member u st =
-    record (declarator_ended st) { names = declared_member u (declaration st).name (body st).members_of (declaration st).declared st.names }
+    record (declarator_ended st) {
+      names = declared_member u (declaration st).name (body st).members_of (declaration st).declared st.names;
+    }
 
 abbrev pub with_type_name : Place → State → State
 with_type_name at st = record (let_go st) { names = type_named at (declaration st).declared st.names }
 
 abbrev pub declarator_step : Spelling → State → DeclrOp → State
 declarator_step u st (declrs.DeclName token name) = with_name token name st
-declarator_step u st (declrs.ParamsBegin is_own) = parameters_begun (own_where is_own (linked_some u (declaration st).name st.names)) st
+declarator_step u st (declrs.ParamsBegin is_own) =
+    parameters_begun (own_where is_own (linked_some u (declaration st).name st.names)) st
 declarator_step u st declrs.Param = with_parameter u st
 declarator_step u st declrs.ParamsEnd = parameters_ended st
 declarator_step u st declrs.Pointer = pointed st

@@ -47,7 +47,8 @@ declared_type u s (Some it) = type_declared (declared_at s.declared (place u it.
 module _ (u : Spelling) (s : Names) where
   abbrev mutual
     pub expr_faults : Expr → List Fault
-    expr_faults (operation e op token e2) = operator_faults op token (shape_of u s e) ++ (expr_faults e ++ (middle_faults op ++ expr_faults e2))
+    expr_faults (operation e op token e2) =
+        operator_faults op token (shape_of u s e) ++ (expr_faults e ++ (middle_faults op ++ expr_faults e2))
     expr_faults (cast opening ws d closing e) = words_faults ws ++ (some_declr_faults d ++ expr_faults e)
     expr_faults (prefix token p e) = prefix_faults (place u token) p (shape_of u s e) ++ expr_faults e
     expr_faults (sizeof_value word e) = expr_faults e
@@ -55,27 +56,32 @@ module _ (u : Spelling) (s : Names) where
     expr_faults (extension keyword e) = expr_faults e
     expr_faults (index e opening e2 closing) =
         index_faults_at (place u opening) (shape_of u s e) (shape_of u s e2) ++ (expr_faults e ++ expr_faults e2)
-    expr_faults (call e opening es closing) = call_faults (place u opening) (value (shape_of u s e)) (count es) ++ (expr_faults e ++ exprs_faults es)
+    expr_faults (call e opening es closing) =
+        call_faults (place u opening) (value (shape_of u s e)) (count es) ++ (expr_faults e ++ exprs_faults es)
     expr_faults (dot e token name) = member_faults u s (value (shape_of u s e)) name.token name.name ++ expr_faults e
     expr_faults (arrow e token name) =
         fault_where (is_no_pointer (value (shape_of u s e))) (place u token) not_pointer
         ++ (member_faults u s (some_target (value (shape_of u s e))) name.token name.name ++ expr_faults e)
-    expr_faults (post e token p) = fault_where (not (shape_of u s e).is_place) (place u token) not_place ++ expr_faults e
+    expr_faults (post e token p) =
+        fault_where (not (shape_of u s e).is_place) (place u token) not_place ++ expr_faults e
     expr_faults (compound opening ws d closing list) =
-        words_faults ws ++ (some_declr_faults d ++ list_faults (type_named_at s.type_names (place u (first_word ws))) list)
+        words_faults ws ++ (some_declr_faults d
+        ++ list_faults (type_named_at s.type_names (place u (first_word ws))) list)
     expr_faults (name_use token name) = []
     expr_faults (number_use token) = []
     expr_faults (char_use token) = []
     expr_faults (text_use texts) = []
     expr_faults (paren opening e closing) = expr_faults e
     expr_faults (statement_expr opening opening2 items closing closing2) = block_items_faults items
-    expr_faults (va_arg keyword opening e separator ws d closing) = expr_faults e ++ (words_faults ws ++ some_declr_faults d)
+    expr_faults (va_arg keyword opening e separator ws d closing) =
+        expr_faults e ++ (words_faults ws ++ some_declr_faults d)
     expr_faults (va_start keyword opening e separator e2 closing) = expr_faults e ++ expr_faults e2
     expr_faults (va_copy keyword opening e separator e2 closing) = expr_faults e ++ expr_faults e2
     expr_faults (offset keyword opening ws d separator name steps closing) =
         words_faults ws ++ (some_declr_faults d
         ++ (member_faults u s (type_named_at s.type_names (place u (first_word ws))) name.token name.name
-        ++ desigs_faults (member_type s.aggregates (type_named_at s.type_names (place u (first_word ws))) (u.key name.name)) steps))
+        ++ desigs_faults (member_type s.aggregates (type_named_at s.type_names (place u (first_word ws)))
+        (u.key name.name)) steps))
 
     pub operator_faults : Operator → ℕ → Shape → List Fault
     operator_faults comma token left = []
@@ -104,7 +110,8 @@ module _ (u : Spelling) (s : Names) where
 
     pub desig_faults : Option CType → Desig → List Fault
     desig_faults t (member_desig token name) = member_faults u s t name.token name.name
-    desig_faults t (index_desig opening e closing) = fault_where (is_no_pointer t) (place u opening) not_pointer ++ expr_faults e
+    desig_faults t (index_desig opening e closing) =
+        fault_where (is_no_pointer t) (place u opening) not_pointer ++ expr_faults e
 
     -- of designators that name nothing, only the indices are looked at
     pub indices_faults : Desigs → List Fault
@@ -125,7 +132,8 @@ module _ (u : Spelling) (s : Names) where
 
     pub untargeted_items_faults : InitItems → List Fault
     untargeted_items_faults no_init_items = []
-    untargeted_items_faults (more_init_items ds equal init items) = indices_faults ds ++ (init_faults no_target init ++ untargeted_items_faults items)
+    untargeted_items_faults (more_init_items ds equal init items) =
+        indices_faults ds ++ (init_faults no_target init ++ untargeted_items_faults items)
 
     -- a list that initialises something of this type
     pub list_faults : Option CType → InitList → List Fault
@@ -134,7 +142,9 @@ module _ (u : Spelling) (s : Names) where
     pub items_faults : Option CType → Bool → ℕ → InitItems → List Fault
     items_faults t is_first next no_init_items = []
     items_faults t is_first next (more_init_items ds equal init items) =
-        desigs_faults t ds ++ (init_faults (item_target u s t is_first next ds) init ++ items_faults t false (next_behind u s t ds next) items)
+        desigs_faults t ds ++
+        (init_faults (item_target u s t is_first next ds) init
+        ++ items_faults t false (next_behind u s t ds next) items)
 
     pub words_faults : SpecWords → List Fault
     words_faults no_words = []
@@ -264,7 +274,8 @@ module _ (u : Spelling) (s : Names) where
     for_start_faults (start_value e semi) = some_expr_faults e
 
   abbrev pub item_faults : Item → List Fault
-  item_faults (function_item exts ws d attrs opening items closing) = words_faults ws ++ (declr_faults d ++ block_items_faults items)
+  item_faults (function_item exts ws d attrs opening items closing) =
+      words_faults ws ++ (declr_faults d ++ block_items_faults items)
   item_faults (decl_item d) = decl_faults d
   item_faults (asm_item keyword group semi) = []
   item_faults (semi_item semi) = []

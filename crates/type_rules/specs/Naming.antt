@@ -1,5 +1,5 @@
--- What names mean (C99, 6.2.1 to 6.2.3, 6.7): a tree is gone through in the order of its text, from what is known of names
--- before it to what is known behind it.
+-- What names mean (C99, 6.2.1 to 6.2.3, 6.7): a tree is gone through in the order of its text, from what is known of
+-- names before it to what is known behind it.
 use Rattle.std.specs.Prelude.{ℕ, suc, Bool, true, false, ◌&&◌, List, [], ◌∷◌, ◌++◌, Option, None, Some, if◌then◌else◌}
 use Rattle.c_words.specs.declared.kinds.Keyword.{Keyword}
 use Rattle.c_words.specs.declared.kinds.Keyword.TheVariants as keywords
@@ -60,7 +60,8 @@ tag_kind keyword = tags.Struct
 -- what a tag without a body means; with neither there is none, as in no well-formed unit
 abbrev pub tag_named : Spelling → Bool → TagKind → Option Identifier → CType → Names → Typed
 tag_named u is_alone kind None t s = typed t s
-tag_named u is_alone kind (Some tag) t s = with_numbered (tag_used u is_alone kind tag.token tag.name s) (λ n s. typed (tag_type kind n t) s)
+tag_named u is_alone kind (Some tag) t s =
+    with_numbered (tag_used u is_alone kind tag.token tag.name s) (λ n s. typed (tag_type kind n t) s)
 
 abbrev pub body_begun : Spelling → TagKind → ℕ → Option Identifier → Names → Begun
 body_begun u kind keyword None s = untagged_begun (place u keyword) kind s
@@ -135,11 +136,14 @@ module _ (u : Spelling) where
     pub expr_named : Bool → Expr → Names → Names
     expr_named c (operation e op token e2) s = expr_named false e2 (operator_named op (expr_named false e s))
     expr_named c (cast opening ws d closing e) s =
-        with_typed (words_named false ws (base []) [] s) (λ t s. with_pieced (some_declr_named d s) (λ ps s. expr_named false e (type_named (place u (first_word ws)) (applied ps t) s)))
+        with_typed (words_named false ws (base []) [] s)
+        (λ t s. with_pieced (some_declr_named d s)
+        (λ ps s. expr_named false e (type_named (place u (first_word ws)) (applied ps t) s)))
     expr_named c (prefix token p e) s = expr_named false e s
     expr_named c (sizeof_value word e) s = expr_named false e s
     expr_named c (sizeof_type word opening ws d closing) s =
-        with_typed (words_named false ws (base []) [] s) (λ t s. with_pieced (some_declr_named d s) (λ ps s. type_named (place u (first_word ws)) (applied ps t) s))
+        with_typed (words_named false ws (base []) [] s)
+        (λ t s. with_pieced (some_declr_named d s) (λ ps s. type_named (place u (first_word ws)) (applied ps t) s))
     expr_named c (extension keyword e) s = expr_named false e s
     expr_named c (index e opening e2 closing) s = expr_named false e2 (expr_named false e s)
     -- what stands right before the parenthesis is called directly
@@ -148,7 +152,9 @@ module _ (u : Spelling) where
     expr_named c (arrow e token name) s = expr_named false e s
     expr_named c (post e token p) s = expr_named false e s
     expr_named c (compound opening ws d closing list) s =
-        with_typed (words_named false ws (base []) [] s) (λ t s. with_pieced (some_declr_named d s) (λ ps s. init_list_named list (type_named (place u (first_word ws)) (applied ps t) s)))
+        with_typed (words_named false ws (base []) [] s)
+        (λ t s. with_pieced (some_declr_named d s)
+        (λ ps s. init_list_named list (type_named (place u (first_word ws)) (applied ps t) s)))
     expr_named c (name_use token name) s = used u c token name s
     expr_named c (number_use token) s = s
     expr_named c (char_use token) s = s
@@ -156,11 +162,14 @@ module _ (u : Spelling) where
     expr_named c (paren opening e closing) s = expr_named false e s
     expr_named c (statement_expr opening opening2 items closing closing2) s = leave (block_items_named items (enter s))
     expr_named c (va_arg keyword opening e separator ws d closing) s =
-        with_typed (words_named false ws (base []) [] (expr_named false e s)) (λ t s. with_pieced (some_declr_named d s) (λ ps s. type_named (place u (first_word ws)) (applied ps t) s))
+        with_typed (words_named false ws (base []) [] (expr_named false e s))
+        (λ t s. with_pieced (some_declr_named d s) (λ ps s. type_named (place u (first_word ws)) (applied ps t) s))
     expr_named c (va_start keyword opening e separator e2 closing) s = expr_named false e2 (expr_named false e s)
     expr_named c (va_copy keyword opening e separator e2 closing) s = expr_named false e2 (expr_named false e s)
     expr_named c (offset keyword opening ws d separator name steps closing) s =
-        with_typed (words_named false ws (base []) [] s) (λ t s. with_pieced (some_declr_named d s) (λ ps s. desigs_named steps (type_named (place u (first_word ws)) (applied ps t) s)))
+        with_typed (words_named false ws (base []) [] s)
+        (λ t s. with_pieced (some_declr_named d s)
+        (λ ps s. desigs_named steps (type_named (place u (first_word ws)) (applied ps t) s)))
 
     pub operator_named : Operator → Names → Names
     operator_named comma s = s
@@ -179,7 +188,8 @@ module _ (u : Spelling) where
     -- the type of specifiers, by that of the words so far and the annotation words so far
     pub words_named : Bool → SpecWords → CType → Words → Names → Typed
     words_named alone no_words t ws s = typed (with_words ws t) s
-    words_named alone (more_words word words) t ws s = with_typed (word_named alone word t s) (λ t s. words_named alone words t (words_behind u word ws) s)
+    words_named alone (more_words word words) t ws s =
+        with_typed (word_named alone word t s) (λ t s. words_named alone words t (words_behind u word ws) s)
 
     pub word_named : Bool → SpecWord → CType → Names → Typed
     word_named alone (storage word) t s = typed t s
@@ -188,7 +198,8 @@ module _ (u : Spelling) where
     word_named alone (noreturn token) t s = typed t s
     word_named alone (qualifier q) t s = typed t s
     word_named alone (basic word) t s = typed (if is_void word.keyword then void [] else t) s
-    word_named alone (struct_type word attrs tag body) t s = struct_named alone (tag_kind word.keyword) word.token tag body t s
+    word_named alone (struct_type word attrs tag body) t s =
+        struct_named alone (tag_kind word.keyword) word.token tag body t s
     word_named alone (enum_type e) t s = typed t (enum_named e s)
     word_named alone (typedef_name name) t s = typed (type_by (meaning s (u.key name.name))) s
     word_named alone (attribute attr) t s = typed t s
@@ -196,14 +207,16 @@ module _ (u : Spelling) where
     pub struct_named : Bool → TagKind → ℕ → Option Identifier → SomeBody → CType → Names → Typed
     struct_named alone kind keyword tag no_body t s = tag_named u alone kind tag t s
     struct_named alone kind keyword tag (some_body opening items closing) t s =
-        with_begun (body_begun u kind keyword tag s) (λ n members_of s. typed (tag_type kind n t) (struct_items_named members_of items s))
+        with_begun (body_begun u kind keyword tag s)
+        (λ n members_of s. typed (tag_type kind n t) (struct_items_named members_of items s))
 
     pub struct_items_named : ℕ → StructItems → Names → Names
     struct_items_named n no_struct_items s = s
     struct_items_named n (more_struct_items item items) s = struct_items_named n items (struct_item_named n item s)
 
     pub struct_item_named : ℕ → StructItem → Names → Names
-    struct_item_named n (member exts ws ds semi) s = with_typed (words_named false ws (base []) [] s) (λ t s. mem_declrs_named n t ds (unnamed_where ds ws n t s))
+    struct_item_named n (member exts ws ds semi) s =
+        with_typed (words_named false ws (base []) [] s) (λ t s. mem_declrs_named n t ds (unnamed_where ds ws n t s))
     struct_item_named n (member_semi semi) s = s
     struct_item_named n (member_assert it) s = s
 
@@ -216,7 +229,9 @@ module _ (u : Spelling) where
     mem_declrs_named n t (more_mem_declrs attrs d ds) s = mem_declrs_named n t ds (mem_declr_named n t d s)
 
     pub mem_declr_named : ℕ → CType → MemDeclr → Names → Names
-    mem_declr_named n t (named d width attrs) s = with_pieced (declr_named None d s) (λ ps s. some_value_named width (declared_member u (declared_name d) n (applied ps t) s))
+    mem_declr_named n t (named d width attrs) s =
+        with_pieced (declr_named None d s)
+        (λ ps s. some_value_named width (declared_member u (declared_name d) n (applied ps t) s))
     mem_declr_named n t (unnamed colon e attrs) s = expr_named false e s
 
     pub some_value_named : SomeValue → Names → Names
@@ -225,30 +240,53 @@ module _ (u : Spelling) where
 
     pub enum_named : EnumType → Names → Names
     enum_named (enum_of keyword attrs tag no_enum_body) s = (tag_named u false tags.Enum tag (base []) s).names
-    enum_named (enum_of keyword attrs tag (some_enum_body opening es last closing)) s = enumerators_named es (body_begun u tags.Enum keyword tag s).names
+    enum_named (enum_of keyword attrs tag (some_enum_body opening es last closing)) s =
+        enumerators_named es (body_begun u tags.Enum keyword tag s).names
 
     pub enumerators_named : Enumerators → Names → Names
     enumerators_named no_enumerators s = s
     enumerators_named (more_enumerators name attrs value es) s =
-        enumerators_named es (declared_here (place u name.token) (u.key name.name) enumerator_role (base []) None (some_value_named value s))
+        enumerators_named es (declared_here (place u name.token) (u.key name.name) enumerator_role (base []) None
+        (some_value_named value s))
 
     -- the pieces of a declarator; the parameters directly around its name belong to a function where one is given
     pub declr_named : Option Place → Declr → Names → Pieced
-    declr_named own (pointer star words d) s = with_pieced (declr_named own d s) (λ ps s. record { pieces = ps ++ to_pointer (pointer_annotations u words) ∷ []; names = s })
+    declr_named own (pointer star words d) s =
+        with_pieced (declr_named own d s)
+        (λ ps s. record { pieces = ps ++ to_pointer (pointer_annotations u words) ∷ []; names = s })
     declr_named own (declr_name token name) s = record { pieces = []; names = s }
     declr_named own (declr_paren opening attrs d closing) s = declr_named own d s
     declr_named own (array d opening words size closing) s =
-        with_pieced (declr_named own d s) (λ ps s. record { pieces = ps ++ to_pointer (array_annotations u words) ∷ []; names = some_size_named size s })
+        with_pieced (declr_named own d s)
+        (λ ps s. record {
+          pieces = ps ++ to_pointer (array_annotations u words) ∷ [];
+          names = some_size_named size s;
+        })
     declr_named own (params d opening ps dots closing) s =
-        with_pieced (declr_named own d s) (λ pieces s. with_listed (params_named 0 (own_where (is_bare d) own) ps (enter s))
-        (λ types s. record { pieces = pieces ++ to_function (no_params_if (says_none ps) types) (ellipsis u ps dots) ∷ []; names = keep (own_where (is_bare d) own) s }))
-    declr_named own (abs_pointer star words d) s = with_pieced (some_declr_named d s) (λ ps s. record { pieces = ps ++ to_pointer (pointer_annotations u words) ∷ []; names = s })
+        with_pieced (declr_named own d s)
+        (λ pieces s. with_listed (params_named 0 (own_where (is_bare d) own) ps (enter s))
+        (λ types s. record {
+          pieces = pieces
+              ++ to_function (no_params_if (says_none ps) types) (ellipsis u ps dots) ∷ [];
+          names = keep (own_where (is_bare d) own) s;
+        }))
+    declr_named own (abs_pointer star words d) s =
+        with_pieced (some_declr_named d s)
+        (λ ps s. record { pieces = ps ++ to_pointer (pointer_annotations u words) ∷ []; names = s })
     declr_named own (abs_paren opening attrs d closing) s = declr_named own d s
     declr_named own (abs_array d opening words size closing) s =
-        with_pieced (some_declr_named d s) (λ ps s. record { pieces = ps ++ to_pointer (array_annotations u words) ∷ []; names = some_size_named size s })
+        with_pieced (some_declr_named d s)
+        (λ ps s. record {
+          pieces = ps ++ to_pointer (array_annotations u words) ∷ [];
+          names = some_size_named size s;
+        })
     declr_named own (abs_params d opening ps dots closing) s =
         with_pieced (some_declr_named d s) (λ pieces s. with_listed (params_named 0 None ps (enter s))
-        (λ types s. record { pieces = pieces ++ to_function (no_params_if (says_none ps) types) (ellipsis u ps dots) ∷ []; names = leave s }))
+        (λ types s. record {
+          pieces = pieces
+              ++ to_function (no_params_if (says_none ps) types) (ellipsis u ps dots) ∷ [];
+          names = leave s;
+        }))
 
     pub some_declr_named : SomeDeclr → Names → Pieced
     some_declr_named no_declr s = record { pieces = []; names = s }
@@ -266,7 +304,8 @@ module _ (u : Spelling) where
     params_named i own no_params s = record { types = no_types; names = s }
     params_named i own (more_params ws d attrs ps) s =
         with_typed (words_named false ws (base []) [] s) (λ t s. with_pieced (some_declr_named d s)
-        (λ pieces s. with_listed (params_named (suc i) own ps (declared_param u (some_declared_name d) i own (decayed (applied pieces t)) s))
+        (λ pieces s. with_listed
+        (params_named (suc i) own ps (declared_param u (some_declared_name d) i own (decayed (applied pieces t)) s))
         (λ types s. record { types = more_types (decayed (applied pieces t)) types; names = s })))
 
     pub init_named : Init → Names → Names
@@ -278,7 +317,8 @@ module _ (u : Spelling) where
 
     pub init_items_named : InitItems → Names → Names
     init_items_named no_init_items s = s
-    init_items_named (more_init_items ds equal init items) s = init_items_named items (init_named init (desigs_named ds s))
+    init_items_named (more_init_items ds equal init items) s =
+        init_items_named items (init_named init (desigs_named ds s))
 
     pub desigs_named : Desigs → Names → Names
     desigs_named no_desigs s = s
@@ -296,10 +336,14 @@ module _ (u : Spelling) where
     pub init_declrs_named : List Keyword → CType → InitDeclrs → Names → Names
     init_declrs_named words t no_init_declrs s = s
     init_declrs_named words t (more_init_declrs attrs d asm_label attrs2 init ds) s =
-        init_declrs_named words t ds (with_pieced (declr_named None d s) (λ ps s. some_init_named init (declared_some u (declared_name d) words (applied ps t) s)))
+        init_declrs_named words t ds
+        (with_pieced (declr_named None d s)
+        (λ ps s. some_init_named init (declared_some u (declared_name d) words (applied ps t) s)))
 
     pub declaration_named : Declaration → Names → Names
-    declaration_named (declaration exts ws ds semi) s = with_typed (words_named (is_tag_alone ws ds) ws (base []) [] s) (λ t s. init_declrs_named (storage_words ws) t ds s)
+    declaration_named (declaration exts ws ds semi) s =
+        with_typed (words_named (is_tag_alone ws ds) ws (base []) [] s)
+        (λ t s. init_declrs_named (storage_words ws) t ds s)
 
     pub decl_named : Decl → Names → Names
     decl_named (decl_declaration d) s = declaration_named d s
@@ -321,10 +365,14 @@ module _ (u : Spelling) where
     stmt_named (label name colon attrs t) s = stmt_named t s
     stmt_named (case_stmt keyword e colon t) s = stmt_named t (expr_named false e s)
     stmt_named (default_stmt keyword colon t) s = stmt_named t s
-    stmt_named (if_stmt keyword opening e closing t other) s = leave (some_else_named other (leave (stmt_named t (enter (expr_named false e (enter s))))))
-    stmt_named (switch_stmt keyword opening e closing t) s = leave (leave (stmt_named t (enter (expr_named false e (enter s)))))
-    stmt_named (while_stmt keyword opening e closing t) s = leave (leave (stmt_named t (enter (expr_named false e (enter s)))))
-    stmt_named (do_stmt keyword t keyword2 opening e closing semi) s = leave (expr_named false e (leave (stmt_named t (enter (enter s)))))
+    stmt_named (if_stmt keyword opening e closing t other) s =
+        leave (some_else_named other (leave (stmt_named t (enter (expr_named false e (enter s))))))
+    stmt_named (switch_stmt keyword opening e closing t) s =
+        leave (leave (stmt_named t (enter (expr_named false e (enter s)))))
+    stmt_named (while_stmt keyword opening e closing t) s =
+        leave (leave (stmt_named t (enter (expr_named false e (enter s)))))
+    stmt_named (do_stmt keyword t keyword2 opening e closing semi) s =
+        leave (expr_named false e (leave (stmt_named t (enter (enter s)))))
     stmt_named (for_stmt keyword opening start e semi e2 closing t) s =
         leave (leave (stmt_named t (enter (some_expr_named e2 (some_expr_named e (for_start_named start (enter s)))))))
     stmt_named (goto_stmt keyword name semi) s = s
@@ -346,8 +394,10 @@ module _ (u : Spelling) where
   abbrev pub function_by : Option Named → SpecWords → Declr → BlockItems → Names → Names
   function_by None ws d items s = s
   function_by (Some it) ws d items s =
-      with_typed (words_named false ws (base []) [] s) (λ t s. with_pieced (declr_named (Some (linked (u.key it.name) (place u it.token) s)) d s)
-      (λ ps s. body_left (block_items_named items (body_entered (place u it.token) (linked (u.key it.name) (place u it.token) s)
+      with_typed (words_named false ws (base []) [] s)
+      (λ t s. with_pieced (declr_named (Some (linked (u.key it.name) (place u it.token) s)) d s)
+      (λ ps s. body_left (block_items_named items
+      (body_entered (place u it.token) (linked (u.key it.name) (place u it.token) s)
       (declared_thing (place u it.token) (u.key it.name) (applied ps t) (sized (place u it.token) (applied ps t) s))))))
 
   abbrev pub item_named : Item → Names → Names

@@ -13,7 +13,8 @@ module _ (u : Spelling) (s : Names) where
   abbrev pub is_zero : Expr → Bool
   is_zero (number_use token) = u.is_naught token
   is_zero (paren opening e closing) = is_zero e
-  is_zero (cast opening ws d closing e) = is_plain_void_pointer (type_named_at s.type_names (place u (first_word ws))) && is_zero e
+  is_zero (cast opening ws d closing e) =
+      is_plain_void_pointer (type_named_at s.type_names (place u (first_word ws))) && is_zero e
   is_zero (operation e op token e2) = false
   is_zero (prefix token p e) = false
   is_zero (sizeof_value word e) = false
@@ -38,8 +39,10 @@ module _ (u : Spelling) (s : Names) where
     pub shape_of : Expr → Shape
     shape_of (operation e comma token e2) = a_value (value (shape_of e2))
     shape_of (operation e (assign p) token e2) = assigned_shape (shape_of e)
-    shape_of (operation e (cond no_expr colon) token e2) = a_value (cond_type (is_zero e) (is_zero e2) (value (shape_of e)) (value (shape_of e2)))
-    shape_of (operation e (cond (some_expr m) colon) token e2) = a_value (cond_type (is_zero m) (is_zero e2) (value (shape_of m)) (value (shape_of e2)))
+    shape_of (operation e (cond no_expr colon) token e2) =
+        a_value (cond_type (is_zero e) (is_zero e2) (value (shape_of e)) (value (shape_of e2)))
+    shape_of (operation e (cond (some_expr m) colon) token e2) =
+        a_value (cond_type (is_zero m) (is_zero e2) (value (shape_of m)) (value (shape_of e2)))
     shape_of (operation e (binary p) token e2) = a_value (binary_type p (value (shape_of e)) (value (shape_of e2)))
     shape_of (cast opening ws d closing e) = a_value (type_named_at s.type_names (place u (first_word ws)))
     shape_of (prefix token p e) = prefix_shape p (shape_of e)
@@ -49,7 +52,8 @@ module _ (u : Spelling) (s : Names) where
     shape_of (index e opening e2 closing) = a_place (index_type (value (shape_of e)) (value (shape_of e2)))
     shape_of (call e opening es closing) = a_value (some_result_type (value (shape_of e)))
     shape_of (dot e token name) = a_place (member_type s.aggregates (value (shape_of e)) (u.key name.name))
-    shape_of (arrow e token name) = a_place (member_type s.aggregates (some_target (value (shape_of e))) (u.key name.name))
+    shape_of (arrow e token name) =
+        a_place (member_type s.aggregates (some_target (value (shape_of e))) (u.key name.name))
     shape_of (post e token p) = a_value (value (shape_of e))
     shape_of (compound opening ws d closing list) = a_place (type_named_at s.type_names (place u (first_word ws)))
     shape_of (name_use token name) = use_shape s (use_at s.uses (place u token))
@@ -58,7 +62,8 @@ module _ (u : Spelling) (s : Names) where
     shape_of (text_use texts) = a_place (Some text_type)
     shape_of (paren opening e closing) = shape_of e
     shape_of (statement_expr opening opening2 items closing closing2) = a_value (items_value items)
-    shape_of (va_arg keyword opening e separator ws d closing) = a_value (type_named_at s.type_names (place u (first_word ws)))
+    shape_of (va_arg keyword opening e separator ws d closing) =
+        a_value (type_named_at s.type_names (place u (first_word ws)))
     shape_of (va_start keyword opening e separator e2 closing) = a_value (Some (void []))
     shape_of (va_copy keyword opening e separator e2 closing) = a_value (Some (void []))
     shape_of (offset keyword opening ws d separator name steps closing) = a_value (Some (base []))
