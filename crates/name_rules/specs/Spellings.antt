@@ -1,5 +1,5 @@
 -- What the tokens of a source say that neither its tree nor its tape does.
-use Rattle.std.specs.Prelude.{ℕ, Bool, List, [], ◌∷◌, if◌then◌else◌}
+use Rattle.std.specs.Prelude.{ℕ, Bool, [], ◌∷◌, if◌then◌else◌}
 use Rattle.type_table.specs.Types.{Words}
 
 -- a token of a unit

@@ -9,17 +9,16 @@ use Rattle.tape_ops.specs.declared.expression.ExprOp.TheVariants as exprs
 use Rattle.tape_ops.specs.declared.specifier.SpecOp.{SpecOp}
 use Rattle.tape_ops.specs.declared.specifier.SpecOp.TheVariants as specs
 use Rattle.tape_ops.specs.declared.specifier.TagKind.{TagKind}
-use Rattle.tape_ops.specs.declared.specifier.TagKind.TheVariants as tags
 use Rattle.tape_ops.specs.declared.declarator.DeclrOp.{DeclrOp}
 use Rattle.tape_ops.specs.declared.declarator.DeclrOp.TheVariants as declrs
 use Rattle.tape_ops.specs.declared.statement.StmtOp.{StmtOp}
 use Rattle.tape_ops.specs.declared.statement.StmtOp.TheVariants as stmts
-use Rattle.type_table.specs.Types.{Words, CType, base, void, struct, pointer}
+use Rattle.type_table.specs.Types.{Words, CType, base, void}
 use Rattle.name_rules.specs.Spellings.{Place, Spelling, place, annotation_at, Named}
-use Rattle.name_rules.specs.Scopes.{enumerator_role, Declared, Names, meaning, innermost, enter, leave}
+use Rattle.name_rules.specs.Scopes.{enumerator_role, Declared, Names, meaning, enter, leave}
 use Rattle.name_rules.specs.Pieces.{with_words, decayed, piece_of, to_pointer, to_function}
 use Rattle.name_rules.specs.Declaring.{used, type_named, type_by, Numbered, tag_used, tag_type, Begun, tag_begun, untagged_begun, declared_here, linked, declared_some, declared_param, declared_member, unnamed_member, own_where, keep, body_entered, body_left}
-use Rattle.name_steps.specs.State.{Specifiers, OpenBody, OpenDeclaration, OpenParameters, State, no_specifiers, no_declaration, no_body, no_parameters, innermost_or, with_innermost, without_innermost, types_in}
+use Rattle.name_steps.specs.State.{OpenBody, OpenDeclaration, OpenParameters, State, no_specifiers, no_declaration, no_body, no_parameters, innermost_or, with_innermost, without_innermost, types_in}
 
 -- the innermost of what is begun
 

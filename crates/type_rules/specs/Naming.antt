@@ -10,7 +10,7 @@ use Rattle.c_tree.specs.Unit.{Item, function_item, decl_item, asm_item, semi_ite
 use Rattle.c_tree.specs.Specifiers.{storage_words}
 use Rattle.tape_ops.specs.declared.specifier.TagKind.{TagKind}
 use Rattle.tape_ops.specs.declared.specifier.TagKind.TheVariants as tags
-use Rattle.type_table.specs.Types.{Words, CType, base, void, struct, CTypes, no_types, more_types}
+use Rattle.type_table.specs.Types.{Words, CType, base, void, CTypes, no_types, more_types}
 use Rattle.name_rules.specs.Spellings.{Place, Spelling, place, Named}
 use Rattle.name_rules.specs.Scopes.{enumerator_role, Names, meaning, enter, leave, sized}
 use Rattle.name_rules.specs.Pieces.{with_words, decayed, Piece, to_pointer, to_function, applied, no_params_if}
