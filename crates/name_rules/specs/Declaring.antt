@@ -210,13 +210,14 @@ abbrev pub scope_kept : Option Scope → List Scope → List Scope
 scope_kept None scopes = scopes
 scope_kept (Some scope) scopes = scope ∷ scopes
 
--- a body begins, in the scope of its function's own parameters
+-- a body begins, in the scope of its function's own parameters, which was kept for it
 abbrev pub body_entered : Place → Place → Names → Names
 body_entered at first s =
     record (with_faults (fault_where (has_place s.bodies first) at defined_twice) s) {
       bodies = first ∷ s.bodies;
       scopes = scope_kept s.kept s.scopes;
       enclosing = Some first;
+      kept = None;
     }
 
 abbrev pub body_left : Names → Names
