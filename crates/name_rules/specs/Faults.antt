@@ -1,6 +1,6 @@
 -- The faults of names and types, and the first of several.
 use Rattle.std.specs.Prelude.{ℕ, ◌<◌, Bool, List, [], ◌∷◌, Contains, if◌then◌else◌}
-use Rattle.type_rules.specs.Tokens.{Place}
+use Rattle.name_rules.specs.Spellings.{Place}
 
 -- the rules that may fail, the lower first
 pub data Rule : Type 0 where
@@ -38,8 +38,10 @@ pub record Fault : Type 0 where
 -- an earlier unit, an earlier token of it, or a lower rule at one token
 pub data IsBefore : Fault → Fault → Type 0 where
   by_unit : (f g : Fault) → f.at.0 < g.at.0 → IsBefore f g
-  by_token : (u s t : ℕ) (r q : Rule) → s < t → IsBefore (record { at = (u, s); rule = r }) (record { at = (u, t); rule = q })
-  by_rule : (p : Place) (r q : Rule) → number r < number q → IsBefore (record { at = p; rule = r }) (record { at = p; rule = q })
+  by_token : (u s t : ℕ) (r q : Rule) → s < t
+      → IsBefore (record { at = (u, s); rule = r }) (record { at = (u, t); rule = q })
+  by_rule : (p : Place) (r q : Rule) → number r < number q
+      → IsBefore (record { at = p; rule = r }) (record { at = p; rule = q })
 
 -- one of the faults, before which there is none
 pub record IsFirst (f : Fault) (faults : List Fault) : Type 0 where

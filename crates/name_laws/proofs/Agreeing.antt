@@ -1,0 +1,100 @@
+-- The tests of trees by which tapes are defined agree with those by which names are.
+use Rattle.std.proofs.Common.{◌≡◌, refl}
+use Rattle.c_words.specs.declared.kinds.Keyword.{Keyword}
+use Rattle.c_words.specs.declared.kinds.Keyword.TheVariants as keywords
+use Rattle.c_syntax.specs.declared.parts.Qual.{Qual}
+use Rattle.c_syntax.specs.declared.parts.Qual.TheVariants as quals
+use Rattle.c_tree.specs.Tree.{SpecWords, no_words, more_words, SpecWord, storage, thread, inline_word, noreturn, qualifier, basic, struct_type, enum_type, typedef_name, attribute, SomeBody, no_body, some_body, EnumType, enum_of, Declr, pointer, declr_name, declr_paren, array, params, abs_pointer, abs_paren, abs_array, abs_params, no_declr, some_declr, Params, no_params, more_params, InitDeclrs, no_init_declrs, more_init_declrs}
+use Rattle.type_rules.specs.Naming as names
+use Rattle.type_rules.specs.Tokens as trees
+use Rattle.c_tape.specs.Tests as tests
+use Rattle.c_tape.specs.Tokens as tokens
+
+pub same_void : (word : Keyword) → tests.is_void word ≡ trees.is_void word
+same_void keywords.Void = refl
+same_void word = refl
+
+pub same_kind : (word : Keyword) → tests.tag_kind word ≡ names.tag_kind word
+same_kind keywords.Union = refl
+same_kind word = refl
+
+pub same_qual : (q : Qual) → tokens.qual_token q ≡ trees.qual_token q
+same_qual (quals.Word word) = refl
+same_qual (quals.Element token) = refl
+same_qual (quals.Index token) = refl
+
+same_enum : (e : EnumType) → tokens.enum_token e ≡ trees.enum_token e
+same_enum (enum_of keyword attrs tag body) = refl
+
+same_word : (word : SpecWord) → tokens.word_token word ≡ trees.word_token word
+same_word (storage word) = refl
+same_word (thread token) = refl
+same_word (inline_word token) = refl
+same_word (noreturn token) = refl
+same_word (qualifier q) = same_qual q
+same_word (basic word) = refl
+same_word (struct_type word attrs tag body) = refl
+same_word (enum_type e) = same_enum e
+same_word (typedef_name name) = refl
+same_word (attribute attr) = refl
+
+pub same_first : (ws : SpecWords) → tokens.first_word ws ≡ trees.first_word ws
+same_first no_words = refl
+same_first (more_words word ws) = same_word word
+
+same_bare_word : (word : SpecWord) → tests.is_bare_word word ≡ trees.leaves_void word
+same_bare_word (storage word) = refl
+same_bare_word (thread token) = refl
+same_bare_word (inline_word token) = refl
+same_bare_word (noreturn token) = refl
+same_bare_word (qualifier q) = refl
+same_bare_word (basic word) = same_void word.keyword
+same_bare_word (struct_type word attrs tag body) = refl
+same_bare_word (enum_type e) = refl
+same_bare_word (typedef_name name) = refl
+same_bare_word (attribute attr) = refl
+
+same_bare : (ws : SpecWords) → tests.is_bare ws ≡ trees.leave_void ws
+same_bare no_words = refl
+same_bare (more_words word ws) = rw (same_bare_word word, same_bare ws)
+
+pub same_none : (ps : Params) → tests.says_none ps ≡ trees.says_none ps
+same_none no_params = refl
+same_none (more_params ws no_declr attrs no_params) = same_bare ws
+same_none (more_params ws no_declr attrs (more_params ws2 d attrs2 ps)) = refl
+same_none (more_params ws (some_declr d) attrs ps) = refl
+
+pub same_name : (d : Declr) → tests.is_name d ≡ trees.is_bare d
+same_name (declr_name token name) = refl
+same_name (declr_paren opening attrs d closing) = same_name d
+same_name (pointer star words d) = refl
+same_name (array d opening words size closing) = refl
+same_name (params d opening ps dots closing) = refl
+same_name (abs_pointer star words d) = refl
+same_name (abs_paren opening attrs d closing) = refl
+same_name (abs_array d opening words size closing) = refl
+same_name (abs_params d opening ps dots closing) = refl
+
+same_bodiless : (body : SomeBody) → tests.is_bodiless body ≡ names.is_bodiless body
+same_bodiless no_body = refl
+same_bodiless (some_body opening items closing) = refl
+
+same_lone_word : (word : SpecWord) → tests.is_lone_word word ≡ names.is_lone_word word
+same_lone_word (storage word) = refl
+same_lone_word (thread token) = refl
+same_lone_word (inline_word token) = refl
+same_lone_word (noreturn token) = refl
+same_lone_word (qualifier q) = refl
+same_lone_word (basic word) = refl
+same_lone_word (struct_type word attrs tag body) = same_bodiless body
+same_lone_word (enum_type e) = refl
+same_lone_word (typedef_name name) = refl
+same_lone_word (attribute attr) = refl
+
+same_lone : (ws : SpecWords) → tests.is_lone ws ≡ names.is_lone ws
+same_lone no_words = refl
+same_lone (more_words word ws) = rw (same_lone_word word, same_lone ws)
+
+pub same_alone : (ws : SpecWords) (ds : InitDeclrs) → tests.declares_tag ws ds ≡ names.is_tag_alone ws ds
+same_alone ws no_init_declrs = same_lone ws
+same_alone ws (more_init_declrs attrs d asm_label attrs2 init ds) = refl

@@ -1,0 +1,9 @@
+mod Agreeing
+mod Forms
+mod Items
+mod Pieces
+mod Running
+mod Saying
+mod Sources
+mod Storage
+mod Whole

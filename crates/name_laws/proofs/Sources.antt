@@ -1,0 +1,29 @@
+-- The laws of names over tapes.
+use Rattle.std.proofs.Common.{◌≡◌, List, [], ◌∷◌, refl, ◌∙◌, ap}
+use Rattle.std.specs.Prelude.{All, map}
+use Rattle.std.proofs.lemmas.List.Elements.{All-head, All-tail}
+use Rattle.name_rules.specs.Scopes.{Names}
+use Rattle.name_rules.specs.Units.{no_names, unit_begun}
+use Rattle.name_steps.specs.State.{State, with_names}
+use Rattle.name_steps.specs.Units.{tape_named, tapes_named}
+use Rattle.type_rules.specs.Naming.{items_named}
+use Rattle.type_rules.specs.Program.{Source, sources_named}
+use Rattle.name_laws.specs.NameLaws.{NamesAreSteps, NamesOfTapes, tape_of_source, IsSound}
+use Rattle.name_laws.proofs.Items.{items_law}
+
+pub names_step : NamesAreSteps
+names_step u all items s unit = ((items_law u all items unit.parts).goes (with_names s) s).is
+
+one_source : (it : Source) (s : Names) → IsSound it
+    → tape_named (tape_of_source it) s ≡ items_named it.spelling it.items s
+one_source it s (all, unit) = ap (λ (st : State). st.names) (names_step it.spelling all it.items s unit)
+
+all_sources : (sources : List Source) (s : Names) → All IsSound sources
+    → tapes_named (map tape_of_source sources) s ≡ sources_named sources s
+all_sources [] s h = refl
+all_sources (it ∷ sources) s h =
+    ap (tapes_named (map tape_of_source sources)) (one_source it (unit_begun s) (All-head IsSound it sources h))
+    ∙ all_sources sources (items_named it.spelling it.items (unit_begun s)) (All-tail IsSound it sources h)
+
+pub names_found : NamesOfTapes
+names_found sources h = all_sources sources no_names h
