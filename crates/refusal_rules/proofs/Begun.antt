@@ -31,11 +31,11 @@ begins_earlier front more b = record {
 }
 
 pub none_is_earlier : NoneIsEarlier
-none_is_earlier tokens first at code bad allowed earlier =
+none_is_earlier tokens first at code begun allowed earlier =
     let m : ℕ = first - (at + 1) in
     let whole : first ≡ (at + 1) + m = omega arith in
     let parts : take first tokens ≡ take (at + 1) tokens ++ take m (drop (at + 1) tokens) = ap (λ (n : ℕ). take n tokens) whole ∙ take-add (at + 1) m tokens in
-    allowed.none (begins_earlier (take (at + 1) tokens) (take m (drop (at + 1) tokens)) (subst BeginsUnit parts bad.before))
+    allowed.none (begins_earlier (take (at + 1) tokens) (take m (drop (at + 1) tokens)) (subst BeginsUnit parts begun))
 
 pub first_bad_is_allowed : UnitsBeginAsTrees → UnitsBeginAtAnyHeight → FirstBadIsAllowed
 first_bad_is_allowed trees heights tokens first bad none = record {

@@ -19,10 +19,13 @@ UnitsBeginAsTrees = (before : List TokenKind) → BeginsUnit before → BeginsTr
 abbrev pub UnitsBeginAtAnyHeight : Type 0
 UnitsBeginAtAnyHeight = (before : List TokenKind) → BeginsUnit before → BeginsUnitOfAnyHeight before
 
--- no refusal before the first bad token is allowed
+-- where a well-formed unit begins with the first tokens, no refusal of one of these is allowed
 abbrev pub NoneIsEarlier : Type 0
-NoneIsEarlier = (tokens : List TokenKind) (first at : ℕ) (code : Code) → IsFirstBad tokens first → IsAllowed tokens at code → ¬ (at < first)
+NoneIsEarlier =
+    (tokens : List TokenKind) (first at : ℕ) (code : Code) → BeginsUnit (take first tokens) → IsAllowed tokens at code → ¬ (at < first)
 
 -- the refusal of the first bad token for its syntax is allowed, where the height is not what is wrong
 abbrev pub FirstBadIsAllowed : Type 0
-FirstBadIsAllowed = (tokens : List TokenKind) (first : ℕ) → IsFirstBad tokens first → ¬ BeginsUnitOfAnyHeight (take (first + 1) tokens) → IsAllowed tokens first syntax
+FirstBadIsAllowed =
+    (tokens : List TokenKind) (first : ℕ) → IsFirstBad tokens first → ¬ BeginsUnitOfAnyHeight (take (first + 1) tokens)
+    → IsAllowed tokens first syntax

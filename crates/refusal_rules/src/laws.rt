@@ -24,7 +24,7 @@ pub fn units_begin_at_any_height()
     ensures { UnitsBeginAtAnyHeight }
 {}
 
-/// No refusal before the first bad token is allowed.
+/// Where a well-formed unit begins with the first tokens, no refusal of one of these is allowed.
 pub fn none_is_earlier()
     ensures { NoneIsEarlier }
 {}

@@ -1,0 +1,102 @@
+-- What is said of each source, from its trees.
+use Rattle.std.specs.Prelude.{◌++◌, take, None, Some}
+use Rattle.std.proofs.lemmas.Bool.{leb-true}
+use Rattle.std.proofs.lemmas.List.Elements.{All-nil, All-cons}
+use Rattle.std.proofs.Common.{◌≡◌, ◌≤◌, ◌<◌, ℕ, zero, suc, true, List, [], ◌∷◌, arith, refl}
+use Rattle.c_words.specs.declared.kinds.TokenKind.{TokenKind}
+use Rattle.c_words.specs.declared.kinds.TokenKind.TheVariants as kinds
+use Rattle.c_words.specs.declared.kinds.Keyword.TheVariants as words
+use Rattle.c_tree.specs.declared.lexeme.Lexeme.{Lexeme}
+use Rattle.c_tree.specs.Tree.{Declr, pointer, declr_name, params, no_params, basic, more_words, no_words, no_init, no_init_declrs, more_init_declrs, declaration, decl_declaration, SpecWords}
+use Rattle.c_tree.specs.Unit.{Item, decl_item}
+use Rattle.c_tree.specs.WellFormed.{is_named}
+use Rattle.c_specs.specs.Laws.{WholeAreMixes, MixesGoOn}
+use Rattle.c_units.specs.Units.{numbered}
+use Rattle.c_units.specs.FirstBad.{BeginsUnit}
+use Rattle.refusal_rules.specs.Grammar.{DerivesItem, DerivesDeclr}
+use Rattle.refusal_rules.specs.Allowed.{Code, syntax, too_deep, other_kind, no_mix, no_unary_left, MayBe, IsAllowed}
+use Rattle.refusal_rules.specs.Laws.{UnitsAreTrees, UnitsBeginAsTrees, NoneIsEarlier}
+use Rattle.refusal_examples.specs.Refusals.{IsRefusedAt, RefusalsHold, many_pointers, float_behind_long, int_behind_typedef_name, object_named_as_typedef, enumerator_named_as_typedef, object_named_as_enumerator, sum_assigned, conditional_assigned, cast_assigned, held_name_enumerated, cast_incremented, sizeof_type_indexed, words_without_type, function_behind_comma, function_of_typedef, declaration_in_if}
+use Rattle.refusal_examples.proofs.Trees.{float_behind_long_front, int_behind_typedef_name_front, object_named_as_typedef_front, enumerator_named_as_typedef_front, object_named_as_enumerator_front, sum_assigned_front, conditional_assigned_front, cast_assigned_front, held_name_enumerated_front, cast_incremented_front, sizeof_type_indexed_front, words_without_type_front, function_behind_comma_front, function_of_typedef_front, declaration_in_if_front, object_named_as_typedef_bad, enumerator_named_as_typedef_bad, object_named_as_enumerator_bad, float_behind_long_bad, int_behind_typedef_name_bad, sum_assigned_bad, conditional_assigned_bad, cast_assigned_bad}
+
+-- so many pointers before a declarator, from a token on
+pointers : ℕ → ℕ → Declr → Declr
+pointers zero at d = d
+pointers (suc n) at d = pointer at [] (pointers n (suc at) d)
+
+-- a declarator with a name, and pointers before it
+pointers_derive : (all : List Lexeme) (n at : ℕ) (d : Declr) → DerivesDeclr all d → is_named d ≡ true → DerivesDeclr all (pointers n at d) × (is_named (pointers n at d) ≡ true)
+unfolding pointers
+pointers_derive all zero at d h is = (h, is)
+pointers_derive all (suc n) at d h is = let below = pointers_derive all n (suc at) d h is in ((All-nil _, below.0, below.1), refl)
+
+many_pointers_deep : MayBe too_deep many_pointers 500
+unfolding pointers
+many_pointers_deep =
+    let d : Declr = params (declr_name 497 0) 498 no_params None 499 in
+    let ws : SpecWords = more_words (basic (record { token = 0; keyword = words.Int })) no_words in
+    let item : Item = decl_item (decl_declaration (declaration [] ws (more_init_declrs [] (pointers 496 1 d) None [] no_init no_init_declrs) 500)) in
+    let h = pointers_derive (numbered (take 501 many_pointers ++ kinds.End ∷ [])) 496 1 d (tt, refl, refl, tt, tt) refl in (
+      leb-true 50 500 refl,
+      (
+        item ∷ [],
+        record {
+          behind = kinds.End ∷ [];
+          spelled = record { last = 501; spelled = refl };
+          derived = All-cons (DerivesItem (numbered (take 501 many_pointers ++ kinds.End ∷ []))) item [] ((λ is. absurd cc), (refl, tt), refl, (All-nil _, h.0, h.1, tt, All-nil _, tt, tt)) (All-nil _);
+        },
+      ),
+    )
+
+some_is : {x y : TokenKind} → Some x ≡ Some y → x ≡ y
+some_is e = cc
+
+module _ (trees : UnitsBeginAsTrees) (none : NoneIsEarlier) where
+  from : (tokens : List TokenKind) (at : ℕ) (code : Code) → BeginsUnit (take at tokens) → MayBe code tokens at → IsRefusedAt tokens at code
+  from tokens at code unit may_be = record {
+    unit = unit;
+    tree = trees (take at tokens) unit;
+    may_be = may_be;
+    earlier = λ n other allowed. none tokens at n other unit allowed;
+  }
+
+  -- where a unit begins with the tokens up to one, this one is not refused
+  goes_on : (tokens : List TokenKind) (first at : ℕ) (code : Code) → BeginsUnit (take first tokens) → at < first → ¬ IsAllowed tokens at code
+  goes_on tokens first at code unit less allowed = none tokens first at code unit allowed less
+
+pub refusals_hold : WholeAreMixes → MixesGoOn → UnitsAreTrees → UnitsBeginAsTrees → NoneIsEarlier → RefusalsHold
+refusals_hold whole_are goes are trees none = (
+  (
+    from trees none float_behind_long 1 no_mix (float_behind_long_front whole_are) (float_behind_long_bad whole_are goes are),
+    from trees none int_behind_typedef_name 11 no_mix (int_behind_typedef_name_front whole_are) (int_behind_typedef_name_bad whole_are goes are),
+  ),
+  (
+    from trees none object_named_as_typedef 5 other_kind (object_named_as_typedef_front whole_are) (object_named_as_typedef_bad whole_are goes are),
+    from trees none enumerator_named_as_typedef 6 other_kind (enumerator_named_as_typedef_front whole_are) (enumerator_named_as_typedef_bad whole_are goes are),
+    from trees none object_named_as_enumerator 11 other_kind (object_named_as_enumerator_front whole_are) (object_named_as_enumerator_bad whole_are goes are),
+  ),
+  (
+    from trees none sum_assigned 12 no_unary_left (sum_assigned_front whole_are) (sum_assigned_bad whole_are goes are),
+    from trees none conditional_assigned 8 no_unary_left (conditional_assigned_front whole_are) (conditional_assigned_bad whole_are goes are),
+    from trees none cast_assigned 13 no_unary_left (cast_assigned_front whole_are) (cast_assigned_bad whole_are goes are),
+  ),
+  (
+    from trees none held_name_enumerated 7 syntax (held_name_enumerated_front whole_are) tt,
+    from trees none cast_incremented 7 syntax (cast_incremented_front whole_are) tt,
+    from trees none sizeof_type_indexed 7 syntax (sizeof_type_indexed_front whole_are) tt,
+    from trees none words_without_type 7 syntax (words_without_type_front whole_are) tt,
+    from trees none function_behind_comma 6 syntax (function_behind_comma_front whole_are) tt,
+    from trees none function_of_typedef 6 syntax (function_of_typedef_front whole_are) tt,
+    from trees none declaration_in_if 15 syntax (declaration_in_if_front whole_are) tt,
+  ),
+  many_pointers_deep,
+  (
+    (λ allowed. let e : kinds.Name 0 ≡ kinds.Keyword allowed.may_be.keyword = some_is allowed.may_be.is in absurd cc),
+    (λ allowed. let e : kinds.Name 0 ≡ kinds.Punct allowed.may_be.sign = some_is allowed.may_be.is in absurd cc),
+    (λ allowed. let h : 50 ≤ 7 = allowed.may_be.0 in absurd (omega arith)),
+    goes_on trees none held_name_enumerated 7 1 other_kind (held_name_enumerated_front whole_are) (leb-true 2 7 refl),
+    goes_on trees none declaration_in_if 15 14 syntax (declaration_in_if_front whole_are) (leb-true 15 15 refl),
+    goes_on trees none sum_assigned 12 10 no_unary_left (sum_assigned_front whole_are) (leb-true 11 12 refl),
+    (λ allowed. let e : kinds.Keyword words.Float ≡ kinds.Punct allowed.may_be.sign = some_is allowed.may_be.is in absurd cc),
+  ),
+)
