@@ -25,10 +25,12 @@ pointers zero at d = d
 pointers (suc n) at d = pointer at [] (pointers n (suc at) d)
 
 -- a declarator with a name, and pointers before it
-pointers_derive : (all : List Lexeme) (n at : ℕ) (d : Declr) → DerivesDeclr all d → is_named d ≡ true → DerivesDeclr all (pointers n at d) × (is_named (pointers n at d) ≡ true)
+pointers_derive : (all : List Lexeme) (n at : ℕ) (d : Declr) → DerivesDeclr all d → is_named d ≡ true
+    → DerivesDeclr all (pointers n at d) × (is_named (pointers n at d) ≡ true)
 unfolding pointers
 pointers_derive all zero at d h is = (h, is)
-pointers_derive all (suc n) at d h is = let below = pointers_derive all n (suc at) d h is in ((All-nil _, below.0, below.1), refl)
+pointers_derive all (suc n) at d h is =
+    let below = pointers_derive all n (suc at) d h is in ((All-nil _, below.0, below.1), refl)
 
 many_pointers_deep : MayBe too_deep many_pointers 500
 unfolding pointers
@@ -36,14 +38,26 @@ many_pointers_deep =
     let d : Declr = params (declr_name 497 0) 498 no_params None 499 in
     let ws : SpecWords = more_words (basic (record { token = 0; keyword = words.Int })) no_words in
     let item : Item = decl_item (decl_declaration (declaration [] ws (more_init_declrs [] (pointers 496 1 d) None [] no_init no_init_declrs) 500)) in
-    let h = pointers_derive (numbered (take 501 many_pointers ++ kinds.End ∷ [])) 496 1 d (tt, refl, refl, tt, tt) refl in (
+    let h = pointers_derive (numbered (take 501 many_pointers ++ kinds.End ∷ [])) 496 1 d (
+      tt,
+      refl,
+      refl,
+      tt,
+      tt,
+    ) refl in (
       leb-true 50 500 refl,
       (
         item ∷ [],
         record {
           behind = kinds.End ∷ [];
           spelled = record { last = 501; spelled = refl };
-          derived = All-cons (DerivesItem (numbered (take 501 many_pointers ++ kinds.End ∷ []))) item [] ((λ is. absurd cc), (refl, tt), refl, (All-nil _, h.0, h.1, tt, All-nil _, tt, tt)) (All-nil _);
+          derived =
+              All-cons (DerivesItem (numbered (take 501 many_pointers ++ kinds.End ∷ []))) item [] (
+                (λ is. absurd cc),
+                (refl, tt),
+                refl,
+                (All-nil _, h.0, h.1, tt, All-nil _, tt, tt),
+              ) (All-nil _);
         },
       ),
     )
@@ -52,7 +66,8 @@ some_is : {x y : TokenKind} → Some x ≡ Some y → x ≡ y
 some_is e = cc
 
 module _ (trees : UnitsBeginAsTrees) (none : NoneIsEarlier) where
-  from : (tokens : List TokenKind) (at : ℕ) (code : Code) → BeginsUnit (take at tokens) → MayBe code tokens at → IsRefusedAt tokens at code
+  from : (tokens : List TokenKind) (at : ℕ) (code : Code) → BeginsUnit (take at tokens) → MayBe code tokens at
+      → IsRefusedAt tokens at code
   from tokens at code unit may_be = record {
     unit = unit;
     tree = trees (take at tokens) unit;
@@ -61,7 +76,8 @@ module _ (trees : UnitsBeginAsTrees) (none : NoneIsEarlier) where
   }
 
   -- where a unit begins with the tokens up to one, this one is not refused
-  goes_on : (tokens : List TokenKind) (first at : ℕ) (code : Code) → BeginsUnit (take first tokens) → at < first → ¬ IsAllowed tokens at code
+  goes_on : (tokens : List TokenKind) (first at : ℕ) (code : Code) → BeginsUnit (take first tokens) → at < first
+      → ¬ IsAllowed tokens at code
   goes_on tokens first at code unit less allowed = none tokens first at code unit allowed less
 
 pub refusals_hold : WholeAreMixes → MixesGoOn → UnitsAreTrees → UnitsBeginAsTrees → NoneIsEarlier → RefusalsHold
@@ -97,6 +113,7 @@ refusals_hold whole_are goes are trees none = (
     goes_on trees none held_name_enumerated 7 1 other_kind (held_name_enumerated_front whole_are) (leb-true 2 7 refl),
     goes_on trees none declaration_in_if 15 14 syntax (declaration_in_if_front whole_are) (leb-true 15 15 refl),
     goes_on trees none sum_assigned 12 10 no_unary_left (sum_assigned_front whole_are) (leb-true 11 12 refl),
-    (λ allowed. let e : kinds.Keyword words.Float ≡ kinds.Punct allowed.may_be.sign = some_is allowed.may_be.is in absurd cc),
+    (λ allowed. let e : kinds.Keyword words.Float ≡ kinds.Punct allowed.may_be.sign =
+        some_is allowed.may_be.is in absurd cc),
   ),
 )

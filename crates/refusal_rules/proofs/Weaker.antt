@@ -42,7 +42,8 @@ other_is_none : (types : Types) → with_part types word_parts.Other ≡ None
 other_is_none Named = refl
 other_is_none (Words base mark) = refl
 
-spells_type : (before : Option Mix) (k : Keyword) → is_some (then_class before (classes.Spells k)) ≡ true → is_type_word k ≡ true
+spells_type : (before : Option Mix) (k : Keyword) → is_some (then_class before (classes.Spells k)) ≡ true
+    → is_type_word k ≡ true
 spells_type None k e = absurd cc
 spells_type (Some mix) k e = on (type_or_other k)
   where
@@ -53,7 +54,8 @@ spells_type (Some mix) k e = on (type_or_other k)
         let g : is_some (with_types mix None) ≡ true = subst (λ (o : Option Types). is_some (with_types mix o) ≡ true) (other_is_none mix.types) f in
         absurd cc
 
-append_pushed : (front : SpecWords) (w : SpecWord) (ws : SpecWords) → append_words (pushed front w) ws ≡ append_words front (more_words w ws)
+append_pushed : (front : SpecWords) (w : SpecWord) (ws : SpecWords)
+    → append_words (pushed front w) ws ≡ append_words front (more_words w ws)
 append_pushed no_words w ws = refl
 append_pushed (more_words x front) w ws = ap (more_words x) (append_pushed front w ws)
 
@@ -92,28 +94,46 @@ module _ (whole_are : WholeAreMixes) (goes : MixesGoOn) (all : List Lexeme) wher
 
   mutual
     expr_derives : (e : Expr) → IsExpr all e → DerivesExpr all e
-    expr_derives (operation e op token e2) h = (expr_derives e h.0, expr_derives e2 h.1, h.2, middle_derives op h.3, left_asks_less op _ h.2 h.4, right_asks_less op _ h.2 h.5)
-    expr_derives (cast opening ws d closing e) h = (mix_has_words ws h.0, type_words_derive no_words ws h.0 h.1, abstract_derives d h.2, expr_derives e h.3, h.4)
+    expr_derives (operation e op token e2) h = (
+      expr_derives e h.0,
+      expr_derives e2 h.1,
+      h.2,
+      middle_derives op h.3,
+      left_asks_less op _ h.2 h.4,
+      right_asks_less op _ h.2 h.5,
+    )
+    expr_derives (cast opening ws d closing e) h =
+        (mix_has_words ws h.0, type_words_derive no_words ws h.0 h.1, abstract_derives d h.2, expr_derives e h.3, h.4)
     expr_derives (prefix token p e) h = (expr_derives e h.0, h.1)
     expr_derives (sizeof_value word e) h = (expr_derives e h.0, h.1, h.2)
-    expr_derives (sizeof_type word opening ws d closing) h = (mix_has_words ws h.0, type_words_derive no_words ws h.0 h.1, abstract_derives d h.2, h.3)
+    expr_derives (sizeof_type word opening ws d closing) h =
+        (mix_has_words ws h.0, type_words_derive no_words ws h.0 h.1, abstract_derives d h.2, h.3)
     expr_derives (extension keyword e) h = (expr_derives e h.0, h.1)
     expr_derives (index e opening e2 closing) h = (expr_derives e h.0, expr_derives e2 h.1, h.2)
     expr_derives (call e opening es closing) h = (expr_derives e h.0, arguments_derive es h.1, h.2)
     expr_derives (dot e token name) h = (expr_derives e h.0, h.1)
     expr_derives (arrow e token name) h = (expr_derives e h.0, h.1)
     expr_derives (post e token p) h = (expr_derives e h.0, h.1, h.2)
-    expr_derives (compound opening ws d closing list) h = (mix_has_words ws h.0, type_words_derive no_words ws h.0 h.1, abstract_derives d h.2, init_list_derives list h.3)
+    expr_derives (compound opening ws d closing list) h = (
+      mix_has_words ws h.0,
+      type_words_derive no_words ws h.0 h.1,
+      abstract_derives d h.2,
+      init_list_derives list h.3,
+    )
     expr_derives (name_use token name) h = tt
     expr_derives (number_use token) h = tt
     expr_derives (char_use token) h = tt
     expr_derives (text_use texts) h = h
     expr_derives (paren opening e closing) h = expr_derives e h
     expr_derives (statement_expr opening opening2 items closing closing2) h = block_items_derive items h
-    expr_derives (va_arg keyword opening e separator ws d closing) h = (expr_derives e h.0, mix_has_words ws h.1, type_words_derive no_words ws h.1 h.2, abstract_derives d h.3, h.4)
-    expr_derives (va_start keyword opening e separator e2 closing) h = (expr_derives e h.0, expr_derives e2 h.1, h.2, h.3)
-    expr_derives (va_copy keyword opening e separator e2 closing) h = (expr_derives e h.0, expr_derives e2 h.1, h.2, h.3)
-    expr_derives (offset keyword opening ws d separator name steps closing) h = (mix_has_words ws h.0, type_words_derive no_words ws h.0 h.1, abstract_derives d h.2, steps_derive steps h.3)
+    expr_derives (va_arg keyword opening e separator ws d closing) h =
+        (expr_derives e h.0, mix_has_words ws h.1, type_words_derive no_words ws h.1 h.2, abstract_derives d h.3, h.4)
+    expr_derives (va_start keyword opening e separator e2 closing) h =
+        (expr_derives e h.0, expr_derives e2 h.1, h.2, h.3)
+    expr_derives (va_copy keyword opening e separator e2 closing) h =
+        (expr_derives e h.0, expr_derives e2 h.1, h.2, h.3)
+    expr_derives (offset keyword opening ws d separator name steps closing) h =
+        (mix_has_words ws h.0, type_words_derive no_words ws h.0 h.1, abstract_derives d h.2, steps_derive steps h.3)
 
     middle_derives : (op : Operator) → IsMiddle all op → DerivesMiddle all op
     middle_derives comma h = tt
@@ -145,15 +165,25 @@ module _ (whole_are : WholeAreMixes) (goes : MixesGoOn) (all : List Lexeme) wher
     desig_derives (member_desig token name) h = tt
     desig_derives (index_desig opening e closing) h = (expr_derives e h.0, h.1)
 
-    type_words_derive : (front ws : SpecWords) → IsMix (append_words front ws) → AreTypeWords all ws → DerivesTypeWords all ws
+    type_words_derive : (front ws : SpecWords) → IsMix (append_words front ws) → AreTypeWords all ws
+        → DerivesTypeWords all ws
     type_words_derive front no_words mix h = tt
-    type_words_derive front (more_words w ws) mix h = (word_derives front w (goes front w ws mix) h.0, h.1, type_words_derive (pushed front w) ws (subst IsMix (sym (append_pushed front w ws)) mix) h.2)
+    type_words_derive front (more_words w ws) mix h = (
+      word_derives front w (goes front w ws mix) h.0,
+      h.1,
+      type_words_derive (pushed front w) ws (subst IsMix (sym (append_pushed front w ws)) mix) h.2,
+    )
 
-    words_derive : (front ws : SpecWords) → IsMix (append_words front ws) → AreSpecWords all ws → DerivesSpecWords all ws
+    words_derive : (front ws : SpecWords) → IsMix (append_words front ws) → AreSpecWords all ws
+        → DerivesSpecWords all ws
     words_derive front no_words mix h = tt
-    words_derive front (more_words w ws) mix h = (word_derives front w (goes front w ws mix) h.0, words_derive (pushed front w) ws (subst IsMix (sym (append_pushed front w ws)) mix) h.1)
+    words_derive front (more_words w ws) mix h = (
+      word_derives front w (goes front w ws mix) h.0,
+      words_derive (pushed front w) ws (subst IsMix (sym (append_pushed front w ws)) mix) h.1,
+    )
 
-    word_derives : (front : SpecWords) (w : SpecWord) → goes_on front (class_of w) ≡ true → IsSpecWord all w → DerivesSpecWord all w
+    word_derives : (front : SpecWords) (w : SpecWord) → goes_on front (class_of w) ≡ true → IsSpecWord all w
+        → DerivesSpecWord all w
     word_derives front (storage word) on h = h
     word_derives front (thread keyword) on h = tt
     word_derives front (inline_word keyword) on h = tt
@@ -174,7 +204,8 @@ module _ (whole_are : WholeAreMixes) (goes : MixesGoOn) (all : List Lexeme) wher
     struct_items_derive (more_struct_items item items) h = (struct_item_derives item h.0, struct_items_derive items h.1)
 
     struct_item_derives : (item : StructItem) → IsStructItem all item → DerivesStructItem all item
-    struct_item_derives (member exts ws ds semi) h = (mix_has_words ws h.0, words_derive no_words ws h.0 h.1, h.2, mem_declrs_derive ds h.3)
+    struct_item_derives (member exts ws ds semi) h =
+        (mix_has_words ws h.0, words_derive no_words ws h.0 h.1, h.2, mem_declrs_derive ds h.3)
     struct_item_derives (member_semi semi) h = tt
     struct_item_derives (member_assert it) h = h
 
@@ -199,7 +230,8 @@ module _ (whole_are : WholeAreMixes) (goes : MixesGoOn) (all : List Lexeme) wher
 
     enumerators_derive : (es : Enumerators) → AreEnumerators all es → DerivesEnumerators all es
     enumerators_derive no_enumerators h = tt
-    enumerators_derive (more_enumerators name attrs value es) h = (h.0, some_value_derives value h.1, enumerators_derive es h.2)
+    enumerators_derive (more_enumerators name attrs value es) h =
+        (h.0, some_value_derives value h.1, enumerators_derive es h.2)
 
     declr_derives : (d : Declr) → IsDeclr all d → DerivesDeclr all d
     declr_derives (pointer star words d) h = (h.0, declr_derives d h.1, h.2)
@@ -230,7 +262,8 @@ module _ (whole_are : WholeAreMixes) (goes : MixesGoOn) (all : List Lexeme) wher
 
     params_derive : (ps : Params) → AreParams all ps → DerivesParams all ps
     params_derive no_params h = tt
-    params_derive (more_params ws d attrs ps) h = (mix_has_words ws h.0, words_derive no_words ws h.0 h.1, some_declr_derives d h.2, h.3, params_derive ps h.5)
+    params_derive (more_params ws d attrs ps) h =
+        (mix_has_words ws h.0, words_derive no_words ws h.0 h.1, some_declr_derives d h.2, h.3, params_derive ps h.5)
 
     some_declr_derives : (d : SomeDeclr) → IsSomeDeclr all d → DerivesSomeDeclr all d
     some_declr_derives no_declr h = tt
@@ -245,7 +278,8 @@ module _ (whole_are : WholeAreMixes) (goes : MixesGoOn) (all : List Lexeme) wher
 
     init_items_derive : (items : InitItems) → AreInitItems all items → DerivesInitItems all items
     init_items_derive no_init_items h = tt
-    init_items_derive (more_init_items ds equal init items) h = (desigs_derive ds h.0, h.1, init_derives init h.2, init_items_derive items h.3)
+    init_items_derive (more_init_items ds equal init items) h =
+        (desigs_derive ds h.0, h.1, init_derives init h.2, init_items_derive items h.3)
 
     some_init_derives : (init : SomeInit) → IsSomeInit all init → DerivesSomeInit all init
     some_init_derives no_init h = tt
@@ -253,10 +287,12 @@ module _ (whole_are : WholeAreMixes) (goes : MixesGoOn) (all : List Lexeme) wher
 
     init_declrs_derive : (ds : InitDeclrs) → AreInitDeclrs all ds → DerivesInitDeclrs all ds
     init_declrs_derive no_init_declrs h = tt
-    init_declrs_derive (more_init_declrs attrs d asm_label attrs2 init ds) h = (h.0, declr_derives d h.1, h.2, h.3, h.4, some_init_derives init h.5, init_declrs_derive ds h.6)
+    init_declrs_derive (more_init_declrs attrs d asm_label attrs2 init ds) h =
+        (h.0, declr_derives d h.1, h.2, h.3, h.4, some_init_derives init h.5, init_declrs_derive ds h.6)
 
     declaration_derives : (d : Declaration) → IsDeclaration all d → DerivesDeclaration all d
-    declaration_derives (declaration exts ws ds semi) h = (mix_has_words ws h.0, words_derive no_words ws h.0 h.1, h.2, init_declrs_derive ds h.3)
+    declaration_derives (declaration exts ws ds semi) h =
+        (mix_has_words ws h.0, words_derive no_words ws h.0 h.1, h.2, init_declrs_derive ds h.3)
 
     decl_derives : (d : Decl) → IsDecl all d → DerivesDecl all d
     decl_derives (decl_declaration d) h = declaration_derives d h
@@ -277,11 +313,13 @@ module _ (whole_are : WholeAreMixes) (goes : MixesGoOn) (all : List Lexeme) wher
     stmt_derives (label name colon attrs s) h = (h.0, stmt_derives s h.1)
     stmt_derives (case_stmt keyword e colon s) h = (expr_derives e h.0, h.1, stmt_derives s h.2)
     stmt_derives (default_stmt keyword colon s) h = stmt_derives s h
-    stmt_derives (if_stmt keyword opening e closing s other) h = (expr_derives e h.0, stmt_derives s h.1, other_derives s other h.2)
+    stmt_derives (if_stmt keyword opening e closing s other) h =
+        (expr_derives e h.0, stmt_derives s h.1, other_derives s other h.2)
     stmt_derives (switch_stmt keyword opening e closing s) h = (expr_derives e h.0, stmt_derives s h.1)
     stmt_derives (while_stmt keyword opening e closing s) h = (expr_derives e h.0, stmt_derives s h.1)
     stmt_derives (do_stmt keyword s keyword2 opening e closing semi) h = (stmt_derives s h.0, expr_derives e h.1)
-    stmt_derives (for_stmt keyword opening start e semi e2 closing s) h = (start_derives start h.0, some_expr_derives e h.1, some_expr_derives e2 h.2, stmt_derives s h.3)
+    stmt_derives (for_stmt keyword opening start e semi e2 closing s) h =
+        (start_derives start h.0, some_expr_derives e h.1, some_expr_derives e2 h.2, stmt_derives s h.3)
     stmt_derives (goto_stmt keyword name semi) h = tt
     stmt_derives (continue_stmt keyword semi) h = tt
     stmt_derives (break_stmt keyword semi) h = tt
@@ -297,7 +335,14 @@ module _ (whole_are : WholeAreMixes) (goes : MixesGoOn) (all : List Lexeme) wher
     start_derives (start_value e semi) h = some_expr_derives e h
 
   pub item_derives : (item : Item) → IsItem all item → DerivesItem all item
-  item_derives (function_item exts ws d attrs opening items closing) h = (mix_has_words ws h.0, words_derive no_words ws h.0 h.1, declr_derives d h.3, function_is_named d h.4, h.5, block_items_derive items h.6)
+  item_derives (function_item exts ws d attrs opening items closing) h = (
+    mix_has_words ws h.0,
+    words_derive no_words ws h.0 h.1,
+    declr_derives d h.3,
+    function_is_named d h.4,
+    h.5,
+    block_items_derive items h.6,
+  )
   item_derives (decl_item d) h = decl_derives d h
   item_derives (asm_item keyword group semi) h = h
   item_derives (semi_item semi) h = tt

@@ -45,28 +45,37 @@ right_line (binary p) = 3
 module _ (all : List Lexeme) where
   abbrev mutual
     pub DerivesExpr : Expr → Type 0
-    DerivesExpr (operation e op token e2) = DerivesExpr e × DerivesExpr e2 × IsOperator op × DerivesMiddle op × (left_line op ≤ expr_level e) × (right_line op ≤ expr_level e2)
-    DerivesExpr (cast opening ws d closing e) = (ws ≢ no_words) × DerivesTypeWords ws × DerivesSomeAbstract d × DerivesExpr e × (13 ≤ expr_level e)
+    DerivesExpr (operation e op token e2) =
+        DerivesExpr e × DerivesExpr e2 × IsOperator op × DerivesMiddle op × (left_line op ≤ expr_level e)
+        × (right_line op ≤ expr_level e2)
+    DerivesExpr (cast opening ws d closing e) =
+        (ws ≢ no_words) × DerivesTypeWords ws × DerivesSomeAbstract d × DerivesExpr e × (13 ≤ expr_level e)
     DerivesExpr (prefix token p e) = DerivesExpr e × (prefix_level p ≤ expr_level e)
     DerivesExpr (sizeof_value word e) = DerivesExpr e × (is_sizeof word.keyword ≡ true) × (14 ≤ expr_level e)
-    DerivesExpr (sizeof_type word opening ws d closing) = (ws ≢ no_words) × DerivesTypeWords ws × DerivesSomeAbstract d × (is_sizeof word.keyword ≡ true)
+    DerivesExpr (sizeof_type word opening ws d closing) =
+        (ws ≢ no_words) × DerivesTypeWords ws × DerivesSomeAbstract d × (is_sizeof word.keyword ≡ true)
     DerivesExpr (extension keyword e) = DerivesExpr e × (13 ≤ expr_level e)
     DerivesExpr (index e opening e2 closing) = DerivesExpr e × DerivesExpr e2 × (15 ≤ expr_level e)
     DerivesExpr (call e opening es closing) = DerivesExpr e × DerivesArguments es × (15 ≤ expr_level e)
     DerivesExpr (dot e token name) = DerivesExpr e × (15 ≤ expr_level e)
     DerivesExpr (arrow e token name) = DerivesExpr e × (15 ≤ expr_level e)
     DerivesExpr (post e token p) = DerivesExpr e × (is_postfix p ≡ true) × (15 ≤ expr_level e)
-    DerivesExpr (compound opening ws d closing list) = (ws ≢ no_words) × DerivesTypeWords ws × DerivesSomeAbstract d × DerivesInitList list
+    DerivesExpr (compound opening ws d closing list) =
+        (ws ≢ no_words) × DerivesTypeWords ws × DerivesSomeAbstract d × DerivesInitList list
     DerivesExpr (name_use token name) = Unit {0}
     DerivesExpr (number_use token) = Unit {0}
     DerivesExpr (char_use token) = Unit {0}
     DerivesExpr (text_use texts) = texts ≢ []
     DerivesExpr (paren opening e closing) = DerivesExpr e
     DerivesExpr (statement_expr opening opening2 items closing closing2) = DerivesBlockItems items
-    DerivesExpr (va_arg keyword opening e separator ws d closing) = DerivesExpr e × (ws ≢ no_words) × DerivesTypeWords ws × DerivesSomeAbstract d × (1 ≤ expr_level e)
-    DerivesExpr (va_start keyword opening e separator e2 closing) = DerivesExpr e × DerivesExpr e2 × (1 ≤ expr_level e) × (1 ≤ expr_level e2)
-    DerivesExpr (va_copy keyword opening e separator e2 closing) = DerivesExpr e × DerivesExpr e2 × (1 ≤ expr_level e) × (1 ≤ expr_level e2)
-    DerivesExpr (offset keyword opening ws d separator name steps closing) = (ws ≢ no_words) × DerivesTypeWords ws × DerivesSomeAbstract d × DerivesSteps steps
+    DerivesExpr (va_arg keyword opening e separator ws d closing) =
+        DerivesExpr e × (ws ≢ no_words) × DerivesTypeWords ws × DerivesSomeAbstract d × (1 ≤ expr_level e)
+    DerivesExpr (va_start keyword opening e separator e2 closing) =
+        DerivesExpr e × DerivesExpr e2 × (1 ≤ expr_level e) × (1 ≤ expr_level e2)
+    DerivesExpr (va_copy keyword opening e separator e2 closing) =
+        DerivesExpr e × DerivesExpr e2 × (1 ≤ expr_level e) × (1 ≤ expr_level e2)
+    DerivesExpr (offset keyword opening ws d separator name steps closing) =
+        (ws ≢ no_words) × DerivesTypeWords ws × DerivesSomeAbstract d × DerivesSteps steps
 
     pub DerivesMiddle : Operator → Type 0
     DerivesMiddle comma = Unit {0}
@@ -113,7 +122,8 @@ module _ (all : List Lexeme) where
     DerivesSpecWord (noreturn keyword) = Unit {0}
     DerivesSpecWord (qualifier qual) = IsQual all qual
     DerivesSpecWord (basic word) = is_type_word word.keyword ≡ true
-    DerivesSpecWord (struct_type word attrs tag body) = (is_struct word.keyword ≡ true) × AreAttrs all attrs × HasTagOrBody tag body × DerivesBody body
+    DerivesSpecWord (struct_type word attrs tag body) =
+        (is_struct word.keyword ≡ true) × AreAttrs all attrs × HasTagOrBody tag body × DerivesBody body
     DerivesSpecWord (enum_type enum) = DerivesEnum enum
     DerivesSpecWord (typedef_name name) = Unit {0}
     DerivesSpecWord (attribute attr) = IsGroup all attr.group
@@ -127,7 +137,8 @@ module _ (all : List Lexeme) where
     DerivesStructItems (more_struct_items item items) = DerivesStructItem item × DerivesStructItems items
 
     pub DerivesStructItem : StructItem → Type 0
-    DerivesStructItem (member exts ws ds semi) = (ws ≢ no_words) × DerivesSpecWords ws × IsMemStart ds × DerivesMemDeclrs ds
+    DerivesStructItem (member exts ws ds semi) =
+        (ws ≢ no_words) × DerivesSpecWords ws × IsMemStart ds × DerivesMemDeclrs ds
     DerivesStructItem (member_semi semi) = Unit {0}
     DerivesStructItem (member_assert it) = IsGroup all it.group
 
@@ -136,7 +147,8 @@ module _ (all : List Lexeme) where
     DerivesMemDeclrs (more_mem_declrs attrs d ds) = AreAttrs all attrs × DerivesMemDeclr d × DerivesMemDeclrs ds
 
     pub DerivesMemDeclr : MemDeclr → Type 0
-    DerivesMemDeclr (named d width attrs) = DerivesDeclr d × (is_named d ≡ true) × DerivesSomeValue width × AreAttrs all attrs
+    DerivesMemDeclr (named d width attrs) =
+        DerivesDeclr d × (is_named d ≡ true) × DerivesSomeValue width × AreAttrs all attrs
     DerivesMemDeclr (unnamed colon e attrs) = DerivesExpr e × (2 ≤ expr_level e) × AreAttrs all attrs
 
     pub DerivesSomeValue : SomeValue → Type 0
@@ -152,18 +164,23 @@ module _ (all : List Lexeme) where
 
     pub DerivesEnumerators : Enumerators → Type 0
     DerivesEnumerators no_enumerators = Unit {0}
-    DerivesEnumerators (more_enumerators name attrs value es) = AreAttrs all attrs × DerivesSomeValue value × DerivesEnumerators es
+    DerivesEnumerators (more_enumerators name attrs value es) =
+        AreAttrs all attrs × DerivesSomeValue value × DerivesEnumerators es
 
     pub DerivesDeclr : Declr → Type 0
     DerivesDeclr (pointer star words d) = All (IsPointerWord all) words × DerivesDeclr d × (is_named d ≡ true)
     DerivesDeclr (declr_name token name) = Unit {0}
     DerivesDeclr (declr_paren opening attrs d closing) = AreAttrs all attrs × DerivesDeclr d × (is_named d ≡ true)
-    DerivesDeclr (array d opening words size closing) = DerivesDeclr d × (is_named d ≡ true) × (is_direct d ≡ true) × All (IsArrayWord all) words × DerivesSize size
-    DerivesDeclr (params d opening ps dots closing) = DerivesDeclr d × (is_named d ≡ true) × (is_direct d ≡ true) × DerivesParams ps × IsEllipsis all ps dots
+    DerivesDeclr (array d opening words size closing) =
+        DerivesDeclr d × (is_named d ≡ true) × (is_direct d ≡ true) × All (IsArrayWord all) words × DerivesSize size
+    DerivesDeclr (params d opening ps dots closing) =
+        DerivesDeclr d × (is_named d ≡ true) × (is_direct d ≡ true) × DerivesParams ps × IsEllipsis all ps dots
     DerivesDeclr (abs_pointer star words d) = All (IsPointerWord all) words × DerivesSomeAbstract d
     DerivesDeclr (abs_paren opening attrs d closing) = AreAttrs all attrs × DerivesDeclr d × (is_named d ≡ false)
-    DerivesDeclr (abs_array d opening words size closing) = DerivesSomeDirect d × All (IsArrayWord all) words × DerivesSize size
-    DerivesDeclr (abs_params d opening ps dots closing) = DerivesSomeDirect d × DerivesParams ps × IsEllipsis all ps dots
+    DerivesDeclr (abs_array d opening words size closing) =
+        DerivesSomeDirect d × All (IsArrayWord all) words × DerivesSize size
+    DerivesDeclr (abs_params d opening ps dots closing) =
+        DerivesSomeDirect d × DerivesParams ps × IsEllipsis all ps dots
 
     pub DerivesSomeAbstract : SomeDeclr → Type 0
     DerivesSomeAbstract no_declr = Unit {0}
@@ -183,7 +200,8 @@ module _ (all : List Lexeme) where
 
     pub DerivesParams : Params → Type 0
     DerivesParams no_params = Unit {0}
-    DerivesParams (more_params ws d attrs ps) = (ws ≢ no_words) × DerivesSpecWords ws × DerivesSomeDeclr d × AreAttrs all attrs × DerivesParams ps
+    DerivesParams (more_params ws d attrs ps) =
+        (ws ≢ no_words) × DerivesSpecWords ws × DerivesSomeDeclr d × AreAttrs all attrs × DerivesParams ps
 
     pub DerivesSomeDeclr : SomeDeclr → Type 0
     DerivesSomeDeclr no_declr = Unit {0}
@@ -198,7 +216,8 @@ module _ (all : List Lexeme) where
 
     pub DerivesInitItems : InitItems → Type 0
     DerivesInitItems no_init_items = Unit {0}
-    DerivesInitItems (more_init_items ds equal init items) = DerivesDesigs ds × IsDesignated ds equal × DerivesInit init × DerivesInitItems items
+    DerivesInitItems (more_init_items ds equal init items) =
+        DerivesDesigs ds × IsDesignated ds equal × DerivesInit init × DerivesInitItems items
 
     pub DerivesSomeInit : SomeInit → Type 0
     DerivesSomeInit no_init = Unit {0}
@@ -206,10 +225,13 @@ module _ (all : List Lexeme) where
 
     pub DerivesInitDeclrs : InitDeclrs → Type 0
     DerivesInitDeclrs no_init_declrs = Unit {0}
-    DerivesInitDeclrs (more_init_declrs attrs d asm_label attrs2 init ds) = AreAttrs all attrs × DerivesDeclr d × (is_named d ≡ true) × IsLabel all asm_label × AreAttrs all attrs2 × DerivesSomeInit init × DerivesInitDeclrs ds
+    DerivesInitDeclrs (more_init_declrs attrs d asm_label attrs2 init ds) =
+        AreAttrs all attrs × DerivesDeclr d × (is_named d ≡ true) × IsLabel all asm_label × AreAttrs all attrs2
+        × DerivesSomeInit init × DerivesInitDeclrs ds
 
     pub DerivesDeclaration : Declaration → Type 0
-    DerivesDeclaration (declaration exts ws ds semi) = (ws ≢ no_words) × DerivesSpecWords ws × IsInitStart ds × DerivesInitDeclrs ds
+    DerivesDeclaration (declaration exts ws ds semi) =
+        (ws ≢ no_words) × DerivesSpecWords ws × IsInitStart ds × DerivesInitDeclrs ds
 
     pub DerivesDecl : Decl → Type 0
     DerivesDecl (decl_declaration d) = DerivesDeclaration d
@@ -234,7 +256,8 @@ module _ (all : List Lexeme) where
     DerivesStmt (switch_stmt keyword opening e closing s) = DerivesExpr e × DerivesStmt s
     DerivesStmt (while_stmt keyword opening e closing s) = DerivesExpr e × DerivesStmt s
     DerivesStmt (do_stmt keyword s keyword2 opening e closing semi) = DerivesStmt s × DerivesExpr e
-    DerivesStmt (for_stmt keyword opening start e semi e2 closing s) = DerivesStart start × DerivesSomeExpr e × DerivesSomeExpr e2 × DerivesStmt s
+    DerivesStmt (for_stmt keyword opening start e semi e2 closing s) =
+        DerivesStart start × DerivesSomeExpr e × DerivesSomeExpr e2 × DerivesStmt s
     DerivesStmt (goto_stmt keyword name semi) = Unit {0}
     DerivesStmt (continue_stmt keyword semi) = Unit {0}
     DerivesStmt (break_stmt keyword semi) = Unit {0}
@@ -251,7 +274,9 @@ module _ (all : List Lexeme) where
 
   -- an item of a unit
   abbrev pub DerivesItem : Item → Type 0
-  DerivesItem (function_item exts ws d attrs opening items closing) = (ws ≢ no_words) × DerivesSpecWords ws × DerivesDeclr d × (is_named d ≡ true) × AreAttrs all attrs × DerivesBlockItems items
+  DerivesItem (function_item exts ws d attrs opening items closing) =
+      (ws ≢ no_words) × DerivesSpecWords ws × DerivesDeclr d × (is_named d ≡ true) × AreAttrs all attrs
+      × DerivesBlockItems items
   DerivesItem (decl_item d) = DerivesDecl d
   DerivesItem (asm_item keyword group semi) = IsGroup all group
   DerivesItem (semi_item semi) = Unit {0}

@@ -22,7 +22,8 @@ UnitsBeginAtAnyHeight = (before : List TokenKind) → BeginsUnit before → Begi
 -- where a well-formed unit begins with the first tokens, no refusal of one of these is allowed
 abbrev pub NoneIsEarlier : Type 0
 NoneIsEarlier =
-    (tokens : List TokenKind) (first at : ℕ) (code : Code) → BeginsUnit (take first tokens) → IsAllowed tokens at code → ¬ (at < first)
+    (tokens : List TokenKind) (first at : ℕ) (code : Code) → BeginsUnit (take first tokens) → IsAllowed tokens at code
+    → ¬ (at < first)
 
 -- the refusal of the first bad token for its syntax is allowed, where the height is not what is wrong
 abbrev pub FirstBadIsAllowed : Type 0
