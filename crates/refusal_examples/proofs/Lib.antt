@@ -1,2 +1,3 @@
+mod NoUnit
 mod Refused
 mod Trees

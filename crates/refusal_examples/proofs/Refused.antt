@@ -15,8 +15,9 @@ use Rattle.c_units.specs.Units.{numbered}
 use Rattle.c_units.specs.FirstBad.{BeginsUnit}
 use Rattle.refusal_rules.specs.Grammar.{DerivesItem, DerivesDeclr}
 use Rattle.refusal_rules.specs.Allowed.{Code, syntax, too_deep, other_kind, no_mix, no_unary_left, MayBe, IsAllowed}
-use Rattle.refusal_rules.specs.Laws.{UnitsAreTrees, UnitsBeginAsTrees, NoneIsEarlier}
+use Rattle.refusal_rules.specs.Laws.{UnitsAreTrees, UnitsBeginAsTrees, UnitsBeginAtAnyHeight, NoneIsEarlier}
 use Rattle.refusal_examples.specs.Refusals.{IsRefusedAt, RefusalsHold, many_pointers, float_behind_long, int_behind_typedef_name, object_named_as_typedef, enumerator_named_as_typedef, object_named_as_enumerator, sum_assigned, conditional_assigned, cast_assigned, held_name_enumerated, cast_incremented, sizeof_type_indexed, words_without_type, function_behind_comma, function_of_typedef, declaration_in_if}
+use Rattle.refusal_examples.proofs.NoUnit.{no_unit}
 use Rattle.refusal_examples.proofs.Trees.{float_behind_long_front, int_behind_typedef_name_front, object_named_as_typedef_front, enumerator_named_as_typedef_front, object_named_as_enumerator_front, sum_assigned_front, conditional_assigned_front, cast_assigned_front, held_name_enumerated_front, cast_incremented_front, sizeof_type_indexed_front, words_without_type_front, function_behind_comma_front, function_of_typedef_front, declaration_in_if_front, object_named_as_typedef_bad, enumerator_named_as_typedef_bad, object_named_as_enumerator_bad, float_behind_long_bad, int_behind_typedef_name_bad, sum_assigned_bad, conditional_assigned_bad, cast_assigned_bad}
 
 -- so many pointers before a declarator, from a token on
@@ -80,8 +81,9 @@ module _ (trees : UnitsBeginAsTrees) (none : NoneIsEarlier) where
       → ¬ IsAllowed tokens at code
   goes_on tokens first at code unit less allowed = none tokens first at code unit allowed less
 
-pub refusals_hold : WholeAreMixes → MixesGoOn → UnitsAreTrees → UnitsBeginAsTrees → NoneIsEarlier → RefusalsHold
-refusals_hold whole_are goes are trees none = (
+pub refusals_hold : WholeAreMixes → MixesGoOn → UnitsAreTrees → UnitsBeginAsTrees → UnitsBeginAtAnyHeight
+    → NoneIsEarlier → RefusalsHold
+refusals_hold whole_are goes are trees heights none = (
   (
     from trees none float_behind_long 1 no_mix (float_behind_long_front whole_are) (float_behind_long_bad whole_are goes are),
     from trees none int_behind_typedef_name 11 no_mix (int_behind_typedef_name_front whole_are) (int_behind_typedef_name_bad whole_are goes are),
@@ -116,4 +118,11 @@ refusals_hold whole_are goes are trees none = (
     (λ allowed. let e : kinds.Keyword words.Float ≡ kinds.Punct allowed.may_be.sign =
         some_is allowed.may_be.is in absurd cc),
   ),
+  record {
+    there = leb-true 2 5 refl;
+    none = λ begun. no_unit whole_are goes (heights _ begun);
+    before = trees _ (float_behind_long_front whole_are);
+    height = no_unit whole_are goes;
+    may_be = float_behind_long_bad whole_are goes are;
+  },
 )

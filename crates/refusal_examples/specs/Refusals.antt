@@ -176,5 +176,9 @@ WrongRefusals =
     × ¬ IsAllowed sum_assigned 10 no_unary_left
     × ¬ IsAllowed float_behind_long 1 no_unary_left
 
+-- of one source it is said too that no unit begins with the tokens up to the refused one, of whatever height
+abbrev pub WholeRefusal : Type 0
+WholeRefusal = IsAllowed float_behind_long 1 no_mix
+
 abbrev pub RefusalsHold : Type 0
-RefusalsHold = NoMixes × OtherKinds × NoUnaryLefts × Syntaxes × TooDeeps × WrongRefusals
+RefusalsHold = NoMixes × OtherKinds × NoUnaryLefts × Syntaxes × TooDeeps × WrongRefusals × WholeRefusal

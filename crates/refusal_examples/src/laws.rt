@@ -3,10 +3,12 @@
 ghost use Rattle.refusal_examples.specs.Refusals.{RefusalsHold};
 
 use c_specs::{mixes_go_on, whole_are_mixes};
-use refusal_rules::{none_is_earlier, units_are_trees, units_begin_as_trees};
+use refusal_rules::{
+    none_is_earlier, units_are_trees, units_begin_as_trees, units_begin_at_any_height,
+};
 
-/// Of each source, the token that was worked out may be refused with its code, and no earlier one; and some wrong refusals
-/// are not allowed.
+/// Of each source, the token that was worked out may be refused with its code, and no earlier one; some wrong refusals are not
+/// allowed, and of one source the right one is, whole.
 pub fn refusals_hold()
     ensures { RefusalsHold }
 {
@@ -14,5 +16,6 @@ pub fn refusals_hold()
     mixes_go_on();
     units_are_trees();
     units_begin_as_trees();
+    units_begin_at_any_height();
     none_is_earlier();
 }

@@ -1,2 +1,2 @@
 mod Begun
-mod Weaker
+pub mod Weaker

@@ -84,7 +84,7 @@ round_is_named (abs_paren opening attrs d closing) above is = absurd cc
 round_is_named (abs_array d opening words size closing) above is = absurd cc
 round_is_named (abs_params d opening ps dots closing) above is = absurd cc
 
-function_is_named : (d : Declr) → declares_function d ≡ true → is_named d ≡ true
+pub function_is_named : (d : Declr) → declares_function d ≡ true → is_named d ≡ true
 function_is_named d is = round_is_named d false is
 
 module _ (whole_are : WholeAreMixes) (goes : MixesGoOn) (all : List Lexeme) where
