@@ -9,7 +9,9 @@ use Rattle.c_words.specs.declared.kinds.Keyword.{Keyword}
 use Rattle.c_words.specs.declared.kinds.Keyword.TheVariants as words
 use Rattle.c_words.specs.declared.kinds.Punct.TheVariants as signs
 use Rattle.c_syntax.specs.declared.parts.Qual.TheVariants as quals
-use Rattle.c_tree.specs.Tree.{operation, cast, prefix, sizeof_type, compound, name_use, number_use, cond, binary, some_expr, no_expr, SpecWords, no_words, more_words, storage, qualifier, basic, enum_type, typedef_name, no_value, enum_of, some_enum_body, no_enumerators, more_enumerators, declr_name, array, params, no_declr, some_declr, some_size, size_value, no_params, more_params, init_value, init_list, no_init_items, no_init, some_init, no_init_declrs, more_init_declrs, declaration, decl_declaration, no_block_items, more_block_items, block_decl, block_stmt, expr_stmt, label, if_stmt, no_else}
+use Rattle.c_syntax.specs.declared.parts.Attr.{Attr}
+use Rattle.c_tree.specs.Groups.{IsGroup, nothing, inner, bracketed}
+use Rattle.c_tree.specs.Tree.{operation, cast, prefix, sizeof_type, compound, name_use, number_use, cond, binary, some_expr, no_expr, SpecWords, no_words, more_words, storage, qualifier, basic, enum_type, typedef_name, attribute, abs_params, attr_stmt, some_value, paren, no_value, enum_of, some_enum_body, no_enumerators, more_enumerators, declr_name, array, params, no_declr, some_declr, some_size, size_value, no_params, more_params, init_value, init_list, no_init_items, no_init, some_init, no_init_declrs, more_init_declrs, declaration, decl_declaration, no_block_items, more_block_items, block_decl, block_stmt, expr_stmt, label, if_stmt, no_else}
 use Rattle.c_tree.specs.Unit.{Item, function_item, decl_item, IsItem, items_text, unit_height}
 use Rattle.c_tree.specs.Specifiers.{IsMix}
 use Rattle.c_specs.specs.Mix.{is_whole_mix, goes_on, class_of}
@@ -21,7 +23,7 @@ use Rattle.c_units.specs.FirstBad.{BeginsUnit}
 use Rattle.refusal_rules.specs.Grammar.{DerivesItem}
 use Rattle.refusal_rules.specs.Allowed.{MayHaveNoMix, MayHaveOtherKind, MayHaveNoUnaryLeft}
 use Rattle.refusal_rules.specs.Laws.{UnitsAreTrees}
-use Rattle.refusal_examples.specs.Refusals.{float_behind_long, int_behind_typedef_name, object_named_as_typedef, enumerator_named_as_typedef, object_named_as_enumerator, sum_assigned, conditional_assigned, cast_assigned, held_name_enumerated, cast_incremented, sizeof_type_indexed, words_without_type, function_behind_comma, function_of_typedef, declaration_in_if}
+use Rattle.refusal_examples.specs.Refusals.{float_behind_long, int_behind_typedef_name, object_named_as_typedef, enumerator_named_as_typedef, object_named_as_enumerator, sum_assigned, conditional_assigned, cast_assigned, held_name_enumerated, cast_incremented, sizeof_type_indexed, words_without_type, function_behind_comma, function_of_typedef, declaration_in_if, dots_behind_attribute, attribute_without_parameter, label_behind_attribute, extension_behind_attribute, declaration_behind_label, typedef_hidden_in_its_enum}
 
 -- a unit whose tokens are these, which was worked out
 unit_from : (before behind : List TokenKind) (items : List Item) (last : ℕ) →
@@ -308,6 +310,108 @@ module _ (whole_are : WholeAreMixes) where
             0;
         keyword = words.Typedef;
       })) (more_words (basic (record { token = 1; keyword = words.Int })) no_words)) (more_init_declrs [] (declr_name 2 0) None [] no_init no_init_declrs) 3))) ((function_item [] (more_words (basic (record { token = 4; keyword = words.Void })) no_words) (params (declr_name 5 1) 6 (more_params (more_words (basic (record { token = 7; keyword = words.Void })) no_words) no_declr [] no_params) None 8) [] 9 (more_block_items (block_stmt (if_stmt 10 11 (number_use 12) 13 (label (record { token = 14; name = 0 }) 15 [] (expr_stmt no_expr 16)) no_else)) no_block_items) 17) ∷ []) ((is_mix (more_words (storage (record { token = 0; keyword = words.Typedef })) (more_words (basic (record { token = 1; keyword = words.Int })) no_words)) refl, (refl, (tt, tt)), refl, (All-nil _, tt, refl, tt, All-nil _, tt, tt))) (All-cons (IsItem (numbered (take 15 declaration_in_if ++ ((kinds.Punct signs.Colon) ∷ (kinds.Punct signs.Semicolon) ∷ (kinds.Punct signs.CloseBrace) ∷ kinds.End ∷ [])))) (function_item [] (more_words (basic (record { token = 4; keyword = words.Void })) no_words) (params (declr_name 5 1) 6 (more_params (more_words (basic (record { token = 7; keyword = words.Void })) no_words) no_declr [] no_params) None 8) [] 9 (more_block_items (block_stmt (if_stmt 10 11 (number_use 12) 13 (label (record { token = 14; name = 0 }) 15 [] (expr_stmt no_expr 16)) no_else)) no_block_items) 17) ([]) ((is_mix (more_words (basic (record { token = 4; keyword = words.Void })) no_words) refl, (tt, tt), no_typedef, (tt, refl, refl, (is_mix (more_words (basic (record { token = 7; keyword = words.Void })) no_words) refl, (tt, tt), tt, All-nil _, tt, tt), tt), refl, All-nil _, ((tt, (All-nil _, tt, tt), tt), tt))) (All-nil _)))
+      refl refl
+
+  -- int f(int, __attribute__((a)) int);
+  pub dots_behind_attribute_front : BeginsUnit (take 11 dots_behind_attribute)
+  dots_behind_attribute_front =
+      unit_from (take 11 dots_behind_attribute) ((kinds.Keyword words.Int) ∷ (kinds.Punct signs.CloseParen) ∷ (kinds.Punct signs.Semicolon) ∷ kinds.End ∷ [])
+      ((decl_item (decl_declaration (declaration [] (more_words (basic (record {
+        token =
+            0;
+        keyword = words.Int;
+      })) no_words) (more_init_declrs [] (params (declr_name 1 0) 2 (more_params (more_words (basic (record { token = 3; keyword = words.Int })) no_words) no_declr [] (more_params (more_words (attribute (record { keyword = 5; group = record { first = 6; last = 10 } })) (more_words (basic (record { token = 11; keyword = words.Int })) no_words)) no_declr [] no_params)) None 12) None [] no_init no_init_declrs) 13))) ∷ [])
+      14 refl
+      (All-cons (IsItem (numbered (take 11 dots_behind_attribute ++ ((kinds.Keyword words.Int) ∷ (kinds.Punct signs.CloseParen) ∷ (kinds.Punct signs.Semicolon) ∷ kinds.End ∷ [])))) (decl_item (decl_declaration (declaration [] (more_words (basic (record {
+        token =
+            0;
+        keyword = words.Int;
+      })) no_words) (more_init_declrs [] (params (declr_name 1 0) 2 (more_params (more_words (basic (record { token = 3; keyword = words.Int })) no_words) no_declr [] (more_params (more_words (attribute (record { keyword = 5; group = record { first = 6; last = 10 } })) (more_words (basic (record { token = 11; keyword = words.Int })) no_words)) no_declr [] no_params)) None 12) None [] no_init no_init_declrs) 13))) ([]) ((is_mix (more_words (basic (record { token = 0; keyword = words.Int })) no_words) refl, (tt, tt), refl, (All-nil _, (tt, refl, refl, (is_mix (more_words (basic (record { token = 3; keyword = words.Int })) no_words) refl, (tt, tt), tt, All-nil _, tt, (is_mix (more_words (attribute (record { keyword = 5; group = record { first = 6; last = 10 } })) (more_words (basic (record { token = 11; keyword = words.Int })) no_words)) refl, ((record { inside = (record { kind = kinds.Punct signs.OpenParen; at = 7 }) ∷ (record { kind = kinds.Name 1; at = 8 }) ∷ (record { kind = kinds.Punct signs.CloseParen; at = 9 }) ∷ []; tokens = refl; balanced = bracketed (record { kind = kinds.Punct signs.OpenParen; at = 7 }) (record { kind = kinds.Punct signs.CloseParen; at = 9 }) ((record { kind = kinds.Name 1; at = 8 }) ∷ []) [] refl (inner (record { kind = kinds.Name 1; at = 8 }) [] refl nothing) nothing }), (tt, tt)), tt, All-nil _, tt, tt)), tt), refl, tt, All-nil _, tt, tt))) (All-nil _))
+      refl refl
+
+  -- void f(int (__attribute__((a)) int));
+  pub attribute_without_parameter_front : BeginsUnit (take 11 attribute_without_parameter)
+  attribute_without_parameter_front =
+      unit_from (take 11 attribute_without_parameter) ((kinds.Keyword words.Int) ∷ (kinds.Punct signs.CloseParen) ∷ (kinds.Punct signs.CloseParen) ∷ (kinds.Punct signs.Semicolon) ∷ kinds.End ∷ [])
+      ((decl_item (decl_declaration (declaration [] (more_words (basic (record {
+        token =
+            0;
+        keyword = words.Void;
+      })) no_words) (more_init_declrs [] (params (declr_name 1 0) 2 (more_params (more_words (basic (record { token = 3; keyword = words.Int })) no_words) (some_declr (abs_params no_declr 4 (more_params (more_words (attribute (record { keyword = 5; group = record { first = 6; last = 10 } })) (more_words (basic (record { token = 11; keyword = words.Int })) no_words)) no_declr [] no_params) None 12)) [] no_params) None 13) None [] no_init no_init_declrs) 14))) ∷ [])
+      15 refl
+      (All-cons (IsItem (numbered (take 11 attribute_without_parameter ++ ((kinds.Keyword words.Int) ∷ (kinds.Punct signs.CloseParen) ∷ (kinds.Punct signs.CloseParen) ∷ (kinds.Punct signs.Semicolon) ∷ kinds.End ∷ [])))) (decl_item (decl_declaration (declaration [] (more_words (basic (record {
+        token =
+            0;
+        keyword = words.Void;
+      })) no_words) (more_init_declrs [] (params (declr_name 1 0) 2 (more_params (more_words (basic (record { token = 3; keyword = words.Int })) no_words) (some_declr (abs_params no_declr 4 (more_params (more_words (attribute (record { keyword = 5; group = record { first = 6; last = 10 } })) (more_words (basic (record { token = 11; keyword = words.Int })) no_words)) no_declr [] no_params) None 12)) [] no_params) None 13) None [] no_init no_init_declrs) 14))) ([]) ((is_mix (more_words (basic (record { token = 0; keyword = words.Void })) no_words) refl, (tt, tt), refl, (All-nil _, (tt, refl, refl, (is_mix (more_words (basic (record { token = 3; keyword = words.Int })) no_words) refl, (tt, tt), (tt, (is_mix (more_words (attribute (record { keyword = 5; group = record { first = 6; last = 10 } })) (more_words (basic (record { token = 11; keyword = words.Int })) no_words)) refl, ((record { inside = (record { kind = kinds.Punct signs.OpenParen; at = 7 }) ∷ (record { kind = kinds.Name 1; at = 8 }) ∷ (record { kind = kinds.Punct signs.CloseParen; at = 9 }) ∷ []; tokens = refl; balanced = bracketed (record { kind = kinds.Punct signs.OpenParen; at = 7 }) (record { kind = kinds.Punct signs.CloseParen; at = 9 }) ((record { kind = kinds.Name 1; at = 8 }) ∷ []) [] refl (inner (record { kind = kinds.Name 1; at = 8 }) [] refl nothing) nothing }), (tt, tt)), tt, All-nil _, tt, tt), tt), All-nil _, tt, tt), tt), refl, tt, All-nil _, tt, tt))) (All-nil _))
+      refl refl
+
+  -- int f() __attribute__((a));
+  pub label_behind_attribute_front : BeginsUnit (take 10 label_behind_attribute)
+  label_behind_attribute_front =
+      unit_from (take 10 label_behind_attribute) ((kinds.Punct signs.Semicolon) ∷ kinds.End ∷ [])
+      ((decl_item (decl_declaration (declaration [] (more_words (basic (record {
+        token =
+            0;
+        keyword = words.Int;
+      })) no_words) (more_init_declrs [] (params (declr_name 1 0) 2 no_params None 3) None ((record { keyword = 4; group = record { first = 5; last = 9 } }) ∷ []) no_init no_init_declrs) 10))) ∷ [])
+      11 refl
+      (All-cons (IsItem (numbered (take 10 label_behind_attribute ++ ((kinds.Punct signs.Semicolon) ∷ kinds.End ∷ [])))) (decl_item (decl_declaration (declaration [] (more_words (basic (record {
+        token =
+            0;
+        keyword = words.Int;
+      })) no_words) (more_init_declrs [] (params (declr_name 1 0) 2 no_params None 3) None ((record { keyword = 4; group = record { first = 5; last = 9 } }) ∷ []) no_init no_init_declrs) 10))) ([]) ((is_mix (more_words (basic (record { token = 0; keyword = words.Int })) no_words) refl, (tt, tt), refl, (All-nil _, (tt, refl, refl, tt, tt), refl, tt, (All-cons (λ (a : Attr). IsGroup (numbered (take 10 label_behind_attribute ++ ((kinds.Punct signs.Semicolon) ∷ kinds.End ∷ []))) a.group) (record { keyword = 4; group = record { first = 5; last = 9 } }) [] (record { inside = (record { kind = kinds.Punct signs.OpenParen; at = 6 }) ∷ (record { kind = kinds.Name 1; at = 7 }) ∷ (record { kind = kinds.Punct signs.CloseParen; at = 8 }) ∷ []; tokens = refl; balanced = bracketed (record { kind = kinds.Punct signs.OpenParen; at = 6 }) (record { kind = kinds.Punct signs.CloseParen; at = 8 }) ((record { kind = kinds.Name 1; at = 7 }) ∷ []) [] refl (inner (record { kind = kinds.Name 1; at = 7 }) [] refl nothing) nothing }) (All-nil _)), tt, tt))) (All-nil _))
+      refl refl
+
+  -- void f(void) { __attribute__((a)) ; }
+  pub extension_behind_attribute_front : BeginsUnit (take 12 extension_behind_attribute)
+  extension_behind_attribute_front =
+      unit_from (take 12 extension_behind_attribute) ((kinds.Punct signs.Semicolon) ∷ (kinds.Punct signs.CloseBrace) ∷ kinds.End ∷ [])
+      ((function_item [] (more_words (basic (record {
+        token =
+            0;
+        keyword = words.Void;
+      })) no_words) (params (declr_name 1 0) 2 (more_params (more_words (basic (record { token = 3; keyword = words.Void })) no_words) no_declr [] no_params) None 4) [] 5 (more_block_items (block_stmt (attr_stmt ((record { keyword = 6; group = record { first = 7; last = 11 } }) ∷ []) 12)) no_block_items) 13) ∷ [])
+      14 refl
+      (All-cons (IsItem (numbered (take 12 extension_behind_attribute ++ ((kinds.Punct signs.Semicolon) ∷ (kinds.Punct signs.CloseBrace) ∷ kinds.End ∷ [])))) (function_item [] (more_words (basic (record {
+        token =
+            0;
+        keyword = words.Void;
+      })) no_words) (params (declr_name 1 0) 2 (more_params (more_words (basic (record { token = 3; keyword = words.Void })) no_words) no_declr [] no_params) None 4) [] 5 (more_block_items (block_stmt (attr_stmt ((record { keyword = 6; group = record { first = 7; last = 11 } }) ∷ []) 12)) no_block_items) 13) ([]) ((is_mix (more_words (basic (record { token = 0; keyword = words.Void })) no_words) refl, (tt, tt), no_typedef, (tt, refl, refl, (is_mix (more_words (basic (record { token = 3; keyword = words.Void })) no_words) refl, (tt, tt), tt, All-nil _, tt, tt), tt), refl, All-nil _, (((λ is. absurd cc), (All-cons (λ (a : Attr). IsGroup (numbered (take 12 extension_behind_attribute ++ ((kinds.Punct signs.Semicolon) ∷ (kinds.Punct signs.CloseBrace) ∷ kinds.End ∷ []))) a.group) (record { keyword = 6; group = record { first = 7; last = 11 } }) [] (record { inside = (record { kind = kinds.Punct signs.OpenParen; at = 8 }) ∷ (record { kind = kinds.Name 1; at = 9 }) ∷ (record { kind = kinds.Punct signs.CloseParen; at = 10 }) ∷ []; tokens = refl; balanced = bracketed (record { kind = kinds.Punct signs.OpenParen; at = 8 }) (record { kind = kinds.Punct signs.CloseParen; at = 10 }) ((record { kind = kinds.Name 1; at = 9 }) ∷ []) [] refl (inner (record { kind = kinds.Name 1; at = 9 }) [] refl nothing) nothing }) (All-nil _))), tt))) (All-nil _))
+      refl refl
+
+  -- void f(void) { L: __attribute__((a)) ; }
+  pub declaration_behind_label_front : BeginsUnit (take 14 declaration_behind_label)
+  declaration_behind_label_front =
+      unit_from (take 14 declaration_behind_label) ((kinds.Punct signs.Semicolon) ∷ (kinds.Punct signs.CloseBrace) ∷ kinds.End ∷ [])
+      ((function_item [] (more_words (basic (record {
+        token =
+            0;
+        keyword = words.Void;
+      })) no_words) (params (declr_name 1 0) 2 (more_params (more_words (basic (record { token = 3; keyword = words.Void })) no_words) no_declr [] no_params) None 4) [] 5 (more_block_items (block_stmt (label (record { token = 6; name = 1 }) 7 ((record { keyword = 8; group = record { first = 9; last = 13 } }) ∷ []) (expr_stmt no_expr 14))) no_block_items) 15) ∷ [])
+      16 refl
+      (All-cons (IsItem (numbered (take 14 declaration_behind_label ++ ((kinds.Punct signs.Semicolon) ∷ (kinds.Punct signs.CloseBrace) ∷ kinds.End ∷ [])))) (function_item [] (more_words (basic (record {
+        token =
+            0;
+        keyword = words.Void;
+      })) no_words) (params (declr_name 1 0) 2 (more_params (more_words (basic (record { token = 3; keyword = words.Void })) no_words) no_declr [] no_params) None 4) [] 5 (more_block_items (block_stmt (label (record { token = 6; name = 1 }) 7 ((record { keyword = 8; group = record { first = 9; last = 13 } }) ∷ []) (expr_stmt no_expr 14))) no_block_items) 15) ([]) ((is_mix (more_words (basic (record { token = 0; keyword = words.Void })) no_words) refl, (tt, tt), no_typedef, (tt, refl, refl, (is_mix (more_words (basic (record { token = 3; keyword = words.Void })) no_words) refl, (tt, tt), tt, All-nil _, tt, tt), tt), refl, All-nil _, (((All-cons (λ (a : Attr). IsGroup (numbered (take 14 declaration_behind_label ++ ((kinds.Punct signs.Semicolon) ∷ (kinds.Punct signs.CloseBrace) ∷ kinds.End ∷ []))) a.group) (record { keyword = 8; group = record { first = 9; last = 13 } }) [] (record { inside = (record { kind = kinds.Punct signs.OpenParen; at = 10 }) ∷ (record { kind = kinds.Name 2; at = 11 }) ∷ (record { kind = kinds.Punct signs.CloseParen; at = 12 }) ∷ []; tokens = refl; balanced = bracketed (record { kind = kinds.Punct signs.OpenParen; at = 10 }) (record { kind = kinds.Punct signs.CloseParen; at = 12 }) ((record { kind = kinds.Name 2; at = 11 }) ∷ []) [] refl (inner (record { kind = kinds.Name 2; at = 11 }) [] refl nothing) nothing }) (All-nil _)), tt, tt), tt))) (All-nil _))
+      refl refl
+
+  -- typedef int T; void f(void) { enum { A, T = (T)1, B = (T) }; }
+  pub typedef_hidden_in_its_enum_front : BeginsUnit (take 26 typedef_hidden_in_its_enum)
+  typedef_hidden_in_its_enum_front =
+      unit_from (take 26 typedef_hidden_in_its_enum) ((kinds.Punct signs.CloseBrace) ∷ (kinds.Punct signs.Semicolon) ∷ (kinds.Punct signs.CloseBrace) ∷ kinds.End ∷ [])
+      ((decl_item (decl_declaration (declaration [] (more_words (storage (record {
+        token =
+            0;
+        keyword = words.Typedef;
+      })) (more_words (basic (record { token = 1; keyword = words.Int })) no_words)) (more_init_declrs [] (declr_name 2 0) None [] no_init no_init_declrs) 3))) ∷ (function_item [] (more_words (basic (record { token = 4; keyword = words.Void })) no_words) (params (declr_name 5 1) 6 (more_params (more_words (basic (record { token = 7; keyword = words.Void })) no_words) no_declr [] no_params) None 8) [] 9 (more_block_items (block_decl (decl_declaration (declaration [] (more_words (enum_type (enum_of 10 [] None (some_enum_body 11 (more_enumerators (record { token = 12; name = 2 }) [] no_value (more_enumerators (record { token = 14; name = 0 }) [] (some_value 15 (cast 16 (more_words (typedef_name (record { token = 17; name = 0 })) no_words) no_declr 18 (number_use 19))) (more_enumerators (record { token = 21; name = 3 }) [] (some_value 22 (paren 23 (name_use 24 0) 25)) no_enumerators))) None 26))) no_words) no_init_declrs 27))) no_block_items) 28) ∷ [])
+      29 refl
+      (All-cons (IsItem (numbered (take 26 typedef_hidden_in_its_enum ++ ((kinds.Punct signs.CloseBrace) ∷ (kinds.Punct signs.Semicolon) ∷ (kinds.Punct signs.CloseBrace) ∷ kinds.End ∷ [])))) (decl_item (decl_declaration (declaration [] (more_words (storage (record {
+        token =
+            0;
+        keyword = words.Typedef;
+      })) (more_words (basic (record { token = 1; keyword = words.Int })) no_words)) (more_init_declrs [] (declr_name 2 0) None [] no_init no_init_declrs) 3))) ((function_item [] (more_words (basic (record { token = 4; keyword = words.Void })) no_words) (params (declr_name 5 1) 6 (more_params (more_words (basic (record { token = 7; keyword = words.Void })) no_words) no_declr [] no_params) None 8) [] 9 (more_block_items (block_decl (decl_declaration (declaration [] (more_words (enum_type (enum_of 10 [] None (some_enum_body 11 (more_enumerators (record { token = 12; name = 2 }) [] no_value (more_enumerators (record { token = 14; name = 0 }) [] (some_value 15 (cast 16 (more_words (typedef_name (record { token = 17; name = 0 })) no_words) no_declr 18 (number_use 19))) (more_enumerators (record { token = 21; name = 3 }) [] (some_value 22 (paren 23 (name_use 24 0) 25)) no_enumerators))) None 26))) no_words) no_init_declrs 27))) no_block_items) 28) ∷ []) ((is_mix (more_words (storage (record { token = 0; keyword = words.Typedef })) (more_words (basic (record { token = 1; keyword = words.Int })) no_words)) refl, (refl, (tt, tt)), refl, (All-nil _, tt, refl, tt, All-nil _, tt, tt))) (All-cons (IsItem (numbered (take 26 typedef_hidden_in_its_enum ++ ((kinds.Punct signs.CloseBrace) ∷ (kinds.Punct signs.Semicolon) ∷ (kinds.Punct signs.CloseBrace) ∷ kinds.End ∷ [])))) (function_item [] (more_words (basic (record { token = 4; keyword = words.Void })) no_words) (params (declr_name 5 1) 6 (more_params (more_words (basic (record { token = 7; keyword = words.Void })) no_words) no_declr [] no_params) None 8) [] 9 (more_block_items (block_decl (decl_declaration (declaration [] (more_words (enum_type (enum_of 10 [] None (some_enum_body 11 (more_enumerators (record { token = 12; name = 2 }) [] no_value (more_enumerators (record { token = 14; name = 0 }) [] (some_value 15 (cast 16 (more_words (typedef_name (record { token = 17; name = 0 })) no_words) no_declr 18 (number_use 19))) (more_enumerators (record { token = 21; name = 3 }) [] (some_value 22 (paren 23 (name_use 24 0) 25)) no_enumerators))) None 26))) no_words) no_init_declrs 27))) no_block_items) 28) ([]) ((is_mix (more_words (basic (record { token = 4; keyword = words.Void })) no_words) refl, (tt, tt), no_typedef, (tt, refl, refl, (is_mix (more_words (basic (record { token = 7; keyword = words.Void })) no_words) refl, (tt, tt), tt, All-nil _, tt, tt), tt), refl, All-nil _, ((is_mix (more_words (enum_type (enum_of 10 [] None (some_enum_body 11 (more_enumerators (record { token = 12; name = 2 }) [] no_value (more_enumerators (record { token = 14; name = 0 }) [] (some_value 15 (cast 16 (more_words (typedef_name (record { token = 17; name = 0 })) no_words) no_declr 18 (number_use 19))) (more_enumerators (record { token = 21; name = 3 }) [] (some_value 22 (paren 23 (name_use 24 0) 25)) no_enumerators))) None 26))) no_words) refl, ((All-nil _, tt, ((λ is. absurd cc), (All-nil _, tt, (All-nil _, ((is_mix (more_words (typedef_name (record { token = 17; name = 0 })) no_words) refl, (tt, tt, tt), tt, tt, (leb-true 13 16 refl)), (leb-true 2 13 refl)), (All-nil _, (tt, (leb-true 2 16 refl)), tt))))), tt), tt, tt), tt))) (All-nil _)))
       refl refl
 
 module _ (whole_are : WholeAreMixes) (goes : MixesGoOn) (trees : UnitsAreTrees) where

@@ -105,6 +105,22 @@ words_without_type =
     kinds.Punct signs.Comma ∷ kinds.Keyword words.Const ∷ kinds.Punct signs.CloseParen ∷ kinds.Punct signs.Semicolon ∷
     kinds.End ∷ []
 
+-- int f(int, __attribute__((a)) ...);
+abbrev pub dots_behind_attribute : List TokenKind
+dots_behind_attribute =
+    kinds.Keyword words.Int ∷ kinds.Name 0 ∷ kinds.Punct signs.OpenParen ∷ kinds.Keyword words.Int ∷
+    kinds.Punct signs.Comma ∷ kinds.Keyword words.Attribute ∷ kinds.Punct signs.OpenParen ∷
+    kinds.Punct signs.OpenParen ∷ kinds.Name 1 ∷ kinds.Punct signs.CloseParen ∷ kinds.Punct signs.CloseParen ∷
+    kinds.Punct signs.Ellipsis ∷ kinds.Punct signs.CloseParen ∷ kinds.Punct signs.Semicolon ∷ kinds.End ∷ []
+
+-- void f(int (__attribute__((a))));
+abbrev pub attribute_without_parameter : List TokenKind
+attribute_without_parameter =
+    kinds.Keyword words.Void ∷ kinds.Name 0 ∷ kinds.Punct signs.OpenParen ∷ kinds.Keyword words.Int ∷
+    kinds.Punct signs.OpenParen ∷ kinds.Keyword words.Attribute ∷ kinds.Punct signs.OpenParen ∷
+    kinds.Punct signs.OpenParen ∷ kinds.Name 1 ∷ kinds.Punct signs.CloseParen ∷ kinds.Punct signs.CloseParen ∷
+    kinds.Punct signs.CloseParen ∷ kinds.Punct signs.CloseParen ∷ kinds.Punct signs.Semicolon ∷ kinds.End ∷ []
+
 -- int x, f() { }
 abbrev pub function_behind_comma : List TokenKind
 function_behind_comma =
@@ -118,6 +134,15 @@ function_of_typedef =
     kinds.Keyword words.Int ∷ kinds.Punct signs.CloseParen ∷ kinds.Punct signs.OpenBrace ∷
     kinds.Punct signs.CloseBrace ∷ kinds.End ∷ []
 
+-- int f() __attribute__((a)) asm("l");
+abbrev pub label_behind_attribute : List TokenKind
+label_behind_attribute =
+    kinds.Keyword words.Int ∷ kinds.Name 0 ∷ kinds.Punct signs.OpenParen ∷ kinds.Punct signs.CloseParen ∷
+    kinds.Keyword words.Attribute ∷ kinds.Punct signs.OpenParen ∷ kinds.Punct signs.OpenParen ∷ kinds.Name 1 ∷
+    kinds.Punct signs.CloseParen ∷ kinds.Punct signs.CloseParen ∷ kinds.Keyword words.Asm ∷
+    kinds.Punct signs.OpenParen ∷ kinds.Text ∷ kinds.Punct signs.CloseParen ∷ kinds.Punct signs.Semicolon ∷
+    kinds.End ∷ []
+
 -- typedef int T; void f(void) { if (1) T y; }
 abbrev pub declaration_in_if : List TokenKind
 declaration_in_if =
@@ -125,6 +150,36 @@ declaration_in_if =
     kinds.Keyword words.Void ∷ kinds.Name 1 ∷ kinds.Punct signs.OpenParen ∷ kinds.Keyword words.Void ∷
     kinds.Punct signs.CloseParen ∷ kinds.Punct signs.OpenBrace ∷ kinds.Keyword words.If ∷
     kinds.Punct signs.OpenParen ∷ kinds.Number ∷ kinds.Punct signs.CloseParen ∷ kinds.Name 0 ∷ kinds.Name 2 ∷
+    kinds.Punct signs.Semicolon ∷ kinds.Punct signs.CloseBrace ∷ kinds.End ∷ []
+
+-- typedef int T; void f(void) { enum { A, T = (T)1, B = (T)1 }; }
+abbrev pub typedef_hidden_in_its_enum : List TokenKind
+typedef_hidden_in_its_enum =
+    kinds.Keyword words.Typedef ∷ kinds.Keyword words.Int ∷ kinds.Name 0 ∷ kinds.Punct signs.Semicolon ∷
+    kinds.Keyword words.Void ∷ kinds.Name 1 ∷ kinds.Punct signs.OpenParen ∷ kinds.Keyword words.Void ∷
+    kinds.Punct signs.CloseParen ∷ kinds.Punct signs.OpenBrace ∷ kinds.Keyword words.Enum ∷
+    kinds.Punct signs.OpenBrace ∷ kinds.Name 2 ∷ kinds.Punct signs.Comma ∷ kinds.Name 0 ∷ kinds.Punct signs.Equal ∷
+    kinds.Punct signs.OpenParen ∷ kinds.Name 0 ∷ kinds.Punct signs.CloseParen ∷ kinds.Number ∷
+    kinds.Punct signs.Comma ∷ kinds.Name 3 ∷ kinds.Punct signs.Equal ∷ kinds.Punct signs.OpenParen ∷ kinds.Name 0 ∷
+    kinds.Punct signs.CloseParen ∷ kinds.Number ∷ kinds.Punct signs.CloseBrace ∷ kinds.Punct signs.Semicolon ∷
+    kinds.Punct signs.CloseBrace ∷ kinds.End ∷ []
+
+-- void f(void) { __attribute__((a)) __extension__ int x; }
+abbrev pub extension_behind_attribute : List TokenKind
+extension_behind_attribute =
+    kinds.Keyword words.Void ∷ kinds.Name 0 ∷ kinds.Punct signs.OpenParen ∷ kinds.Keyword words.Void ∷
+    kinds.Punct signs.CloseParen ∷ kinds.Punct signs.OpenBrace ∷ kinds.Keyword words.Attribute ∷
+    kinds.Punct signs.OpenParen ∷ kinds.Punct signs.OpenParen ∷ kinds.Name 1 ∷ kinds.Punct signs.CloseParen ∷
+    kinds.Punct signs.CloseParen ∷ kinds.Keyword words.Extension ∷ kinds.Keyword words.Int ∷ kinds.Name 2 ∷
+    kinds.Punct signs.Semicolon ∷ kinds.Punct signs.CloseBrace ∷ kinds.End ∷ []
+
+-- void f(void) { L: __attribute__((a)) int x; }
+abbrev pub declaration_behind_label : List TokenKind
+declaration_behind_label =
+    kinds.Keyword words.Void ∷ kinds.Name 0 ∷ kinds.Punct signs.OpenParen ∷ kinds.Keyword words.Void ∷
+    kinds.Punct signs.CloseParen ∷ kinds.Punct signs.OpenBrace ∷ kinds.Name 1 ∷ kinds.Punct signs.Colon ∷
+    kinds.Keyword words.Attribute ∷ kinds.Punct signs.OpenParen ∷ kinds.Punct signs.OpenParen ∷ kinds.Name 2 ∷
+    kinds.Punct signs.CloseParen ∷ kinds.Punct signs.CloseParen ∷ kinds.Keyword words.Int ∷ kinds.Name 3 ∷
     kinds.Punct signs.Semicolon ∷ kinds.Punct signs.CloseBrace ∷ kinds.End ∷ []
 
 -- int *^496 f();
@@ -156,9 +211,15 @@ Syntaxes =
     × IsRefusedAt cast_incremented 7 syntax
     × IsRefusedAt sizeof_type_indexed 7 syntax
     × IsRefusedAt words_without_type 7 syntax
+    × IsRefusedAt dots_behind_attribute 11 syntax
+    × IsRefusedAt attribute_without_parameter 11 syntax
     × IsRefusedAt function_behind_comma 6 syntax
     × IsRefusedAt function_of_typedef 6 syntax
+    × IsRefusedAt label_behind_attribute 10 syntax
     × IsRefusedAt declaration_in_if 15 syntax
+    × IsRefusedAt typedef_hidden_in_its_enum 26 syntax
+    × IsRefusedAt extension_behind_attribute 12 syntax
+    × IsRefusedAt declaration_behind_label 14 syntax
 
 -- what begins so is a tree, and many tokens stand before its semicolon
 abbrev pub TooDeeps : Type 0
