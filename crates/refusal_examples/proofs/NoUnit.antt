@@ -1,5 +1,5 @@
--- No unit begins with `long float`, whatever its height: no mix does, and nothing that stands behind specifiers begins with a
--- keyword of a basic type.
+-- No unit begins with `long float`, whatever its height: no mix does, and nothing that stands behind specifiers
+-- begins with a keyword of a basic type.
 use Rattle.std.specs.Prelude.{◌++◌, Some, is_some, All}
 use Rattle.std.proofs.Common.{◌≡◌, ◌≢◌, ℕ, Bool, true, false, List, [], ◌∷◌, arith, refl, sym, ap, subst, ◌∙◌}
 use Rattle.c_words.specs.declared.kinds.TokenKind.{TokenKind}

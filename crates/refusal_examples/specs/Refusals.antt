@@ -8,9 +8,9 @@ use Rattle.c_words.specs.declared.kinds.Punct.TheVariants as signs
 use Rattle.c_units.specs.FirstBad.{BeginsUnit}
 use Rattle.refusal_rules.specs.Allowed.{Code, syntax, too_deep, other_kind, no_mix, no_unary_left, BeginsTree, MayBe, IsAllowed}
 
--- A unit begins with the tokens before this one, so that no refusal of an earlier token is allowed; a tree begins with them
--- too, and the code may be that of this token. That no unit begins with the tokens up to it, of this height or any, is not
--- said here.
+-- A unit begins with the tokens before this one, so that no refusal of an earlier token is allowed; a tree begins
+-- with them too, and the code may be that of this token. That no unit begins with the tokens up to it, of this
+-- height or any, is not said here.
 pub record IsRefusedAt (tokens : List TokenKind) (at : ℕ) (code : Code) : Type 0 where
   pub unit : BeginsUnit (take at tokens)
   pub tree : BeginsTree (take at tokens)
@@ -225,8 +225,8 @@ Syntaxes =
 abbrev pub TooDeeps : Type 0
 TooDeeps = MayBe too_deep many_pointers 500
 
--- A name is no keyword and no assignment operator, and few tokens stand before it; and a unit begins with the name of an
--- object, with a typedef name that may be a label, and with an operand and the operator behind it.
+-- A name is no keyword and no assignment operator, and few tokens stand before it; and a unit begins with the name
+-- of an object, with a typedef name that may be a label, and with an operand and the operator behind it.
 abbrev pub WrongRefusals : Type 0
 WrongRefusals =
     ¬ IsAllowed held_name_enumerated 7 no_mix

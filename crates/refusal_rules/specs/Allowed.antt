@@ -1,7 +1,7 @@
 -- Which refusals of a list of tokens are allowed: the token that is refused, and why.
 --
--- A tree here is any that the lines of the grammar make, whatever other rule it breaks. A refusal that is allowed need not be
--- at the first token up to which no well-formed unit begins so, but never stands before it.
+-- A tree here is any that the lines of the grammar make, whatever other rule it breaks. A refusal that is allowed
+-- need not be at the first token up to which no well-formed unit begins so, but never stands before it.
 use Rattle.std.specs.Prelude.{◌≡◌, ℕ, ◌+◌, ◌≤◌, ◌<◌, All, Contains, true, false, List, ◌++◌, length, take, slice_get, Option, Some}
 use Rattle.c_words.specs.declared.kinds.TokenKind.{TokenKind}
 use Rattle.c_words.specs.declared.kinds.TokenKind.TheVariants as kinds
@@ -121,7 +121,8 @@ IsNotForHeight other_kind tokens at = ¬ BeginsUnitOfAnyHeight (take (at + 1) to
 IsNotForHeight no_mix tokens at = ¬ BeginsUnitOfAnyHeight (take (at + 1) tokens)
 IsNotForHeight no_unary_left tokens at = ¬ BeginsUnitOfAnyHeight (take (at + 1) tokens)
 
--- no well-formed unit begins with the tokens up to this one, some tree begins with those before it, and the code may be its
+-- no well-formed unit begins with the tokens up to this one, some tree begins with those before it, and the code may
+-- be its
 pub record IsAllowed (tokens : List TokenKind) (at : ℕ) (code : Code) : Type 0 where
   pub there : at < length tokens
   pub none : ¬ BeginsUnit (take (at + 1) tokens)

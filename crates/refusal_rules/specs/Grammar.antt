@@ -1,6 +1,7 @@
--- The trees that the lines of the grammar make, whatever other rule of C they break: the precedence of the binary operators
--- among one another, the mixes of specifiers, the `if` that an `else` belongs to, the form that an attribute belongs to,
--- which declarators a function may have, the kinds of names by scope and the height are not looked at here.
+-- The trees that the lines of the grammar make, whatever other rule of C they break: the precedence of the binary
+-- operators among one another, the mixes of specifiers, the `if` that an `else` belongs to, the form that an
+-- attribute belongs to, which declarators a function may have, the kinds of names by scope and the height are not
+-- looked at here.
 use Rattle.std.specs.Prelude.{◌≡◌, ◌≢◌, ◌≤◌, All, Bool, true, false, ℕ, List, []}
 use Rattle.c_words.specs.declared.kinds.Keyword.{Keyword}
 use Rattle.c_words.specs.declared.kinds.Keyword.TheVariants.{Void, Char, Short, Int, Long, Float, Double, Signed, Unsigned, Bool as BoolWord, Complex, BaseWord, Int128}

@@ -1,5 +1,5 @@
--- How what is allowed lies to well-formed units: the lines of the grammar ask no more than all rules do, nothing is allowed
--- before the first bad token, and there a refusal is, unless the height alone is wrong.
+-- How what is allowed lies to well-formed units: the lines of the grammar ask no more than all rules do, nothing is
+-- allowed before the first bad token, and there a refusal is, unless the height alone is wrong.
 use Rattle.std.specs.Prelude.{ℕ, ◌+◌, ◌<◌, All, List, take}
 use Rattle.c_words.specs.declared.kinds.TokenKind.{TokenKind}
 use Rattle.c_tree.specs.declared.lexeme.Lexeme.{Lexeme}

@@ -1,5 +1,6 @@
--- The expressions, the specifiers and the declared names of a tree, in the order of its text, each with the scopes at its
--- place; none where a name before it has not the kind that its place wants. Declarators of members declare nothing.
+-- The expressions, the specifiers and the declared names of a tree, in the order of its text, each with the scopes
+-- at its place; none where a name before it has not the kind that its place wants. Declarators of members declare
+-- nothing.
 use Rattle.std.specs.Prelude.{ℕ, List, [], ◌∷◌, ◌++◌, Option, None, Some}
 use Rattle.c_tree.specs.Tree.{Expr, operation, cast, prefix, sizeof_value, sizeof_type, extension, index, call, dot, arrow, post, compound, name_use, number_use, char_use, text_use, paren, statement_expr, va_arg, va_start, va_copy, offset, Operator, comma, assign, cond, binary, SomeExpr, no_expr, some_expr, Exprs, no_exprs, more_exprs, SpecWords, no_words, more_words, SpecWord, storage, thread, inline_word, noreturn, qualifier, basic, struct_type, enum_type, typedef_name, attribute, SomeBody, no_body, some_body, StructItems, no_struct_items, more_struct_items, StructItem, member, member_semi, member_assert, MemDeclrs, no_mem_declrs, more_mem_declrs, MemDeclr, named, unnamed, SomeValue, no_value, some_value, EnumType, enum_of, SomeEnumBody, no_enum_body, some_enum_body, Enumerators, no_enumerators, more_enumerators, Declr, pointer, declr_name, declr_paren, array, params, abs_pointer, abs_paren, abs_array, abs_params, SomeDeclr, no_declr, some_declr, SomeSize, no_size, some_size, ArraySize, size_value, size_star, Params, no_params, more_params, Init, init_value, init_braced, InitList, init_list, InitItems, no_init_items, more_init_items, Desigs, no_desigs, more_desigs, Desig, member_desig, index_desig, SomeInit, no_init, some_init, InitDeclrs, no_init_declrs, more_init_declrs, Declaration, declaration, Decl, decl_declaration, decl_assert, BlockItems, no_block_items, more_block_items, BlockItem, block_decl, block_stmt, Stmt, block, expr_stmt, attr_stmt, label, case_stmt, default_stmt, if_stmt, switch_stmt, while_stmt, do_stmt, for_stmt, goto_stmt, continue_stmt, break_stmt, return_stmt, asm_stmt, SomeElse, no_else, some_else, ForStart, start_declaration, start_value}
 use Rattle.c_tree.specs.Unit.{Item, function_item, decl_item, asm_item, semi_item}
@@ -167,7 +168,8 @@ abbrev mutual
   enumerators_inside no_enumerators s = []
   enumerators_inside (more_enumerators name attrs value es) s =
       (declared name.token name.name Constant, s) ∷ some_value_inside value (behind_name name.name s)
-      ++ enumerators_inside es (behind (behind (behind_name name.name s) (some_value_scopes value)) (declare name.name Constant))
+      ++ enumerators_inside es
+      (behind (behind (behind_name name.name s) (some_value_scopes value)) (declare name.name Constant))
 
   pub declr_inside : Option Kind → Declr → Option HeldScopes → List Place
   declr_inside kind (pointer star words d) s = declr_inside kind d s
@@ -232,7 +234,8 @@ abbrev mutual
   init_declrs_inside kind (more_init_declrs attrs d asm_label attrs2 init ds) s =
       declr_inside (Some kind) d s
       ++ some_init_inside init (released kind (behind s (declr_scopes (Some kind) d)))
-      ++ init_declrs_inside kind ds (behind (released kind (behind s (declr_scopes (Some kind) d))) (some_init_scopes init))
+      ++ init_declrs_inside kind ds
+      (behind (released kind (behind s (declr_scopes (Some kind) d))) (some_init_scopes init))
 
   pub declaration_inside : Declaration → Option HeldScopes → List Place
   declaration_inside (declaration exts ws ds semi) s =
@@ -271,7 +274,8 @@ abbrev mutual
   stmt_inside (for_stmt keyword opening start e semi e2 closing t) s =
       for_start_inside start (entered s) ++ some_expr_inside e (behind (entered s) (for_start_scopes start))
       ++ some_expr_inside e2 (behind (behind (entered s) (for_start_scopes start)) (some_expr_scopes e))
-      ++ stmt_inside t (entered (behind (behind (behind (entered s) (for_start_scopes start)) (some_expr_scopes e)) (some_expr_scopes e2)))
+      ++ stmt_inside t
+      (entered (behind (behind (behind (entered s) (for_start_scopes start)) (some_expr_scopes e)) (some_expr_scopes e2)))
   stmt_inside (goto_stmt keyword name semi) s = []
   stmt_inside (continue_stmt keyword semi) s = []
   stmt_inside (break_stmt keyword semi) s = []
