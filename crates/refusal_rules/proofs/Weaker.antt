@@ -19,10 +19,10 @@ use Rattle.c_specs.specs.Basic.{part_of}
 use Rattle.c_specs.specs.Mix.{class_of, goes_on, is_whole_mix, mix_of, with_part, with_types, then_class}
 use Rattle.c_specs.specs.Reading.{append_words, pushed}
 use Rattle.c_specs.specs.Laws.{WholeAreMixes, MixesGoOn}
-use Rattle.refusal_rules.specs.Grammar.{is_type_word, left_line, right_line, DerivesExpr, DerivesMiddle, DerivesSomeExpr, DerivesArguments, DerivesSteps, DerivesStep, DerivesDesigs, DerivesDesig, DerivesTypeWords, DerivesSpecWords, DerivesSpecWord, DerivesBody, DerivesStructItems, DerivesStructItem, DerivesMemDeclrs, DerivesMemDeclr, DerivesSomeValue, DerivesEnum, DerivesEnumBody, DerivesEnumerators, DerivesDeclr, DerivesSomeAbstract, DerivesSomeDirect, DerivesSize, DerivesArraySize, DerivesParams, DerivesSomeDeclr, DerivesInit, DerivesInitList, DerivesInitItems, DerivesSomeInit, DerivesInitDeclrs, DerivesDeclaration, DerivesDecl, DerivesBlockItems, DerivesBlockItem, DerivesStmt, DerivesOther, DerivesStart, DerivesItem}
+use Rattle.refusal_rules.specs.Grammar.{is_basic_word, left_line, right_line, DerivesExpr, DerivesMiddle, DerivesSomeExpr, DerivesArguments, DerivesSteps, DerivesStep, DerivesDesigs, DerivesDesig, DerivesTypeWords, DerivesSpecWords, DerivesSpecWord, DerivesBody, DerivesStructItems, DerivesStructItem, DerivesMemDeclrs, DerivesMemDeclr, DerivesSomeValue, DerivesEnum, DerivesEnumBody, DerivesEnumerators, DerivesDeclr, DerivesSomeAbstract, DerivesSomeDirect, DerivesSize, DerivesArraySize, DerivesParams, DerivesSomeDeclr, DerivesInit, DerivesInitList, DerivesInitItems, DerivesSomeInit, DerivesInitDeclrs, DerivesDeclaration, DerivesDecl, DerivesBlockItems, DerivesBlockItem, DerivesStmt, DerivesOther, DerivesStart, DerivesItem}
 
 -- of a word that no basic type has, no part of a mix is made
-type_or_other : (k : Keyword) → (is_type_word k ≡ true) ⊎ (part_of k ≡ word_parts.Other)
+type_or_other : (k : Keyword) → (is_basic_word k ≡ true) ⊎ (part_of k ≡ word_parts.Other)
 type_or_other Void = inl refl
 type_or_other Char = inl refl
 type_or_other Short = inl refl
@@ -43,11 +43,11 @@ other_is_none Named = refl
 other_is_none (Words base mark) = refl
 
 spells_type : (before : Option Mix) (k : Keyword) → is_some (then_class before (classes.Spells k)) ≡ true
-    → is_type_word k ≡ true
+    → is_basic_word k ≡ true
 spells_type None k e = absurd cc
 spells_type (Some mix) k e = on (type_or_other k)
   where
-    on : (is_type_word k ≡ true) ⊎ (part_of k ≡ word_parts.Other) → is_type_word k ≡ true
+    on : (is_basic_word k ≡ true) ⊎ (part_of k ≡ word_parts.Other) → is_basic_word k ≡ true
     on (inl is) = is
     on (inr other) =
         let f : is_some (with_types mix (with_part mix.types word_parts.Other)) ≡ true = subst (λ (p : Part). is_some (with_types mix (with_part mix.types p)) ≡ true) other e in

@@ -13,21 +13,21 @@ use Rattle.c_tree.specs.WellFormed.{prefix_level, is_postfix, is_sizeof, is_stru
 use Rattle.c_tree.specs.Unit.{Item, function_item, decl_item, asm_item, semi_item}
 
 -- a word of the basic types
-abbrev pub is_type_word : Keyword → Bool
-is_type_word Void = true
-is_type_word Char = true
-is_type_word Short = true
-is_type_word Int = true
-is_type_word Long = true
-is_type_word Float = true
-is_type_word Double = true
-is_type_word Signed = true
-is_type_word Unsigned = true
-is_type_word BoolWord = true
-is_type_word Complex = true
-is_type_word BaseWord = true
-is_type_word Int128 = true
-is_type_word _ = false
+abbrev pub is_basic_word : Keyword → Bool
+is_basic_word Void = true
+is_basic_word Char = true
+is_basic_word Short = true
+is_basic_word Int = true
+is_basic_word Long = true
+is_basic_word Float = true
+is_basic_word Double = true
+is_basic_word Signed = true
+is_basic_word Unsigned = true
+is_basic_word BoolWord = true
+is_basic_word Complex = true
+is_basic_word BaseWord = true
+is_basic_word Int128 = true
+is_basic_word _ = false
 
 -- the least level of the left operand of an operator; the operands of a binary operator are any binary forms or casts
 abbrev pub left_line : Operator → ℕ
@@ -122,7 +122,7 @@ module _ (all : List Lexeme) where
     DerivesSpecWord (inline_word keyword) = Unit {0}
     DerivesSpecWord (noreturn keyword) = Unit {0}
     DerivesSpecWord (qualifier qual) = IsQual all qual
-    DerivesSpecWord (basic word) = is_type_word word.keyword ≡ true
+    DerivesSpecWord (basic word) = is_basic_word word.keyword ≡ true
     DerivesSpecWord (struct_type word attrs tag body) =
         (is_struct word.keyword ≡ true) × AreAttrs all attrs × HasTagOrBody tag body × DerivesBody body
     DerivesSpecWord (enum_type enum) = DerivesEnum enum
