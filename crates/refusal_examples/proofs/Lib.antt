@@ -1,0 +1,3 @@
+mod NoUnit
+mod Refused
+mod Trees

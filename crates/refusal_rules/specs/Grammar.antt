@@ -1,0 +1,283 @@
+-- The trees that the lines of the grammar make, whatever other rule of C they break: the precedence of the binary
+-- operators among one another, the mixes of specifiers, the `if` that an `else` belongs to, the form that an
+-- attribute belongs to, which declarators a function may have, the kinds of names by scope and the height are not
+-- looked at here.
+use Rattle.std.specs.Prelude.{◌≡◌, ◌≢◌, ◌≤◌, All, Bool, true, false, ℕ, List, []}
+use Rattle.c_words.specs.declared.kinds.Keyword.{Keyword}
+use Rattle.c_words.specs.declared.kinds.Keyword.TheVariants.{Void, Char, Short, Int, Long, Float, Double, Signed, Unsigned, Bool as BoolWord, Complex, BaseWord, Int128}
+use Rattle.c_tree.specs.declared.lexeme.Lexeme.{Lexeme}
+use Rattle.c_tree.specs.Tree.{Expr, operation, cast, prefix, sizeof_value, sizeof_type, extension, index, call, dot, arrow, post, compound, name_use, number_use, char_use, text_use, paren, statement_expr, va_arg, va_start, va_copy, offset, Operator, comma, assign, cond, binary, SomeExpr, no_expr, some_expr, Exprs, no_exprs, more_exprs, SpecWords, no_words, more_words, SpecWord, storage, thread, inline_word, noreturn, qualifier, basic, struct_type, enum_type, typedef_name, attribute, SomeBody, no_body, some_body, StructItems, no_struct_items, more_struct_items, StructItem, member, member_semi, member_assert, MemDeclrs, no_mem_declrs, more_mem_declrs, MemDeclr, named, unnamed, SomeValue, no_value, some_value, EnumType, enum_of, SomeEnumBody, no_enum_body, some_enum_body, Enumerators, no_enumerators, more_enumerators, Declr, pointer, declr_name, declr_paren, array, params, abs_pointer, abs_paren, abs_array, abs_params, SomeDeclr, no_declr, some_declr, SomeSize, no_size, some_size, ArraySize, size_value, size_star, Params, no_params, more_params, Init, init_value, init_braced, InitList, init_list, InitItems, no_init_items, more_init_items, Desigs, no_desigs, more_desigs, Desig, member_desig, index_desig, SomeInit, no_init, some_init, InitDeclrs, no_init_declrs, more_init_declrs, Declaration, declaration, Decl, decl_declaration, decl_assert, BlockItems, no_block_items, more_block_items, BlockItem, block_decl, block_stmt, Stmt, block, expr_stmt, attr_stmt, label, case_stmt, default_stmt, if_stmt, switch_stmt, while_stmt, do_stmt, for_stmt, goto_stmt, continue_stmt, break_stmt, return_stmt, asm_stmt, SomeElse, no_else, some_else, ForStart, start_declaration, start_value}
+use Rattle.c_tree.specs.Levels.{IsOperator, expr_level, left_level, right_level}
+use Rattle.c_tree.specs.Groups.{IsGroup}
+use Rattle.c_tree.specs.WellFormed.{prefix_level, is_postfix, is_sizeof, is_struct, is_storage, is_asm_word, IsQual, IsPointerWord, IsArrayWord, AreAttrs, IsLabel, is_named, is_direct, IsEllipsis, IsInitStart, IsMemStart, HasTagOrBody, HasTagOrEnumBody, IsItemsEnd, IsDesignated, IsTypeWord}
+use Rattle.c_tree.specs.Unit.{Item, function_item, decl_item, asm_item, semi_item}
+
+-- a word of the basic types
+abbrev pub is_basic_word : Keyword → Bool
+is_basic_word Void = true
+is_basic_word Char = true
+is_basic_word Short = true
+is_basic_word Int = true
+is_basic_word Long = true
+is_basic_word Float = true
+is_basic_word Double = true
+is_basic_word Signed = true
+is_basic_word Unsigned = true
+is_basic_word BoolWord = true
+is_basic_word Complex = true
+is_basic_word BaseWord = true
+is_basic_word Int128 = true
+is_basic_word _ = false
+
+-- the least level of the left operand of an operator; the operands of a binary operator are any binary forms or casts
+abbrev pub left_line : Operator → ℕ
+left_line comma = left_level comma
+left_line (assign p) = left_level (assign p)
+left_line (cond middle colon) = left_level (cond middle colon)
+left_line (binary p) = 3
+
+-- the least level of its right operand
+abbrev pub right_line : Operator → ℕ
+right_line comma = right_level comma
+right_line (assign p) = right_level (assign p)
+right_line (cond middle colon) = right_level (cond middle colon)
+right_line (binary p) = 3
+
+module _ (all : List Lexeme) where
+  abbrev mutual
+    pub DerivesExpr : Expr → Type 0
+    DerivesExpr (operation e op token e2) =
+        DerivesExpr e × DerivesExpr e2 × IsOperator op × DerivesMiddle op × (left_line op ≤ expr_level e)
+        × (right_line op ≤ expr_level e2)
+    DerivesExpr (cast opening ws d closing e) =
+        (ws ≢ no_words) × DerivesTypeWords ws × DerivesSomeAbstract d × DerivesExpr e × (13 ≤ expr_level e)
+    DerivesExpr (prefix token p e) = DerivesExpr e × (prefix_level p ≤ expr_level e)
+    DerivesExpr (sizeof_value word e) = DerivesExpr e × (is_sizeof word.keyword ≡ true) × (14 ≤ expr_level e)
+    DerivesExpr (sizeof_type word opening ws d closing) =
+        (ws ≢ no_words) × DerivesTypeWords ws × DerivesSomeAbstract d × (is_sizeof word.keyword ≡ true)
+    DerivesExpr (extension keyword e) = DerivesExpr e × (13 ≤ expr_level e)
+    DerivesExpr (index e opening e2 closing) = DerivesExpr e × DerivesExpr e2 × (15 ≤ expr_level e)
+    DerivesExpr (call e opening es closing) = DerivesExpr e × DerivesArguments es × (15 ≤ expr_level e)
+    DerivesExpr (dot e token name) = DerivesExpr e × (15 ≤ expr_level e)
+    DerivesExpr (arrow e token name) = DerivesExpr e × (15 ≤ expr_level e)
+    DerivesExpr (post e token p) = DerivesExpr e × (is_postfix p ≡ true) × (15 ≤ expr_level e)
+    DerivesExpr (compound opening ws d closing list) =
+        (ws ≢ no_words) × DerivesTypeWords ws × DerivesSomeAbstract d × DerivesInitList list
+    DerivesExpr (name_use token name) = Unit {0}
+    DerivesExpr (number_use token) = Unit {0}
+    DerivesExpr (char_use token) = Unit {0}
+    DerivesExpr (text_use texts) = texts ≢ []
+    DerivesExpr (paren opening e closing) = DerivesExpr e
+    DerivesExpr (statement_expr opening opening2 items closing closing2) = DerivesBlockItems items
+    DerivesExpr (va_arg keyword opening e separator ws d closing) =
+        DerivesExpr e × (ws ≢ no_words) × DerivesTypeWords ws × DerivesSomeAbstract d × (1 ≤ expr_level e)
+    DerivesExpr (va_start keyword opening e separator e2 closing) =
+        DerivesExpr e × DerivesExpr e2 × (1 ≤ expr_level e) × (1 ≤ expr_level e2)
+    DerivesExpr (va_copy keyword opening e separator e2 closing) =
+        DerivesExpr e × DerivesExpr e2 × (1 ≤ expr_level e) × (1 ≤ expr_level e2)
+    DerivesExpr (offset keyword opening ws d separator name steps closing) =
+        (ws ≢ no_words) × DerivesTypeWords ws × DerivesSomeAbstract d × DerivesSteps steps
+
+    pub DerivesMiddle : Operator → Type 0
+    DerivesMiddle comma = Unit {0}
+    DerivesMiddle (assign p) = Unit {0}
+    DerivesMiddle (cond e colon) = DerivesSomeExpr e
+    DerivesMiddle (binary p) = Unit {0}
+
+    pub DerivesSomeExpr : SomeExpr → Type 0
+    DerivesSomeExpr no_expr = Unit {0}
+    DerivesSomeExpr (some_expr e) = DerivesExpr e
+
+    pub DerivesArguments : Exprs → Type 0
+    DerivesArguments no_exprs = Unit {0}
+    DerivesArguments (more_exprs e es) = DerivesExpr e × (1 ≤ expr_level e) × DerivesArguments es
+
+    pub DerivesSteps : Desigs → Type 0
+    DerivesSteps no_desigs = Unit {0}
+    DerivesSteps (more_desigs d ds) = DerivesStep d × DerivesSteps ds
+
+    pub DerivesStep : Desig → Type 0
+    DerivesStep (member_desig token name) = Unit {0}
+    DerivesStep (index_desig opening e closing) = DerivesExpr e
+
+    pub DerivesDesigs : Desigs → Type 0
+    DerivesDesigs no_desigs = Unit {0}
+    DerivesDesigs (more_desigs d ds) = DerivesDesig d × DerivesDesigs ds
+
+    pub DerivesDesig : Desig → Type 0
+    DerivesDesig (member_desig token name) = Unit {0}
+    DerivesDesig (index_desig opening e closing) = DerivesExpr e × (2 ≤ expr_level e)
+
+    pub DerivesTypeWords : SpecWords → Type 0
+    DerivesTypeWords no_words = Unit {0}
+    DerivesTypeWords (more_words w ws) = DerivesSpecWord w × IsTypeWord w × DerivesTypeWords ws
+
+    pub DerivesSpecWords : SpecWords → Type 0
+    DerivesSpecWords no_words = Unit {0}
+    DerivesSpecWords (more_words w ws) = DerivesSpecWord w × DerivesSpecWords ws
+
+    pub DerivesSpecWord : SpecWord → Type 0
+    DerivesSpecWord (storage word) = is_storage word.keyword ≡ true
+    DerivesSpecWord (thread keyword) = Unit {0}
+    DerivesSpecWord (inline_word keyword) = Unit {0}
+    DerivesSpecWord (noreturn keyword) = Unit {0}
+    DerivesSpecWord (qualifier qual) = IsQual all qual
+    DerivesSpecWord (basic word) = is_basic_word word.keyword ≡ true
+    DerivesSpecWord (struct_type word attrs tag body) =
+        (is_struct word.keyword ≡ true) × AreAttrs all attrs × HasTagOrBody tag body × DerivesBody body
+    DerivesSpecWord (enum_type enum) = DerivesEnum enum
+    DerivesSpecWord (typedef_name name) = Unit {0}
+    DerivesSpecWord (attribute attr) = IsGroup all attr.group
+
+    pub DerivesBody : SomeBody → Type 0
+    DerivesBody no_body = Unit {0}
+    DerivesBody (some_body opening items closing) = DerivesStructItems items
+
+    pub DerivesStructItems : StructItems → Type 0
+    DerivesStructItems no_struct_items = Unit {0}
+    DerivesStructItems (more_struct_items item items) = DerivesStructItem item × DerivesStructItems items
+
+    pub DerivesStructItem : StructItem → Type 0
+    DerivesStructItem (member exts ws ds semi) =
+        (ws ≢ no_words) × DerivesSpecWords ws × IsMemStart ds × DerivesMemDeclrs ds
+    DerivesStructItem (member_semi semi) = Unit {0}
+    DerivesStructItem (member_assert it) = IsGroup all it.group
+
+    pub DerivesMemDeclrs : MemDeclrs → Type 0
+    DerivesMemDeclrs no_mem_declrs = Unit {0}
+    DerivesMemDeclrs (more_mem_declrs attrs d ds) = AreAttrs all attrs × DerivesMemDeclr d × DerivesMemDeclrs ds
+
+    pub DerivesMemDeclr : MemDeclr → Type 0
+    DerivesMemDeclr (named d width attrs) =
+        DerivesDeclr d × (is_named d ≡ true) × DerivesSomeValue width × AreAttrs all attrs
+    DerivesMemDeclr (unnamed colon e attrs) = DerivesExpr e × (2 ≤ expr_level e) × AreAttrs all attrs
+
+    pub DerivesSomeValue : SomeValue → Type 0
+    DerivesSomeValue no_value = Unit {0}
+    DerivesSomeValue (some_value token e) = DerivesExpr e × (2 ≤ expr_level e)
+
+    pub DerivesEnum : EnumType → Type 0
+    DerivesEnum (enum_of keyword attrs tag body) = AreAttrs all attrs × HasTagOrEnumBody tag body × DerivesEnumBody body
+
+    pub DerivesEnumBody : SomeEnumBody → Type 0
+    DerivesEnumBody no_enum_body = Unit {0}
+    DerivesEnumBody (some_enum_body opening es last closing) = (es ≢ no_enumerators) × DerivesEnumerators es
+
+    pub DerivesEnumerators : Enumerators → Type 0
+    DerivesEnumerators no_enumerators = Unit {0}
+    DerivesEnumerators (more_enumerators name attrs value es) =
+        AreAttrs all attrs × DerivesSomeValue value × DerivesEnumerators es
+
+    pub DerivesDeclr : Declr → Type 0
+    DerivesDeclr (pointer star words d) = All (IsPointerWord all) words × DerivesDeclr d × (is_named d ≡ true)
+    DerivesDeclr (declr_name token name) = Unit {0}
+    DerivesDeclr (declr_paren opening attrs d closing) = AreAttrs all attrs × DerivesDeclr d × (is_named d ≡ true)
+    DerivesDeclr (array d opening words size closing) =
+        DerivesDeclr d × (is_named d ≡ true) × (is_direct d ≡ true) × All (IsArrayWord all) words × DerivesSize size
+    DerivesDeclr (params d opening ps dots closing) =
+        DerivesDeclr d × (is_named d ≡ true) × (is_direct d ≡ true) × DerivesParams ps × IsEllipsis all ps dots
+    DerivesDeclr (abs_pointer star words d) = All (IsPointerWord all) words × DerivesSomeAbstract d
+    DerivesDeclr (abs_paren opening attrs d closing) = AreAttrs all attrs × DerivesDeclr d × (is_named d ≡ false)
+    DerivesDeclr (abs_array d opening words size closing) =
+        DerivesSomeDirect d × All (IsArrayWord all) words × DerivesSize size
+    DerivesDeclr (abs_params d opening ps dots closing) =
+        DerivesSomeDirect d × DerivesParams ps × IsEllipsis all ps dots
+
+    pub DerivesSomeAbstract : SomeDeclr → Type 0
+    DerivesSomeAbstract no_declr = Unit {0}
+    DerivesSomeAbstract (some_declr d) = DerivesDeclr d × (is_named d ≡ false)
+
+    pub DerivesSomeDirect : SomeDeclr → Type 0
+    DerivesSomeDirect no_declr = Unit {0}
+    DerivesSomeDirect (some_declr d) = DerivesDeclr d × (is_named d ≡ false) × (is_direct d ≡ true)
+
+    pub DerivesSize : SomeSize → Type 0
+    DerivesSize no_size = Unit {0}
+    DerivesSize (some_size size) = DerivesArraySize size
+
+    pub DerivesArraySize : ArraySize → Type 0
+    DerivesArraySize (size_value e) = DerivesExpr e × (1 ≤ expr_level e)
+    DerivesArraySize (size_star star) = Unit {0}
+
+    pub DerivesParams : Params → Type 0
+    DerivesParams no_params = Unit {0}
+    DerivesParams (more_params ws d attrs ps) =
+        (ws ≢ no_words) × DerivesSpecWords ws × DerivesSomeDeclr d × AreAttrs all attrs × DerivesParams ps
+
+    pub DerivesSomeDeclr : SomeDeclr → Type 0
+    DerivesSomeDeclr no_declr = Unit {0}
+    DerivesSomeDeclr (some_declr d) = DerivesDeclr d
+
+    pub DerivesInit : Init → Type 0
+    DerivesInit (init_value e) = DerivesExpr e × (1 ≤ expr_level e)
+    DerivesInit (init_braced list) = DerivesInitList list
+
+    pub DerivesInitList : InitList → Type 0
+    DerivesInitList (init_list opening items last closing) = DerivesInitItems items × IsItemsEnd items last
+
+    pub DerivesInitItems : InitItems → Type 0
+    DerivesInitItems no_init_items = Unit {0}
+    DerivesInitItems (more_init_items ds equal init items) =
+        DerivesDesigs ds × IsDesignated ds equal × DerivesInit init × DerivesInitItems items
+
+    pub DerivesSomeInit : SomeInit → Type 0
+    DerivesSomeInit no_init = Unit {0}
+    DerivesSomeInit (some_init equal init) = DerivesInit init
+
+    pub DerivesInitDeclrs : InitDeclrs → Type 0
+    DerivesInitDeclrs no_init_declrs = Unit {0}
+    DerivesInitDeclrs (more_init_declrs attrs d asm_label attrs2 init ds) =
+        AreAttrs all attrs × DerivesDeclr d × (is_named d ≡ true) × IsLabel all asm_label × AreAttrs all attrs2
+        × DerivesSomeInit init × DerivesInitDeclrs ds
+
+    pub DerivesDeclaration : Declaration → Type 0
+    DerivesDeclaration (declaration exts ws ds semi) =
+        (ws ≢ no_words) × DerivesSpecWords ws × IsInitStart ds × DerivesInitDeclrs ds
+
+    pub DerivesDecl : Decl → Type 0
+    DerivesDecl (decl_declaration d) = DerivesDeclaration d
+    DerivesDecl (decl_assert it) = IsGroup all it.group
+
+    pub DerivesBlockItems : BlockItems → Type 0
+    DerivesBlockItems no_block_items = Unit {0}
+    DerivesBlockItems (more_block_items item items) = DerivesBlockItem item × DerivesBlockItems items
+
+    pub DerivesBlockItem : BlockItem → Type 0
+    DerivesBlockItem (block_decl d) = DerivesDecl d
+    DerivesBlockItem (block_stmt s) = DerivesStmt s
+
+    pub DerivesStmt : Stmt → Type 0
+    DerivesStmt (block opening items closing) = DerivesBlockItems items
+    DerivesStmt (expr_stmt e semi) = DerivesSomeExpr e
+    DerivesStmt (attr_stmt attrs semi) = (attrs ≢ []) × AreAttrs all attrs
+    DerivesStmt (label name colon attrs s) = AreAttrs all attrs × DerivesStmt s
+    DerivesStmt (case_stmt keyword e colon s) = DerivesExpr e × (2 ≤ expr_level e) × DerivesStmt s
+    DerivesStmt (default_stmt keyword colon s) = DerivesStmt s
+    DerivesStmt (if_stmt keyword opening e closing s other) = DerivesExpr e × DerivesStmt s × DerivesOther other
+    DerivesStmt (switch_stmt keyword opening e closing s) = DerivesExpr e × DerivesStmt s
+    DerivesStmt (while_stmt keyword opening e closing s) = DerivesExpr e × DerivesStmt s
+    DerivesStmt (do_stmt keyword s keyword2 opening e closing semi) = DerivesStmt s × DerivesExpr e
+    DerivesStmt (for_stmt keyword opening start e semi e2 closing s) =
+        DerivesStart start × DerivesSomeExpr e × DerivesSomeExpr e2 × DerivesStmt s
+    DerivesStmt (goto_stmt keyword name semi) = Unit {0}
+    DerivesStmt (continue_stmt keyword semi) = Unit {0}
+    DerivesStmt (break_stmt keyword semi) = Unit {0}
+    DerivesStmt (return_stmt keyword e semi) = DerivesSomeExpr e
+    DerivesStmt (asm_stmt keyword words group semi) = All (λ w. is_asm_word w.keyword ≡ true) words × IsGroup all group
+
+    pub DerivesOther : SomeElse → Type 0
+    DerivesOther no_else = Unit {0}
+    DerivesOther (some_else keyword s) = DerivesStmt s
+
+    pub DerivesStart : ForStart → Type 0
+    DerivesStart (start_declaration d) = DerivesDeclaration d
+    DerivesStart (start_value e semi) = DerivesSomeExpr e
+
+  -- an item of a unit
+  abbrev pub DerivesItem : Item → Type 0
+  DerivesItem (function_item exts ws d attrs opening items closing) =
+      (ws ≢ no_words) × DerivesSpecWords ws × DerivesDeclr d × (is_named d ≡ true) × AreAttrs all attrs
+      × DerivesBlockItems items
+  DerivesItem (decl_item d) = DerivesDecl d
+  DerivesItem (asm_item keyword group semi) = IsGroup all group
+  DerivesItem (semi_item semi) = Unit {0}

@@ -1,0 +1,4 @@
+pub mod Allowed
+pub mod Grammar
+pub mod Laws
+pub mod Places
