@@ -12,7 +12,7 @@ use Rattle.flow_graph.specs.declared.constraint.Link.TheVariants.{Const, Bound}
 use Rattle.flow_graph.specs.declared.constraint.Constraint.{Constraint}
 use Rattle.type_table.specs.Types.{Words, CType, base, void, struct, pointer, function, CTypes, no_types, more_types, words_of, words_or_none}
 use Rattle.qual_types.specs.Skel.{Skel, flat, ref, fun, Skels, no_skels, more_skels, root}
-use Rattle.type_rules.specs.Tokens.{Place}
+use Rattle.name_rules.specs.Spellings.{Place}
 use Rattle.constraint_rules.specs.Worlds.{World, constraint, word_span}
 
 abbrev pub entry_of_view : Option LatticeView → ℕ → Option Entry

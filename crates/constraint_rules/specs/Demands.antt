@@ -13,10 +13,12 @@ use Rattle.qual_types.specs.declared.look.Kind.TheVariants as kinds
 use Rattle.qual_types.specs.Skel.{Skel, flat, ref, fun, root, param_at}
 use Rattle.flow_rules.specs.declared.arrow.Arrow.TheVariants.{Flow}
 use Rattle.flow_rules.specs.Lists.{flow, equal, cross, smash, unsmash}
-use Rattle.type_rules.specs.Tokens.{Place, first_word, Named, declared_name, is_bare}
-use Rattle.type_rules.specs.Scopes.{Role, typedef_role, object_role, function_role, parameter_role, field_role, enumerator_role, Declared, declared_at, Use, means, called, missing, Known, Own, is_place}
-use Rattle.type_rules.specs.Values.{is_additive, own_of, own_number}
-use Rattle.type_rules.specs.Shapes.{use_at, type_named_at, is_zero}
+use Rattle.name_rules.specs.Spellings.{Place, Named}
+use Rattle.name_rules.specs.Scopes.{Role, typedef_role, object_role, function_role, parameter_role, field_role, enumerator_role, Declared, declared_at, Use, means, called, missing, Known, Own, is_place}
+use Rattle.name_rules.specs.Values.{is_additive, own_of, own_number}
+use Rattle.name_rules.specs.Uses.{use_at, type_named_at}
+use Rattle.type_rules.specs.Tokens.{first_word, declared_name, is_bare}
+use Rattle.type_rules.specs.Shapes.{is_zero}
 use Rattle.constraint_rules.specs.Worlds.{World, at, skeleton, site_number, all_lattices, span, word_span, constraints, in_all}
 use Rattle.constraint_rules.specs.Annotations.{annotating, write_bounds, deref_bounds, uncut, parameters, further}
 use Rattle.constraint_rules.specs.Values.{Val, value, contents, is_ref, is_fun, is_void, result, struct_of, member_skel, member_of, val, own}

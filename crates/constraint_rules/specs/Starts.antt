@@ -8,10 +8,12 @@ use Rattle.c_tree.specs.Tree.{Expr, operation, cast, prefix, sizeof_value, sizeo
 use Rattle.c_tree.specs.Unit.{Item, function_item, decl_item, asm_item, semi_item}
 use Rattle.c_tree.specs.Ends.{first_text}
 use Rattle.type_table.specs.Types.{CType, base, void, pointer}
-use Rattle.type_rules.specs.Tokens.{Place, Spelling, place, first_word, Named, declared_name, is_bare}
-use Rattle.type_rules.specs.Scopes.{Role, typedef_role, object_role, function_role, parameter_role, field_role, enumerator_role, Declared, declared_at, Use, means, called, missing, Names}
-use Rattle.type_rules.specs.Values.{value, is_pointer, is_additive, undeclared_function}
-use Rattle.type_rules.specs.Shapes.{use_at, type_named_at, is_zero, shape_of, text_type}
+use Rattle.name_rules.specs.Spellings.{Place, Spelling, place, Named}
+use Rattle.name_rules.specs.Scopes.{Role, typedef_role, object_role, function_role, parameter_role, field_role, enumerator_role, Declared, declared_at, Use, means, called, missing, Names}
+use Rattle.name_rules.specs.Values.{value, is_pointer, is_additive, undeclared_function}
+use Rattle.name_rules.specs.Uses.{use_at, type_named_at, text_type}
+use Rattle.type_rules.specs.Tokens.{first_word, declared_name, is_bare}
+use Rattle.type_rules.specs.Shapes.{is_zero, shape_of}
 
 -- A skeleton: where it begins, its type, the function that its variables belong to. At a function's name in an expression it is
 -- an instance of the function that was first declared at `calls`: a call site.

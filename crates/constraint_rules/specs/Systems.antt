@@ -7,8 +7,8 @@ use Rattle.flow_graph.specs.declared.constraint.Constraint.{Constraint}
 use Rattle.flow_graph.specs.declared.constraint.Site.{Site}
 use Rattle.flow_graph.specs.System.{System}
 use Rattle.type_table.specs.Types.{size}
-use Rattle.type_rules.specs.Tokens.{Place}
-use Rattle.type_rules.specs.Scopes.{Role, typedef_role, object_role, function_role, parameter_role, field_role, enumerator_role, Declared, Names, is_place}
+use Rattle.name_rules.specs.Spellings.{Place}
+use Rattle.name_rules.specs.Scopes.{Role, typedef_role, object_role, function_role, parameter_role, field_role, enumerator_role, Declared, Names, is_place}
 use Rattle.type_rules.specs.Program.{Source, names_of}
 use Rattle.constraint_rules.specs.Starts.{Start, items_starts}
 use Rattle.constraint_rules.specs.Worlds.{numbered_from, World, number_among}

@@ -7,10 +7,11 @@ use Rattle.c_tree.specs.Tree.{Expr, operation, cast, prefix, sizeof_value, sizeo
 use Rattle.c_tree.specs.Ends.{first_text}
 use Rattle.qual_types.specs.declared.look.Kind.TheVariants as kinds
 use Rattle.qual_types.specs.Skel.{Skel, flat, ref, fun}
-use Rattle.type_rules.specs.Tokens.{Place}
-use Rattle.type_rules.specs.Scopes.{Role, typedef_role, object_role, function_role, parameter_role, field_role, enumerator_role, Declared, declared_at, Use, means, called, missing, Known, body_of}
-use Rattle.type_rules.specs.Values.{is_additive, member_in}
-use Rattle.type_rules.specs.Shapes.{use_at, is_zero}
+use Rattle.name_rules.specs.Spellings.{Place}
+use Rattle.name_rules.specs.Scopes.{Role, typedef_role, object_role, function_role, parameter_role, field_role, enumerator_role, Declared, declared_at, Use, means, called, missing, Known, body_of}
+use Rattle.name_rules.specs.Values.{is_additive, member_in}
+use Rattle.name_rules.specs.Uses.{use_at}
+use Rattle.type_rules.specs.Shapes.{is_zero}
 use Rattle.constraint_rules.specs.Worlds.{World, at, skeleton}
 
 pub record Val : Type 0 where

@@ -8,8 +8,8 @@ use Rattle.flow_graph.specs.declared.constraint.Constraint.{Constraint}
 use Rattle.type_table.specs.Types.{size}
 use Rattle.qual_types.specs.declared.look.Kind.TheVariants as kinds
 use Rattle.qual_types.specs.Skel.{Skel, flat, numbered}
-use Rattle.type_rules.specs.Tokens.{Place, Spelling, place}
-use Rattle.type_rules.specs.Scopes.{Names, is_place}
+use Rattle.name_rules.specs.Spellings.{Place, Spelling, place}
+use Rattle.name_rules.specs.Scopes.{Names, is_place}
 use Rattle.constraint_rules.specs.Starts.{Start}
 
 -- a skeleton whose constructors are numbered from `first` on

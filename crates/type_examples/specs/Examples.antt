@@ -8,9 +8,9 @@ use Rattle.c_syntax.specs.declared.parts.Qual.TheVariants as quals
 use Rattle.c_tree.specs.Tree.{operation, prefix, sizeof_value, sizeof_type, extension, index, call, dot, arrow, post, name_use, number_use, text_use, paren, offset, assign, cond, binary, no_expr, some_expr, no_exprs, more_exprs, no_words, more_words, storage, qualifier, basic, struct_type, enum_type, typedef_name, no_body, some_body, no_struct_items, more_struct_items, member, no_mem_declrs, more_mem_declrs, named, unnamed, no_value, some_value, enum_of, no_enum_body, some_enum_body, no_enumerators, more_enumerators, pointer, declr_name, declr_paren, array, params, abs_pointer, abs_params, no_declr, some_declr, no_size, some_size, size_value, no_params, more_params, init_value, init_braced, init_list, no_init_items, more_init_items, no_desigs, more_desigs, member_desig, index_desig, no_init, some_init, no_init_declrs, more_init_declrs, declaration, decl_declaration, no_block_items, more_block_items, block_decl, block_stmt, block, expr_stmt, for_stmt, return_stmt, start_declaration}
 use Rattle.c_tree.specs.Unit.{function_item, decl_item}
 use Rattle.type_table.specs.Types.{CType, base, void, struct, pointer, function, no_types, more_types}
-use Rattle.type_rules.specs.Tokens.{Place, Spelling}
-use Rattle.type_rules.specs.Faults.{Fault, number}
-use Rattle.type_rules.specs.Scopes.{Declared, Names, declared_at}
+use Rattle.name_rules.specs.Spellings.{Place, Spelling}
+use Rattle.name_rules.specs.Faults.{Fault, number}
+use Rattle.name_rules.specs.Scopes.{Declared, Names, declared_at}
 use Rattle.type_rules.specs.Program.{Source, names_of, faults_of}
 
 abbrev pub among : List ℕ → ℕ → Bool

@@ -1,41 +1,20 @@
--- The faults of expressions and initialisers, by cases on the tree. A rule is judged wherever the types that it needs are
--- known, and never fails for want of a part's type.
-use Rattle.std.specs.Prelude.{ℕ, suc, Bool, true, false, ◌&&◌, not, List, [], ◌∷◌, ◌++◌, Option, None, Some}
-use Rattle.c_words.specs.declared.kinds.Punct.{Punct}
-use Rattle.c_words.specs.declared.kinds.Punct.TheVariants as signs
+-- The faults of expressions and initialisers, by cases on the tree.
+use Rattle.std.specs.Prelude.{ℕ, suc, Bool, true, false, not, List, [], ◌∷◌, ◌++◌, Option, None, Some}
 use Rattle.c_tree.specs.Tree.{Expr, operation, cast, prefix, sizeof_value, sizeof_type, extension, index, call, dot, arrow, post, compound, name_use, number_use, char_use, text_use, paren, statement_expr, va_arg, va_start, va_copy, offset, Operator, comma, assign, cond, binary, SomeExpr, no_expr, some_expr, Exprs, no_exprs, more_exprs, SpecWords, no_words, more_words, SpecWord, storage, thread, inline_word, noreturn, qualifier, basic, struct_type, enum_type, typedef_name, attribute, SomeBody, no_body, some_body, StructItems, no_struct_items, more_struct_items, StructItem, member, member_semi, member_assert, MemDeclrs, no_mem_declrs, more_mem_declrs, MemDeclr, named, unnamed, SomeValue, no_value, some_value, EnumType, enum_of, no_enum_body, some_enum_body, Enumerators, no_enumerators, more_enumerators, Declr, pointer, declr_name, declr_paren, array, params, abs_pointer, abs_paren, abs_array, abs_params, SomeDeclr, no_declr, some_declr, SomeSize, no_size, some_size, ArraySize, size_value, size_star, Params, no_params, more_params, Init, init_value, init_braced, InitList, init_list, InitItems, no_init_items, more_init_items, Desigs, no_desigs, more_desigs, Desig, member_desig, index_desig, SomeInit, no_init, some_init, InitDeclrs, no_init_declrs, more_init_declrs, Declaration, declaration, Decl, decl_declaration, decl_assert, BlockItems, no_block_items, more_block_items, BlockItem, block_decl, block_stmt, Stmt, block, expr_stmt, attr_stmt, label, case_stmt, default_stmt, if_stmt, switch_stmt, while_stmt, do_stmt, for_stmt, goto_stmt, continue_stmt, break_stmt, return_stmt, asm_stmt, SomeElse, no_else, some_else, ForStart, start_declaration, start_value}
 use Rattle.c_tree.specs.Unit.{Item, function_item, decl_item, asm_item, semi_item}
 use Rattle.type_table.specs.Types.{CType}
-use Rattle.type_rules.specs.Tokens.{Place, Spelling, place, first_word, Named, declared_name}
-use Rattle.type_rules.specs.Faults.{Fault, not_pointer, not_function, no_member, argument_count, not_place, fault_where}
-use Rattle.type_rules.specs.Scopes.{Declared, Names, declared_at}
-use Rattle.type_rules.specs.Values.{Shape, value, some_target, points_to_function, takes, member_type, lacks_member, is_no_pointer, Target, no_target, to, next_target, named_target, behind_member}
-use Rattle.type_rules.specs.Shapes.{shape_of, type_named_at}
-
-abbrev pub wants_place : Punct → Bool
-wants_place signs.Ampersand = true
-wants_place signs.PlusPlus = true
-wants_place signs.MinusMinus = true
-wants_place p = false
-
-abbrev pub is_star : Punct → Bool
-is_star signs.Star = true
-is_star p = false
-
-abbrev pub prefix_faults : Place → Punct → Shape → List Fault
-prefix_faults at p e = fault_where (wants_place p && not e.is_place) at not_place ++ fault_where (is_star p && is_no_pointer (value e)) at not_pointer
+use Rattle.name_rules.specs.Spellings.{Spelling, place, Named}
+use Rattle.name_rules.specs.Faults.{Fault, not_pointer, not_place, fault_where}
+use Rattle.name_rules.specs.Scopes.{Names, declared_at}
+use Rattle.name_rules.specs.Values.{Shape, value, some_target, member_type, is_no_pointer, Target, no_target, to, behind_member}
+use Rattle.name_rules.specs.Uses.{type_named_at}
+use Rattle.name_rules.specs.Checks.{prefix_faults, call_faults, type_declared, member_faults, index_faults_at, target_of_item}
+use Rattle.type_rules.specs.Tokens.{first_word, declared_name}
+use Rattle.type_rules.specs.Shapes.{shape_of}
 
 abbrev pub count : Exprs → ℕ
 count no_exprs = 0
 count (more_exprs e es) = suc (count es)
-
-abbrev pub call_faults : Place → Option CType → ℕ → List Fault
-call_faults at None n = []
-call_faults at (Some t) n = fault_where (not (points_to_function t)) at not_function ++ fault_where (not (takes t n)) at argument_count
-
-abbrev pub type_declared : Option Declared → Option CType
-type_declared None = None
-type_declared (Some d) = Some d.type
 
 -- what a designator names, of what was designated so far
 abbrev pub desig_type : Spelling → Names → Option CType → Desig → Option CType
@@ -52,9 +31,13 @@ next_behind u s t no_desigs next = suc next
 next_behind u s t (more_desigs (member_desig token name) ds) next = behind_member s.aggregates t (u.key name.name) next
 next_behind u s t (more_desigs (index_desig opening e closing) ds) next = next
 
+-- what designators name, where there are any
+abbrev pub some_desigs_type : Spelling → Names → Option CType → Desigs → Option (Option CType)
+some_desigs_type u s t no_desigs = None
+some_desigs_type u s t (more_desigs d ds) = Some (desigs_type u s t (more_desigs d ds))
+
 abbrev pub item_target : Spelling → Names → Option CType → Bool → ℕ → Desigs → Target
-item_target u s t is_first next no_desigs = next_target s.aggregates t is_first next
-item_target u s t is_first next (more_desigs d ds) = named_target t is_first (desigs_type u s t (more_desigs d ds))
+item_target u s t is_first next ds = target_of_item s t is_first next (some_desigs_type u s t ds)
 
 -- the type that a name is declared with, also where it is a further declaration
 abbrev pub declared_type : Spelling → Names → Option Named → Option CType
@@ -71,12 +54,12 @@ module _ (u : Spelling) (s : Names) where
     expr_faults (sizeof_type word opening ws d closing) = words_faults ws ++ some_declr_faults d
     expr_faults (extension keyword e) = expr_faults e
     expr_faults (index e opening e2 closing) =
-        fault_where (is_no_pointer (value (shape_of u s e)) && is_no_pointer (value (shape_of u s e2))) (place u opening) not_pointer ++ (expr_faults e ++ expr_faults e2)
+        index_faults_at (place u opening) (shape_of u s e) (shape_of u s e2) ++ (expr_faults e ++ expr_faults e2)
     expr_faults (call e opening es closing) = call_faults (place u opening) (value (shape_of u s e)) (count es) ++ (expr_faults e ++ exprs_faults es)
-    expr_faults (dot e token name) = fault_where (lacks_member s.aggregates (value (shape_of u s e)) (u.key name.name)) (place u name.token) no_member ++ expr_faults e
+    expr_faults (dot e token name) = member_faults u s (value (shape_of u s e)) name.token name.name ++ expr_faults e
     expr_faults (arrow e token name) =
         fault_where (is_no_pointer (value (shape_of u s e))) (place u token) not_pointer
-        ++ (fault_where (lacks_member s.aggregates (some_target (value (shape_of u s e))) (u.key name.name)) (place u name.token) no_member ++ expr_faults e)
+        ++ (member_faults u s (some_target (value (shape_of u s e))) name.token name.name ++ expr_faults e)
     expr_faults (post e token p) = fault_where (not (shape_of u s e).is_place) (place u token) not_place ++ expr_faults e
     expr_faults (compound opening ws d closing list) =
         words_faults ws ++ (some_declr_faults d ++ list_faults (type_named_at s.type_names (place u (first_word ws))) list)
@@ -91,7 +74,7 @@ module _ (u : Spelling) (s : Names) where
     expr_faults (va_copy keyword opening e separator e2 closing) = expr_faults e ++ expr_faults e2
     expr_faults (offset keyword opening ws d separator name steps closing) =
         words_faults ws ++ (some_declr_faults d
-        ++ (fault_where (lacks_member s.aggregates (type_named_at s.type_names (place u (first_word ws))) (u.key name.name)) (place u name.token) no_member
+        ++ (member_faults u s (type_named_at s.type_names (place u (first_word ws))) name.token name.name
         ++ desigs_faults (member_type s.aggregates (type_named_at s.type_names (place u (first_word ws))) (u.key name.name)) steps))
 
     pub operator_faults : Operator → ℕ → Shape → List Fault
@@ -120,7 +103,7 @@ module _ (u : Spelling) (s : Names) where
     desigs_faults t (more_desigs d ds) = desig_faults t d ++ desigs_faults (desig_type u s t d) ds
 
     pub desig_faults : Option CType → Desig → List Fault
-    desig_faults t (member_desig token name) = fault_where (lacks_member s.aggregates t (u.key name.name)) (place u name.token) no_member
+    desig_faults t (member_desig token name) = member_faults u s t name.token name.name
     desig_faults t (index_desig opening e closing) = fault_where (is_no_pointer t) (place u opening) not_pointer ++ expr_faults e
 
     -- of designators that name nothing, only the indices are looked at

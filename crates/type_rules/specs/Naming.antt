@@ -1,11 +1,6 @@
 -- What names mean (C99, 6.2.1 to 6.2.3, 6.7): a tree is gone through in the order of its text, from what is known of names
 -- before it to what is known behind it.
---
--- A declaration of a name that its scope already declares is a further declaration of the same thing. An object that a
--- block declares `extern` and a function that a block declares are always the file's. A use of a name has the type of
--- its first declaration. An array is a pointer to its element. A parameter or result of function type is a pointer to the
--- function.
-use Rattle.std.specs.Prelude.{ℕ, suc, Bool, true, false, ◌||◌, List, [], ◌∷◌, ◌++◌, length, Option, None, Some, if◌then◌else◌}
+use Rattle.std.specs.Prelude.{ℕ, suc, Bool, true, false, ◌&&◌, List, [], ◌∷◌, ◌++◌, Option, None, Some, if◌then◌else◌}
 use Rattle.c_words.specs.declared.kinds.Keyword.{Keyword}
 use Rattle.c_words.specs.declared.kinds.Keyword.TheVariants as keywords
 use Rattle.c_syntax.specs.declared.parts.Identifier.{Identifier}
@@ -13,49 +8,14 @@ use Rattle.c_tree.specs.Tree.{Expr, operation, cast, prefix, sizeof_value, sizeo
 use Rattle.c_tree.specs.Tree.{Dots}
 use Rattle.c_tree.specs.Unit.{Item, function_item, decl_item, asm_item, semi_item}
 use Rattle.c_tree.specs.Specifiers.{storage_words}
-use Rattle.type_table.specs.Types.{Words, CType, base, void, struct, pointer, function, CTypes, no_types, more_types}
-use Rattle.type_rules.specs.Tokens.{Place, Spelling, place, annotations, annotation, pointer_annotations, array_annotations, first_word, Named, declared_name, some_declared_name, is_bare, is_void, says_none}
-use Rattle.type_rules.specs.Faults.{undeclared, defined_twice, fault_where}
-use Rattle.type_rules.specs.Scopes.{Meaning, means_type, means_thing, Scope, Role, typedef_role, object_role, function_role, parameter_role, field_role, enumerator_role, Use, means, called, missing, Names, thing_named, meaning, tag_in, tag_through, innermost, inner_meaning, is_at_file, owner_at, enter, leave, bound, tag_bound, with_faults, with_declared, sized, with_aggregate, or_no_body, body_of, has_body, with_body, with_member, with_unnamed, is_place}
-
--- types
-
-abbrev pub with_words : Words → CType → CType
-with_words more (base ws) = base (ws ++ more)
-with_words more (void ws) = void (ws ++ more)
-with_words more (struct ws n) = struct (ws ++ more) n
-with_words more (pointer ws t) = pointer (ws ++ more) t
-with_words more (function ws ps r e) = function (ws ++ more) ps r e
-
--- a function's parameter or result
-abbrev pub decayed : CType → CType
-decayed (base ws) = base ws
-decayed (void ws) = void ws
-decayed (struct ws n) = struct ws n
-decayed (pointer ws t) = pointer ws t
-decayed (function ws ps r e) = pointer [] (function ws ps r e)
-
-abbrev pub is_function : CType → Bool
-is_function (base ws) = false
-is_function (void ws) = false
-is_function (struct ws n) = false
-is_function (pointer ws t) = false
-is_function (function ws ps r e) = true
-
--- what a declarator is made of, from its name outwards: a pointer or an array, or a function
-pub data Piece : Type 0 where
-  to_pointer : Words → Piece
-  to_function : CTypes → Option Words → Piece
-
-abbrev pub piece_of : Piece → CType → CType
-piece_of (to_pointer ws) t = pointer ws t
-piece_of (to_function ps e) t = function [] ps (decayed t) e
-
--- the type of a name, by its declarator and the type of its specifiers: the piece that is farthest from the name is nearest
--- to the specifiers
-abbrev pub applied : List Piece → CType → CType
-applied [] t = t
-applied (p ∷ ps) t = piece_of p (applied ps t)
+use Rattle.tape_ops.specs.declared.specifier.TagKind.{TagKind}
+use Rattle.tape_ops.specs.declared.specifier.TagKind.TheVariants as tags
+use Rattle.type_table.specs.Types.{Words, CType, base, void, struct, CTypes, no_types, more_types}
+use Rattle.name_rules.specs.Spellings.{Place, Spelling, place, Named}
+use Rattle.name_rules.specs.Scopes.{enumerator_role, Names, meaning, enter, leave, sized}
+use Rattle.name_rules.specs.Pieces.{with_words, decayed, Piece, to_pointer, to_function, applied, no_params_if}
+use Rattle.name_rules.specs.Declaring.{used, type_named, type_by, Numbered, tag_used, untagged, Begun, tag_begun, untagged_begun, declared_here, linked, declared_thing, declared_some, declared_param, declared_member, unnamed_member, own_where, keep, body_entered, body_left}
+use Rattle.type_rules.specs.Tokens.{annotations, annotation, pointer_annotations, array_annotations, first_word, declared_name, some_declared_name, is_bare, is_void, says_none}
 
 -- what is found, and what is known of names behind it
 
@@ -83,158 +43,23 @@ with_listed it next = next it.types it.names
 abbrev pub typed : CType → Names → Typed
 typed t s = record { type = t; names = s }
 
--- uses
-
-abbrev pub use_by : Option Meaning → Bool → Use
-use_by None true = called
-use_by None false = missing
-use_by (Some (means_thing at)) is_called = means at
-use_by (Some (means_type t)) is_called = missing
-
-abbrev pub is_missing : Use → Bool
-is_missing (means at) = false
-is_missing called = false
-is_missing missing = true
-
-abbrev pub used_as : Place → Use → Names → Names
-used_as at it s = with_faults (fault_where (is_missing it) at undeclared) (record s { uses = s.uses ++ record { at = at; use_of = it } ∷ [] })
-
-abbrev pub used : Spelling → Bool → ℕ → ℕ → Names → Names
-used u is_called token name s = used_as (place u token) (use_by (meaning s (u.key name)) is_called) s
-
-abbrev pub type_named : Place → CType → Names → Names
-type_named at t s = sized at t (record s { type_names = s.type_names ++ record { at = at; type = t } ∷ [] })
-
-abbrev pub type_by : Option Meaning → CType
-type_by (Some (means_type t)) = t
-type_by (Some (means_thing at)) = base []
-type_by None = base []
-
 -- tags
 
--- a new struct, union or enum of a tag
-abbrev pub new_tag : Spelling → Keyword → Identifier → Names → Names
-new_tag u kind tag s = tag_bound kind (u.key tag.name) (length s.aggregates) (with_aggregate kind (place u tag.token) s)
-
-pub record Numbered : Type 0 where
-  pub number : ℕ
-  pub names : Names
-
-abbrev pub found_or_new : Option ℕ → Spelling → Keyword → Identifier → Names → Numbered
-found_or_new (Some n) u kind tag s = record { number = n; names = s }
-found_or_new None u kind tag s = record { number = length s.aggregates; names = new_tag u kind tag s }
-
--- what a tag without a body means: the visible one or a new one, and in a declaration of nothing else one of the innermost scope
-abbrev pub tag_used : Spelling → Bool → Keyword → Identifier → Names → Numbered
-tag_used u is_alone kind tag s =
-    found_or_new (if is_alone then tag_in (innermost s.scopes).tags kind (u.key tag.name) else tag_through s.scopes kind (u.key tag.name)) u kind tag s
+-- of the keyword before a tag
+abbrev pub tag_kind : Keyword → TagKind
+tag_kind keywords.Union = tags.Union
+tag_kind keyword = tags.Struct
 
 -- what a specifier without a body means; without a tag either there is none
-abbrev pub some_tag_used : Spelling → Bool → Keyword → ℕ → Option Identifier → Names → Numbered
-some_tag_used u is_alone kind keyword (Some tag) s = tag_used u is_alone kind tag s
-some_tag_used u is_alone kind keyword None s = record { number = length s.aggregates; names = with_aggregate kind (place u keyword) s }
+abbrev pub some_tag_used : Spelling → Bool → TagKind → ℕ → Option Identifier → Names → Numbered
+some_tag_used u is_alone kind keyword (Some tag) s = tag_used u is_alone kind tag.token tag.name s
+some_tag_used u is_alone kind keyword None s = untagged (place u keyword) kind s
 
--- a body that begins: of which type it is, and to whom its members belong, which for a second body of a tag is nobody
-pub record Begun : Type 0 where
-  pub number : ℕ
-  pub members_of : ℕ
-  pub names : Names
+abbrev pub body_begun : Spelling → TagKind → ℕ → Option Identifier → Names → Begun
+body_begun u kind keyword None s = untagged_begun (place u keyword) kind s
+body_begun u kind keyword (Some tag) s = tag_begun u kind tag.token tag.name s
 
-abbrev pub opened : ℕ → Names → Names
-opened n s = with_body n (λ body. body) s
-
-abbrev pub begun_in : Bool → Place → Keyword → Numbered → Begun
-begun_in true at kind it =
-    record { number = it.number; members_of = length it.names.aggregates; names = with_faults (fault_where true at defined_twice) (opened (length it.names.aggregates) (with_aggregate kind at it.names)) }
-begun_in false at kind it = record { number = it.number; members_of = it.number; names = opened it.number it.names }
-
-abbrev pub begun_body : Place → Keyword → Numbered → Begun
-begun_body at kind it = begun_in (has_body (body_of it.names.aggregates it.number)) at kind it
-
--- a tag with a body is defined in the innermost scope
-abbrev pub body_begun : Spelling → Keyword → ℕ → Option Identifier → Names → Begun
-body_begun u kind keyword None s = begun_body (place u keyword) kind (some_tag_used u true kind keyword None s)
-body_begun u kind keyword (Some tag) s = begun_body (place u tag.token) kind (tag_used u true kind tag s)
-
--- declaring
-
-abbrev pub the_thing : Option Meaning → Place → Place
-the_thing (Some (means_thing first)) at = first
-the_thing (Some (means_type t)) at = at
-the_thing None at = at
-
-abbrev pub or_at : Option Place → Place → Place
-or_at None at = at
-or_at (Some first) at = first
-
--- the owner of a declaration: a further one belongs where the first does
-abbrev pub owner_where : Names → Place → Place → Option Place → Option Place
-owner_where s first at own = if is_place first at then own else owner_at s first
-
-abbrev pub declaring : Place → Role → Place → CType → Option Place → Names → Names
-declaring at role first t own s = with_declared (record { at = at; role = role; first = first; type = t; owner = owner_where s first at own }) s
-
--- a declaration in its scope, of what the scope declares already or of something new
-abbrev pub declared_here : Place → ℕ → Role → CType → Option Place → Names → Names
-declared_here at name role t own s =
-    bound name (means_thing (the_thing (inner_meaning s name) at)) (declaring at role (the_thing (inner_meaning s name) at) t own s)
-
-abbrev pub linked : ℕ → Place → Names → Place
-linked name at s = or_at (thing_named s.things name) at
-
--- an object or function of the file
-abbrev pub declared_thing : Place → ℕ → CType → Names → Names
-declared_thing at name t s =
-    bound name (means_thing (linked name at s)) (declaring at (if is_function t then function_role else object_role) (linked name at s) t (if is_function t then Some at else None)
-    (record s { things = (name, linked name at s) ∷ s.things }))
-
-abbrev pub is_word : Keyword → Keyword → Bool
-is_word keywords.Typedef keywords.Typedef = true
-is_word keywords.Extern keywords.Extern = true
-is_word keywords.Static keywords.Static = true
-is_word word other = false
-
-abbrev pub has_word : Keyword → List Keyword → Bool
-has_word word [] = false
-has_word word (w ∷ ws) = is_word word w || has_word word ws
-
-abbrev pub declared_typedef : Place → ℕ → CType → Names → Names
-declared_typedef at name t s = bound name (means_type t) (declaring at typedef_role at t None s)
-
--- a name of a declaration with these specifiers
-abbrev pub declared_by : List Keyword → Place → ℕ → CType → Names → Names
-declared_by words at name t s =
-    if has_word keywords.Typedef words then declared_typedef at name t s
-    else if is_at_file s || (is_function t || has_word keywords.Extern words) then declared_thing at name t s
-    else declared_here at name object_role t (if has_word keywords.Static words then None else s.enclosing) s
-
-abbrev pub declared_some : Spelling → Option Named → List Keyword → CType → Names → Names
-declared_some u None words t s = s
-declared_some u (Some it) words t s = declared_by words (place u it.token) (u.key it.name) t (sized (place u it.token) t s)
-
--- a parameter, with its number; it belongs to the function whose own parameters these are
-abbrev pub declared_param : Spelling → Option Named → ℕ → Option Place → CType → Names → Names
-declared_param u None i own t s = s
-declared_param u (Some it) i own t s = declared_here (place u it.token) (u.key it.name) (parameter_role i) t own (sized (place u it.token) t s)
-
--- a member of the struct of this number
-abbrev pub declared_member : Spelling → Option Named → ℕ → CType → Names → Names
-declared_member u None n t s = s
-declared_member u (Some it) n t s =
-    sized (place u it.token) t (with_body n (with_member (u.key it.name) (place u it.token) t)
-    (declaring (place u it.token) (field_role n (length (or_no_body (body_of s.aggregates n)).own)) (place u it.token) t None s))
-
-abbrev pub struct_number : CType → ℕ
-struct_number (struct ws n) = n
-struct_number (base ws) = 0
-struct_number (void ws) = 0
-struct_number (pointer ws t) = 0
-struct_number (function ws ps r e) = 0
-
-abbrev pub unnamed_member : Place → ℕ → CType → Names → Names
-unnamed_member at n t s =
-    with_body n (with_unnamed at t (or_no_body (body_of s.aggregates (struct_number t))).known)
-    (declaring at (field_role n (length (or_no_body (body_of s.aggregates n)).own)) at t None s)
+-- members
 
 -- a member without a declarator is one where its specifiers have a struct or union without a tag
 abbrev pub unnamed_by : Spelling → SpecWord → ℕ → CType → Names → Names
@@ -254,34 +79,30 @@ abbrev pub unnamed_among : Spelling → SpecWords → ℕ → CType → Names �
 unnamed_among u no_words n t s = s
 unnamed_among u (more_words word ws) n t s = unnamed_among u ws n t (unnamed_by u word n t s)
 
--- a tag alone: a declaration of nothing else, whose words, attributes aside, are one struct or union without a body
-abbrev pub is_only : SpecWords → Bool
-is_only no_words = true
-is_only (more_words (attribute attr) ws) = is_only ws
-is_only (more_words (struct_type word attrs tag body) ws) = false
-is_only (more_words (storage word) ws) = false
-is_only (more_words (thread token) ws) = false
-is_only (more_words (inline_word token) ws) = false
-is_only (more_words (noreturn token) ws) = false
-is_only (more_words (qualifier q) ws) = false
-is_only (more_words (basic word) ws) = false
-is_only (more_words (enum_type e) ws) = false
-is_only (more_words (typedef_name name) ws) = false
+abbrev pub is_bodiless : SomeBody → Bool
+is_bodiless no_body = true
+is_bodiless (some_body opening items closing) = false
 
+abbrev pub is_lone_word : SpecWord → Bool
+is_lone_word (storage word) = false
+is_lone_word (thread token) = false
+is_lone_word (inline_word token) = false
+is_lone_word (noreturn token) = false
+is_lone_word (qualifier q) = false
+is_lone_word (basic word) = false
+is_lone_word (struct_type word attrs tag body) = is_bodiless body
+is_lone_word (enum_type e) = false
+is_lone_word (typedef_name name) = false
+is_lone_word (attribute attr) = true
+
+abbrev pub is_lone : SpecWords → Bool
+is_lone no_words = true
+is_lone (more_words word ws) = is_lone_word word && is_lone ws
+
+-- a tag alone: a declaration of nothing else, whose words, attributes aside, are a struct or union without a body
 abbrev pub is_tag_alone : SpecWords → InitDeclrs → Bool
-is_tag_alone no_words ds = false
+is_tag_alone ws no_init_declrs = is_lone ws
 is_tag_alone ws (more_init_declrs attrs d asm_label attrs2 init ds) = false
-is_tag_alone (more_words (attribute attr) ws) no_init_declrs = is_tag_alone ws no_init_declrs
-is_tag_alone (more_words (struct_type word attrs tag no_body) ws) no_init_declrs = is_only ws
-is_tag_alone (more_words (struct_type word attrs tag (some_body opening items closing)) ws) no_init_declrs = false
-is_tag_alone (more_words (storage word) ws) no_init_declrs = false
-is_tag_alone (more_words (thread token) ws) no_init_declrs = false
-is_tag_alone (more_words (inline_word token) ws) no_init_declrs = false
-is_tag_alone (more_words (noreturn token) ws) no_init_declrs = false
-is_tag_alone (more_words (qualifier q) ws) no_init_declrs = false
-is_tag_alone (more_words (basic word) ws) no_init_declrs = false
-is_tag_alone (more_words (enum_type e) ws) no_init_declrs = false
-is_tag_alone (more_words (typedef_name name) ws) no_init_declrs = false
 
 -- the annotation words that a word of specifiers adds to their type
 abbrev pub added : Spelling → SpecWord → Words
@@ -301,19 +122,6 @@ abbrev pub ellipsis : Spelling → Params → Option Dots → Option Words
 ellipsis u ps (Some dots) = Some (annotations u dots.quals)
 ellipsis u no_params None = Some []
 ellipsis u (more_params ws d attrs ps) None = None
-
--- a function's own parameters are those directly around its name
-abbrev pub own_where : Bool → Option Place → Option Place
-own_where true own = own
-own_where false own = None
-
-abbrev pub keep : Option Place → Names → Names
-keep None s = leave s
-keep (Some own) s = leave (record s { kept = Some (innermost s.scopes) })
-
-abbrev pub no_params_if : Bool → CTypes → CTypes
-no_params_if true types = no_types
-no_params_if false types = types
 
 module _ (u : Spelling) where
   abbrev mutual
@@ -373,12 +181,12 @@ module _ (u : Spelling) where
     word_named alone (noreturn token) t s = typed t s
     word_named alone (qualifier q) t s = typed t s
     word_named alone (basic word) t s = typed (if is_void word.keyword then void [] else t) s
-    word_named alone (struct_type word attrs tag body) t s = struct_named alone word.keyword word.token tag body s
+    word_named alone (struct_type word attrs tag body) t s = struct_named alone (tag_kind word.keyword) word.token tag body s
     word_named alone (enum_type e) t s = typed t (enum_named e s)
     word_named alone (typedef_name name) t s = typed (type_by (meaning s (u.key name.name))) s
     word_named alone (attribute attr) t s = typed t s
 
-    pub struct_named : Bool → Keyword → ℕ → Option Identifier → SomeBody → Names → Typed
+    pub struct_named : Bool → TagKind → ℕ → Option Identifier → SomeBody → Names → Typed
     struct_named alone kind keyword tag no_body s =
         typed (struct [] (some_tag_used u alone kind keyword tag s).number) (some_tag_used u alone kind keyword tag s).names
     struct_named alone kind keyword tag (some_body opening items closing) s =
@@ -410,8 +218,8 @@ module _ (u : Spelling) where
     some_value_named (some_value token e) s = expr_named false e s
 
     pub enum_named : EnumType → Names → Names
-    enum_named (enum_of keyword attrs tag no_enum_body) s = (some_tag_used u false keywords.Enum keyword tag s).names
-    enum_named (enum_of keyword attrs tag (some_enum_body opening es last closing)) s = enumerators_named es (body_begun u keywords.Enum keyword tag s).names
+    enum_named (enum_of keyword attrs tag no_enum_body) s = (some_tag_used u false tags.Enum keyword tag s).names
+    enum_named (enum_of keyword attrs tag (some_enum_body opening es last closing)) s = enumerators_named es (body_begun u tags.Enum keyword tag s).names
 
     pub enumerators_named : Enumerators → Names → Names
     enumerators_named no_enumerators s = s
@@ -528,22 +336,6 @@ module _ (u : Spelling) where
     for_start_named (start_value e semi) s = some_expr_named e s
 
   -- functions and units
-
-  abbrev pub has_place : List Place → Place → Bool
-  has_place [] at = false
-  has_place (p ∷ ps) at = is_place p at || has_place ps at
-
-  abbrev pub scope_kept : Option Scope → List Scope → List Scope
-  scope_kept None scopes = scopes
-  scope_kept (Some scope) scopes = scope ∷ scopes
-
-  -- a body begins, in the scope of its function's own parameters
-  abbrev pub body_entered : Place → Place → Names → Names
-  body_entered at first s =
-      record (with_faults (fault_where (has_place s.bodies first) at defined_twice) s) { bodies = first ∷ s.bodies; scopes = scope_kept s.kept s.scopes; enclosing = Some first }
-
-  abbrev pub body_left : Names → Names
-  body_left s = leave (record s { enclosing = None })
 
   abbrev pub function_by : Option Named → SpecWords → Declr → BlockItems → Names → Names
   function_by None ws d items s = s

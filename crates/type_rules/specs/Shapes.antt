@@ -1,54 +1,12 @@
 -- The type of each expression (C99, 6.5), by cases on the tree, over what names and types' names in it mean.
-use Rattle.std.specs.Prelude.{Bool, false, ◌&&◌, List, [], ◌∷◌, Option, None, Some, if◌then◌else◌}
-use Rattle.c_words.specs.declared.kinds.Punct.{Punct}
-use Rattle.c_words.specs.declared.kinds.Punct.TheVariants as signs
+use Rattle.std.specs.Prelude.{Bool, false, ◌&&◌, [], Option, Some}
 use Rattle.c_tree.specs.Tree.{Expr, operation, cast, prefix, sizeof_value, sizeof_type, extension, index, call, dot, arrow, post, compound, name_use, number_use, char_use, text_use, paren, statement_expr, va_arg, va_start, va_copy, offset, comma, assign, cond, binary, no_expr, some_expr, pointer, BlockItems, no_block_items, more_block_items, BlockItem, block_decl, block_stmt, Stmt, block, expr_stmt, attr_stmt, label, case_stmt, default_stmt, if_stmt, switch_stmt, while_stmt, do_stmt, for_stmt, goto_stmt, continue_stmt, break_stmt, return_stmt, asm_stmt}
-use Rattle.type_table.specs.Types.{CType, base, void, pointer}
-use Rattle.type_rules.specs.Tokens.{Place, Spelling, place, first_word}
-use Rattle.type_rules.specs.Scopes.{Role, typedef_role, object_role, function_role, parameter_role, field_role, enumerator_role, Declared, Use, means, called, missing, NameUse, TypeNamed, Names, declared_at, is_place}
-use Rattle.type_rules.specs.Values.{Shape, a_value, a_place, value, some_target, address, is_plain_void_pointer, binary_type, cond_type, index_type, some_result_type, undeclared_function, member_type}
-
--- what was found of a use, and of a type's name
-
-abbrev pub use_at : List NameUse → Place → Use
-use_at [] at = missing
-use_at (it ∷ uses) at = if is_place it.at at then it.use_of else use_at uses at
-
-abbrev pub type_named_at : List TypeNamed → Place → Option CType
-type_named_at [] at = None
-type_named_at (it ∷ others) at = if is_place it.at at then Some it.type else type_named_at others at
-
-abbrev pub declared_shape : Role → CType → Shape
-declared_shape typedef_role t = a_place (Some t)
-declared_shape object_role t = a_place (Some t)
-declared_shape function_role t = a_place (Some t)
-declared_shape (parameter_role i) t = a_place (Some t)
-declared_shape (field_role n i) t = a_place (Some t)
-declared_shape enumerator_role t = a_value (Some (base []))
-
-abbrev pub some_declared_shape : Option Declared → Shape
-some_declared_shape None = a_place None
-some_declared_shape (Some d) = declared_shape d.role d.type
-
--- a name is a place; an enumerator is a value
-abbrev pub use_shape : Names → Use → Shape
-use_shape s (means at) = some_declared_shape (declared_at s.declared at)
-use_shape s called = a_place (Some undeclared_function)
-use_shape s missing = a_place None
-
-abbrev pub prefix_shape : Punct → Shape → Shape
-prefix_shape signs.Ampersand e = a_value (address e)
-prefix_shape signs.Star e = a_place (some_target (value e))
-prefix_shape signs.PlusPlus e = a_value (value e)
-prefix_shape signs.MinusMinus e = a_value (value e)
-prefix_shape p e = a_value (Some (base []))
-
-abbrev pub assigned_shape : Shape → Shape
-assigned_shape e = a_value (if e.is_place then e.type else None)
-
--- the type of what is written in text is a pointer to a character
-abbrev pub text_type : CType
-text_type = pointer [] (base [])
+use Rattle.type_table.specs.Types.{CType, base, void}
+use Rattle.name_rules.specs.Spellings.{Spelling, place}
+use Rattle.name_rules.specs.Scopes.{Names}
+use Rattle.name_rules.specs.Values.{Shape, a_value, a_place, value, some_target, is_plain_void_pointer, binary_type, cond_type, index_type, some_result_type, member_type}
+use Rattle.name_rules.specs.Uses.{use_at, type_named_at, use_shape, prefix_shape, assigned_shape, text_type}
+use Rattle.type_rules.specs.Tokens.{first_word}
 
 module _ (u : Spelling) (s : Names) where
   -- a zero: a number spelled `0`, one in parentheses, or one that is cast to `void *` without annotation words

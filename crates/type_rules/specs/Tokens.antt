@@ -1,5 +1,5 @@
--- What the tokens of a source say that its tree does not, and the first tokens of parts of trees.
-use Rattle.std.specs.Prelude.{ℕ, Bool, true, false, ◌&&◌, List, [], ◌∷◌, ◌++◌, Option, None, Some, if◌then◌else◌}
+-- The annotation words, first tokens and names of parts of trees.
+use Rattle.std.specs.Prelude.{ℕ, Bool, true, false, ◌&&◌, List, [], ◌∷◌, ◌++◌, Option, None, Some}
 use Rattle.c_words.specs.declared.kinds.Keyword.{Keyword}
 use Rattle.c_words.specs.declared.kinds.Keyword.TheVariants as keywords
 use Rattle.c_syntax.specs.declared.parts.Qual.{Qual}
@@ -10,32 +10,17 @@ use Rattle.c_syntax.specs.declared.parts.ArrayWord.{ArrayWord}
 use Rattle.c_syntax.specs.declared.parts.ArrayWord.TheVariants as array_words
 use Rattle.c_tree.specs.Tree.{SpecWords, no_words, more_words, SpecWord, storage, thread, inline_word, noreturn, qualifier, basic, struct_type, enum_type, typedef_name, attribute, EnumType, enum_of, Declr, pointer, declr_name, declr_paren, array, params, abs_pointer, abs_paren, abs_array, abs_params, SomeDeclr, no_declr, some_declr, Params, no_params, more_params}
 use Rattle.type_table.specs.Types.{Words}
-
--- a token of a unit
-abbrev pub Place : Type 0
-Place = ℕ × ℕ
-
--- What is read from the tokens of a unit: whether the word at a token is an annotation, as a `$` word is, an index word,
--- or a keyword that a lattice names; whether the number at a token is spelled `0`; and the number of a name's spelling,
--- which is the same in all units.
-pub record Spelling : Type 0 where
-  pub unit : ℕ
-  pub annotates : ℕ → Bool
-  pub is_naught : ℕ → Bool
-  pub key : ℕ → ℕ
-
-abbrev pub place : Spelling → ℕ → Place
-place u token = (u.unit, token)
+use Rattle.name_rules.specs.Spellings.{Spelling, annotation_at, Named}
 
 abbrev pub qual_token : Qual → ℕ
 qual_token (quals.Word word) = word.token
 qual_token (quals.Element token) = token
 qual_token (quals.Index token) = token
 
--- the annotation words of a list of qualifiers, in token order
 abbrev pub annotation : Spelling → Qual → Words
-annotation u q = if u.annotates (qual_token q) then place u (qual_token q) ∷ [] else []
+annotation u q = annotation_at u (qual_token q)
 
+-- the annotation words of a list of qualifiers, in token order
 abbrev pub annotations : Spelling → List Qual → Words
 annotations u [] = []
 annotations u (q ∷ qs) = annotation u q ++ annotations u qs
@@ -69,11 +54,6 @@ word_token (attribute attr) = attr.keyword
 abbrev pub first_word : SpecWords → ℕ
 first_word no_words = 0
 first_word (more_words word words) = word_token word
-
--- a name with its token
-pub record Named : Type 0 where
-  pub token : ℕ
-  pub name : ℕ
 
 -- the name that a declarator declares
 abbrev pub declared_name : Declr → Option Named

@@ -2,10 +2,10 @@
 use Rattle.std.specs.Prelude.{ℕ, suc, nat_eq, nat_lt, Bool, true, false, not, List, [], ◌∷◌, slice_get, Option, None, Some, if◌then◌else◌}
 use Rattle.c_words.specs.declared.kinds.Punct.{Punct}
 use Rattle.c_words.specs.declared.kinds.Punct.TheVariants as signs
-use Rattle.c_words.specs.declared.kinds.Keyword.{Keyword}
-use Rattle.c_words.specs.declared.kinds.Keyword.TheVariants as keywords
+use Rattle.tape_ops.specs.declared.specifier.TagKind.{TagKind}
+use Rattle.tape_ops.specs.declared.specifier.TagKind.TheVariants as tags
 use Rattle.type_table.specs.Types.{CType, base, void, struct, pointer, function, CTypes, no_types, more_types}
-use Rattle.type_rules.specs.Scopes.{Aggregate, Body, Own, Known, body_of}
+use Rattle.name_rules.specs.Scopes.{Aggregate, Body, Own, Known, body_of}
 
 -- an expression: whether it is a place, and the type of what is in it, or else of its value
 pub record Shape : Type 0 where
@@ -189,9 +189,10 @@ own_of all n = own_in (body_of all n) where
 abbrev pub is_union_at : Option Aggregate → Bool
 is_union_at None = false
 is_union_at (Some it) = is_union it.kind where
-  is_union : Keyword → Bool
-  is_union keywords.Union = true
-  is_union word = false
+  is_union : TagKind → Bool
+  is_union tags.Struct = false
+  is_union tags.Union = true
+  is_union tags.Enum = false
 
 -- which of the struct's own members an item without designators has: the next one, of a union always the first
 abbrev pub own_number : List Aggregate → ℕ → ℕ → ℕ

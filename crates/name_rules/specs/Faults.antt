@@ -1,6 +1,6 @@
 -- The faults of names and types, and the first of several.
 use Rattle.std.specs.Prelude.{ℕ, ◌<◌, Bool, List, [], ◌∷◌, Contains, if◌then◌else◌}
-use Rattle.type_rules.specs.Tokens.{Place}
+use Rattle.name_rules.specs.Spellings.{Place}
 
 -- the rules that may fail, the lower first
 pub data Rule : Type 0 where

@@ -1,10 +1,10 @@
 -- What is known of names at a place of a unit: declarations so far, scopes, tags, and what was found of uses.
 use Rattle.std.specs.Prelude.{ℕ, zero, suc, nat_eq, nat_lt, Bool, true, false, ◌&&◌, List, [], ◌∷◌, ◌++◌, length, slice_get, Option, None, Some, if◌then◌else◌}
-use Rattle.c_words.specs.declared.kinds.Keyword.{Keyword}
-use Rattle.c_words.specs.declared.kinds.Keyword.TheVariants as keywords
+use Rattle.tape_ops.specs.declared.specifier.TagKind.{TagKind}
+use Rattle.tape_ops.specs.declared.specifier.TagKind.TheVariants as tags
 use Rattle.type_table.specs.Types.{CType, size}
-use Rattle.type_rules.specs.Tokens.{Place}
-use Rattle.type_rules.specs.Faults.{type_too_large, Fault, fault_where}
+use Rattle.name_rules.specs.Spellings.{Place}
+use Rattle.name_rules.specs.Faults.{type_too_large, Fault, fault_where}
 
 -- what a name stands for in a scope: a type, or what is declared first at a place
 pub data Meaning : Type 0 where
@@ -13,7 +13,7 @@ pub data Meaning : Type 0 where
 
 -- the struct, union or enum of a tag
 pub record Tagged : Type 0 where
-  pub kind : Keyword
+  pub kind : TagKind
   pub tag : ℕ
   pub number : ℕ
 
@@ -41,7 +41,7 @@ pub record Body : Type 0 where
 
 -- a struct, union or enum, by the place of its first tag, or of its keyword where it has none
 pub record Aggregate : Type 0 where
-  pub kind : Keyword
+  pub kind : TagKind
   pub at : Place
   pub body : Option Body
 
@@ -98,15 +98,15 @@ pub record Names : Type 0 where
   -- the scope of a function's parameters, until its body goes on in it
   pub kept : Option Scope
 
--- places and keywords
+-- places and kinds of tags
 
 abbrev pub is_place : Place → Place → Bool
 is_place p q = nat_eq p.0 q.0 && nat_eq p.1 q.1
 
-abbrev pub is_kind : Keyword → Keyword → Bool
-is_kind keywords.Struct keywords.Struct = true
-is_kind keywords.Union keywords.Union = true
-is_kind keywords.Enum keywords.Enum = true
+abbrev pub is_kind : TagKind → TagKind → Bool
+is_kind tags.Struct tags.Struct = true
+is_kind tags.Union tags.Union = true
+is_kind tags.Enum tags.Enum = true
 is_kind kind other = false
 
 -- finding
@@ -135,7 +135,7 @@ meaning_through (scope ∷ outer) round name = or_outer (meaning_in scope.names 
 abbrev pub meaning : Names → ℕ → Option Meaning
 meaning s name = meaning_through s.scopes s.round name
 
-abbrev pub tag_in : List Tagged → Keyword → ℕ → Option ℕ
+abbrev pub tag_in : List Tagged → TagKind → ℕ → Option ℕ
 tag_in [] kind tag = None
 tag_in (it ∷ tags) kind tag = if is_kind it.kind kind && nat_eq it.tag tag then Some it.number else tag_in tags kind tag
 
@@ -143,7 +143,7 @@ abbrev pub or_number : Option ℕ → Option ℕ → Option ℕ
 or_number None outer = outer
 or_number (Some n) outer = Some n
 
-abbrev pub tag_through : List Scope → Keyword → ℕ → Option ℕ
+abbrev pub tag_through : List Scope → TagKind → ℕ → Option ℕ
 tag_through [] kind tag = None
 tag_through (scope ∷ outer) kind tag = or_number (tag_in scope.tags kind tag) (tag_through outer kind tag)
 
@@ -187,7 +187,7 @@ leave s = record s { scopes = outer_scopes s.scopes }
 abbrev pub bound : ℕ → Meaning → Names → Names
 bound name meaning s = record s { scopes = record (innermost s.scopes) { names = (name, meaning) ∷ (innermost s.scopes).names } ∷ outer_scopes s.scopes }
 
-abbrev pub tag_bound : Keyword → ℕ → ℕ → Names → Names
+abbrev pub tag_bound : TagKind → ℕ → ℕ → Names → Names
 tag_bound kind tag n s = record s { scopes = record (innermost s.scopes) { tags = record { kind = kind; tag = tag; number = n } ∷ (innermost s.scopes).tags } ∷ outer_scopes s.scopes }
 
 abbrev pub with_faults : List Fault → Names → Names
@@ -200,7 +200,7 @@ with_declared d s = record s { declared = s.declared ++ d ∷ [] }
 abbrev pub sized : Place → CType → Names → Names
 sized at type s = with_faults (fault_where (nat_lt 4096 (size type)) at type_too_large) s
 
-abbrev pub with_aggregate : Keyword → Place → Names → Names
+abbrev pub with_aggregate : TagKind → Place → Names → Names
 with_aggregate kind at s = record s { aggregates = s.aggregates ++ record { kind = kind; at = at; body = None } ∷ [] }
 
 abbrev pub changed_at : {A : Type 0} → List A → ℕ → (A → A) → List A

@@ -1,0 +1,9 @@
+pub mod Checks
+pub mod Declaring
+pub mod Faults
+pub mod Pieces
+pub mod Scopes
+pub mod Spellings
+pub mod Units
+pub mod Uses
+pub mod Values
