@@ -61,7 +61,12 @@ impl Scope {
     }
 
     /// One more tag. For want of memory the scope stays as it was.
-    pub(crate) fn bind_tag(&mut self, kind: TagKind, tag: NameId, number: StructId) -> Result<(), NoMemory>
+    pub(crate) fn bind_tag(
+        &mut self,
+        kind: TagKind,
+        tag: NameId,
+        number: StructId,
+    ) -> Result<(), NoMemory>
         ensures bound { OnOk result (self.new ≡ with_tag kind tag number self.old) }
         ensures err { OnErr result (self.new ≡ self.old) }
     {
