@@ -17,8 +17,8 @@ pub record OpenBody : Type 0 where
   pub outer : Specifiers
   pub members_of : ℕ
 
--- a declaration whose specifiers are whole: their type and storage words; and of its last declarator the name, where it has
--- one, and the type so far
+-- a declaration whose specifiers are whole: their type and storage words; and of the declarator that is being read the name,
+-- where it has one, and the type so far
 pub record OpenDeclaration : Type 0 where
   pub type : CType
   pub storage : List Keyword

@@ -1,5 +1,6 @@
 -- Names by one loop over a tape: what each op makes of what is known before it.
 use Rattle.std.specs.Prelude.{ℕ, Bool, true, false, List, [], ◌∷◌, ◌++◌, length, Option, None, Some}
+use Rattle.std.specs.List.{last_or}
 use Rattle.c_words.specs.declared.kinds.Keyword.{Keyword}
 use Rattle.tape_ops.specs.declared.op.Op.{Op}
 use Rattle.tape_ops.specs.declared.op.Op.TheVariants as ops
@@ -15,9 +16,9 @@ use Rattle.tape_ops.specs.declared.statement.StmtOp.{StmtOp}
 use Rattle.tape_ops.specs.declared.statement.StmtOp.TheVariants as stmts
 use Rattle.type_table.specs.Types.{Words, CType, base, void, struct, pointer}
 use Rattle.name_rules.specs.Spellings.{Place, Spelling, place, annotation_at, Named}
-use Rattle.name_rules.specs.Scopes.{enumerator_role, Names, meaning, innermost, enter, leave}
+use Rattle.name_rules.specs.Scopes.{enumerator_role, Declared, Names, meaning, innermost, enter, leave}
 use Rattle.name_rules.specs.Pieces.{with_words, decayed, piece_of, to_pointer, to_function}
-use Rattle.name_rules.specs.Declaring.{used, type_named, type_by, Numbered, tag_used, Begun, tag_begun, untagged_begun, declared_here, linked, declared_some, declared_param, declared_member, unnamed_member, own_where, keep, body_entered, body_left}
+use Rattle.name_rules.specs.Declaring.{used, type_named, type_by, Numbered, tag_used, tag_type, Begun, tag_begun, untagged_begun, declared_here, linked, declared_some, declared_param, declared_member, unnamed_member, own_where, keep, body_entered, body_left}
 use Rattle.name_steps.specs.State.{Specifiers, OpenBody, OpenDeclaration, OpenParameters, State, no_specifiers, no_declaration, no_body, no_parameters, innermost_or, with_innermost, without_innermost, types_in}
 
 -- the innermost of what is begun
@@ -41,12 +42,6 @@ with_word u token st = record st { specifiers = record st.specifiers { words = s
 
 abbrev pub with_storage : Keyword → State → State
 with_storage word st = record st { specifiers = record st.specifiers { storage = st.specifiers.storage ++ word ∷ [] } }
-
--- the type of specifiers with a tag: an enumeration is an integer type
-abbrev pub tag_type : TagKind → ℕ → CType → CType
-tag_type tags.Struct n t = struct [] n
-tag_type tags.Union n t = struct [] n
-tag_type tags.Enum n t = t
 
 abbrev pub with_tag : TagKind → Numbered → State → State
 with_tag kind it st = record (with_type (tag_type kind it.number st.specifiers.type) st) { names = it.names }
@@ -91,10 +86,9 @@ specifier_step u st specs.SpecsEnd = specifiers_ended st
 
 -- declarators
 
--- a declarator begins anew from the type of the specifiers
 abbrev pub with_name : ℕ → ℕ → State → State
 with_name token name st =
-    record st { declarations = with_innermost (record (declaration st) { name = Some (record { token = token; name = name }); declared = (declaration st).type }) st.declarations }
+    record st { declarations = with_innermost (record (declaration st) { name = Some (record { token = token; name = name }) }) st.declarations }
 
 -- the type so far, of which this is made, uses the annotation words before it
 abbrev pub with_declared : CType → State → State
@@ -136,11 +130,18 @@ abbrev pub parameters_ended : State → State
 parameters_ended st =
     record st { names = keep (parameters st).own st.names; parameters = without_innermost st.parameters; finished = (parameters st).types ∷ st.finished }
 
+-- a declarator ends: the next one, without a name so far, is made of the type of the specifiers
+abbrev pub declarator_ended : State → State
+declarator_ended st =
+    record st { declarations = with_innermost (record (declaration st) { name = None; declared = (declaration st).type }) st.declarations }
+
 abbrev pub name_declared : Spelling → State → State
-name_declared u st = record st { names = declared_some u (declaration st).name (declaration st).storage (declaration st).declared st.names }
+name_declared u st =
+    record (declarator_ended st) { names = declared_some u (declaration st).name (declaration st).storage (declaration st).declared st.names }
 
 abbrev pub with_member : Spelling → State → State
-with_member u st = record st { names = declared_member u (declaration st).name (body st).members_of (declaration st).declared st.names }
+with_member u st =
+    record (declarator_ended st) { names = declared_member u (declaration st).name (body st).members_of (declaration st).declared st.names }
 
 abbrev pub with_type_name : Place → State → State
 with_type_name at st = record (let_go st) { names = type_named at (declaration st).declared st.names }
@@ -179,9 +180,10 @@ expression_step u st (exprs.Call token count) = st
 expression_step u st (exprs.Arrow token first last) = st
 expression_step u st (exprs.Dot token member name) = st
 
-abbrev pub body_entered_by : Spelling → Option Named → Names → Names
-body_entered_by u None s = s
-body_entered_by u (Some it) s = body_entered (place u it.token) (linked (u.key it.name) (place u it.token) s) s
+-- the body of the function that was declared last
+abbrev pub body_entered_by : Option Declared → Names → Names
+body_entered_by None s = s
+body_entered_by (Some d) s = body_entered d.at d.first s
 
 abbrev pub statement_step : Spelling → State → StmtOp → State
 statement_step u st stmts.Quiet = st
@@ -190,7 +192,7 @@ statement_step u st stmts.Pop = st
 statement_step u st (stmts.Return token last) = st
 statement_step u st stmts.Enter = record st { names = enter st.names }
 statement_step u st stmts.Leave = record st { names = leave st.names }
-statement_step u st stmts.FunctionBody = record st { names = body_entered_by u (declaration st).name st.names }
+statement_step u st stmts.FunctionBody = record st { names = body_entered_by (last_or None st.names.declared) st.names }
 statement_step u st stmts.FunctionEnd = record st { names = body_left st.names }
 
 -- ops of the forms with type names and of initialisers say nothing of names
