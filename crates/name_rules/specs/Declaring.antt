@@ -196,7 +196,7 @@ scope_kept (Some scope) scopes = scope ∷ scopes
 -- a body begins, in the scope of its function's own parameters
 abbrev pub body_entered : Place → Place → Names → Names
 body_entered at first s =
-    record (with_faults (fault_where (has_place s.bodies first) at defined_twice) s) { bodies = first ∷ s.bodies; scopes = scope_kept s.kept s.scopes; enclosing = Some first }
+    record (with_faults (fault_where (has_place s.bodies first) at defined_twice) s) { bodies = first ∷ s.bodies; scopes = scope_kept s.kept s.scopes; enclosing = Some first; kept = None }
 
 abbrev pub body_left : Names → Names
 body_left s = leave (record s { enclosing = None })
