@@ -1,6 +1,6 @@
 //! What declarators, enumerators and members declare (C99, 6.7).
 
-ghost use Rattle.std.specs.Prelude.{◌≡◌, ◌<◌, ℕ, None, OnOk, length, option_map};
+ghost use Rattle.std.specs.Prelude.{◌≡◌, ◌<◌, [], ℕ, None, OnOk, length, option_map};
 ghost use Rattle.std.specs.List.{last_or};
 ghost use Rattle.type_table.specs.Types.{CType, base};
 ghost use Rattle.name_types.specs.Known.{Knows};
@@ -10,10 +10,11 @@ ghost use Rattle.name_steps.specs.Steps.{body_entered_by};
 ghost use Rattle.unit_spelling.specs.Spelled.{spelling_of};
 ghost use Rattle.unit_names.specs.Shown.{names_of};
 ghost use Rattle.name_uses.specs.Named.{named_of};
+ghost use Rattle.name_uses.specs.Local.{local_declared};
 
 use crate::first::{Named, declare_first, declare_here};
 use crate::listed::has_word;
-use crate::use_name::check_size;
+use crate::uses::check_size;
 use c_words::Keyword;
 use name_records::{Role, Rule};
 use name_scopes::{Meant, Place};
@@ -23,7 +24,12 @@ use unit_names::Names;
 use unit_spelling::Spelling;
 
 /// An enumerator. Constant time but for growth.
-pub fn declare_enumerator(names: &mut Names, types: &Types, at: &Place, name: NameId) -> Result<(), NoMemory>
+pub fn declare_enumerator(
+    names: &mut Names,
+    types: &Types,
+    at: &Place,
+    name: NameId,
+) -> Result<(), NoMemory>
     ensures { OnOk result ((t : ℕ → CType) → Knows t types.now → names_of t names.new
         ≡ declared_here at.now name enumerator_role (base []) None (names_of t names.old)) }
 {
@@ -32,17 +38,14 @@ pub fn declare_enumerator(names: &mut Names, types: &Types, at: &Place, name: Na
     Ok(())
 }
 
-/// The role and the owner of what is declared first here as an object or function of the file.
-fn thing_role(is_function: bool) -> Role {
-    if is_function {
-        Role::Function
-    } else {
-        Role::Object
-    }
-}
-
 /// An object or function of the file. Constant time but for growth.
-fn declare_thing(names: &mut Names, types: &Types, at: &Place, name: NameId, ty: TypeId) -> Result<(), NoMemory>
+fn declare_thing(
+    names: &mut Names,
+    types: &Types,
+    at: &Place,
+    name: NameId,
+    ty: TypeId,
+) -> Result<(), NoMemory>
     requires { ty < length types.now }
     ensures { OnOk result ((t : ℕ → CType) → Knows t types.now → names_of t names.new
         ≡ declared_thing at.now name (t ty) (names_of t names.old)) }
@@ -68,7 +71,13 @@ fn declare_typedef(names: &mut Names, at: &Place, name: NameId, ty: TypeId) -> R
 }
 
 /// An object of a block. Linear in the storage words, and constant time but for growth otherwise.
-fn declare_local(names: &mut Names, words: &[Keyword], at: &Place, name: NameId, ty: TypeId) -> Result<(), NoMemory>
+fn declare_local(
+    names: &mut Names,
+    words: &[Keyword],
+    at: &Place,
+    name: NameId,
+    ty: TypeId,
+) -> Result<(), NoMemory>
     ensures { OnOk result ((t : ℕ → CType) → names_of t names.new ≡ local_declared words.now at.now name (t ty) (names_of t names.old)) }
 {
     let own = if has_word(Keyword::Static, words) {
@@ -81,7 +90,14 @@ fn declare_local(names: &mut Names, words: &[Keyword], at: &Place, name: NameId,
 }
 
 /// A name of a declaration with these storage words. Linear in them, and constant time but for growth otherwise.
-fn declare_by(names: &mut Names, types: &Types, words: &[Keyword], at: &Place, name: NameId, ty: TypeId) -> Result<(), NoMemory>
+fn declare_by(
+    names: &mut Names,
+    types: &Types,
+    words: &[Keyword],
+    at: &Place,
+    name: NameId,
+    ty: TypeId,
+) -> Result<(), NoMemory>
     requires { ty < length types.now }
     ensures { OnOk result ((t : ℕ → CType) → Knows t types.now → names_of t names.new
         ≡ declared_by words.now at.now name (t ty) (names_of t names.old)) }
@@ -136,7 +152,14 @@ pub fn declare_parameter(
     };
     let at = spelling.place(it.token);
     check_size(names, types, &at, ty)?;
-    declare_here(names, &at, spelling.key(it.name), &Role::Parameter(number), ty, own)?;
+    declare_here(
+        names,
+        &at,
+        spelling.key(it.name),
+        &Role::Parameter(number),
+        ty,
+        own,
+    )?;
     Ok(())
 }
 
@@ -165,7 +188,13 @@ pub fn declare_member(
 }
 
 /// A member without a declarator, of a struct or union without a tag. Linear in the members that lie in it.
-pub fn declare_unnamed(names: &mut Names, types: &Types, at: &Place, number: StructId, ty: TypeId) -> Result<(), NoMemory>
+pub fn declare_unnamed(
+    names: &mut Names,
+    types: &Types,
+    at: &Place,
+    number: StructId,
+    ty: TypeId,
+) -> Result<(), NoMemory>
     requires { ty < length types.now }
     ensures { OnOk result ((t : ℕ → CType) → Knows t types.now → names_of t names.new
         ≡ unnamed_member at.now number (t ty) (names_of t names.old)) }

@@ -30,7 +30,14 @@ fn owner(names: &Names, first: &Place, at: &Place, own: &Option<Place>) -> Optio
 }
 
 /// One more declaration of a thing that was declared first at a place. Constant time but for growth.
-pub(crate) fn declare_first(names: &mut Names, at: &Place, role: &Role, first: &Place, ty: TypeId, own: &Option<Place>) -> Result<(), NoMemory>
+pub(crate) fn declare_first(
+    names: &mut Names,
+    at: &Place,
+    role: &Role,
+    first: &Place,
+    ty: TypeId,
+    own: &Option<Place>,
+) -> Result<(), NoMemory>
     ensures { OnOk result ((t : ℕ → CType) → names_of t names.new ≡ declaring at.now (role_of role.now) first.now (t ty) own.now (names_of t names.old)) }
 {
     let owner = owner(names, first, at, own);
@@ -54,7 +61,14 @@ fn the_thing(found: Option<Meant>, at: &Place) -> Place
 }
 
 /// A declaration in its scope. Constant time but for growth.
-pub(crate) fn declare_here(names: &mut Names, at: &Place, name: NameId, role: &Role, ty: TypeId, own: &Option<Place>) -> Result<(), NoMemory>
+pub(crate) fn declare_here(
+    names: &mut Names,
+    at: &Place,
+    name: NameId,
+    role: &Role,
+    ty: TypeId,
+    own: &Option<Place>,
+) -> Result<(), NoMemory>
     ensures { OnOk result ((t : ℕ → CType) → names_of t names.new ≡ declared_here at.now name (role_of role.now) (t ty) own.now (names_of t names.old)) }
 {
     let first = the_thing(names.meaning_here(name), at);

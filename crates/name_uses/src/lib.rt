@@ -5,9 +5,12 @@ mod declare;
 mod first;
 mod listed;
 mod tag;
-mod use_name;
+mod uses;
 
-pub use declare::{declare_enumerator, declare_member, declare_name, declare_parameter, declare_unnamed, enter_body};
+pub use declare::{
+    declare_enumerator, declare_member, declare_name, declare_parameter, declare_unnamed,
+    enter_body,
+};
 pub use first::Named;
 pub use tag::{Begun, begin_tag, begin_untagged, use_tag};
-pub use use_name::{name_type, type_by, use_name};
+pub use uses::{name_type, type_by, use_name};

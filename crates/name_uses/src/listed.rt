@@ -19,7 +19,9 @@ fn is_word(word: Keyword, other: Keyword) -> bool
     ensures { result ≡ is_word word other }
 {
     match (word, other) {
-        (Keyword::Typedef, Keyword::Typedef) | (Keyword::Extern, Keyword::Extern) | (Keyword::Static, Keyword::Static) => true,
+        (Keyword::Typedef, Keyword::Typedef)
+        | (Keyword::Extern, Keyword::Extern)
+        | (Keyword::Static, Keyword::Static) => true,
         _ => false,
     }
 }

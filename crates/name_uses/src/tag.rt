@@ -33,7 +33,13 @@ fn found(names: &Names, is_alone: bool, kind: TagKind, key: NameId) -> Option<St
 }
 
 /// A new struct, union or enum of a tag. Constant time but for growth.
-fn new_tag(names: &mut Names, spelling: &Spelling, kind: TagKind, token: TokenId, tag: NameId) -> Result<StructId, NoMemory>
+fn new_tag(
+    names: &mut Names,
+    spelling: &Spelling,
+    kind: TagKind,
+    token: TokenId,
+    tag: NameId,
+) -> Result<StructId, NoMemory>
     ensures number { IfOk result (λ n. (t : ℕ → CType) → n ≡ length (names_of t names.old).aggregates) }
     ensures names { IfOk result (λ n. (t : ℕ → CType) → names_of t names.new ≡ new_tag (spelling_of spelling.now) kind token tag (names_of t names.old)) }
 {
@@ -45,7 +51,14 @@ fn new_tag(names: &mut Names, spelling: &Spelling, kind: TagKind, token: TokenId
 
 /// What a tag without a body means: the visible one, or where it is a declaration alone one of the innermost scope, or else a new
 /// one. Takes constant time a scope that is open, but for growth.
-pub fn use_tag(names: &mut Names, spelling: &Spelling, is_alone: bool, kind: TagKind, token: TokenId, tag: NameId) -> Result<StructId, NoMemory>
+pub fn use_tag(
+    names: &mut Names,
+    spelling: &Spelling,
+    is_alone: bool,
+    kind: TagKind,
+    token: TokenId,
+    tag: NameId,
+) -> Result<StructId, NoMemory>
     ensures { IfOk result (λ n. (t : ℕ → CType) → tag_used (spelling_of spelling.now) is_alone kind token tag (names_of t names.old)
         ≡ record { number = n; names = names_of t names.new }) }
 {
@@ -60,7 +73,12 @@ pub fn use_tag(names: &mut Names, spelling: &Spelling, is_alone: bool, kind: Tag
 }
 
 /// The body of a struct, union or enum begins, and whose its members are. Constant time but for growth.
-fn begin_body(names: &mut Names, kind: TagKind, at: &Place, number: StructId) -> Result<StructId, NoMemory>
+fn begin_body(
+    names: &mut Names,
+    kind: TagKind,
+    at: &Place,
+    number: StructId,
+) -> Result<StructId, NoMemory>
     ensures { IfOk result (λ m. (t : ℕ → CType) → begun_body at.now kind (record { number = number; names = names_of t names.old })
         ≡ record { number = number; members_of = m; names = names_of t names.new }) }
 {
@@ -76,7 +94,13 @@ fn begin_body(names: &mut Names, kind: TagKind, at: &Place, number: StructId) ->
 }
 
 /// The body of a tag begins, in the innermost scope. Constant time but for growth.
-pub fn begin_tag(names: &mut Names, spelling: &Spelling, kind: TagKind, token: TokenId, tag: NameId) -> Result<Begun, NoMemory>
+pub fn begin_tag(
+    names: &mut Names,
+    spelling: &Spelling,
+    kind: TagKind,
+    token: TokenId,
+    tag: NameId,
+) -> Result<Begun, NoMemory>
     ensures { IfOk result (λ b. (t : ℕ → CType) → tag_begun (spelling_of spelling.now) kind token tag (names_of t names.old)
         ≡ record { number = b.number; members_of = b.members_of; names = names_of t names.new }) }
 {

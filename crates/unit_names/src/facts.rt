@@ -90,7 +90,13 @@ impl Names {
 
     /// A struct has one more own member, which has a name. Constant time but for growth.
     #[tactic(auto, using(crate::proofs::Views::views), unfolding(crate::specs::Shown::names_of))]
-    pub fn push_member(&mut self, number: StructId, name: NameId, at: &Place, ty: TypeId) -> Result<(), NoMemory>
+    pub fn push_member(
+        &mut self,
+        number: StructId,
+        name: NameId,
+        at: &Place,
+        ty: TypeId,
+    ) -> Result<(), NoMemory>
         ensures { OnOk result ((t : ℕ → CType) → names_of t self.new ≡ with_body number (with_member name at.now (t ty)) (names_of t self.old)) }
     {
         self.aggregates
@@ -100,7 +106,13 @@ impl Names {
 
     /// A struct has one more own member without a name, in which lie the members of `inner`. Linear in their number.
     #[tactic(auto, using(crate::proofs::Views::views), unfolding(crate::specs::Shown::names_of))]
-    pub fn push_unnamed(&mut self, number: StructId, at: &Place, ty: TypeId, inner: StructId) -> Result<(), NoMemory>
+    pub fn push_unnamed(
+        &mut self,
+        number: StructId,
+        at: &Place,
+        ty: TypeId,
+        inner: StructId,
+    ) -> Result<(), NoMemory>
         ensures { OnOk result ((t : ℕ → CType) → names_of t self.new
             ≡ with_body number (with_unnamed at.now (t ty) (or_no_body (body_of (names_of t self.old).aggregates inner)).known) (names_of t self.old)) }
     {
@@ -166,10 +178,11 @@ impl Names {
     pub fn push_body(&mut self, first: &Place) -> Result<(), NoMemory>
         ensures { OnOk result ((t : ℕ → CType) → names_of t self.new
             ≡ record (names_of t self.old) {
-                bodies = first.now ∷ (names_of t self.old).bodies;
-                scopes = scope_kept (names_of t self.old).kept (names_of t self.old).scopes;
-                enclosing = Some first.now;
-                kept = None }) }
+              bodies = first.now ∷ (names_of t self.old).bodies;
+              scopes = scope_kept (names_of t self.old).kept (names_of t self.old).scopes;
+              enclosing = Some first.now;
+              kept = None;
+            }) }
     {
         self.bodies.push(first)?;
         self.enclosing = Some(*first);

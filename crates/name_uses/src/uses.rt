@@ -1,6 +1,6 @@
 //! Names in expressions, and types' names.
 
-ghost use Rattle.std.specs.Prelude.{◌≡◌, ◌<◌, ℕ, OnOk, length, option_map};
+ghost use Rattle.std.specs.Prelude.{◌≡◌, ◌<◌, ℕ, Some, OnOk, length, option_map};
 ghost use Rattle.type_table.specs.Types.{CType};
 ghost use Rattle.name_types.specs.Known.{Knows, so_far_type};
 ghost use Rattle.name_rules.specs.Scopes.{sized};
@@ -38,14 +38,31 @@ fn is_missing(found: &Use) -> bool
 }
 
 /// A name in an expression. Takes constant time a scope that is open, but for growth.
-pub fn use_name(names: &mut Names, spelling: &Spelling, is_called: bool, token: TokenId, name: NameId) -> Result<(), NoMemory>
+pub fn use_name(
+    names: &mut Names,
+    spelling: &Spelling,
+    is_called: bool,
+    token: TokenId,
+    name: NameId,
+) -> Result<(), NoMemory>
     ensures { OnOk result ((t : ℕ → CType) → names_of t names.new ≡ used (spelling_of spelling.now) is_called token name (names_of t names.old)) }
 {
     let at = spelling.place(token);
     let found = names.meaning(spelling.key(name));
     let it = use_by(found, is_called);
     names.push_use(&at, &it)?;
-    names.blame(is_missing(&it), &at, Rule::Undeclared)
+    names.blame(is_missing(&it), &at, Rule::Undeclared)?;
+    Ok(())
+}
+
+/// The type that specifiers have by a name that stands for this.
+fn type_of(meant: &Meant) -> SoFar
+    ensures { (t : ℕ → CType) → so_far_type t result ≡ type_by (Some (meaning_of t meant.now)) }
+{
+    match meant {
+        Meant::Type(ty) => SoFar::Type(*ty),
+        Meant::Thing(_) => SoFar::Base,
+    }
 }
 
 /// The type that specifiers have by a name.
@@ -53,13 +70,18 @@ pub fn type_by(found: Option<Meant>) -> SoFar
     ensures { (t : ℕ → CType) → so_far_type t result ≡ type_by (option_map (meaning_of t) found) }
 {
     match found {
-        Some(Meant::Type(ty)) => SoFar::Type(ty),
-        Some(Meant::Thing(_)) | None => SoFar::Base,
+        Some(meant) => type_of(&meant),
+        None => SoFar::Base,
     }
 }
 
 /// A type may be too large. Constant time but for growth.
-pub(crate) fn check_size(names: &mut Names, types: &Types, at: &Place, ty: TypeId) -> Result<(), NoMemory>
+pub(crate) fn check_size(
+    names: &mut Names,
+    types: &Types,
+    at: &Place,
+    ty: TypeId,
+) -> Result<(), NoMemory>
     requires { ty < length types.now }
     ensures { OnOk result ((t : ℕ → CType) → Knows t types.now → names_of t names.new ≡ sized at.now (t ty) (names_of t names.old)) }
 {
