@@ -42,5 +42,6 @@ module _ (t : ℕ → CType) where
       }
 
 -- a state is shown alike by the types of any table that this one grows to
-abbrev pub IsShown : List Row → State → Type 0
-IsShown rows s = (x : steps.State) × ((t : ℕ → CType) → Knows t rows → state_of t s ≡ x)
+pub record IsShown (rows : List Row) (s : State) : Type 0 where
+  pub shown : steps.State
+  pub alike : (t : ℕ → CType) → Knows t rows → state_of t s ≡ shown

@@ -4,6 +4,7 @@ ghost use Rattle.std.specs.Prelude.{◌≡◌, ℕ, OnOk, IfOk, length, drop};
 ghost use Rattle.type_table.specs.Types.{CType};
 ghost use Rattle.name_types.specs.Known.{Knows, Grows};
 ghost use Rattle.name_rules.specs.Units.{no_names};
+ghost use Rattle.name_rules.specs.Spellings as spellings;
 ghost use Rattle.name_steps.specs.State.{with_names};
 ghost use Rattle.name_steps.specs.Steps.{expression_step, statement_step, step, run};
 ghost use Rattle.unit_spelling.specs.Spelled.{spelling_of};
@@ -71,7 +72,7 @@ impl State {
     /// What a statement, a scope or a silence does.
     #[tactic(auto, unfolding(crate::specs::Shown::state_of))]
     fn statement(&mut self, op: StmtOp) -> Result<(), NoMemory>
-        ensures { OnOk result ((u : Spelling) (t : ℕ → CType) → state_of t self.new ≡ statement_step u (state_of t self.old) op) }
+        ensures { OnOk result ((u : spellings.Spelling) (t : ℕ → CType) → state_of t self.new ≡ statement_step u (state_of t self.old) op) }
     {
         match op {
             StmtOp::Quiet | StmtOp::Loud | StmtOp::Pop | StmtOp::Return { .. } => Ok(()),
@@ -99,12 +100,20 @@ impl State {
             Op::Form(_) | Op::Init(_) => Ok(()),
             Op::Spec(op) => self.specifier(spelling, types, op),
             Op::Declr(op) => self.declarator(spelling, types, op),
-            Op::Stmt(op) => self.statement(op),
+            Op::Stmt(op) => {
+                self.statement(op)?;
+                Ok(())
+            }
         }
     }
 
     /// What the ops of a tape do, one after another. Linear in them but for looking names up in the scopes that are open.
-    pub fn run(&mut self, spelling: &Spelling, types: &mut Types, tape: &[Op]) -> Result<(), NoMemory>
+    pub fn run(
+        &mut self,
+        spelling: &Spelling,
+        types: &mut Types,
+        tape: &[Op],
+    ) -> Result<(), NoMemory>
         requires { IsShown types.old self.old }
         ensures shown { OnOk result ((t : ℕ → CType) → Knows t types.new → state_of t self.new ≡ run (spelling_of spelling.now) tape.now (state_of t self.old)) }
         ensures grown { OnOk result (Grows types.old types.new) }
@@ -117,7 +126,12 @@ impl State {
 }
 
 /// The names of a unit and their types, from the tape of the unit.
-pub fn resolve_names(alloc: Global, spelling: &Spelling, types: &mut Types, tape: &[Op]) -> Result<State, NoMemory>
+pub fn resolve_names(
+    alloc: Global,
+    spelling: &Spelling,
+    types: &mut Types,
+    tape: &[Op],
+) -> Result<State, NoMemory>
     ensures shown { IfOk result (λ s. (t : ℕ → CType) → Knows t types.new → state_of t s ≡ run (spelling_of spelling.now) tape.now (with_names no_names)) }
     ensures grown { OnOk result (Grows types.old types.new) }
 {

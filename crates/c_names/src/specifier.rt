@@ -1,18 +1,21 @@
 //! Specifiers (C99, 6.7.1 to 6.7.3).
 
-ghost use Rattle.std.specs.Prelude.{◌≡◌, ℕ, OnOk, IfOk, length};
+ghost use Rattle.std.specs.Prelude.{◌≡◌, ◌<◌, ℕ, OnOk, length};
 ghost use Rattle.type_table.specs.Types.{CType};
-ghost use Rattle.name_types.specs.Known.{Knows, Grows};
-ghost use Rattle.name_rules.specs.Spellings.{place};
-ghost use Rattle.name_steps.specs.Steps.{with_type, with_word, with_storage, with_tag, with_body, body_ended, specifiers_ended, with_enumerator, with_unnamed_member, specifier_step, no_specifiers};
+ghost use Rattle.name_types.specs.Known.{Knows, Grows, so_far_type};
+ghost use Rattle.name_rules.specs.Declaring.{tag_type, tag_used, tag_begun, untagged_begun};
+ghost use Rattle.name_steps.specs.State.{no_specifiers};
+ghost use Rattle.name_steps.specs.Steps.{body, declaration, with_type, with_word, with_tag, with_body, body_ended, specifiers_ended, with_unnamed_member, specifier_step};
 ghost use Rattle.unit_spelling.specs.Spelled.{spelling_of};
 ghost use Rattle.c_names.specs.Shown.{state_of, specifiers_of, IsShown};
 
 use crate::state::{OpenBody, OpenDeclaration, Specifiers, State};
 use name_scopes::Place;
 use name_types::{SoFar, Types};
-use name_uses::{Begun, begin_tag, begin_untagged, declare_enumerator, declare_unnamed, type_by, use_tag};
-use qual_base::{NameId, NoMemory, StructId, TokenId, TypeId};
+use name_uses::{
+    Begun, begin_tag, begin_untagged, declare_enumerator, declare_unnamed, type_by, use_tag,
+};
+use qual_base::{NameId, NoMemory, Numbered, StructId, TokenId, TypeId};
 use std::alloc::Global;
 use std::mem;
 use tape_ops::{SpecOp, TagKind};
@@ -53,7 +56,14 @@ impl State {
 
     /// The type of a tag without a body. Takes constant time a scope that is open, but for growth.
     #[tactic(auto, unfolding(crate::specs::Shown::state_of))]
-    fn add_tag(&mut self, spelling: &Spelling, is_alone: bool, kind: TagKind, token: TokenId, name: NameId) -> Result<(), NoMemory>
+    fn add_tag(
+        &mut self,
+        spelling: &Spelling,
+        is_alone: bool,
+        kind: TagKind,
+        token: TokenId,
+        name: NameId,
+    ) -> Result<(), NoMemory>
         ensures { OnOk result ((t : ℕ → CType) → state_of t self.new
             ≡ with_tag kind (tag_used (spelling_of spelling.now) is_alone kind token name (state_of t self.old).names) (state_of t self.old)) }
     {
@@ -78,7 +88,13 @@ impl State {
 
     /// The body of a tag begins. Constant time but for growth.
     #[tactic(auto, unfolding(crate::specs::Shown::state_of))]
-    fn begin_tag(&mut self, spelling: &Spelling, kind: TagKind, token: TokenId, name: NameId) -> Result<(), NoMemory>
+    fn begin_tag(
+        &mut self,
+        spelling: &Spelling,
+        kind: TagKind,
+        token: TokenId,
+        name: NameId,
+    ) -> Result<(), NoMemory>
         ensures { OnOk result ((t : ℕ → CType) → state_of t self.new
             ≡ with_body kind (tag_begun (spelling_of spelling.now) kind token name (state_of t self.old).names) (state_of t self.old)) }
     {
@@ -119,7 +135,7 @@ impl State {
     }
 
     /// The specifiers are whole. Linear in their words, and in the number of parameters of their type where there are words.
-    #[tactic(auto, unfolding(crate::specs::Shown::state_of))]
+    #[tactic(auto, using(crate::proofs::Low::so_far_low), unfolding(crate::specs::Shown::state_of))]
     fn end_specifiers(&mut self, types: &mut Types) -> Result<(), NoMemory>
         requires { IsShown types.old self.old }
         ensures shown { OnOk result ((t : ℕ → CType) → Knows t types.new → state_of t self.new ≡ specifiers_ended (state_of t self.old)) }
@@ -165,7 +181,12 @@ impl State {
 
     /// What a part of specifiers does.
     #[tactic(auto, unfolding(crate::specs::Shown::state_of))]
-    pub(crate) fn specifier(&mut self, spelling: &Spelling, types: &mut Types, op: SpecOp) -> Result<(), NoMemory>
+    pub(crate) fn specifier(
+        &mut self,
+        spelling: &Spelling,
+        types: &mut Types,
+        op: SpecOp,
+    ) -> Result<(), NoMemory>
         requires { IsShown types.old self.old }
         ensures shown { OnOk result ((t : ℕ → CType) → Knows t types.new → state_of t self.new ≡ specifier_step (spelling_of spelling.now) (state_of t self.old) op) }
         ensures grown { OnOk result (Grows types.old types.new) }
@@ -181,15 +202,24 @@ impl State {
                 self.specifiers.so_far = type_by(self.names.meaning(spelling.key(name)));
                 Ok(())
             }
-            SpecOp::TagUse { kind, token, name } => self.add_tag(spelling, false, kind, token, name),
-            SpecOp::TagAlone { kind, token, name } => self.add_tag(spelling, true, kind, token, name),
+            SpecOp::TagUse { kind, token, name } => self.add_tag(
+                spelling, false, kind, token, name,
+            ),
+            SpecOp::TagAlone { kind, token, name } => self.add_tag(
+                spelling, true, kind, token, name,
+            ),
             SpecOp::TagBody { kind, token, name } => self.begin_tag(spelling, kind, token, name),
             SpecOp::Untagged { kind, token } => self.begin_untagged(kind, &spelling.place(token)),
             SpecOp::BodyEnd => {
                 self.end_body();
                 Ok(())
             }
-            SpecOp::Enumerator { token, name } => declare_enumerator(&mut self.names, types, &spelling.place(token), spelling.key(name)),
+            SpecOp::Enumerator { token, name } => declare_enumerator(
+                &mut self.names,
+                types,
+                &spelling.place(token),
+                spelling.key(name),
+            ),
             SpecOp::UnnamedMember { token } => self.add_unnamed(types, &spelling.place(token)),
             SpecOp::SpecsEnd => self.end_specifiers(types),
         }
