@@ -41,10 +41,10 @@ low_of : (rows : List Row) (n : ℕ) (made : CType) → ((t : ℕ → CType) →
 low_of rows n made alike = elim (cases_lt n (length rows)) [
   | inl lt ↦ lt
   | inr past ↦ absurd (
-    let one = sym (past_filled rows (base []) n past) ∙ alike (filled rows (base [])) (knows_filled rows (base [])) in
-    let two = sym (past_filled rows (void []) n past) ∙ alike (filled rows (void [])) (knows_filled rows (void [])) in
-    let no : base [] ≡ void [] = one ∙ sym two in
-    cc)
+      let one = sym (past_filled rows (base []) n past) ∙ alike (filled rows (base [])) (knows_filled rows (base [])) in
+      let two = sym (past_filled rows (void []) n past) ∙ alike (filled rows (void [])) (knows_filled rows (void [])) in
+      let no : base [] ≡ void [] = one ∙ sym two in
+      cc)
 ]
 
 abbrev first_type : List CType → CType

@@ -6,6 +6,8 @@ use Rattle.type_table.specs.Types.{CType}
 use Rattle.name_types.specs.Known.{Knows, so_far_type}
 use Rattle.name_steps.specs.State as steps
 use Rattle.name_uses.specs.Named.{named_of}
+use Rattle.name_rules.specs.Scopes as rules
+use Rattle.unit_names.specs.declared.names.Names.{Names}
 use Rattle.unit_names.specs.Shown.{names_of}
 use Rattle.c_names.specs.declared.state.Specifiers.{Specifiers}
 use Rattle.c_names.specs.declared.state.OpenBody.{OpenBody}
@@ -45,3 +47,8 @@ module _ (t : ℕ → CType) where
 pub record IsShown (rows : List Row) (s : State) : Type 0 where
   pub shown : steps.State
   pub alike : (t : ℕ → CType) → Knows t rows → state_of t s ≡ shown
+
+-- names are shown alike by the types of any table that this one grows to
+pub record AreShown (rows : List Row) (s : Names) : Type 0 where
+  pub shown : rules.Names
+  pub alike : (t : ℕ → CType) → Knows t rows → names_of t s ≡ shown

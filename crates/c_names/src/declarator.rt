@@ -133,7 +133,15 @@ impl State {
         match self.parameters.pop() {
             Some(mut parameters) => {
                 let number = parameters.types.len();
-                declare_parameter(&mut self.names, spelling, types, name, number, &parameters.own, ty)?;
+                declare_parameter(
+                    &mut self.names,
+                    spelling,
+                    types,
+                    name,
+                    number,
+                    &parameters.own,
+                    ty,
+                )?;
                 parameters.types.push(ty)?;
                 self.parameters.push(parameters)?;
                 Ok(())

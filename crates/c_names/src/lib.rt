@@ -6,6 +6,7 @@ mod run;
 mod specifier;
 mod stack;
 mod state;
+#[cfg(test)]
+mod tests;
 
-pub use run::resolve_names;
-pub use state::State;
+pub use run::{name_unit, resolve_names};

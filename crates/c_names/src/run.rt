@@ -1,6 +1,6 @@
 //! The loop over a tape.
 
-ghost use Rattle.std.specs.Prelude.{◌≡◌, ℕ, OnOk, IfOk, length, drop};
+ghost use Rattle.std.specs.Prelude.{◌≡◌, ℕ, OnOk, IfOk};
 ghost use Rattle.type_table.specs.Types.{CType};
 ghost use Rattle.name_types.specs.Known.{Knows, Grows};
 ghost use Rattle.name_rules.specs.Units.{no_names};
@@ -8,7 +8,8 @@ ghost use Rattle.name_rules.specs.Spellings as spellings;
 ghost use Rattle.name_steps.specs.State.{with_names};
 ghost use Rattle.name_steps.specs.Steps.{expression_step, statement_step, step, run};
 ghost use Rattle.unit_spelling.specs.Spelled.{spelling_of};
-ghost use Rattle.c_names.specs.Shown.{state_of, IsShown};
+ghost use Rattle.unit_names.specs.Shown.{names_of};
+ghost use Rattle.c_names.specs.Shown.{state_of, IsShown, AreShown};
 
 use crate::specifier::no_specifiers;
 use crate::stack::Stack;
@@ -22,13 +23,12 @@ use unit_names::Names;
 use unit_spelling::Spelling;
 
 impl State {
-    /// Nothing is begun, and nothing is known of names but the file scope.
+    /// Nothing is begun; names are known as before. Takes no memory.
     #[tactic(auto, unfolding(crate::specs::Shown::state_of))]
-    pub fn new(alloc: Global) -> Result<Self, NoMemory>
-        ensures { IfOk result (λ s. (t : ℕ → CType) → state_of t s ≡ with_names no_names) }
+    fn new(alloc: Global, names: Names) -> Self
+        ensures { (t : ℕ → CType) → state_of t result ≡ with_names (names_of t names) }
     {
-        let names = Names::new(alloc)?;
-        Ok(State {
+        State {
             alloc,
             names,
             specifiers: no_specifiers(alloc),
@@ -36,7 +36,7 @@ impl State {
             declarations: Stack::new(alloc),
             parameters: Stack::new(alloc),
             finished: Stack::new(alloc),
-        })
+        }
     }
 
     /// What an operand or operator does.
@@ -108,12 +108,7 @@ impl State {
     }
 
     /// What the ops of a tape do, one after another. Linear in them but for looking names up in the scopes that are open.
-    pub fn run(
-        &mut self,
-        spelling: &Spelling,
-        types: &mut Types,
-        tape: &[Op],
-    ) -> Result<(), NoMemory>
+    fn run(&mut self, spelling: &Spelling, types: &mut Types, tape: &[Op]) -> Result<(), NoMemory>
         requires { IsShown types.old self.old }
         ensures shown { OnOk result ((t : ℕ → CType) → Knows t types.new → state_of t self.new ≡ run (spelling_of spelling.now) tape.now (state_of t self.old)) }
         ensures grown { OnOk result (Grows types.old types.new) }
@@ -125,17 +120,39 @@ impl State {
     }
 }
 
-/// The names of a unit and their types, from the tape of the unit.
+/// The names of a unit and their types, from the tape of the unit and what is known before it. Linear in the tape, but for looking
+/// names up in the scopes that are open and for the words and parameters of the types that are made.
+pub fn name_unit(
+    alloc: Global,
+    names: Names,
+    spelling: &Spelling,
+    types: &mut Types,
+    tape: &[Op],
+) -> Result<Names, NoMemory>
+    requires { AreShown types.old names }
+    ensures named { IfOk result (λ after. (t : ℕ → CType) → Knows t types.new → names_of t after
+        ≡ (run (spelling_of spelling.now) tape.now (with_names (names_of t names))).names) }
+    ensures shown { IfOk result (λ after. AreShown types.new after) }
+    ensures grown { OnOk result (Grows types.old types.new) }
+{
+    let mut state = State::new(alloc, names);
+    state.run(spelling, types, tape)?;
+    Ok(state.names)
+}
+
+/// The names of one unit alone and their types.
 pub fn resolve_names(
     alloc: Global,
     spelling: &Spelling,
     types: &mut Types,
     tape: &[Op],
-) -> Result<State, NoMemory>
-    ensures shown { IfOk result (λ s. (t : ℕ → CType) → Knows t types.new → state_of t s ≡ run (spelling_of spelling.now) tape.now (with_names no_names)) }
+) -> Result<Names, NoMemory>
+    ensures named { IfOk result (λ after. (t : ℕ → CType) → Knows t types.new → names_of t after
+        ≡ (run (spelling_of spelling.now) tape.now (with_names no_names)).names) }
+    ensures shown { IfOk result (λ after. AreShown types.new after) }
     ensures grown { OnOk result (Grows types.old types.new) }
 {
-    let mut state = State::new(alloc)?;
-    state.run(spelling, types, tape)?;
-    Ok(state)
+    let names = Names::new(alloc)?;
+    let named = name_unit(alloc, names, spelling, types, tape)?;
+    Ok(named)
 }

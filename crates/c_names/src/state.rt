@@ -44,7 +44,7 @@ pub(crate) struct OpenParameters {
 ///
 /// Memory is linear in the ops that were gone through. A call that wants memory in vain leaves it as it may be, and of no more use.
 #[derive(Drop)]
-pub struct State {
+pub(crate) struct State {
     pub(crate) alloc: Global,
     pub(crate) names: Names,
     pub(crate) specifiers: Specifiers,

@@ -2,6 +2,7 @@
 #![tactic(auto)]
 
 mod facts;
+mod found;
 mod names;
 mod scope;
 
