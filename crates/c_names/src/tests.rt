@@ -3,7 +3,7 @@
 use crate::run::resolve_names;
 use name_records::{Role, Rule, Use};
 use name_types::Types;
-use qual_base::{NameId, Numbered, StructId, TokenId, TypeId, UnitNo};
+use qual_base::{NameId, NoMemory, Numbered, StructId, TokenId, TypeId, UnitNo};
 use std::alloc::Global;
 use std::process::Abort;
 use std::test::Fail;
@@ -83,6 +83,27 @@ fn use_of(names: &Names, number: usize) -> Option<Use> {
         Some(it) => Some(it.use_of),
         None => None,
     }
+}
+
+/// The place and the rule of the only fault, if there is just one.
+fn only_fault(names: &Names) -> Option<((UnitNo, TokenId), Rule)> {
+    match names.faults() {
+        [it] => Some((it.at, it.rule)),
+        _ => None,
+    }
+}
+
+/// The names of the members of the first struct, each with the own member in which it lies.
+fn members(alloc: Global, names: &Names) -> Result<Vec<(NameId, usize)>, NoMemory> {
+    let mut found = Vec::new(alloc);
+    if let Some(it) = names.aggregates().first() {
+        if let Some(body) = &it.body {
+            for known in body.known() {
+                found.push((known.name, known.own))?;
+            }
+        }
+    }
+    Ok(found)
 }
 
 #[test]
@@ -188,11 +209,7 @@ fn a_name_needs_a_declaration_unless_it_is_called(rt: HostRuntime) -> Result<(),
     assert_eq!(rt; use_of(&names, 1), Some(Use::Means(at(1))));
     assert_eq!(rt; use_of(&names, 2), Some(Use::Called));
     assert_eq!(rt; use_of(&names, 3), Some(Use::Missing));
-    assert_eq!(rt; names.faults().len(), 1);
-    assert_eq!(rt;
-        (names.faults()[0].at, names.faults()[0].rule),
-        (at(15), Rule::Undeclared)
-    );
+    assert_eq!(rt; only_fault(&names), Some((at(15), Rule::Undeclared)));
     Ok(())
 }
 
@@ -236,28 +253,18 @@ fn a_tag_has_one_body_and_the_members_of_an_unnamed_one(rt: HostRuntime) -> Resu
         end(),
     ];
     let names = resolve_names(alloc, &plain(alloc), &mut types, &tape)?;
-    let all = names.aggregates();
-    assert_eq!(rt; all.len(), 3);
-    let (own, known) = match &all[0].body {
-        Some(body) => (body.own().len(), body.known().len()),
-        None => (0, 0),
-    };
-    // the unnamed member and n; m, which lies in the first, and n
-    assert_eq!(rt; (own, known), (2, 2));
-    let lies_in = match &all[0].body {
-        Some(body) => (
-            body.known()[0].name,
-            body.known()[0].own,
-            body.known()[1].own,
-        ),
-        None => (NameId::new(0), 9, 9),
-    };
-    assert_eq!(rt; lies_in, (NameId::new(6), 0, 1));
-    assert_eq!(rt; names.declared()[2].role, Role::Field(StructId::new(0), 1));
-    assert_eq!(rt; names.faults().len(), 1);
+    assert_eq!(rt; names.aggregates().len(), 3);
+    // m lies in the unnamed member, which is the first
+    let known = members(alloc, &names)?;
+    assert_eq!(rt; known.len(), 2);
     assert_eq!(rt;
-        (names.faults()[0].at, names.faults()[0].rule),
-        (at(17), Rule::DefinedTwice)
+        (known[0], known[1]),
+        ((NameId::new(6), 0), (NameId::new(11), 1))
     );
+    assert_eq!(rt;
+        names.declared().get(2).map(|d| d.role),
+        Some(Role::Field(StructId::new(0), 1))
+    );
+    assert_eq!(rt; only_fault(&names), Some((at(17), Rule::DefinedTwice)));
     Ok(())
 }
