@@ -1,0 +1,124 @@
+-- The numbers of types that a state holds are those of its table: what is shown alike by the types of all tables that this
+-- one grows to, does not depend on numbers past it.
+use Rattle.std.proofs.Common.{arith, ◌≡◌, ℕ, suc, ◌<◌, ◌≤◌, Bool, true, false, nat_lt, List, [], ◌∷◌, ◌++◌, length, map, Option, Some, None, inl, inr, refl, sym, ◌∙◌, ap, Vec, Global, if◌then◌else◌}
+use Rattle.std.proofs.lemmas.Bool.{cases_lt, lt-ltb, le-ltb}
+use Rattle.type_table.specs.declared.row.Row.{Row}
+use Rattle.type_table.specs.Types.{CType, base, void}
+use Rattle.type_table.specs.Rows.{type_of, AreBelow}
+use Rattle.name_types.specs.Known.{Knows, Grows, so_far_type, IsLow}
+use Rattle.name_types.specs.declared.types.SoFar.{SoFar}
+use Rattle.name_types.specs.declared.types.SoFar.TheVariants as so_fars
+use Rattle.name_steps.specs.State as steps
+use Rattle.name_steps.specs.Steps.{step}
+use Rattle.tape_ops.specs.declared.op.Op.{Op}
+use Rattle.name_rules.specs.Spellings.{Spelling}
+use Rattle.c_names.specs.declared.state.OpenDeclaration.{OpenDeclaration}
+use Rattle.c_names.specs.declared.state.State.{State}
+use Rattle.c_names.specs.Stacks.{top}
+use Rattle.c_names.specs.Shown.{specifiers_of, declaration_of, types_of_list, state_of, IsShown}
+
+pub map_more : {A B : Type 0} (f : A → B) (xs ys : List A) → map f (xs ++ ys) ≡ map f xs ++ map f ys
+map_more f [] ys = refl
+map_more f (x ∷ xs) ys = ap (λ zs. f x ∷ zs) (map_more f xs ys)
+
+pub map_length : {A B : Type 0} (f : A → B) (xs : List A) → length (map f xs) ≡ length xs
+map_length f [] = refl
+map_length f (x ∷ xs) = ap suc (map_length f xs)
+
+-- the types of a table, and another type past it
+filled : List Row → CType → ℕ → CType
+filled rows other n = if nat_lt n (length rows) then type_of rows n else other
+
+knows_filled : (rows : List Row) (other : CType) → Knows (filled rows other) rows
+unfolding filled
+knows_filled rows other = λ n lt. rw (lt-ltb n (length rows) lt) refl
+
+past_filled : (rows : List Row) (other : CType) (n : ℕ) → length rows ≤ n → filled rows other n ≡ other
+unfolding filled
+past_filled rows other n le = rw (le-ltb n (length rows) le) refl
+
+low_of : (rows : List Row) (n : ℕ) (made : CType) → ((t : ℕ → CType) → Knows t rows → t n ≡ made) → n < length rows
+low_of rows n made alike = elim (cases_lt n (length rows)) [
+  | inl lt ↦ lt
+  | inr past ↦ absurd (
+      let one = sym (past_filled rows (base []) n past) ∙ alike (filled rows (base [])) (knows_filled rows (base [])) in
+      let two = sym (past_filled rows (void []) n past) ∙ alike (filled rows (void [])) (knows_filled rows (void [])) in
+      let no : base [] ≡ void [] = one ∙ sym two in
+      cc)
+]
+
+abbrev first_type : List CType → CType
+first_type [] = base []
+first_type (t ∷ ts) = t
+
+abbrev other_types : List CType → List CType
+other_types [] = []
+other_types (t ∷ ts) = ts
+
+lows_of : (rows : List Row) (ns : List ℕ) (made : List CType) → ((t : ℕ → CType) → Knows t rows → map t ns ≡ made) → AreBelow (length rows) ns
+lows_of rows [] made alike = tt
+lows_of rows (n ∷ ns) made alike =
+    (low_of rows n (first_type made) (λ t knows. ap first_type (alike t knows)), lows_of rows ns (other_types made) (λ t knows. ap other_types (alike t knows)))
+
+so_far_low_of : (rows : List Row) (s : SoFar) (made : CType) → ((t : ℕ → CType) → Knows t rows → so_far_type t s ≡ made) → IsLow (length rows) s
+so_far_low_of rows so_fars.Base made alike = tt
+so_far_low_of rows so_fars.Void made alike = tt
+so_far_low_of rows (so_fars.Struct n) made alike = tt
+so_far_low_of rows (so_fars.Type ty) made alike = low_of rows ty made alike
+
+module _ (rows : List Row) (s : State) (is : IsShown rows s) where
+  pub so_far_low : IsLow (length rows) s.specifiers.so_far
+  unfolding state_of
+  so_far_low = so_far_low_of rows s.specifiers.so_far is.shown.specifiers.type (λ t knows. ap (λ (x : steps.State). x.specifiers.type) (is.alike t knows))
+
+  pub type_low : (d : OpenDeclaration) (rest : List OpenDeclaration) → s.declarations ≡ d ∷ rest → d.ty < length rows
+  unfolding state_of
+  type_low d rest there =
+      low_of rows d.ty (steps.innermost_or steps.no_declaration is.shown.declarations).type
+      (λ t knows. ap (λ ds. (steps.innermost_or steps.no_declaration (map (declaration_of t) ds)).type) (sym there)
+      ∙ ap (λ (x : steps.State). (steps.innermost_or steps.no_declaration x.declarations).type) (is.alike t knows))
+
+  pub declared_low : (d : OpenDeclaration) (rest : List OpenDeclaration) → s.declarations ≡ d ∷ rest → d.declared < length rows
+  unfolding state_of
+  declared_low d rest there =
+      low_of rows d.declared (steps.innermost_or steps.no_declaration is.shown.declarations).declared
+      (λ t knows. ap (λ ds. (steps.innermost_or steps.no_declaration (map (declaration_of t) ds)).declared) (sym there)
+      ∙ ap (λ (x : steps.State). (steps.innermost_or steps.no_declaration x.declarations).declared) (is.alike t knows))
+
+  pub params_low : (ns : Vec ℕ Global) (rest : List (Vec ℕ Global)) → s.finished ≡ ns ∷ rest → AreBelow (length rows) ns.items
+  unfolding state_of
+  params_low ns rest there =
+      lows_of rows ns.items (steps.innermost_or [] is.shown.finished)
+      (λ t knows. ap (λ ds. steps.innermost_or [] (map (types_of_list t) ds)) (sym there)
+      ∙ ap (λ (x : steps.State). steps.innermost_or [] x.finished) (is.alike t knows))
+
+pub top_is : (ds : List OpenDeclaration) (d : OpenDeclaration) → Some d ≡ top ds → (rest : List OpenDeclaration) × (ds ≡ d ∷ rest)
+top_is [] d is = absurd cc
+top_is (e ∷ ds) d is = (ds, ap (λ x. x ∷ ds) (some_is is))
+  where
+    unsome : Option OpenDeclaration → OpenDeclaration
+    unsome None = e
+    unsome (Some x) = x
+
+    some_is : Some d ≡ Some e → e ≡ d
+    some_is same = sym (ap unsome same)
+
+pub knows_before : (old new : List Row) (t : ℕ → CType) → Grows old new → Knows t new → Knows t old
+knows_before old new t grows knows = λ n lt. knows n (let l = grows.longer in omega arith) ∙ grows.keeps n lt
+
+pub grows_none : (rows : List Row) → Grows rows rows
+grows_none rows = record { keeps = λ n lt. refl; longer = omega arith }
+
+pub grows_twice : (a b c : List Row) → Grows a b → Grows b c → Grows a c
+grows_twice a b c one two = record {
+  keeps = λ n lt. two.keeps n (let l = one.longer in omega arith) ∙ one.keeps n lt;
+  longer = let l = one.longer in let m = two.longer in omega arith;
+}
+
+-- a step leaves a state that is shown alike
+pub shown_after : (u : Spelling) (op : Op) (old new : List Row) (s after : State) → IsShown old s → Grows old new
+    → ((t : ℕ → CType) → Knows t new → state_of t after ≡ step u (state_of t s) op) → IsShown new after
+shown_after u op old new s after is grows steps = record {
+  shown = step u is.shown op;
+  alike = λ t knows. steps t knows ∙ ap (λ x. step u x op) (is.alike t (knows_before old new t grows knows));
+}

@@ -1,0 +1,15 @@
+use Rattle.std.proofs.Common.{ap, ◌∙◌}
+use Rattle.name_rules.specs.Scopes.{Names}
+use Rattle.name_rules.specs.Units.{no_names}
+use Rattle.name_steps.specs.State.{with_names}
+use Rattle.name_steps.specs.Steps.{run}
+use Rattle.unit_spelling.specs.Spelled.{spelling_of}
+use Rattle.c_names.proofs.run.resolve_names.Goals as goal
+
+pub name_unit-requires : goal.name_unit-requires
+name_unit-requires c = record { shown = no_names; alike = λ t knows. c.in_ok-names.ensures t }
+
+pub returns-clause-named : goal.returns-clause-named
+returns-clause-named c =
+    λ t knows.
+    c.in_ok-named.ensures.named t knows ∙ ap (λ (s : Names). (run (spelling_of c.args.spelling.now) c.args.tape.now (with_names s)).names) (c.in_ok-names.ensures t)

@@ -1,0 +1,6 @@
+-- The innermost item of a stack.
+use Rattle.std.specs.Prelude.{List, [], ◌∷◌, Option, Some, None}
+
+abbrev pub top : {A : Type 0} → List A → Option A
+top [] = None
+top (x ∷ xs) = Some x

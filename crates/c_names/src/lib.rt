@@ -1,0 +1,12 @@
+//! The names of a unit, by one loop over its tape (C99, 6.2.1 to 6.2.3, 6.7).
+#![tactic(auto)]
+
+mod declarator;
+mod run;
+mod specifier;
+mod stack;
+mod state;
+#[cfg(test)]
+mod tests;
+
+pub use run::{name_unit, resolve_names};

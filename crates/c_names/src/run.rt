@@ -1,0 +1,158 @@
+//! The loop over a tape.
+
+ghost use Rattle.std.specs.Prelude.{◌≡◌, ℕ, OnOk, IfOk};
+ghost use Rattle.type_table.specs.Types.{CType};
+ghost use Rattle.name_types.specs.Known.{Knows, Grows};
+ghost use Rattle.name_rules.specs.Units.{no_names};
+ghost use Rattle.name_rules.specs.Spellings as spellings;
+ghost use Rattle.name_steps.specs.State.{with_names};
+ghost use Rattle.name_steps.specs.Steps.{expression_step, statement_step, step, run};
+ghost use Rattle.unit_spelling.specs.Spelled.{spelling_of};
+ghost use Rattle.unit_names.specs.Shown.{names_of};
+ghost use Rattle.c_names.specs.Shown.{state_of, IsShown, AreShown};
+
+use crate::specifier::no_specifiers;
+use crate::stack::Stack;
+use crate::state::State;
+use name_types::Types;
+use name_uses::{enter_body, use_name};
+use qual_base::NoMemory;
+use std::alloc::Global;
+use tape_ops::{ExprOp, Op, StmtOp};
+use unit_names::Names;
+use unit_spelling::Spelling;
+
+impl State {
+    /// Nothing is begun; names are known as before. Takes no memory.
+    #[tactic(auto, unfolding(crate::specs::Shown::state_of))]
+    fn new(alloc: Global, names: Names) -> Self
+        ensures { (t : ℕ → CType) → state_of t result ≡ with_names (names_of t names) }
+    {
+        State {
+            alloc,
+            names,
+            specifiers: no_specifiers(alloc),
+            bodies: Stack::new(alloc),
+            declarations: Stack::new(alloc),
+            parameters: Stack::new(alloc),
+            finished: Stack::new(alloc),
+        }
+    }
+
+    /// What an operand or operator does.
+    #[tactic(auto, unfolding(crate::specs::Shown::state_of))]
+    fn expression(&mut self, spelling: &Spelling, op: ExprOp) -> Result<(), NoMemory>
+        ensures { OnOk result ((t : ℕ → CType) → state_of t self.new ≡ expression_step (spelling_of spelling.now) (state_of t self.old) op) }
+    {
+        match op {
+            ExprOp::Name {
+                is_called,
+                token,
+                name,
+            } => use_name(&mut self.names, spelling, is_called, token, name),
+            ExprOp::Number { .. }
+            | ExprOp::Char { .. }
+            | ExprOp::Text { .. }
+            | ExprOp::Paren { .. }
+            | ExprOp::Ext { .. }
+            | ExprOp::Comma { .. }
+            | ExprOp::Assign { .. }
+            | ExprOp::Cond { .. }
+            | ExprOp::Binary { .. }
+            | ExprOp::Prefix { .. }
+            | ExprOp::Post { .. }
+            | ExprOp::Index { .. }
+            | ExprOp::Arg { .. }
+            | ExprOp::Call { .. }
+            | ExprOp::Arrow { .. }
+            | ExprOp::Dot { .. } => Ok(()),
+        }
+    }
+
+    /// What a statement, a scope or a silence does.
+    #[tactic(auto, unfolding(crate::specs::Shown::state_of))]
+    fn statement(&mut self, op: StmtOp) -> Result<(), NoMemory>
+        ensures { OnOk result ((u : spellings.Spelling) (t : ℕ → CType) → state_of t self.new ≡ statement_step u (state_of t self.old) op) }
+    {
+        match op {
+            StmtOp::Quiet | StmtOp::Loud | StmtOp::Pop | StmtOp::Return { .. } => Ok(()),
+            StmtOp::Enter => self.names.enter(),
+            StmtOp::Leave => {
+                self.names.leave();
+                Ok(())
+            }
+            StmtOp::FunctionBody => enter_body(&mut self.names),
+            StmtOp::FunctionEnd => {
+                self.names.leave_body();
+                Ok(())
+            }
+        }
+    }
+
+    /// What an op does.
+    fn step(&mut self, spelling: &Spelling, types: &mut Types, op: Op) -> Result<(), NoMemory>
+        requires { IsShown types.old self.old }
+        ensures shown { OnOk result ((t : ℕ → CType) → Knows t types.new → state_of t self.new ≡ step (spelling_of spelling.now) (state_of t self.old) op) }
+        ensures grown { OnOk result (Grows types.old types.new) }
+    {
+        match op {
+            Op::Expr(op) => self.expression(spelling, op),
+            Op::Form(_) | Op::Init(_) => Ok(()),
+            Op::Spec(op) => self.specifier(spelling, types, op),
+            Op::Declr(op) => self.declarator(spelling, types, op),
+            Op::Stmt(op) => {
+                self.statement(op)?;
+                Ok(())
+            }
+        }
+    }
+
+    /// What the ops of a tape do, one after another. Linear in them but for looking names up in the scopes that are open.
+    fn run(&mut self, spelling: &Spelling, types: &mut Types, tape: &[Op]) -> Result<(), NoMemory>
+        requires { IsShown types.old self.old }
+        ensures shown { OnOk result ((t : ℕ → CType) → Knows t types.new → state_of t self.new ≡ run (spelling_of spelling.now) tape.now (state_of t self.old)) }
+        ensures grown { OnOk result (Grows types.old types.new) }
+    {
+        for op in tape {
+            self.step(spelling, types, *op)?;
+        }
+        Ok(())
+    }
+}
+
+/// The names of a unit and their types, from the tape of the unit and what is known before it. Linear in the tape, but for looking
+/// names up in the scopes that are open and for the words and parameters of the types that are made.
+pub fn name_unit(
+    alloc: Global,
+    names: Names,
+    spelling: &Spelling,
+    types: &mut Types,
+    tape: &[Op],
+) -> Result<Names, NoMemory>
+    requires { AreShown types.old names }
+    ensures named { IfOk result (λ after. (t : ℕ → CType) → Knows t types.new → names_of t after
+        ≡ (run (spelling_of spelling.now) tape.now (with_names (names_of t names))).names) }
+    ensures shown { IfOk result (λ after. AreShown types.new after) }
+    ensures grown { OnOk result (Grows types.old types.new) }
+{
+    let mut state = State::new(alloc, names);
+    state.run(spelling, types, tape)?;
+    Ok(state.names)
+}
+
+/// The names of one unit alone and their types.
+pub fn resolve_names(
+    alloc: Global,
+    spelling: &Spelling,
+    types: &mut Types,
+    tape: &[Op],
+) -> Result<Names, NoMemory>
+    ensures named { IfOk result (λ after. (t : ℕ → CType) → Knows t types.new → names_of t after
+        ≡ (run (spelling_of spelling.now) tape.now (with_names no_names)).names) }
+    ensures shown { IfOk result (λ after. AreShown types.new after) }
+    ensures grown { OnOk result (Grows types.old types.new) }
+{
+    let names = Names::new(alloc)?;
+    let named = name_unit(alloc, names, spelling, types, tape)?;
+    Ok(named)
+}

@@ -1,0 +1,55 @@
+//! What is known at a place of a tape.
+
+use crate::stack::Stack;
+use c_words::Keyword;
+use name_scopes::Place;
+use name_types::SoFar;
+use name_uses::Named;
+use qual_base::{StructId, TypeId};
+use std::alloc::Global;
+use unit_names::Names;
+
+/// Specifiers: their type without annotation words, these words, and the storage words, so far.
+#[derive(Drop)]
+pub(crate) struct Specifiers {
+    pub(crate) so_far: SoFar,
+    pub(crate) words: Vec<Place>,
+    pub(crate) storage: Vec<Keyword>,
+}
+
+/// A body of a tag: the specifiers that it is a word of, and the struct whose members stand in it.
+#[derive(Drop)]
+pub(crate) struct OpenBody {
+    pub(crate) outer: Specifiers,
+    pub(crate) members_of: StructId,
+}
+
+/// A declaration whose specifiers are whole, and of the declarator that is being read the name and the type so far.
+#[derive(Drop)]
+pub(crate) struct OpenDeclaration {
+    pub(crate) ty: TypeId,
+    pub(crate) storage: Vec<Keyword>,
+    pub(crate) name: Option<Named>,
+    pub(crate) declared: TypeId,
+}
+
+/// A list of parameters: the function whose own they are, and their types so far.
+#[derive(Drop)]
+pub(crate) struct OpenParameters {
+    pub(crate) own: Option<Place>,
+    pub(crate) types: Vec<TypeId>,
+}
+
+/// What is known at a place of a tape: names, and what is begun and not yet at its end.
+///
+/// Memory is linear in the ops that were gone through. A call that wants memory in vain leaves it as it may be, and of no more use.
+#[derive(Drop)]
+pub(crate) struct State {
+    pub(crate) alloc: Global,
+    pub(crate) names: Names,
+    pub(crate) specifiers: Specifiers,
+    pub(crate) bodies: Stack<OpenBody>,
+    pub(crate) declarations: Stack<OpenDeclaration>,
+    pub(crate) parameters: Stack<OpenParameters>,
+    pub(crate) finished: Stack<Vec<TypeId>>,
+}

@@ -1,0 +1,4 @@
+pub mod Records
+pub mod Bodies
+pub mod Aggregates
+pub mod Held

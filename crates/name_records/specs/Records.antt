@@ -1,0 +1,9 @@
+-- Declarations by places.
+use Rattle.std.specs.Prelude.{ℕ, List, [], ◌∷◌, Option, Some, None, if◌then◌else◌}
+use Rattle.name_rules.specs.Spellings.{Place}
+use Rattle.name_rules.specs.Scopes.{is_place}
+use Rattle.name_records.specs.declared.declarations.Declared.{Declared}
+
+abbrev pub first_declared : List Declared → Place → Option Declared
+first_declared [] at = None
+first_declared (d ∷ ds) at = if is_place d.at at then Some d else first_declared ds at

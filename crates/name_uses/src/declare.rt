@@ -1,0 +1,223 @@
+//! What declarators, enumerators and members declare (C99, 6.7).
+
+ghost use Rattle.std.specs.Prelude.{◌≡◌, ◌<◌, [], ℕ, None, OnOk, length, option_map};
+ghost use Rattle.std.specs.List.{last_or};
+ghost use Rattle.type_table.specs.Types.{CType, base};
+ghost use Rattle.name_types.specs.Known.{Knows};
+ghost use Rattle.name_rules.specs.Scopes.{enumerator_role};
+ghost use Rattle.name_rules.specs.Declaring.{declared_here, declared_thing, declared_typedef, declared_by, declared_some, declared_param, declared_member, unnamed_member};
+ghost use Rattle.name_steps.specs.Steps.{body_entered_by};
+ghost use Rattle.unit_spelling.specs.Spelled.{spelling_of};
+ghost use Rattle.unit_names.specs.Shown.{names_of};
+ghost use Rattle.name_uses.specs.Named.{named_of};
+ghost use Rattle.name_uses.specs.Local.{local_declared};
+
+use crate::first::{Named, declare_first, declare_here};
+use crate::listed::has_word;
+use crate::uses::check_size;
+use c_words::Keyword;
+use name_records::{Role, Rule};
+use name_scopes::{Meant, Place};
+use name_types::Types;
+use qual_base::{NameId, NoMemory, StructId, TypeId};
+use unit_names::Names;
+use unit_spelling::Spelling;
+
+/// An enumerator. Constant time but for growth.
+pub fn declare_enumerator(
+    names: &mut Names,
+    types: &Types,
+    at: &Place,
+    name: NameId,
+) -> Result<(), NoMemory>
+    ensures { OnOk result ((t : ℕ → CType) → Knows t types.now → names_of t names.new
+        ≡ declared_here at.now name enumerator_role (base []) None (names_of t names.old)) }
+{
+    let ty = types.base();
+    declare_here(names, at, name, &Role::Enumerator, ty, &None)?;
+    Ok(())
+}
+
+/// An object or function of the file. Constant time but for growth.
+fn declare_thing(
+    names: &mut Names,
+    types: &Types,
+    at: &Place,
+    name: NameId,
+    ty: TypeId,
+) -> Result<(), NoMemory>
+    requires { ty < length types.now }
+    ensures { OnOk result ((t : ℕ → CType) → Knows t types.now → names_of t names.new
+        ≡ declared_thing at.now name (t ty) (names_of t names.old)) }
+{
+    let first = names.linked(name, at);
+    names.push_thing(name, first)?;
+    if types.is_function(ty) {
+        declare_first(names, at, &Role::Function, &first, ty, &Some(*at))?;
+    } else {
+        declare_first(names, at, &Role::Object, &first, ty, &None)?;
+    }
+    names.bind(name, Meant::Thing(first))?;
+    Ok(())
+}
+
+/// A typedef. Constant time but for growth.
+fn declare_typedef(names: &mut Names, at: &Place, name: NameId, ty: TypeId) -> Result<(), NoMemory>
+    ensures { OnOk result ((t : ℕ → CType) → names_of t names.new ≡ declared_typedef at.now name (t ty) (names_of t names.old)) }
+{
+    declare_first(names, at, &Role::Typedef, at, ty, &None)?;
+    names.bind(name, Meant::Type(ty))?;
+    Ok(())
+}
+
+/// An object of a block. Linear in the storage words, and constant time but for growth otherwise.
+fn declare_local(
+    names: &mut Names,
+    words: &[Keyword],
+    at: &Place,
+    name: NameId,
+    ty: TypeId,
+) -> Result<(), NoMemory>
+    ensures { OnOk result ((t : ℕ → CType) → names_of t names.new ≡ local_declared words.now at.now name (t ty) (names_of t names.old)) }
+{
+    let own = if has_word(Keyword::Static, words) {
+        None
+    } else {
+        names.enclosing()
+    };
+    declare_here(names, at, name, &Role::Object, ty, &own)?;
+    Ok(())
+}
+
+/// A name of a declaration with these storage words. Linear in them, and constant time but for growth otherwise.
+fn declare_by(
+    names: &mut Names,
+    types: &Types,
+    words: &[Keyword],
+    at: &Place,
+    name: NameId,
+    ty: TypeId,
+) -> Result<(), NoMemory>
+    requires { ty < length types.now }
+    ensures { OnOk result ((t : ℕ → CType) → Knows t types.now → names_of t names.new
+        ≡ declared_by words.now at.now name (t ty) (names_of t names.old)) }
+{
+    if has_word(Keyword::Typedef, words) {
+        declare_typedef(names, at, name, ty)
+    } else if names.is_at_file() || types.is_function(ty) || has_word(Keyword::Extern, words) {
+        declare_thing(names, types, at, name, ty)
+    } else {
+        declare_local(names, words, at, name, ty)
+    }
+}
+
+/// What a declarator declares, if it has a name. Linear in the storage words, and constant time but for growth otherwise.
+pub fn declare_name(
+    names: &mut Names,
+    spelling: &Spelling,
+    types: &Types,
+    named: &Option<Named>,
+    words: &[Keyword],
+    ty: TypeId,
+) -> Result<(), NoMemory>
+    requires { ty < length types.now }
+    ensures { OnOk result ((t : ℕ → CType) → Knows t types.now → names_of t names.new
+        ≡ declared_some (spelling_of spelling.now) (option_map named_of named.now) words.now (t ty) (names_of t names.old)) }
+{
+    let Some(it) = named else {
+        return Ok(());
+    };
+    let at = spelling.place(it.token);
+    check_size(names, types, &at, ty)?;
+    declare_by(names, types, words, &at, spelling.key(it.name), ty)?;
+    Ok(())
+}
+
+/// A parameter, if it has a name, with its number. Constant time but for growth.
+pub fn declare_parameter(
+    names: &mut Names,
+    spelling: &Spelling,
+    types: &Types,
+    named: &Option<Named>,
+    number: usize,
+    own: &Option<Place>,
+    ty: TypeId,
+) -> Result<(), NoMemory>
+    requires { ty < length types.now }
+    ensures { OnOk result ((t : ℕ → CType) → Knows t types.now → names_of t names.new
+        ≡ declared_param (spelling_of spelling.now) (option_map named_of named.now) number own.now (t ty) (names_of t names.old)) }
+{
+    let Some(it) = named else {
+        return Ok(());
+    };
+    let at = spelling.place(it.token);
+    check_size(names, types, &at, ty)?;
+    declare_here(
+        names,
+        &at,
+        spelling.key(it.name),
+        &Role::Parameter(number),
+        ty,
+        own,
+    )?;
+    Ok(())
+}
+
+/// A member of a struct, if it has a name. Constant time but for growth.
+pub fn declare_member(
+    names: &mut Names,
+    spelling: &Spelling,
+    types: &Types,
+    named: &Option<Named>,
+    number: StructId,
+    ty: TypeId,
+) -> Result<(), NoMemory>
+    requires { ty < length types.now }
+    ensures { OnOk result ((t : ℕ → CType) → Knows t types.now → names_of t names.new
+        ≡ declared_member (spelling_of spelling.now) (option_map named_of named.now) number (t ty) (names_of t names.old)) }
+{
+    let Some(it) = named else {
+        return Ok(());
+    };
+    let at = spelling.place(it.token);
+    let own = names.count_own(number);
+    declare_first(names, &at, &Role::Field(number, own), &at, ty, &None)?;
+    names.push_member(number, spelling.key(it.name), &at, ty)?;
+    check_size(names, types, &at, ty)?;
+    Ok(())
+}
+
+/// A member without a declarator, of a struct or union without a tag. Linear in the members that lie in it.
+pub fn declare_unnamed(
+    names: &mut Names,
+    types: &Types,
+    at: &Place,
+    number: StructId,
+    ty: TypeId,
+) -> Result<(), NoMemory>
+    requires { ty < length types.now }
+    ensures { OnOk result ((t : ℕ → CType) → Knows t types.now → names_of t names.new
+        ≡ unnamed_member at.now number (t ty) (names_of t names.old)) }
+{
+    let inner = types.struct_number(ty);
+    let own = names.count_own(number);
+    declare_first(names, at, &Role::Field(number, own), at, ty, &None)?;
+    names.push_unnamed(number, at, ty, inner)?;
+    Ok(())
+}
+
+/// The body begins of the function that was declared last. Constant time but for growth.
+pub fn enter_body(names: &mut Names) -> Result<(), NoMemory>
+    ensures { OnOk result ((t : ℕ → CType) → names_of t names.new
+        ≡ body_entered_by (last_or None (names_of t names.old).declared) (names_of t names.old)) }
+{
+    match names.last_declared() {
+        Some(declared) => {
+            let known = names.is_entered(&declared.first);
+            names.blame(known, &declared.at, Rule::DefinedTwice)?;
+            names.push_body(&declared.first)?;
+            Ok(())
+        }
+        None => Ok(()),
+    }
+}

@@ -1,0 +1,16 @@
+use Rattle.std.proofs.Common.{◌≡◌, sym, ap, ◌∙◌, map, Option, option_map, List, None, refl}
+use Rattle.name_rules.specs.Scopes as rules
+use Rattle.name_records.specs.declared.aggregates.Aggregate.{Aggregate}
+use Rattle.name_records.specs.Bodies.{OneBody, with_member, with_unnamed}
+use Rattle.name_records.specs.Aggregates.{known_at}
+use Rattle.unit_names.specs.Shown.{names_of, aggregate_of, declared_of, known_of}
+use Rattle.unit_names.proofs.Views.{changed_is, member_is, unnamed_is, inner_is, last_get, map_last}
+use Rattle.unit_names.proofs.names.Names.open_body.Goals as goal
+
+pub returns : goal.returns
+unfolding names_of
+returns c =
+    λ t.
+    let all = c.args.self.now.aggregates in
+    let old = names_of t c.args.self.now in
+    ap (λ xs. record old { aggregates = xs }) (ap (map (aggregate_of t)) c.open.ensures ∙ changed_is t (λ body. body) (λ body. body) (λ b. refl) all c.args.number)

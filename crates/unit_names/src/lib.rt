@@ -1,0 +1,9 @@
+//! What is known of names at a place of a unit, and what each use and declaration makes of it (C99, 6.2.1 to 6.2.3, 6.7).
+#![tactic(auto)]
+
+mod facts;
+mod found;
+mod names;
+mod scope;
+
+pub use names::Names;

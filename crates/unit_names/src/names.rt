@@ -1,0 +1,57 @@
+//! What is known of names.
+
+ghost use Rattle.std.specs.Prelude.{◌≡◌, ℕ, IfOk};
+ghost use Rattle.type_table.specs.Types.{CType};
+ghost use Rattle.name_rules.specs.Units.{no_names};
+ghost use Rattle.unit_names.specs.Shown.{names_of};
+
+use name_lists::NameList;
+use name_records::{Aggregates, Declarations, Fault, NameUse, Places, TypeNamed};
+use name_scopes::{Place, Scope, Scopes};
+use qual_base::NoMemory;
+use std::alloc::Global;
+
+/// What is known of names: declarations so far, scopes, tags, and what was found of uses. Memory is linear in the ops that
+/// were gone through.
+///
+/// A call that wants memory in vain leaves it as it may be, and of no more use.
+#[derive(Drop)]
+pub struct Names {
+    pub(crate) alloc: Global,
+    pub(crate) declared: Declarations,
+    pub(crate) scopes: Scopes,
+    pub(crate) aggregates: Aggregates,
+    pub(crate) things: NameList<Place>,
+    pub(crate) round: NameList<Place>,
+    pub(crate) uses: Vec<NameUse>,
+    pub(crate) type_names: Vec<TypeNamed>,
+    pub(crate) faults: Vec<Fault>,
+    pub(crate) bodies: Places,
+    pub(crate) enclosing: Option<Place>,
+    pub(crate) kept: Option<Scope>,
+}
+
+impl Names {
+    /// Nothing is known but the file scope, which is open.
+    #[tactic(auto, using(crate::proofs::Begun::begun))]
+    pub fn new(alloc: Global) -> Result<Self, NoMemory>
+        ensures { IfOk result (λ s. (t : ℕ → CType) → names_of t s ≡ no_names) }
+    {
+        let mut scopes = Scopes::new(alloc);
+        scopes.enter()?;
+        Ok(Names {
+            alloc,
+            declared: Declarations::new(alloc),
+            scopes,
+            aggregates: Aggregates::new(alloc),
+            things: NameList::new(alloc),
+            round: NameList::new(alloc),
+            uses: Vec::new(alloc),
+            type_names: Vec::new(alloc),
+            faults: Vec::new(alloc),
+            bodies: Places::new(alloc),
+            enclosing: None,
+            kept: None,
+        })
+    }
+}
