@@ -24,15 +24,18 @@ expr_op_faults u s (exprs.Text token) st = []
 expr_op_faults u s (exprs.Paren token) st = []
 expr_op_faults u s (exprs.Ext token) st = []
 expr_op_faults u s (exprs.Comma token) st = []
-expr_op_faults u s (exprs.Assign sign token first last) st = fault_where (not (shape_at 1 st).is_place) (place u token) not_place
+expr_op_faults u s (exprs.Assign sign token first last) st =
+    fault_where (not (shape_at 1 st).is_place) (place u token) not_place
 expr_op_faults u s (exprs.Cond has_middle token first last) st = []
 expr_op_faults u s (exprs.Binary sign token first last) st = []
 expr_op_faults u s (exprs.Prefix sign token last) st = prefix_faults (place u token) sign (shape_at 0 st)
-expr_op_faults u s (exprs.Post sign token first) st = fault_where (not (shape_at 0 st).is_place) (place u token) not_place
+expr_op_faults u s (exprs.Post sign token first) st =
+    fault_where (not (shape_at 0 st).is_place) (place u token) not_place
 expr_op_faults u s (exprs.Index token first last) st = index_faults_at (place u token) (shape_at 1 st) (shape_at 0 st)
 expr_op_faults u s (exprs.Arg behind first last) st = []
 expr_op_faults u s (exprs.Call token count) st = call_faults (place u token) (value_at count st) count
-expr_op_faults u s (exprs.Arrow token first last) st = fault_where (is_no_pointer (value_at 0 st)) (place u token) not_pointer
+expr_op_faults u s (exprs.Arrow token first last) st =
+    fault_where (is_no_pointer (value_at 0 st)) (place u token) not_pointer
 expr_op_faults u s (exprs.Dot token member name) st = member_faults u s (value_at 0 st) member name
 
 abbrev pub form_op_faults : Spelling → Names → FormOp → State → List Fault
@@ -53,7 +56,8 @@ init_op_faults u s inits.Rule st = []
 init_op_faults u s (inits.Literal token) st = []
 init_op_faults u s inits.ListBegin st = []
 init_op_faults u s (inits.Member token name) st = member_faults u s (designated (first_braces st.braces)) token name
-init_op_faults u s (inits.Index token) st = fault_where (is_no_pointer (designated (first_braces st.braces))) (place u token) not_pointer
+init_op_faults u s (inits.Index token) st =
+    fault_where (is_no_pointer (designated (first_braces st.braces))) (place u token) not_pointer
 init_op_faults u s (inits.Leaf first last) st = []
 init_op_faults u s inits.ListEnd st = []
 init_op_faults u s inits.End st = []

@@ -48,7 +48,8 @@ designated (listed t is_first next (Some named)) = named
 abbrev pub with_member : List Aggregate → ℕ → Braces → Braces
 with_member all name (whole t) = whole t
 with_member all name untargeted = untargeted
-with_member all name (listed t is_first next None) = listed t is_first (behind_member all t name next) (Some (member_type all t name))
+with_member all name (listed t is_first next None) =
+    listed t is_first (behind_member all t name next) (Some (member_type all t name))
 with_member all name (listed t is_first next (Some named)) = listed t is_first next (Some (member_type all named name))
 
 -- behind a designator of an element
@@ -77,7 +78,8 @@ in_braces change st = record st { braces = changed change st.braces }
 
 -- an initialiser in braces ends, with these operands
 abbrev pub braces_left : List Operand → State → State
-braces_left operands st = record st { operands = operands; bases = outer_bases st.bases; braces = outer_braces st.braces }
+braces_left operands st =
+    record st { operands = operands; bases = outer_bases st.bases; braces = outer_braces st.braces }
 
 -- a compound literal is a place, of the type that was named under its operands
 abbrev pub literal_put : List Operand → List Operand
@@ -87,7 +89,8 @@ literal_put below = record { shape = a_place (first_operand below).shape.type; i
 
 abbrev pub expr_step : Spelling → Names → ExprOp → State → State
 expr_step u s (exprs.Name is_called token name) st = put 0 (use_shape s (use_at s.uses (place u token))) st
-expr_step u s (exprs.Number token) st = operand_put 0 (record { shape = a_value (Some (base [])); is_zero = u.is_naught token }) st
+expr_step u s (exprs.Number token) st =
+    operand_put 0 (record { shape = a_value (Some (base [])); is_zero = u.is_naught token }) st
 expr_step u s (exprs.Char token) st = put 0 (a_value (Some (base []))) st
 expr_step u s (exprs.Text token) st = put 0 (a_place (Some text_type)) st
 expr_step u s (exprs.Paren token) st = st
@@ -95,25 +98,34 @@ expr_step u s (exprs.Ext token) st = put 1 (shape_at 0 st) st
 expr_step u s (exprs.Comma token) st = put 2 (a_value (value_at 0 st)) st
 expr_step u s (exprs.Assign sign token first last) st = put 2 (assigned_shape (shape_at 1 st)) st
 expr_step u s (exprs.Cond has_middle token first last) st =
-    put (if has_middle then 3 else 2) (a_value (cond_type (operand_at 1 st).is_zero (operand_at 0 st).is_zero (value_at 1 st) (value_at 0 st))) st
-expr_step u s (exprs.Binary sign token first last) st = put 2 (a_value (binary_type sign (value_at 1 st) (value_at 0 st))) st
+    put (if has_middle then 3 else 2)
+    (a_value (cond_type (operand_at 1 st).is_zero (operand_at 0 st).is_zero (value_at 1 st) (value_at 0 st))) st
+expr_step u s (exprs.Binary sign token first last) st =
+    put 2 (a_value (binary_type sign (value_at 1 st) (value_at 0 st))) st
 expr_step u s (exprs.Prefix sign token last) st = put 1 (prefix_shape sign (shape_at 0 st)) st
 expr_step u s (exprs.Post sign token first) st = put 1 (a_value (value_at 0 st)) st
 expr_step u s (exprs.Index token first last) st = put 2 (a_place (index_type (value_at 1 st) (value_at 0 st))) st
 expr_step u s (exprs.Arg behind first last) st = st
 expr_step u s (exprs.Call token count) st = put (suc count) (a_value (some_result_type (value_at count st))) st
 expr_step u s (exprs.Arrow token first last) st = put 1 (a_place (some_target (value_at 0 st))) st
-expr_step u s (exprs.Dot token member name) st = put 1 (a_place (member_type s.aggregates (value_at 0 st) (u.key name))) st
+expr_step u s (exprs.Dot token member name) st =
+    put 1 (a_place (member_type s.aggregates (value_at 0 st) (u.key name))) st
 
 abbrev pub form_step : Spelling → Names → FormOp → State → State
 form_step u s (forms.Cast token last) st =
-    operand_put 2 (record { shape = a_value (type_at 1 st); is_zero = is_plain_void_pointer (type_at 1 st) && (operand_at 0 st).is_zero }) st
+    operand_put 2 (record {
+      shape = a_value (type_at 1 st);
+      is_zero =
+          is_plain_void_pointer (type_at 1 st) && (operand_at 0 st).is_zero;
+    }) st
 form_step u s (forms.Sizeof token) st = put 1 (a_value (Some (base []))) st
-form_step u s (forms.StmtExpr has_value token) st = if has_value then put 1 (a_value (value_at 0 st)) st else put 0 (a_value (Some (void []))) st
+form_step u s (forms.StmtExpr has_value token) st =
+    if has_value then put 1 (a_value (value_at 0 st)) st else put 0 (a_value (Some (void []))) st
 form_step u s (forms.VaArg token last) st = put 2 (a_value (type_at 0 st)) st
 form_step u s (forms.VaStart token last) st = put 2 (a_value (Some (void []))) st
 form_step u s (forms.VaCopy token last) st = put 2 (a_value (Some (void []))) st
-form_step u s (forms.OffsetMember token name) st = put 1 (a_value (member_type s.aggregates (type_at 0 st) (u.key name))) st
+form_step u s (forms.OffsetMember token name) st =
+    put 1 (a_value (member_type s.aggregates (type_at 0 st) (u.key name))) st
 form_step u s (forms.OffsetIndex token) st = put 2 (a_value (some_target (type_at 1 st))) st
 form_step u s (forms.Offset token) st = put 1 (a_value (Some (base []))) st
 
