@@ -7,6 +7,7 @@ use Rattle.std.specs.Prelude.{ℕ, Bool, true, false, ◌||◌, List, [], ◌∷
 use Rattle.c_words.specs.declared.kinds.Keyword.{Keyword}
 use Rattle.c_words.specs.declared.kinds.Keyword.TheVariants as keywords
 use Rattle.tape_ops.specs.declared.specifier.TagKind.{TagKind}
+use Rattle.tape_ops.specs.declared.specifier.TagKind.TheVariants as tags
 use Rattle.type_table.specs.Types.{CType, base, void, struct, pointer, function}
 use Rattle.name_rules.specs.Spellings.{Place, Spelling, place, Named}
 use Rattle.name_rules.specs.Faults.{undeclared, defined_twice, fault_where}
@@ -58,6 +59,12 @@ found_or_new None u kind token tag s = record { number = length s.aggregates; na
 abbrev pub tag_used : Spelling → Bool → TagKind → ℕ → ℕ → Names → Numbered
 tag_used u is_alone kind token tag s =
     found_or_new (if is_alone then tag_in (innermost s.scopes).tags kind (u.key tag) else tag_through s.scopes kind (u.key tag)) u kind token tag s
+
+-- the type of specifiers with a tag, by that of their words before it, which an enumeration leaves as it is
+abbrev pub tag_type : TagKind → ℕ → CType → CType
+tag_type tags.Struct n t = struct [] n
+tag_type tags.Union n t = struct [] n
+tag_type tags.Enum n t = t
 
 -- a specifier without a tag, whose keyword is at this place
 abbrev pub untagged : Place → TagKind → Names → Numbered

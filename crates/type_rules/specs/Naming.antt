@@ -14,7 +14,7 @@ use Rattle.type_table.specs.Types.{Words, CType, base, void, struct, CTypes, no_
 use Rattle.name_rules.specs.Spellings.{Place, Spelling, place, Named}
 use Rattle.name_rules.specs.Scopes.{enumerator_role, Names, meaning, enter, leave, sized}
 use Rattle.name_rules.specs.Pieces.{with_words, decayed, Piece, to_pointer, to_function, applied, no_params_if}
-use Rattle.name_rules.specs.Declaring.{used, type_named, type_by, Numbered, tag_used, untagged, Begun, tag_begun, untagged_begun, declared_here, linked, declared_thing, declared_some, declared_param, declared_member, unnamed_member, own_where, keep, body_entered, body_left}
+use Rattle.name_rules.specs.Declaring.{used, type_named, type_by, Numbered, tag_used, tag_type, Begun, tag_begun, untagged_begun, declared_here, linked, declared_thing, declared_some, declared_param, declared_member, unnamed_member, own_where, keep, body_entered, body_left}
 use Rattle.type_rules.specs.Tokens.{annotations, annotation, pointer_annotations, array_annotations, first_word, declared_name, some_declared_name, is_bare, is_void, says_none}
 
 -- what is found, and what is known of names behind it
@@ -40,6 +40,13 @@ with_pieced it next = next it.pieces it.names
 abbrev pub with_listed : {A : Type 0} → Listed → (CTypes → Names → A) → A
 with_listed it next = next it.types it.names
 
+abbrev pub with_numbered : {A : Type 0} → Numbered → (ℕ → Names → A) → A
+with_numbered it next = next it.number it.names
+
+-- of a body that begins: the number of its type, whose its members are, and the names
+abbrev pub with_begun : {A : Type 0} → Begun → (ℕ → ℕ → Names → A) → A
+with_begun it next = next it.number it.members_of it.names
+
 abbrev pub typed : CType → Names → Typed
 typed t s = record { type = t; names = s }
 
@@ -50,10 +57,10 @@ abbrev pub tag_kind : Keyword → TagKind
 tag_kind keywords.Union = tags.Union
 tag_kind keyword = tags.Struct
 
--- what a specifier without a body means; without a tag either there is none
-abbrev pub some_tag_used : Spelling → Bool → TagKind → ℕ → Option Identifier → Names → Numbered
-some_tag_used u is_alone kind keyword (Some tag) s = tag_used u is_alone kind tag.token tag.name s
-some_tag_used u is_alone kind keyword None s = untagged (place u keyword) kind s
+-- what a tag without a body means; with neither there is none, as in no well-formed unit
+abbrev pub tag_named : Spelling → Bool → TagKind → Option Identifier → CType → Names → Typed
+tag_named u is_alone kind None t s = typed t s
+tag_named u is_alone kind (Some tag) t s = with_numbered (tag_used u is_alone kind tag.token tag.name s) (λ n s. typed (tag_type kind n t) s)
 
 abbrev pub body_begun : Spelling → TagKind → ℕ → Option Identifier → Names → Begun
 body_begun u kind keyword None s = untagged_begun (place u keyword) kind s
@@ -104,18 +111,18 @@ abbrev pub is_tag_alone : SpecWords → InitDeclrs → Bool
 is_tag_alone ws no_init_declrs = is_lone ws
 is_tag_alone ws (more_init_declrs attrs d asm_label attrs2 init ds) = false
 
--- the annotation words that a word of specifiers adds to their type
-abbrev pub added : Spelling → SpecWord → Words
-added u (qualifier q) = annotation u q
-added u (storage word) = []
-added u (thread token) = []
-added u (inline_word token) = []
-added u (noreturn token) = []
-added u (basic word) = []
-added u (struct_type word attrs tag body) = []
-added u (enum_type e) = []
-added u (typedef_name name) = []
-added u (attribute attr) = []
+-- the annotation words of specifiers behind one of their words, by those before it
+abbrev pub words_behind : Spelling → SpecWord → Words → Words
+words_behind u (qualifier q) ws = ws ++ annotation u q
+words_behind u (storage word) ws = ws
+words_behind u (thread token) ws = ws
+words_behind u (inline_word token) ws = ws
+words_behind u (noreturn token) ws = ws
+words_behind u (basic word) ws = ws
+words_behind u (struct_type word attrs tag body) ws = ws
+words_behind u (enum_type e) ws = ws
+words_behind u (typedef_name name) ws = ws
+words_behind u (attribute attr) ws = ws
 
 -- the words before an ellipsis; a function without parameters takes any
 abbrev pub ellipsis : Spelling → Params → Option Dots → Option Words
@@ -172,7 +179,7 @@ module _ (u : Spelling) where
     -- the type of specifiers, by that of the words so far and the annotation words so far
     pub words_named : Bool → SpecWords → CType → Words → Names → Typed
     words_named alone no_words t ws s = typed (with_words ws t) s
-    words_named alone (more_words word words) t ws s = with_typed (word_named alone word t s) (λ t s. words_named alone words t (ws ++ added u word) s)
+    words_named alone (more_words word words) t ws s = with_typed (word_named alone word t s) (λ t s. words_named alone words t (words_behind u word ws) s)
 
     pub word_named : Bool → SpecWord → CType → Names → Typed
     word_named alone (storage word) t s = typed t s
@@ -181,16 +188,15 @@ module _ (u : Spelling) where
     word_named alone (noreturn token) t s = typed t s
     word_named alone (qualifier q) t s = typed t s
     word_named alone (basic word) t s = typed (if is_void word.keyword then void [] else t) s
-    word_named alone (struct_type word attrs tag body) t s = struct_named alone (tag_kind word.keyword) word.token tag body s
+    word_named alone (struct_type word attrs tag body) t s = struct_named alone (tag_kind word.keyword) word.token tag body t s
     word_named alone (enum_type e) t s = typed t (enum_named e s)
     word_named alone (typedef_name name) t s = typed (type_by (meaning s (u.key name.name))) s
     word_named alone (attribute attr) t s = typed t s
 
-    pub struct_named : Bool → TagKind → ℕ → Option Identifier → SomeBody → Names → Typed
-    struct_named alone kind keyword tag no_body s =
-        typed (struct [] (some_tag_used u alone kind keyword tag s).number) (some_tag_used u alone kind keyword tag s).names
-    struct_named alone kind keyword tag (some_body opening items closing) s =
-        typed (struct [] (body_begun u kind keyword tag s).number) (struct_items_named (body_begun u kind keyword tag s).members_of items (body_begun u kind keyword tag s).names)
+    pub struct_named : Bool → TagKind → ℕ → Option Identifier → SomeBody → CType → Names → Typed
+    struct_named alone kind keyword tag no_body t s = tag_named u alone kind tag t s
+    struct_named alone kind keyword tag (some_body opening items closing) t s =
+        with_begun (body_begun u kind keyword tag s) (λ n members_of s. typed (tag_type kind n t) (struct_items_named members_of items s))
 
     pub struct_items_named : ℕ → StructItems → Names → Names
     struct_items_named n no_struct_items s = s
@@ -218,7 +224,7 @@ module _ (u : Spelling) where
     some_value_named (some_value token e) s = expr_named false e s
 
     pub enum_named : EnumType → Names → Names
-    enum_named (enum_of keyword attrs tag no_enum_body) s = (some_tag_used u false tags.Enum keyword tag s).names
+    enum_named (enum_of keyword attrs tag no_enum_body) s = (tag_named u false tags.Enum tag (base []) s).names
     enum_named (enum_of keyword attrs tag (some_enum_body opening es last closing)) s = enumerators_named es (body_begun u tags.Enum keyword tag s).names
 
     pub enumerators_named : Enumerators → Names → Names
@@ -237,7 +243,7 @@ module _ (u : Spelling) where
         with_pieced (declr_named own d s) (λ pieces s. with_listed (params_named 0 (own_where (is_bare d) own) ps (enter s))
         (λ types s. record { pieces = pieces ++ to_function (no_params_if (says_none ps) types) (ellipsis u ps dots) ∷ []; names = keep (own_where (is_bare d) own) s }))
     declr_named own (abs_pointer star words d) s = with_pieced (some_declr_named d s) (λ ps s. record { pieces = ps ++ to_pointer (pointer_annotations u words) ∷ []; names = s })
-    declr_named own (abs_paren opening attrs d closing) s = declr_named None d s
+    declr_named own (abs_paren opening attrs d closing) s = declr_named own d s
     declr_named own (abs_array d opening words size closing) s =
         with_pieced (some_declr_named d s) (λ ps s. record { pieces = ps ++ to_pointer (array_annotations u words) ∷ []; names = some_size_named size s })
     declr_named own (abs_params d opening ps dots closing) s =

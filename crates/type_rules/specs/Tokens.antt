@@ -56,20 +56,21 @@ first_word no_words = 0
 first_word (more_words word words) = word_token word
 
 -- the name that a declarator declares
-abbrev pub declared_name : Declr → Option Named
-declared_name (pointer star words d) = declared_name d
-declared_name (declr_name token name) = Some (record { token = token; name = name })
-declared_name (declr_paren opening attrs d closing) = declared_name d
-declared_name (array d opening words size closing) = declared_name d
-declared_name (params d opening ps dots closing) = declared_name d
-declared_name (abs_pointer star words d) = None
-declared_name (abs_paren opening attrs d closing) = None
-declared_name (abs_array d opening words size closing) = None
-declared_name (abs_params d opening ps dots closing) = None
+abbrev mutual
+  pub declared_name : Declr → Option Named
+  declared_name (pointer star words d) = declared_name d
+  declared_name (declr_name token name) = Some (record { token = token; name = name })
+  declared_name (declr_paren opening attrs d closing) = declared_name d
+  declared_name (array d opening words size closing) = declared_name d
+  declared_name (params d opening ps dots closing) = declared_name d
+  declared_name (abs_pointer star words d) = some_declared_name d
+  declared_name (abs_paren opening attrs d closing) = declared_name d
+  declared_name (abs_array d opening words size closing) = some_declared_name d
+  declared_name (abs_params d opening ps dots closing) = some_declared_name d
 
-abbrev pub some_declared_name : SomeDeclr → Option Named
-some_declared_name no_declr = None
-some_declared_name (some_declr d) = declared_name d
+  pub some_declared_name : SomeDeclr → Option Named
+  some_declared_name no_declr = None
+  some_declared_name (some_declr d) = declared_name d
 
 -- a declarator that is its name alone, parentheses aside
 abbrev pub is_bare : Declr → Bool

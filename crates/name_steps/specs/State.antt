@@ -1,0 +1,76 @@
+-- What is known at a place of a tape: names, and what is begun and not yet at its end, the innermost of each kind first.
+use Rattle.std.specs.Prelude.{ℕ, List, [], ◌∷◌, Option, None}
+use Rattle.c_words.specs.declared.kinds.Keyword.{Keyword}
+use Rattle.type_table.specs.Types.{Words, CType, base, CTypes, no_types, more_types}
+use Rattle.name_rules.specs.Spellings.{Place, Named}
+use Rattle.name_rules.specs.Scopes.{Names}
+
+-- specifiers: their type without annotation words, these words, and the storage words, so far
+pub record Specifiers : Type 0 where
+  pub type : CType
+  pub words : Words
+  pub storage : List Keyword
+
+-- a body of a tag: the specifiers that it is a word of, with the type that they have behind it, and the number of the struct
+-- whose members stand in it
+pub record OpenBody : Type 0 where
+  pub outer : Specifiers
+  pub members_of : ℕ
+
+-- a declaration whose specifiers are whole: their type and storage words; and of the declarator that is being read the name,
+-- where it has one, and the type so far
+pub record OpenDeclaration : Type 0 where
+  pub type : CType
+  pub storage : List Keyword
+  pub name : Option Named
+  pub declared : CType
+
+-- a list of parameters: the function whose own they are, where they are a function's own, and their types so far
+pub record OpenParameters : Type 0 where
+  pub own : Option Place
+  pub types : List CType
+
+pub record State : Type 0 where
+  pub names : Names
+  -- the specifiers that are being read; the annotation words before a pointer, an array or an ellipsis too
+  pub specifiers : Specifiers
+  pub bodies : List OpenBody
+  pub declarations : List OpenDeclaration
+  pub parameters : List OpenParameters
+  -- the types of the parameters of lists that ended and of which no function was made, the last one first
+  pub finished : List (List CType)
+
+-- specifiers of which no word was read
+abbrev pub no_specifiers : Specifiers
+no_specifiers = record { type = base []; words = []; storage = [] }
+
+-- names, with nothing begun
+abbrev pub with_names : Names → State
+with_names names = record { names = names; specifiers = no_specifiers; bodies = []; declarations = []; parameters = []; finished = [] }
+
+abbrev pub no_declaration : OpenDeclaration
+no_declaration = record { type = base []; storage = []; name = None; declared = base [] }
+
+abbrev pub no_body : OpenBody
+no_body = record { outer = no_specifiers; members_of = 0 }
+
+abbrev pub no_parameters : OpenParameters
+no_parameters = record { own = None; types = [] }
+
+-- the innermost one, or this one where there is none
+abbrev pub innermost_or : {A : Type 0} → A → List A → A
+innermost_or none [] = none
+innermost_or none (x ∷ xs) = x
+
+-- this in place of the innermost one
+abbrev pub with_innermost : {A : Type 0} → A → List A → List A
+with_innermost y [] = []
+with_innermost y (x ∷ xs) = y ∷ xs
+
+abbrev pub without_innermost : {A : Type 0} → List A → List A
+without_innermost [] = []
+without_innermost (x ∷ xs) = xs
+
+abbrev pub types_in : List CType → CTypes
+types_in [] = no_types
+types_in (t ∷ ts) = more_types t (types_in ts)

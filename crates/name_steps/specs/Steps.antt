@@ -1,0 +1,209 @@
+-- Names by one loop over a tape: what each op makes of what is known before it.
+use Rattle.std.specs.Prelude.{ℕ, Bool, true, false, List, [], ◌∷◌, ◌++◌, length, Option, None, Some}
+use Rattle.std.specs.List.{last_or}
+use Rattle.c_words.specs.declared.kinds.Keyword.{Keyword}
+use Rattle.tape_ops.specs.declared.op.Op.{Op}
+use Rattle.tape_ops.specs.declared.op.Op.TheVariants as ops
+use Rattle.tape_ops.specs.declared.expression.ExprOp.{ExprOp}
+use Rattle.tape_ops.specs.declared.expression.ExprOp.TheVariants as exprs
+use Rattle.tape_ops.specs.declared.specifier.SpecOp.{SpecOp}
+use Rattle.tape_ops.specs.declared.specifier.SpecOp.TheVariants as specs
+use Rattle.tape_ops.specs.declared.specifier.TagKind.{TagKind}
+use Rattle.tape_ops.specs.declared.specifier.TagKind.TheVariants as tags
+use Rattle.tape_ops.specs.declared.declarator.DeclrOp.{DeclrOp}
+use Rattle.tape_ops.specs.declared.declarator.DeclrOp.TheVariants as declrs
+use Rattle.tape_ops.specs.declared.statement.StmtOp.{StmtOp}
+use Rattle.tape_ops.specs.declared.statement.StmtOp.TheVariants as stmts
+use Rattle.type_table.specs.Types.{Words, CType, base, void, struct, pointer}
+use Rattle.name_rules.specs.Spellings.{Place, Spelling, place, annotation_at, Named}
+use Rattle.name_rules.specs.Scopes.{enumerator_role, Declared, Names, meaning, innermost, enter, leave}
+use Rattle.name_rules.specs.Pieces.{with_words, decayed, piece_of, to_pointer, to_function}
+use Rattle.name_rules.specs.Declaring.{used, type_named, type_by, Numbered, tag_used, tag_type, Begun, tag_begun, untagged_begun, declared_here, linked, declared_some, declared_param, declared_member, unnamed_member, own_where, keep, body_entered, body_left}
+use Rattle.name_steps.specs.State.{Specifiers, OpenBody, OpenDeclaration, OpenParameters, State, no_specifiers, no_declaration, no_body, no_parameters, innermost_or, with_innermost, without_innermost, types_in}
+
+-- the innermost of what is begun
+
+abbrev pub declaration : State → OpenDeclaration
+declaration st = innermost_or no_declaration st.declarations
+
+abbrev pub body : State → OpenBody
+body st = innermost_or no_body st.bodies
+
+abbrev pub parameters : State → OpenParameters
+parameters st = innermost_or no_parameters st.parameters
+
+-- specifiers
+
+abbrev pub with_type : CType → State → State
+with_type t st = record st { specifiers = record st.specifiers { type = t } }
+
+abbrev pub with_word : Spelling → ℕ → State → State
+with_word u token st = record st { specifiers = record st.specifiers { words = st.specifiers.words ++ annotation_at u token } }
+
+abbrev pub with_storage : Keyword → State → State
+with_storage word st = record st { specifiers = record st.specifiers { storage = st.specifiers.storage ++ word ∷ [] } }
+
+abbrev pub with_tag : TagKind → Numbered → State → State
+with_tag kind it st = record (with_type (tag_type kind it.number st.specifiers.type) st) { names = it.names }
+
+abbrev pub with_body : TagKind → Begun → State → State
+with_body kind it st =
+    record st {
+      names = it.names;
+      specifiers = no_specifiers;
+      bodies = record { outer = (with_type (tag_type kind it.number st.specifiers.type) st).specifiers; members_of = it.members_of } ∷ st.bodies;
+    }
+
+abbrev pub body_ended : State → State
+body_ended st = record st { specifiers = (body st).outer; bodies = without_innermost st.bodies }
+
+abbrev pub specifiers_ended : State → State
+specifiers_ended st =
+    record st {
+      specifiers = no_specifiers;
+      declarations = record { type = with_words st.specifiers.words st.specifiers.type; storage = st.specifiers.storage; name = None; declared = with_words st.specifiers.words st.specifiers.type } ∷ st.declarations;
+    }
+
+abbrev pub with_enumerator : Place → ℕ → State → State
+with_enumerator at name st = record st { names = declared_here at name enumerator_role (base []) None st.names }
+
+abbrev pub with_unnamed_member : Place → State → State
+with_unnamed_member at st = record st { names = unnamed_member at (body st).members_of (declaration st).type st.names }
+
+abbrev pub specifier_step : Spelling → State → SpecOp → State
+specifier_step u st (specs.Word token) = with_word u token st
+specifier_step u st (specs.Storage keyword) = with_storage keyword st
+specifier_step u st specs.Void = with_type (void []) st
+specifier_step u st (specs.Typedef token name) = with_type (type_by (meaning st.names (u.key name))) st
+specifier_step u st (specs.TagUse kind token name) = with_tag kind (tag_used u false kind token name st.names) st
+specifier_step u st (specs.TagAlone kind token name) = with_tag kind (tag_used u true kind token name st.names) st
+specifier_step u st (specs.TagBody kind token name) = with_body kind (tag_begun u kind token name st.names) st
+specifier_step u st (specs.Untagged kind token) = with_body kind (untagged_begun (place u token) kind st.names) st
+specifier_step u st specs.BodyEnd = body_ended st
+specifier_step u st (specs.Enumerator token name) = with_enumerator (place u token) (u.key name) st
+specifier_step u st (specs.UnnamedMember token) = with_unnamed_member (place u token) st
+specifier_step u st specs.SpecsEnd = specifiers_ended st
+
+-- declarators
+
+abbrev pub with_name : ℕ → ℕ → State → State
+with_name token name st =
+    record st { declarations = with_innermost (record (declaration st) { name = Some (record { token = token; name = name }) }) st.declarations }
+
+-- the type so far, of which this is made, uses the annotation words before it
+abbrev pub with_declared : CType → State → State
+with_declared t st =
+    record st { specifiers = no_specifiers; declarations = with_innermost (record (declaration st) { declared = t }) st.declarations }
+
+abbrev pub pointed : State → State
+pointed st = with_declared (piece_of (to_pointer st.specifiers.words) (declaration st).declared) st
+
+abbrev pub ellipsis_where : Bool → Words → Option Words
+ellipsis_where true words = Some words
+ellipsis_where false words = None
+
+abbrev pub called_with : Bool → State → State
+called_with has_ellipsis st =
+    record (with_declared (piece_of (to_function (types_in (innermost_or [] st.finished)) (ellipsis_where has_ellipsis st.specifiers.words)) (declaration st).declared) st)
+    { finished = without_innermost st.finished }
+
+-- the object or function of the file that has this name
+abbrev pub linked_some : Spelling → Option Named → Names → Option Place
+linked_some u None s = None
+linked_some u (Some it) s = Some (linked (u.key it.name) (place u it.token) s)
+
+abbrev pub parameters_begun : Option Place → State → State
+parameters_begun own st = record st { names = enter st.names; parameters = record { own = own; types = [] } ∷ st.parameters }
+
+-- a declaration ends
+abbrev pub let_go : State → State
+let_go st = record st { declarations = without_innermost st.declarations }
+
+abbrev pub with_parameter : Spelling → State → State
+with_parameter u st =
+    record (let_go st) {
+      names = declared_param u (declaration st).name (length (parameters st).types) (parameters st).own (decayed (declaration st).declared) st.names;
+      parameters = with_innermost (record (parameters st) { types = (parameters st).types ++ decayed (declaration st).declared ∷ [] }) st.parameters;
+    }
+
+abbrev pub parameters_ended : State → State
+parameters_ended st =
+    record st { names = keep (parameters st).own st.names; parameters = without_innermost st.parameters; finished = (parameters st).types ∷ st.finished }
+
+-- a declarator ends: the next one, without a name so far, is made of the type of the specifiers
+abbrev pub declarator_ended : State → State
+declarator_ended st =
+    record st { declarations = with_innermost (record (declaration st) { name = None; declared = (declaration st).type }) st.declarations }
+
+abbrev pub name_declared : Spelling → State → State
+name_declared u st =
+    record (declarator_ended st) { names = declared_some u (declaration st).name (declaration st).storage (declaration st).declared st.names }
+
+abbrev pub with_member : Spelling → State → State
+with_member u st =
+    record (declarator_ended st) { names = declared_member u (declaration st).name (body st).members_of (declaration st).declared st.names }
+
+abbrev pub with_type_name : Place → State → State
+with_type_name at st = record (let_go st) { names = type_named at (declaration st).declared st.names }
+
+abbrev pub declarator_step : Spelling → State → DeclrOp → State
+declarator_step u st (declrs.DeclName token name) = with_name token name st
+declarator_step u st (declrs.ParamsBegin is_own) = parameters_begun (own_where is_own (linked_some u (declaration st).name st.names)) st
+declarator_step u st declrs.Param = with_parameter u st
+declarator_step u st declrs.ParamsEnd = parameters_ended st
+declarator_step u st declrs.Pointer = pointed st
+declarator_step u st declrs.Array = pointed st
+declarator_step u st (declrs.Function has_ellipsis) = called_with has_ellipsis st
+declarator_step u st declrs.Declare = name_declared u st
+declarator_step u st declrs.Member = with_member u st
+declarator_step u st (declrs.TypeName first) = with_type_name (place u first) st
+declarator_step u st declrs.DeclarationEnd = let_go st
+
+-- expressions, statements
+
+abbrev pub expression_step : Spelling → State → ExprOp → State
+expression_step u st (exprs.Name is_called token name) = record st { names = used u is_called token name st.names }
+expression_step u st (exprs.Number token) = st
+expression_step u st (exprs.Char token) = st
+expression_step u st (exprs.Text token) = st
+expression_step u st (exprs.Paren token) = st
+expression_step u st (exprs.Ext token) = st
+expression_step u st (exprs.Comma token) = st
+expression_step u st (exprs.Assign sign token first last) = st
+expression_step u st (exprs.Cond has_middle token first last) = st
+expression_step u st (exprs.Binary sign token first last) = st
+expression_step u st (exprs.Prefix sign token last) = st
+expression_step u st (exprs.Post sign token first) = st
+expression_step u st (exprs.Index token first last) = st
+expression_step u st (exprs.Arg behind first last) = st
+expression_step u st (exprs.Call token count) = st
+expression_step u st (exprs.Arrow token first last) = st
+expression_step u st (exprs.Dot token member name) = st
+
+-- the body of the function that was declared last
+abbrev pub body_entered_by : Option Declared → Names → Names
+body_entered_by None s = s
+body_entered_by (Some d) s = body_entered d.at d.first s
+
+abbrev pub statement_step : Spelling → State → StmtOp → State
+statement_step u st stmts.Quiet = st
+statement_step u st stmts.Loud = st
+statement_step u st stmts.Pop = st
+statement_step u st (stmts.Return token last) = st
+statement_step u st stmts.Enter = record st { names = enter st.names }
+statement_step u st stmts.Leave = record st { names = leave st.names }
+statement_step u st stmts.FunctionBody = record st { names = body_entered_by (last_or None st.names.declared) st.names }
+statement_step u st stmts.FunctionEnd = record st { names = body_left st.names }
+
+-- ops of the forms with type names and of initialisers say nothing of names
+abbrev pub step : Spelling → State → Op → State
+step u st (ops.Expr op) = expression_step u st op
+step u st (ops.Form op) = st
+step u st (ops.Init op) = st
+step u st (ops.Spec op) = specifier_step u st op
+step u st (ops.Declr op) = declarator_step u st op
+step u st (ops.Stmt op) = statement_step u st op
+
+abbrev pub run : Spelling → List Op → State → State
+run u [] st = st
+run u (op ∷ rest) st = run u rest (step u st op)
