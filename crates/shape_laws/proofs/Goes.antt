@@ -2,7 +2,7 @@
 --
 -- Faults are compared by their weights, whatever weight each may have, since a tape meets them in another order than a
 -- definition on trees.
-use Rattle.std.proofs.Common.{◌≡◌, ℕ, ◌+◌, List, [], ◌∷◌, ◌++◌, ◌∙◌, ap, arith, refl}
+use Rattle.std.proofs.Common.{◌≡◌, ℕ, ◌+◌, List, [], ◌∷◌, ◌++◌, ◌∙◌, ap, append_assoc, arith, refl}
 use Rattle.tape_ops.specs.declared.op.Op.{Op}
 use Rattle.name_rules.specs.Spellings.{Spelling}
 use Rattle.name_rules.specs.Faults.{Fault}
@@ -25,6 +25,25 @@ pub total_append : (w : Fault → ℕ) (xs ys : List Fault) → total w (xs ++ y
 total_append w [] ys = omega arith
 total_append w (x ∷ xs) ys = let e : total w (xs ++ ys) ≡ total w xs + total w ys = total_append w xs ys in omega arith
 
+-- faults in another order
+
+pub total_end : (w : Fault → ℕ) (xs : List Fault) → total w (xs ++ []) ≡ total w xs
+total_end w xs = omega (arith, total_append w xs [])
+
+pub total_group : (w : Fault → ℕ) (xs ys zs : List Fault) → total w ((xs ++ ys) ++ zs) ≡ total w (xs ++ (ys ++ zs))
+total_group w xs ys zs = ap (total w) (append_assoc xs ys zs)
+
+pub total_last_first : (w : Fault → ℕ) (xs ys zs : List Fault) → total w ((xs ++ ys) ++ zs) ≡ total w (ys ++ (zs ++ xs))
+total_last_first w xs ys zs = omega (arith, total_append w)
+
+pub total_group_three : (w : Fault → ℕ) (xs ys zs us : List Fault) → total w (((xs ++ ys) ++ zs) ++ us) ≡
+    total w (xs ++ (ys ++ (zs ++ us)))
+total_group_three w xs ys zs us = omega (arith, total_append w)
+
+pub total_operation : (w : Fault → ℕ) (xs ys zs us : List Fault) → total w (((xs ++ ys) ++ zs) ++ us) ≡
+    total w (us ++ (xs ++ (ys ++ zs)))
+total_operation w xs ys zs us = omega (arith, total_append w)
+
 -- a state, and the weight of the faults so far
 pub record Sum : Type 0 where
   pub state : State
@@ -34,8 +53,8 @@ abbrev pub at : State → ℕ → Sum
 at st n = record { state = st; weight = n }
 
 abbrev pub behind_op : Over → Op → Sum → Sum
-behind_op k op it = at (step k.spelling k.names op it.state)
-    (it.weight + total k.weight (op_faults k.spelling k.names op it.state))
+behind_op k op it = at (step k.spelling k.names it.state op)
+    (it.weight + total k.weight (op_faults k.spelling k.names it.state op))
 
 abbrev pub behind : Over → List Op → Sum → Sum
 behind k [] it = it
@@ -57,11 +76,11 @@ nowhere {k} {f} = record { goes = λ st n. ap (at (f st)) (omega arith) }
 
 -- one op
 pub one : {k : Over} {op : Op} {f : State → State} (faults : List Fault) →
-    ((st : State) → op_faults k.spelling k.names op (f st) ≡ faults) →
-    Goes k (op ∷ []) f (λ st. step k.spelling k.names op (f st)) faults
+    ((st : State) → op_faults k.spelling k.names (f st) op ≡ faults) →
+    Goes k (op ∷ []) f (λ st. step k.spelling k.names (f st) op) faults
 one {k} {op} {f} faults same =
     record {
-      goes = λ st n. ap (λ (fs : List Fault). at (step k.spelling k.names op (f st)) (n + total k.weight fs))
+      goes = λ st n. ap (λ (fs : List Fault). at (step k.spelling k.names (f st) op) (n + total k.weight fs))
           (same st);
     }
 
@@ -98,4 +117,9 @@ reaching {k} {fs = fs} h p e =
 -- without faults behind
 pub without : {k : Over} {xs ys : List Op} {f g h : State → State} {fs : List Fault} → Goes k xs f g fs →
     Goes k ys g h [] → Goes k (xs ++ ys) f h fs
-without {k} {fs = fs} p q = same (join p q) (omega (arith, total_append k.weight fs []))
+without {k} {fs = fs} p q = same (join p q) (total_end k.weight fs)
+
+-- with the faults behind before the others
+pub swapped : {k : Over} {xs ys : List Op} {f g h : State → State} {fs gs : List Fault} → Goes k xs f g fs →
+    Goes k ys g h gs → Goes k (xs ++ ys) f h (gs ++ fs)
+swapped {k} {fs = fs} {gs} p q = same (join p q) (omega (arith, total_append k.weight))

@@ -23,7 +23,7 @@ use Rattle.type_rules.specs.Judging as rules
 use Rattle.shape_steps.specs.State.{Operand, whole, State, put, first_operand}
 use Rattle.shape_steps.specs.Steps.{within, type_of_name, literal_put}
 use Rattle.shape_laws.proofs.Goes.{Over, total_append, Goes, as_is, nowhere, one, join, from, next, same, reaching}
-use Rattle.shape_laws.proofs.Stacks.{drop_above, drop_one_more, operand_of, with_expr, with_middle, arguments_on, with_arguments, under_arguments, with_value, type_at_words, leaves_in, with_leaves, named_so}
+use Rattle.shape_laws.proofs.Stacks.{drop_above, drop_one_more, operand_of, with_expr, with_middle, arguments_on, with_arguments, under_arguments, with_value, type_at_words, leaves_in, with_leaves, declaring}
 use Rattle.shape_laws.proofs.Idle.{either, same_first, same_count, none_said}
 use Rattle.shape_laws.proofs.Rules.{list_rule_goes, list_split}
 
@@ -152,7 +152,7 @@ module _ (k : Over) where
 
   -- a type name, by what its words and its declarator do
   pub type_name_goes : {words d : List Op} {fs gs : List Fault} (ws : SpecWords) (name : Option ℕ) →
-      Goes k words as_is as_is fs → Goes k d (named_so None) (named_so name) gs
+      Goes k words as_is as_is fs → Goes k d (declaring None None) (declaring name None) gs
       → Goes k (type_name_with words d (tape_tokens.first_word ws)) as_is (with_value (type_at_words k ws)) (fs ++ gs)
   type_name_goes ws name p q =
       reaching _ (same (join (join (join p (one [] (λ st. refl))) q) (one [] (λ st. refl)))
@@ -194,16 +194,17 @@ module _ (k : Over) where
           (filled (leaves_in k list) (with_value t st))) (below st))
 
   -- the initialiser in braces of a name
-  pub braced_goes : {tape : List Op} (name : Option ℕ) (list : InitList) →
+  pub braced_goes : {tape : List Op} (declared : Option ℕ) (list : InitList) →
       Goes k tape as_is (with_leaves (leaves_in k list)) (untargeted_faults k.spelling k.names list)
-      → Goes k (init inits.Begin ++ tape ++ init inits.Rule ++ rule_of_list list ++ init inits.End) (named_so name)
-      (named_so name) (list_faults k.spelling k.names (type_of_name k.spelling k.names name) list)
-  braced_goes {tape} name list p =
+      → Goes k (init inits.Begin ++ tape ++ init inits.Rule ++ rule_of_list list ++ init inits.End)
+      (declaring None declared) (declaring None declared)
+      (list_faults k.spelling k.names (type_of_name k.spelling k.names declared) list)
+  braced_goes {tape} declared list p =
       reaching _ (same (join (join (join (next {xs = init inits.Begin} (one [] (λ st. refl)) p) (one [] (λ st. refl)))
-      (from (λ st. filled (leaves_in k list) (named_so name st))
-      (list_rule_goes k list (whole (type_of_name k.spelling k.names name))))) (one [] (λ st. refl)))
-      (let e = list_split k list (type_of_name k.spelling k.names name) in omega (arith, total_append k.weight)))
-      (λ st. ap (λ (operands : List Operand). record (named_so name st) { operands = operands })
+      (from (λ st. filled (leaves_in k list) (declaring None declared st))
+      (list_rule_goes k list (whole (type_of_name k.spelling k.names declared))))) (one [] (λ st. refl)))
+      (let e = list_split k list (type_of_name k.spelling k.names declared) in omega (arith, total_append k.weight)))
+      (λ st. ap (λ (operands : List Operand). record (declaring None declared st) { operands = operands })
       (drop_above (leaves_in k list) st.operands))
 
   -- parameters

@@ -1,4 +1,4 @@
--- The list of an initialiser in braces, gone through once more: which faults designators have, and what each item initialises.
+-- The list of an initialiser in braces, gone through once more: the faults of designators, and what each item initialises.
 use Rattle.std.proofs.Common.{◌≡◌, ℕ, ◌+◌, Bool, true, false, List, [], ◌++◌, Option, None, Some, refl, ap, arith}
 use Rattle.c_tree.specs.Tree.{Init, init_value, init_braced, InitList, init_list, InitItems, no_init_items, more_init_items, Desigs, no_desigs, more_desigs, Desig, member_desig, index_desig}
 use Rattle.c_tape.specs.Tape.{desig_tape, desigs_tape, rule, rule_of_list, rule_of_items}

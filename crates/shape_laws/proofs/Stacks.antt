@@ -1,16 +1,14 @@
 -- The stacks behind parts of a tree.
-use Rattle.std.proofs.Common.{◌≡◌, ℕ, zero, suc, ◌-◌, ◌+◌, Bool, true, false, List, [], ◌∷◌, ◌++◌, length, drop, Option, Some, refl, ◌∙◌, ap, arith, length-append}
+use Rattle.std.proofs.Common.{◌≡◌, ℕ, zero, suc, ◌-◌, ◌+◌, Bool, true, false, List, [], ◌∷◌, ◌++◌, length, drop, Option, None, Some, refl, ◌∙◌, ap, arith, length-append}
 use Rattle.std.specs.Prelude.{◌&&◌, if◌then◌else◌}
-use Rattle.c_tree.specs.declared.lexeme.Lexeme.{Lexeme}
-use Rattle.c_tree.specs.Tree.{Expr, Operator, comma, assign, cond, binary, SomeExpr, no_expr, some_expr, Exprs, no_exprs, more_exprs, SpecWords, MemDeclrs, no_mem_declrs, more_mem_declrs, MemDeclr, named, unnamed, Declr, pointer, declr_name, declr_paren, array, params, abs_pointer, abs_paren, abs_array, abs_params, SomeDeclr, no_declr, some_declr, Init, init_value, init_braced, InitList, init_list, InitItems, no_init_items, more_init_items, InitDeclrs, no_init_declrs, more_init_declrs, BlockItems, no_block_items, more_block_items, BlockItem, block_decl, block_stmt, Stmt, block, expr_stmt, attr_stmt, label, case_stmt, default_stmt, if_stmt, switch_stmt, while_stmt, do_stmt, for_stmt, goto_stmt, continue_stmt, break_stmt, return_stmt, asm_stmt}
-use Rattle.c_tree.specs.WellFormed.{IsDeclr, is_named}
+use Rattle.c_tree.specs.Tree.{Expr, Operator, comma, assign, cond, binary, SomeExpr, no_expr, some_expr, Exprs, no_exprs, more_exprs, SpecWords, Declr, SomeDeclr, Init, init_value, init_braced, InitList, init_list, InitItems, no_init_items, more_init_items, InitDeclrs, no_init_declrs, more_init_declrs, BlockItems, no_block_items, more_block_items, BlockItem, block_decl, block_stmt, Stmt, block, expr_stmt, attr_stmt, label, case_stmt, default_stmt, if_stmt, switch_stmt, while_stmt, do_stmt, for_stmt, goto_stmt, continue_stmt, break_stmt, return_stmt, asm_stmt}
 use Rattle.c_tape.specs.Tests.{is_end, ends_in_value}
 use Rattle.c_tape.specs.Tape.{count}
 use Rattle.type_table.specs.Types.{CType, void}
-use Rattle.name_rules.specs.Spellings.{place}
+use Rattle.name_rules.specs.Spellings.{place, Named}
 use Rattle.name_rules.specs.Values.{a_value}
 use Rattle.name_rules.specs.Uses.{type_named_at}
-use Rattle.type_rules.specs.Tokens.{first_word, declared_name}
+use Rattle.type_rules.specs.Tokens.{first_word, declared_name, some_declared_name}
 use Rattle.type_rules.specs.Shapes.{shape_of, is_zero, items_value}
 use Rattle.type_rules.specs.Judging.{declared_type}
 use Rattle.shape_steps.specs.State.{Operand, State, operand_put, put, value_at}
@@ -182,49 +180,28 @@ module _ (k : Over) where
       (with_items true (more_block_items item2 items) it)) (no_item_kept item st) ∙
       value_kept (more_block_items item2 items) st
 
--- names of open declarations
+-- open declarations
 
-abbrev pub named_so : Option ℕ → State → State
-named_so name st = record st { names = name ∷ st.names }
+abbrev pub declaring : Option ℕ → Option ℕ → State → State
+declaring name declared st = record st { declarations = record { name = name; declared = declared } ∷ st.declarations }
 
-abbrev mutual
-  pub name_in : Declr → Option ℕ → Option ℕ
-  name_in (pointer star words d) name = name_in d name
-  name_in (declr_name token it) name = Some token
-  name_in (declr_paren opening attrs d closing) name = name_in d name
-  name_in (array d opening words size closing) name = name_in d name
-  name_in (params d opening ps dots closing) name = name_in d name
-  name_in (abs_pointer star words d) name = name_in_some d name
-  name_in (abs_paren opening attrs d closing) name = name_in d name
-  name_in (abs_array d opening words size closing) name = name_in_some d name
-  name_in (abs_params d opening ps dots closing) name = name_in_some d name
+abbrev pub token_of : Option Named → Option ℕ
+token_of None = None
+token_of (Some it) = Some it.token
 
-  pub name_in_some : SomeDeclr → Option ℕ → Option ℕ
-  name_in_some no_declr name = name
-  name_in_some (some_declr d) name = name_in d name
+abbrev pub token_in : Declr → Option ℕ
+token_in d = token_of (declared_name d)
 
-abbrev pub name_in_member : MemDeclr → Option ℕ → Option ℕ
-name_in_member (named d width attrs) name = name_in d name
-name_in_member (unnamed colon e attrs) name = name
+abbrev pub token_in_some : SomeDeclr → Option ℕ
+token_in_some d = token_of (some_declared_name d)
 
-abbrev pub name_in_members : MemDeclrs → Option ℕ → Option ℕ
-name_in_members no_mem_declrs name = name
-name_in_members (more_mem_declrs attrs d ds) name = name_in_members ds (name_in_member d name)
+-- the name declared last, behind these declarators
+abbrev pub declared_in : InitDeclrs → Option ℕ → Option ℕ
+declared_in no_init_declrs declared = declared
+declared_in (more_init_declrs attrs d asm_label attrs2 init ds) declared = declared_in ds (token_in d)
 
-abbrev pub name_in_declrs : InitDeclrs → Option ℕ → Option ℕ
-name_in_declrs no_init_declrs name = name
-name_in_declrs (more_init_declrs attrs d asm_label attrs2 init ds) name = name_in_declrs ds (name_in d name)
-
-module _ (k : Over) (all : List Lexeme) where
-  -- an initialiser's target has the type of the name before it
-  pub target_named : (d : Declr) → IsDeclr all d → is_named d ≡ true → (name : Option ℕ) →
-      type_of_name k.spelling k.names (name_in d name) ≡ declared_type k.spelling k.names (declared_name d)
-  target_named (pointer star words d) h e name = target_named d h.1 h.2 name
-  target_named (declr_name token it) h e name = refl
-  target_named (declr_paren opening attrs d closing) h e name = target_named d h.1 h.2 name
-  target_named (array d opening words size closing) h e name = target_named d h.0 h.1 name
-  target_named (params d opening ps dots closing) h e name = target_named d h.0 h.1 name
-  target_named (abs_pointer star words d) h e name = absurd cc
-  target_named (abs_paren opening attrs d closing) h e name = absurd cc
-  target_named (abs_array d opening words size closing) h e name = absurd cc
-  target_named (abs_params d opening ps dots closing) h e name = absurd cc
+-- an initialiser's target has the type of the name before it
+pub target_named : (k : Over) (name : Option Named) → type_of_name k.spelling k.names (token_of name) ≡
+    declared_type k.spelling k.names name
+target_named k None = refl
+target_named k (Some it) = refl

@@ -9,11 +9,11 @@ use Rattle.shape_steps.specs.State.{State, shape_at}
 use Rattle.shape_steps.specs.Steps.{step}
 use Rattle.shape_steps.specs.OpFaults.{op_faults}
 
-abbrev pub faults_found : Spelling → Names → List Op → State → List Fault
-faults_found u s [] st = []
-faults_found u s (op ∷ tape) st = op_faults u s op st ++ faults_found u s tape (step u s op st)
+abbrev pub faults_found : Spelling → Names → State → List Op → List Fault
+faults_found u s st [] = []
+faults_found u s st (op ∷ tape) = op_faults u s st op ++ faults_found u s (step u s st op) tape
 
 -- of an op that is the last of an expression, its shape
-abbrev pub shapes_found : Spelling → Names → List Op → State → List Shape
-shapes_found u s [] st = []
-shapes_found u s (op ∷ tape) st = shape_at 0 (step u s op st) ∷ shapes_found u s tape (step u s op st)
+abbrev pub shapes_found : Spelling → Names → State → List Op → List Shape
+shapes_found u s st [] = []
+shapes_found u s st (op ∷ tape) = shape_at 0 (step u s st op) ∷ shapes_found u s (step u s st op) tape

@@ -18,17 +18,23 @@ pub data Braces : Type 0 where
   -- what the designators of the next item name so far, where it has some
   listed : Option CType → Bool → ℕ → Option (Option CType) → Braces
 
+-- a declaration, by the tokens of two names, where there are any: that of the declarator that is read, and the one that was
+-- declared last
+pub record OpenDeclaration : Type 0 where
+  pub name : Option ℕ
+  pub declared : Option ℕ
+
 pub record State : Type 0 where
   pub operands : List Operand
   -- of each initialiser in braces that is not behind us, how many operands are under its own
   pub bases : List ℕ
   pub braces : List Braces
-  -- of each declaration that is open, which it is from its specifiers on, the token of the name declared last
-  pub names : List (Option ℕ)
+  -- those that are open, each from its specifiers on
+  pub declarations : List OpenDeclaration
 
 -- a unit begins and ends with nothing on any stack
 abbrev pub nothing : State
-nothing = record { operands = []; bases = []; braces = []; names = [] }
+nothing = record { operands = []; bases = []; braces = []; declarations = [] }
 
 abbrev pub no_operand : Operand
 no_operand = record { shape = a_place None; is_zero = false }
@@ -62,15 +68,21 @@ operand_put n it st = record st { operands = it ∷ drop n st.operands }
 abbrev pub put : ℕ → Shape → State → State
 put n shape st = operand_put n (record { shape = shape; is_zero = false }) st
 
+-- the innermost of what is begun, or nothing
+
+abbrev pub changed : {A : Type 0} → (A → A) → List A → List A
+changed change [] = []
+changed change (it ∷ outer) = change it ∷ outer
+
+abbrev pub without_innermost : {A : Type 0} → List A → List A
+without_innermost [] = []
+without_innermost (it ∷ outer) = outer
+
 -- initialisers in braces
 
 abbrev pub first_base : List ℕ → ℕ
 first_base [] = 0
 first_base (n ∷ bases) = n
-
-abbrev pub outer_bases : List ℕ → List ℕ
-outer_bases [] = []
-outer_bases (n ∷ bases) = bases
 
 -- the operands under those of the innermost initialiser in braces
 abbrev pub operands_below : State → List Operand
@@ -80,30 +92,25 @@ abbrev pub first_braces : List Braces → Braces
 first_braces [] = untargeted
 first_braces (it ∷ outer) = it
 
-abbrev pub outer_braces : List Braces → List Braces
-outer_braces [] = []
-outer_braces (it ∷ outer) = outer
-
-abbrev pub changed : (Braces → Braces) → List Braces → List Braces
-changed change [] = []
-changed change (it ∷ outer) = change it ∷ outer
-
 -- declarations
 
 abbrev pub opened : State → State
-opened st = record st { names = None ∷ st.names }
-
-abbrev pub named_last : ℕ → List (Option ℕ) → List (Option ℕ)
-named_last token [] = []
-named_last token (name ∷ outer) = Some token ∷ outer
-
-abbrev pub first_name : List (Option ℕ) → Option ℕ
-first_name [] = None
-first_name (name ∷ outer) = name
-
-abbrev pub outer_names : List (Option ℕ) → List (Option ℕ)
-outer_names [] = []
-outer_names (name ∷ outer) = outer
+opened st = record st { declarations = record { name = None; declared = None } ∷ st.declarations }
 
 abbrev pub closed : State → State
-closed st = record st { names = outer_names st.names }
+closed st = record st { declarations = without_innermost st.declarations }
+
+abbrev pub declared_last : List OpenDeclaration → Option ℕ
+declared_last [] = None
+declared_last (it ∷ outer) = it.declared
+
+abbrev pub with_name : ℕ → OpenDeclaration → OpenDeclaration
+with_name token it = record it { name = Some token }
+
+-- behind a declarator, whose name is declared
+abbrev pub with_declared : OpenDeclaration → OpenDeclaration
+with_declared it = record { name = None; declared = it.name }
+
+-- behind a declarator, whose name is a member's
+abbrev pub without_name : OpenDeclaration → OpenDeclaration
+without_name it = record it { name = None }

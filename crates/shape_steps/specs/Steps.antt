@@ -23,7 +23,7 @@ use Rattle.name_rules.specs.Scopes.{Aggregate, Names, declared_at}
 use Rattle.name_rules.specs.Values.{a_value, a_place, some_target, is_plain_void_pointer, binary_type, cond_type, index_type, some_result_type, member_type, Target, no_target, to, behind_member}
 use Rattle.name_rules.specs.Uses.{use_at, use_shape, type_named_at, prefix_shape, assigned_shape, text_type}
 use Rattle.name_rules.specs.Checks.{type_declared, target_of_item}
-use Rattle.shape_steps.specs.State.{Operand, Braces, whole, untargeted, listed, State, operand_at, shape_at, value_at, type_at, dropped, operand_put, put, first_operand, operands_below, outer_bases, first_braces, outer_braces, changed, opened, named_last, first_name, closed}
+use Rattle.shape_steps.specs.State.{Operand, Braces, whole, untargeted, listed, State, operand_at, shape_at, value_at, type_at, dropped, operand_put, put, first_operand, operands_below, first_braces, changed, without_innermost, declared_last, opened, with_name, with_declared, without_name, closed}
 
 -- initialisers in braces
 
@@ -79,7 +79,7 @@ in_braces change st = record st { braces = changed change st.braces }
 -- an initialiser in braces ends, with these operands
 abbrev pub braces_left : List Operand → State → State
 braces_left operands st =
-    record st { operands = operands; bases = outer_bases st.bases; braces = outer_braces st.braces }
+    record st { operands = operands; bases = without_innermost st.bases; braces = without_innermost st.braces }
 
 -- a compound literal is a place, of the type that was named under its operands
 abbrev pub literal_put : List Operand → List Operand
@@ -87,107 +87,107 @@ literal_put below = record { shape = a_place (first_operand below).shape.type; i
 
 -- steps
 
-abbrev pub expr_step : Spelling → Names → ExprOp → State → State
-expr_step u s (exprs.Name is_called token name) st = put 0 (use_shape s (use_at s.uses (place u token))) st
-expr_step u s (exprs.Number token) st =
+abbrev pub expr_step : Spelling → Names → State → ExprOp → State
+expr_step u s st (exprs.Name is_called token name) = put 0 (use_shape s (use_at s.uses (place u token))) st
+expr_step u s st (exprs.Number token) =
     operand_put 0 (record { shape = a_value (Some (base [])); is_zero = u.is_naught token }) st
-expr_step u s (exprs.Char token) st = put 0 (a_value (Some (base []))) st
-expr_step u s (exprs.Text token) st = put 0 (a_place (Some text_type)) st
-expr_step u s (exprs.Paren token) st = st
-expr_step u s (exprs.Ext token) st = put 1 (shape_at 0 st) st
-expr_step u s (exprs.Comma token) st = put 2 (a_value (value_at 0 st)) st
-expr_step u s (exprs.Assign sign token first last) st = put 2 (assigned_shape (shape_at 1 st)) st
-expr_step u s (exprs.Cond has_middle token first last) st =
+expr_step u s st (exprs.Char token) = put 0 (a_value (Some (base []))) st
+expr_step u s st (exprs.Text token) = put 0 (a_place (Some text_type)) st
+expr_step u s st (exprs.Paren token) = st
+expr_step u s st (exprs.Ext token) = put 1 (shape_at 0 st) st
+expr_step u s st (exprs.Comma token) = put 2 (a_value (value_at 0 st)) st
+expr_step u s st (exprs.Assign sign token first last) = put 2 (assigned_shape (shape_at 1 st)) st
+expr_step u s st (exprs.Cond has_middle token first last) =
     put (if has_middle then 3 else 2)
     (a_value (cond_type (operand_at 1 st).is_zero (operand_at 0 st).is_zero (value_at 1 st) (value_at 0 st))) st
-expr_step u s (exprs.Binary sign token first last) st =
+expr_step u s st (exprs.Binary sign token first last) =
     put 2 (a_value (binary_type sign (value_at 1 st) (value_at 0 st))) st
-expr_step u s (exprs.Prefix sign token last) st = put 1 (prefix_shape sign (shape_at 0 st)) st
-expr_step u s (exprs.Post sign token first) st = put 1 (a_value (value_at 0 st)) st
-expr_step u s (exprs.Index token first last) st = put 2 (a_place (index_type (value_at 1 st) (value_at 0 st))) st
-expr_step u s (exprs.Arg behind first last) st = st
-expr_step u s (exprs.Call token count) st = put (suc count) (a_value (some_result_type (value_at count st))) st
-expr_step u s (exprs.Arrow token first last) st = put 1 (a_place (some_target (value_at 0 st))) st
-expr_step u s (exprs.Dot token member name) st =
+expr_step u s st (exprs.Prefix sign token last) = put 1 (prefix_shape sign (shape_at 0 st)) st
+expr_step u s st (exprs.Post sign token first) = put 1 (a_value (value_at 0 st)) st
+expr_step u s st (exprs.Index token first last) = put 2 (a_place (index_type (value_at 1 st) (value_at 0 st))) st
+expr_step u s st (exprs.Arg behind first last) = st
+expr_step u s st (exprs.Call token count) = put (suc count) (a_value (some_result_type (value_at count st))) st
+expr_step u s st (exprs.Arrow token first last) = put 1 (a_place (some_target (value_at 0 st))) st
+expr_step u s st (exprs.Dot token member name) =
     put 1 (a_place (member_type s.aggregates (value_at 0 st) (u.key name))) st
 
-abbrev pub form_step : Spelling → Names → FormOp → State → State
-form_step u s (forms.Cast token last) st =
+abbrev pub form_step : Spelling → Names → State → FormOp → State
+form_step u s st (forms.Cast token last) =
     operand_put 2 (record {
       shape = a_value (type_at 1 st);
       is_zero =
           is_plain_void_pointer (type_at 1 st) && (operand_at 0 st).is_zero;
     }) st
-form_step u s (forms.Sizeof token) st = put 1 (a_value (Some (base []))) st
-form_step u s (forms.StmtExpr has_value token) st =
+form_step u s st (forms.Sizeof token) = put 1 (a_value (Some (base []))) st
+form_step u s st (forms.StmtExpr has_value token) =
     if has_value then put 1 (a_value (value_at 0 st)) st else put 0 (a_value (Some (void []))) st
-form_step u s (forms.VaArg token last) st = put 2 (a_value (type_at 0 st)) st
-form_step u s (forms.VaStart token last) st = put 2 (a_value (Some (void []))) st
-form_step u s (forms.VaCopy token last) st = put 2 (a_value (Some (void []))) st
-form_step u s (forms.OffsetMember token name) st =
+form_step u s st (forms.VaArg token last) = put 2 (a_value (type_at 0 st)) st
+form_step u s st (forms.VaStart token last) = put 2 (a_value (Some (void []))) st
+form_step u s st (forms.VaCopy token last) = put 2 (a_value (Some (void []))) st
+form_step u s st (forms.OffsetMember token name) =
     put 1 (a_value (member_type s.aggregates (type_at 0 st) (u.key name))) st
-form_step u s (forms.OffsetIndex token) st = put 2 (a_value (some_target (type_at 1 st))) st
-form_step u s (forms.Offset token) st = put 1 (a_value (Some (base []))) st
+form_step u s st (forms.OffsetIndex token) = put 2 (a_value (some_target (type_at 1 st))) st
+form_step u s st (forms.Offset token) = put 1 (a_value (Some (base []))) st
 
-abbrev pub init_step : Spelling → Names → InitOp → State → State
-init_step u s (inits.Value first last) st = dropped 1 st
-init_step u s inits.Begin st = record st { bases = length st.operands ∷ st.bases }
-init_step u s inits.Rule st = within (whole (type_of_name u s (first_name st.names))) st
-init_step u s (inits.Literal token) st = within (whole (first_operand (operands_below st)).shape.type) st
-init_step u s inits.ListBegin st = within (list_of (target_in s (first_braces st.braces))) st
-init_step u s (inits.Member token name) st = in_braces (with_member s.aggregates (u.key name)) st
-init_step u s (inits.Index token) st = in_braces with_index st
-init_step u s (inits.Leaf first last) st = in_braces with_item st
-init_step u s inits.ListEnd st = record st { braces = changed with_item (outer_braces st.braces) }
-init_step u s inits.End st = braces_left (operands_below st) st
-init_step u s inits.LiteralEnd st = braces_left (literal_put (operands_below st)) st
+abbrev pub init_step : Spelling → Names → State → InitOp → State
+init_step u s st (inits.Value first last) = dropped 1 st
+init_step u s st inits.Begin = record st { bases = length st.operands ∷ st.bases }
+init_step u s st inits.Rule = within (whole (type_of_name u s (declared_last st.declarations))) st
+init_step u s st (inits.Literal token) = within (whole (first_operand (operands_below st)).shape.type) st
+init_step u s st inits.ListBegin = within (list_of (target_in s (first_braces st.braces))) st
+init_step u s st (inits.Member token name) = in_braces (with_member s.aggregates (u.key name)) st
+init_step u s st (inits.Index token) = in_braces with_index st
+init_step u s st (inits.Leaf first last) = in_braces with_item st
+init_step u s st inits.ListEnd = record st { braces = changed with_item (without_innermost st.braces) }
+init_step u s st inits.End = braces_left (operands_below st) st
+init_step u s st inits.LiteralEnd = braces_left (literal_put (operands_below st)) st
 
-abbrev pub spec_step : SpecOp → State → State
-spec_step (specs.Word token) st = st
-spec_step (specs.Storage keyword) st = st
-spec_step specs.Void st = st
-spec_step (specs.Typedef token name) st = st
-spec_step (specs.TagUse kind token name) st = st
-spec_step (specs.TagAlone kind token name) st = st
-spec_step (specs.TagBody kind token name) st = st
-spec_step (specs.Untagged kind token) st = st
-spec_step specs.BodyEnd st = st
-spec_step (specs.Enumerator token name) st = st
-spec_step (specs.UnnamedMember token) st = st
-spec_step specs.SpecsEnd st = opened st
+abbrev pub spec_step : State → SpecOp → State
+spec_step st (specs.Word token) = st
+spec_step st (specs.Storage keyword) = st
+spec_step st specs.Void = st
+spec_step st (specs.Typedef token name) = st
+spec_step st (specs.TagUse kind token name) = st
+spec_step st (specs.TagAlone kind token name) = st
+spec_step st (specs.TagBody kind token name) = st
+spec_step st (specs.Untagged kind token) = st
+spec_step st specs.BodyEnd = st
+spec_step st (specs.Enumerator token name) = st
+spec_step st (specs.UnnamedMember token) = st
+spec_step st specs.SpecsEnd = opened st
 
-abbrev pub declr_step : Spelling → Names → DeclrOp → State → State
-declr_step u s (declrs.DeclName token name) st = record st { names = named_last token st.names }
-declr_step u s (declrs.ParamsBegin is_own) st = st
-declr_step u s declrs.Param st = closed st
-declr_step u s declrs.ParamsEnd st = st
-declr_step u s declrs.Pointer st = st
-declr_step u s declrs.Array st = st
-declr_step u s (declrs.Function has_ellipsis) st = st
-declr_step u s declrs.Declare st = st
-declr_step u s declrs.Member st = st
-declr_step u s (declrs.TypeName first) st = put 0 (a_value (type_named_at s.type_names (place u first))) (closed st)
-declr_step u s declrs.DeclarationEnd st = closed st
+abbrev pub declr_step : Spelling → Names → State → DeclrOp → State
+declr_step u s st (declrs.DeclName token name) = record st { declarations = changed (with_name token) st.declarations }
+declr_step u s st (declrs.ParamsBegin is_own) = st
+declr_step u s st declrs.Param = closed st
+declr_step u s st declrs.ParamsEnd = st
+declr_step u s st declrs.Pointer = st
+declr_step u s st declrs.Array = st
+declr_step u s st (declrs.Function has_ellipsis) = st
+declr_step u s st declrs.Declare = record st { declarations = changed with_declared st.declarations }
+declr_step u s st declrs.Member = record st { declarations = changed without_name st.declarations }
+declr_step u s st (declrs.TypeName first) = put 0 (a_value (type_named_at s.type_names (place u first))) (closed st)
+declr_step u s st declrs.DeclarationEnd = closed st
 
-abbrev pub stmt_step : StmtOp → State → State
-stmt_step stmts.Quiet st = st
-stmt_step stmts.Loud st = dropped 1 st
-stmt_step stmts.Pop st = dropped 1 st
-stmt_step (stmts.Return token last) st = dropped 1 st
-stmt_step stmts.Enter st = st
-stmt_step stmts.Leave st = st
-stmt_step stmts.FunctionBody st = st
-stmt_step stmts.FunctionEnd st = st
+abbrev pub stmt_step : State → StmtOp → State
+stmt_step st stmts.Quiet = st
+stmt_step st stmts.Loud = dropped 1 st
+stmt_step st stmts.Pop = dropped 1 st
+stmt_step st (stmts.Return token last) = dropped 1 st
+stmt_step st stmts.Enter = st
+stmt_step st stmts.Leave = st
+stmt_step st stmts.FunctionBody = st
+stmt_step st stmts.FunctionEnd = st
 
-abbrev pub step : Spelling → Names → Op → State → State
-step u s (ops.Expr op) st = expr_step u s op st
-step u s (ops.Form op) st = form_step u s op st
-step u s (ops.Init op) st = init_step u s op st
-step u s (ops.Spec op) st = spec_step op st
-step u s (ops.Declr op) st = declr_step u s op st
-step u s (ops.Stmt op) st = stmt_step op st
+abbrev pub step : Spelling → Names → State → Op → State
+step u s st (ops.Expr op) = expr_step u s st op
+step u s st (ops.Form op) = form_step u s st op
+step u s st (ops.Init op) = init_step u s st op
+step u s st (ops.Spec op) = spec_step st op
+step u s st (ops.Declr op) = declr_step u s st op
+step u s st (ops.Stmt op) = stmt_step st op
 
--- what a tape does, and the shape of each expression, which is on top behind its op
-abbrev pub run : Spelling → Names → List Op → State → State
-run u s [] st = st
-run u s (op ∷ tape) st = run u s tape (step u s op st)
+-- what a tape does; behind the last op of an expression its shape is on top
+abbrev pub run : Spelling → Names → State → List Op → State
+run u s st [] = st
+run u s st (op ∷ tape) = run u s (step u s st op) tape
