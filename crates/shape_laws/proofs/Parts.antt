@@ -20,7 +20,7 @@ use Rattle.name_rules.specs.Checks.{call_faults, member_faults}
 use Rattle.type_rules.specs.Shapes.{shape_of}
 use Rattle.type_rules.specs.Judging.{operator_faults, params_faults, untargeted_faults, list_faults}
 use Rattle.type_rules.specs.Judging as rules
-use Rattle.shape_steps.specs.State.{Operand, whole, State, put, first_operand}
+use Rattle.shape_steps.specs.State.{Operand, expression, shape_of_operand, type_of_operand, whole, State, put, first_operand}
 use Rattle.shape_steps.specs.Steps.{within, type_of_name, literal_put}
 use Rattle.shape_laws.proofs.Goes.{Over, total_append, Goes, as_is, nowhere, one, join, from, next, same, reaching}
 use Rattle.shape_laws.proofs.Stacks.{drop_above, drop_one_more, operand_of, with_expr, with_middle, arguments_on, with_arguments, under_arguments, with_value, type_at_words, leaves_in, with_leaves, declaring}
@@ -75,28 +75,24 @@ module _ (k : Over) where
       below st = under_arguments k es (operand_of k f ∷ st.operands)
 
       found : (st : State) → call_faults (place k.spelling opening)
-          (value (first_operand (drop (count es) (arguments_on k es (operand_of k f ∷ st.operands)))).shape) (count es)
+          (value (shape_of_operand (first_operand (drop (count es) (arguments_on k es (operand_of k f ∷ st.operands)))))) (count es)
           ≡ call_faults (place k.spelling opening) (value (shape_of k.spelling k.names f)) (rules.count es)
       found st = ap (λ (operands : List Operand). call_faults (place k.spelling opening)
-          (value (first_operand operands).shape) (count es)) (below st)
+          (value (shape_of_operand (first_operand operands))) (count es)) (below st)
           ∙ ap (λ (n : ℕ). call_faults (place k.spelling opening) (value (shape_of k.spelling k.names f)) n)
           (same_count es)
 
       left : (st : State) → put (suc (count es))
           (a_value (some_result_type
-          (value (first_operand (drop (count es) (arguments_on k es (operand_of k f ∷ st.operands)))).shape)))
+          (value (shape_of_operand (first_operand (drop (count es) (arguments_on k es (operand_of k f ∷ st.operands))))))))
           (with_arguments k es (with_expr k f st))
           ≡ with_expr k (call f opening es closing) st
       left st =
           ap (λ (operands : List Operand). put (suc (count es))
-          (a_value (some_result_type (value (first_operand operands).shape)))
+          (a_value (some_result_type (value (shape_of_operand (first_operand operands)))))
           (with_arguments k es (with_expr k f st))) (below st)
           ∙ ap (λ (operands : List Operand). record st {
-            operands = record {
-              shape =
-                  a_value (some_result_type (value (shape_of k.spelling k.names f)));
-              is_zero = false;
-            } ∷ operands;
+            operands = expression (a_value (some_result_type (value (shape_of k.spelling k.names f)))) false ∷ operands;
           })
           (drop_one_more (count es) (arguments_on k es (operand_of k f ∷ st.operands)) (operand_of k f) st.operands
           (below st))
@@ -190,7 +186,7 @@ module _ (k : Over) where
       behind_type =
           reaching _ (same (join (next (join p (one [] (λ st. refl))) q) (one [] (λ st. refl)))
           (omega (arith, total_append k.weight)))
-          (λ st. ap (λ (operands : List Operand). within (whole (first_operand operands).shape.type)
+          (λ st. ap (λ (operands : List Operand). within (whole (type_of_operand (first_operand operands)))
           (filled (leaves_in k list) (with_value t st))) (below st))
 
   -- the initialiser in braces of a name

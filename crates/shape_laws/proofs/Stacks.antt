@@ -11,7 +11,7 @@ use Rattle.name_rules.specs.Uses.{type_named_at}
 use Rattle.type_rules.specs.Tokens.{first_word, declared_name, some_declared_name}
 use Rattle.type_rules.specs.Shapes.{shape_of, is_zero, items_value}
 use Rattle.type_rules.specs.Judging.{declared_type}
-use Rattle.shape_steps.specs.State.{Operand, State, operand_put, put, value_at}
+use Rattle.shape_steps.specs.State.{Operand, expression, named_type, State, operand_put, put, value_at}
 use Rattle.shape_steps.specs.Steps.{type_of_name}
 use Rattle.shape_laws.proofs.Goes.{Over}
 
@@ -33,7 +33,7 @@ drop_above {A} xs ys = ap (λ (n : ℕ). drop n (xs ++ ys))
 
 -- a type that was named
 abbrev pub with_value : Option CType → State → State
-with_value t st = put 0 (a_value t) st
+with_value t st = operand_put 0 (named_type t) st
 
 abbrev pub with_leaves : List Operand → State → State
 with_leaves operands st = record st { operands = operands ++ st.operands }
@@ -46,7 +46,7 @@ block_put kept st = if kept then put 1 (a_value (value_at 0 st)) st else put 0 (
 
 module _ (k : Over) where
   abbrev pub operand_of : Expr → Operand
-  operand_of e = record { shape = shape_of k.spelling k.names e; is_zero = is_zero k.spelling k.names e }
+  operand_of e = expression (shape_of k.spelling k.names e) (is_zero k.spelling k.names e)
 
   abbrev pub with_expr : Expr → State → State
   with_expr e st = operand_put 0 (operand_of e) st

@@ -9,7 +9,7 @@ use Rattle.name_rules.specs.Scopes.{Names}
 use Rattle.type_rules.specs.Shapes.{shape_of, is_zero}
 use Rattle.type_rules.specs.Judging.{items_faults_of}
 use Rattle.type_rules.specs.Program.{Source, names_of, HasNoFault, IsFirstFault}
-use Rattle.shape_steps.specs.State.{State, nothing, operand_put}
+use Rattle.shape_steps.specs.State.{expression, State, nothing, operand_put}
 use Rattle.shape_steps.specs.Steps.{run}
 use Rattle.shape_steps.specs.Found.{faults_found}
 
@@ -17,7 +17,7 @@ use Rattle.shape_steps.specs.Found.{faults_found}
 abbrev pub ShapesAreLeft : Type 0
 ShapesAreLeft =
     (u : Spelling) (s : Names) (e : Expr) (called : Bool) (st : State)
-    → run u s st (expr_tape called e) ≡ operand_put 0 (record { shape = shape_of u s e; is_zero = is_zero u s e }) st
+    → run u s st (expr_tape called e) ≡ operand_put 0 (expression (shape_of u s e) (is_zero u s e)) st
 
 -- the tape of a unit leaves nothing behind
 abbrev pub UnitsLeaveNothing : Type 0

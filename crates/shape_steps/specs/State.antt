@@ -3,10 +3,12 @@ use Rattle.std.specs.Prelude.{ℕ, ◌-◌, Bool, false, List, [], ◌∷◌, le
 use Rattle.type_table.specs.Types.{CType}
 use Rattle.name_rules.specs.Values.{Shape, a_place, value}
 
--- an expression that is an operand of what comes; a type that was named is kept as a value of it
-pub record Operand : Type 0 where
-  pub shape : Shape
-  pub is_zero : Bool
+-- an operand of what comes
+pub data Operand : Type 0 where
+  -- an expression: its shape, and whether it is a zero
+  expression : Shape → Bool → Operand
+  -- a type that was named, or that of a member in an offset
+  named_type : Option CType → Operand
 
 -- a part of an initialiser in braces that is gone through
 pub data Braces : Type 0 where
@@ -36,37 +38,48 @@ pub record State : Type 0 where
 abbrev pub nothing : State
 nothing = record { operands = []; bases = []; braces = []; declarations = [] }
 
-abbrev pub no_operand : Operand
-no_operand = record { shape = a_place None; is_zero = false }
-
 abbrev pub first_operand : List Operand → Operand
-first_operand [] = no_operand
+first_operand [] = named_type None
 first_operand (it ∷ others) = it
+
+abbrev pub shape_of_operand : Operand → Shape
+shape_of_operand (expression shape is_zero) = shape
+shape_of_operand (named_type t) = a_place None
+
+abbrev pub is_zero_operand : Operand → Bool
+is_zero_operand (expression shape is_zero) = is_zero
+is_zero_operand (named_type t) = false
+
+abbrev pub type_of_operand : Operand → Option CType
+type_of_operand (expression shape is_zero) = None
+type_of_operand (named_type t) = t
 
 -- the operand with so many above it
 abbrev pub operand_at : ℕ → State → Operand
 operand_at n st = first_operand (drop n st.operands)
 
 abbrev pub shape_at : ℕ → State → Shape
-shape_at n st = (operand_at n st).shape
+shape_at n st = shape_of_operand (operand_at n st)
 
 abbrev pub value_at : ℕ → State → Option CType
 value_at n st = value (shape_at n st)
 
--- of a type that was named, or of a part of one
+abbrev pub is_zero_at : ℕ → State → Bool
+is_zero_at n st = is_zero_operand (operand_at n st)
+
 abbrev pub type_at : ℕ → State → Option CType
-type_at n st = (shape_at n st).type
+type_at n st = type_of_operand (operand_at n st)
 
 abbrev pub dropped : ℕ → State → State
 dropped n st = record st { operands = drop n st.operands }
 
--- an expression takes the place of so many operands
+-- an operand takes the place of so many
 abbrev pub operand_put : ℕ → Operand → State → State
 operand_put n it st = record st { operands = it ∷ drop n st.operands }
 
--- one that is no zero
+-- an expression that is no zero
 abbrev pub put : ℕ → Shape → State → State
-put n shape st = operand_put n (record { shape = shape; is_zero = false }) st
+put n shape st = operand_put n (expression shape false) st
 
 -- the innermost of what is begun, or nothing
 

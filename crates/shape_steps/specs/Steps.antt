@@ -23,7 +23,7 @@ use Rattle.name_rules.specs.Scopes.{Aggregate, Names, declared_at}
 use Rattle.name_rules.specs.Values.{a_value, a_place, some_target, is_plain_void_pointer, binary_type, cond_type, index_type, some_result_type, member_type, Target, no_target, to, behind_member}
 use Rattle.name_rules.specs.Uses.{use_at, use_shape, type_named_at, prefix_shape, assigned_shape, text_type}
 use Rattle.name_rules.specs.Checks.{type_declared, target_of_item}
-use Rattle.shape_steps.specs.State.{Operand, Braces, whole, untargeted, listed, State, operand_at, shape_at, value_at, type_at, dropped, operand_put, put, first_operand, operands_below, first_braces, changed, without_innermost, declared_last, opened, with_name, with_declared, without_name, closed}
+use Rattle.shape_steps.specs.State.{Operand, expression, named_type, type_of_operand, Braces, whole, untargeted, listed, State, shape_at, value_at, is_zero_at, type_at, dropped, operand_put, put, first_operand, operands_below, first_braces, changed, without_innermost, declared_last, opened, with_name, with_declared, without_name, closed}
 
 -- initialisers in braces
 
@@ -83,14 +83,14 @@ braces_left operands st =
 
 -- a compound literal is a place, of the type that was named under its operands
 abbrev pub literal_put : List Operand → List Operand
-literal_put below = record { shape = a_place (first_operand below).shape.type; is_zero = false } ∷ drop 1 below
+literal_put below = expression (a_place (type_of_operand (first_operand below))) false ∷ drop 1 below
 
 -- steps
 
 abbrev pub expr_step : Spelling → Names → State → ExprOp → State
 expr_step u s st (exprs.Name is_called token name) = put 0 (use_shape s (use_at s.uses (place u token))) st
 expr_step u s st (exprs.Number token) =
-    operand_put 0 (record { shape = a_value (Some (base [])); is_zero = u.is_naught token }) st
+    operand_put 0 (expression (a_value (Some (base []))) (u.is_naught token)) st
 expr_step u s st (exprs.Char token) = put 0 (a_value (Some (base []))) st
 expr_step u s st (exprs.Text token) = put 0 (a_place (Some text_type)) st
 expr_step u s st (exprs.Paren token) = st
@@ -99,7 +99,7 @@ expr_step u s st (exprs.Comma token) = put 2 (a_value (value_at 0 st)) st
 expr_step u s st (exprs.Assign sign token first last) = put 2 (assigned_shape (shape_at 1 st)) st
 expr_step u s st (exprs.Cond has_middle token first last) =
     put (if has_middle then 3 else 2)
-    (a_value (cond_type (operand_at 1 st).is_zero (operand_at 0 st).is_zero (value_at 1 st) (value_at 0 st))) st
+    (a_value (cond_type (is_zero_at 1 st) (is_zero_at 0 st) (value_at 1 st) (value_at 0 st))) st
 expr_step u s st (exprs.Binary sign token first last) =
     put 2 (a_value (binary_type sign (value_at 1 st) (value_at 0 st))) st
 expr_step u s st (exprs.Prefix sign token last) = put 1 (prefix_shape sign (shape_at 0 st)) st
@@ -113,11 +113,7 @@ expr_step u s st (exprs.Dot token member name) =
 
 abbrev pub form_step : Spelling → Names → State → FormOp → State
 form_step u s st (forms.Cast token last) =
-    operand_put 2 (record {
-      shape = a_value (type_at 1 st);
-      is_zero =
-          is_plain_void_pointer (type_at 1 st) && (operand_at 0 st).is_zero;
-    }) st
+    operand_put 2 (expression (a_value (type_at 1 st)) (is_plain_void_pointer (type_at 1 st) && is_zero_at 0 st)) st
 form_step u s st (forms.Sizeof token) = put 1 (a_value (Some (base []))) st
 form_step u s st (forms.StmtExpr has_value token) =
     if has_value then put 1 (a_value (value_at 0 st)) st else put 0 (a_value (Some (void []))) st
@@ -125,15 +121,15 @@ form_step u s st (forms.VaArg token last) = put 2 (a_value (type_at 0 st)) st
 form_step u s st (forms.VaStart token last) = put 2 (a_value (Some (void []))) st
 form_step u s st (forms.VaCopy token last) = put 2 (a_value (Some (void []))) st
 form_step u s st (forms.OffsetMember token name) =
-    put 1 (a_value (member_type s.aggregates (type_at 0 st) (u.key name))) st
-form_step u s st (forms.OffsetIndex token) = put 2 (a_value (some_target (type_at 1 st))) st
+    operand_put 1 (named_type (member_type s.aggregates (type_at 0 st) (u.key name))) st
+form_step u s st (forms.OffsetIndex token) = operand_put 2 (named_type (some_target (type_at 1 st))) st
 form_step u s st (forms.Offset token) = put 1 (a_value (Some (base []))) st
 
 abbrev pub init_step : Spelling → Names → State → InitOp → State
 init_step u s st (inits.Value first last) = dropped 1 st
 init_step u s st inits.Begin = record st { bases = length st.operands ∷ st.bases }
 init_step u s st inits.Rule = within (whole (type_of_name u s (declared_last st.declarations))) st
-init_step u s st (inits.Literal token) = within (whole (first_operand (operands_below st)).shape.type) st
+init_step u s st (inits.Literal token) = within (whole (type_of_operand (first_operand (operands_below st)))) st
 init_step u s st inits.ListBegin = within (list_of (target_in s (first_braces st.braces))) st
 init_step u s st (inits.Member token name) = in_braces (with_member s.aggregates (u.key name)) st
 init_step u s st (inits.Index token) = in_braces with_index st
@@ -166,7 +162,8 @@ declr_step u s st declrs.Array = st
 declr_step u s st (declrs.Function has_ellipsis) = st
 declr_step u s st declrs.Declare = record st { declarations = changed with_declared st.declarations }
 declr_step u s st declrs.Member = record st { declarations = changed without_name st.declarations }
-declr_step u s st (declrs.TypeName first) = put 0 (a_value (type_named_at s.type_names (place u first))) (closed st)
+declr_step u s st (declrs.TypeName first) =
+    operand_put 0 (named_type (type_named_at s.type_names (place u first))) (closed st)
 declr_step u s st declrs.DeclarationEnd = closed st
 
 abbrev pub stmt_step : State → StmtOp → State
