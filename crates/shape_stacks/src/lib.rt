@@ -1,0 +1,11 @@
+//! The stacks of the loop over a tape that finds the types of expressions.
+#![tactic(auto)]
+
+mod braces;
+mod declarations;
+mod operands;
+mod stack;
+mod stacks;
+
+pub use stack::Stack;
+pub use stacks::{Braces, Operand, OpenDeclaration, Stacks};
