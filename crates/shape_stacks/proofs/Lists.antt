@@ -3,6 +3,7 @@ use Rattle.std.proofs.Common.{◌≡◌, ◌≢◌, ◌<◌, ◌≤◌, ◌-◌,
 use Rattle.std.proofs.lemmas.List.{get_or-reverse, length-reverse, reverse-append, drop-map}
 use Rattle.type_table.specs.declared.row.Row.{Row}
 use Rattle.shape_steps.specs.State as states
+use Rattle.shape_steps.specs.Steps as steps
 use Rattle.shape_stacks.specs.declared.stacks.Operand.{Operand}
 use Rattle.shape_stacks.specs.declared.stacks.Operand.TheVariants as operands
 use Rattle.shape_stacks.specs.Stacked.{Stacked, with_first, no_declaration}
@@ -131,3 +132,31 @@ member_changed (it ∷ its) = refl
 pub declarations_left : (its : List OpenDeclaration) → map open_as (drop 1 its) ≡ states.without_innermost (map open_as its)
 declarations_left [] = refl
 declarations_left (it ∷ its) = refl
+
+-- an initialiser in braces ends
+
+below_viewed : (rows : List Row) (st : Stacked) → map (operand_in rows) (drop (length st.operands - get_or st.bases 0 0) st.operands) ≡ states.operands_below (state_in rows st)
+below_viewed rows st =
+    drop_viewed rows (length st.operands - get_or st.bases 0 0) st.operands
+    ∙ ap (λ (n : ℕ). drop n (map (operand_in rows) st.operands))
+    (ap (λ (n : ℕ). length st.operands - n) (base_found st.bases) ∙ ap (λ (n : ℕ). n - states.first_base st.bases) (sym (length_viewed rows st.operands)))
+
+abbrev left : Stacked → List Operand → List ℕ → List Braces → Stacked
+left st os ns bs = record st { operands = os; bases = ns; braces = bs }
+
+pub left_viewed : (rows : List Row) (st : Stacked) (os : List Operand) (ns : List ℕ) (bs : List Braces) → os ≡ drop (length st.operands - get_or st.bases 0 0) st.operands → ns ≡ drop 1 st.bases → bs ≡ drop 1 st.braces →
+    state_in rows (left st os ns bs) ≡ steps.braces_left (states.operands_below (state_in rows st)) (state_in rows st)
+left_viewed rows st os ns bs e n b =
+    ap (λ (os : List Operand). state_in rows (left st os ns bs)) e
+    ∙ ap (λ (ns : List ℕ). state_in rows (left st (drop (length st.operands - get_or st.bases 0 0) st.operands) ns bs)) (n ∙ bases_left st.bases)
+    ∙ ap (λ (bs : List Braces). state_in rows (left st (drop (length st.operands - get_or st.bases 0 0) st.operands) (states.without_innermost st.bases) bs)) b
+    ∙ ap (λ (os : List states.Operand). record (state_in rows st) { operands = os; bases = states.without_innermost st.bases; braces = map (braces_in rows) (drop 1 st.braces) }) (below_viewed rows st)
+    ∙ ap (λ (bs : List states.Braces). record (state_in rows st) { operands = states.operands_below (state_in rows st); bases = states.without_innermost st.bases; braces = bs }) (braces_left rows st.braces)
+
+-- another list in place of the innermost
+pub set_viewed : (rows : List Row) (change : states.Braces → states.Braces) (st : Stacked) (it new : Braces) (bs : List Braces) →
+    braces_in rows it ≡ states.first_braces (map (braces_in rows) st.braces) → braces_in rows new ≡ change (braces_in rows it) → bs ≡ with_first new st.braces →
+    state_in rows (record st { braces = bs }) ≡ steps.in_braces change (state_in rows st)
+set_viewed rows change st it new bs first e b =
+    ap (λ (bs : List Braces). state_in rows (record st { braces = bs })) b
+    ∙ ap (λ (bs : List states.Braces). record (state_in rows st) { braces = bs }) (braces_changed rows change st.braces new (e ∙ ap change (first ∙ sym (first_found rows st.braces))))

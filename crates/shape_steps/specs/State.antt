@@ -97,15 +97,21 @@ abbrev pub first_base : List ℕ → ℕ
 first_base [] = 0
 first_base (n ∷ bases) = n
 
--- the operands under those of the innermost initialiser in braces
+-- how many operands are above those under the innermost initialiser in braces
+abbrev pub depth_below : State → ℕ
+depth_below st = length st.operands - first_base st.bases
+
 abbrev pub operands_below : State → List Operand
-operands_below st = drop (length st.operands - first_base st.bases) st.operands
+operands_below st = drop (depth_below st) st.operands
 
 abbrev pub first_braces : List Braces → Braces
 first_braces [] = untargeted
 first_braces (it ∷ outer) = it
 
 -- declarations
+
+abbrev pub with_declarations : (List OpenDeclaration → List OpenDeclaration) → State → State
+with_declarations change st = record st { declarations = change st.declarations }
 
 abbrev pub opened : State → State
 opened st = record st { declarations = record { name = None; declared = None } ∷ st.declarations }

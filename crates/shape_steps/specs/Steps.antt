@@ -23,7 +23,7 @@ use Rattle.name_rules.specs.Scopes.{Aggregate, Names, declared_at}
 use Rattle.name_rules.specs.Values.{a_value, a_place, some_target, is_plain_void_pointer, binary_type, cond_type, index_type, some_result_type, member_type, Target, no_target, to, behind_member}
 use Rattle.name_rules.specs.Uses.{use_at, use_shape, type_named_at, prefix_shape, assigned_shape, text_type}
 use Rattle.name_rules.specs.Checks.{type_declared, target_of_item}
-use Rattle.shape_steps.specs.State.{Operand, expression, named_type, type_of_operand, Braces, whole, untargeted, listed, State, shape_at, value_at, is_zero_at, type_at, dropped, operand_put, put, first_operand, operands_below, first_braces, changed, without_innermost, declared_last, opened, with_name, with_declared, without_name, closed}
+use Rattle.shape_steps.specs.State.{Operand, expression, named_type, type_of_operand, Braces, whole, untargeted, listed, State, shape_at, value_at, is_zero_at, type_at, dropped, operand_put, put, first_operand, operands_below, first_braces, changed, without_innermost, declared_last, with_declarations, opened, with_name, with_declared, without_name, closed}
 
 -- initialisers in braces
 
@@ -76,6 +76,13 @@ within it st = record st { braces = it ∷ st.braces }
 abbrev pub in_braces : (Braces → Braces) → State → State
 in_braces change st = record st { braces = changed change st.braces }
 
+-- the operands of an initialiser in braces begin
+abbrev pub begun : State → State
+begun st = record st { bases = length st.operands ∷ st.bases }
+
+abbrev pub list_left : State → State
+list_left st = record st { braces = without_innermost st.braces }
+
 -- an initialiser in braces ends, with these operands
 abbrev pub braces_left : List Operand → State → State
 braces_left operands st =
@@ -127,14 +134,14 @@ form_step u s st (forms.Offset token) = put 1 (a_value (Some (base []))) st
 
 abbrev pub init_step : Spelling → Names → State → InitOp → State
 init_step u s st (inits.Value first last) = dropped 1 st
-init_step u s st inits.Begin = record st { bases = length st.operands ∷ st.bases }
+init_step u s st inits.Begin = begun st
 init_step u s st inits.Rule = within (whole (type_of_name u s (declared_last st.declarations))) st
 init_step u s st (inits.Literal token) = within (whole (type_of_operand (first_operand (operands_below st)))) st
 init_step u s st inits.ListBegin = within (list_of (target_in s (first_braces st.braces))) st
 init_step u s st (inits.Member token name) = in_braces (with_member s.aggregates (u.key name)) st
 init_step u s st (inits.Index token) = in_braces with_index st
 init_step u s st (inits.Leaf first last) = in_braces with_item st
-init_step u s st inits.ListEnd = record st { braces = changed with_item (without_innermost st.braces) }
+init_step u s st inits.ListEnd = in_braces with_item (list_left st)
 init_step u s st inits.End = braces_left (operands_below st) st
 init_step u s st inits.LiteralEnd = braces_left (literal_put (operands_below st)) st
 
@@ -153,15 +160,15 @@ spec_step st (specs.UnnamedMember token) = st
 spec_step st specs.SpecsEnd = opened st
 
 abbrev pub declr_step : Spelling → Names → State → DeclrOp → State
-declr_step u s st (declrs.DeclName token name) = record st { declarations = changed (with_name token) st.declarations }
+declr_step u s st (declrs.DeclName token name) = with_declarations (changed (with_name token)) st
 declr_step u s st (declrs.ParamsBegin is_own) = st
 declr_step u s st declrs.Param = closed st
 declr_step u s st declrs.ParamsEnd = st
 declr_step u s st declrs.Pointer = st
 declr_step u s st declrs.Array = st
 declr_step u s st (declrs.Function has_ellipsis) = st
-declr_step u s st declrs.Declare = record st { declarations = changed with_declared st.declarations }
-declr_step u s st declrs.Member = record st { declarations = changed without_name st.declarations }
+declr_step u s st declrs.Declare = with_declarations (changed with_declared) st
+declr_step u s st declrs.Member = with_declarations (changed without_name) st
 declr_step u s st (declrs.TypeName first) =
     operand_put 0 (named_type (type_named_at s.type_names (place u first))) (closed st)
 declr_step u s st declrs.DeclarationEnd = closed st
