@@ -47,8 +47,8 @@ fn is_zero_cast(types: &TypeTable, value: &Option<ValueType>, is_zero: bool) -> 
     }
 }
 
-/// The type of a cast. Constant time.
-fn cast_value(stacks: &Stacks, types: &TypeTable) -> Option<ValueType>
+/// The value of the type that was named under an operand. Constant time.
+pub(crate) fn named_value(stacks: &Stacks, types: &TypeTable) -> Option<ValueType>
     ensures { some_value_type types.now result ≡ states.type_at 1 (state_in types.now stacks.now) }
 {
     let _ = types;
@@ -60,7 +60,7 @@ pub fn cast(stacks: &mut Stacks, types: &TypeTable) -> Result<(), NoMemory>
     ensures { OnOk result ((u : Spelling) (s : Names) (token last : ℕ)
         → state_in types.now stacks.new ≡ steps.form_step u s (state_in types.now stacks.old) (forms.Cast token last)) }
 {
-    let value = cast_value(stacks, types);
+    let value = named_value(stacks, types);
     let is_zero = is_zero_cast(types, &value, stacks.is_zero_at(0));
     stacks.put(2, &ExprShape::Value(value), is_zero)
 }

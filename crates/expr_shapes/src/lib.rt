@@ -2,11 +2,16 @@
 //! of them is given.
 #![tactic(auto)]
 
+mod faults;
 mod forms;
 mod operands;
 mod operators;
 mod plain;
 
+pub use faults::{
+    calls_no_function, has_no_pointer, has_wrong_count, index_has_no_pointer, is_no_place,
+    offset_has_no_pointer, prefix_has_no_place, prefix_has_no_pointer,
+};
 pub use forms::{cast, named, offset, offset_index, offset_member, statements, va_arg, variadic};
 pub use operands::{extension, name, number, plain_operand, text};
 pub use operators::{
