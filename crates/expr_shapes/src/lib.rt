@@ -7,6 +7,8 @@ mod forms;
 mod operands;
 mod operators;
 mod plain;
+#[cfg(test)]
+mod tests;
 
 pub use faults::{
     calls_no_function, has_no_pointer, has_wrong_count, index_has_no_pointer, is_no_place,

@@ -11,7 +11,7 @@ ghost use Rattle.shape_stacks.specs.Views.{state_in, braces_in};
 
 use crate::stacks::{Braces, Stacks};
 use qual_base::{NoMemory, TypeId};
-use shape_values::{target, ExprShape, ValueType};
+use shape_values::{ExprShape, ValueType, target};
 use type_table::TypeTable;
 
 impl Stacks {
@@ -129,7 +129,10 @@ fn passed(it: &Braces) -> Braces
         Braces::Whole(ty) => Braces::Whole(*ty),
         Braces::Untargeted => Braces::Untargeted,
         Braces::Listed {
-            ty, next, named, ..
+            ty,
+            next,
+            named,
+            ..
         } => {
             let next = match named {
                 Some(_) => *next,

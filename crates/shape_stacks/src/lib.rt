@@ -6,6 +6,8 @@ mod declarations;
 mod operands;
 mod stack;
 mod stacks;
+#[cfg(test)]
+mod tests;
 
 pub use stack::Stack;
-pub use stacks::{Braces, Operand, OpenDeclaration, Stacks};
+pub use stacks::{Braces, OpenDeclaration, Operand, Stacks};

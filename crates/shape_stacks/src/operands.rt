@@ -8,7 +8,7 @@ ghost use Rattle.shape_stacks.specs.Views.{state_in, operand_in};
 
 use crate::stacks::{Operand, Stacks};
 use qual_base::{NoMemory, TypeId};
-use shape_values::{value, ExprShape, ValueType};
+use shape_values::{ExprShape, ValueType, value};
 use type_table::TypeTable;
 
 impl Operand {
