@@ -1,0 +1,13 @@
+use Rattle.std.proofs.Common.{◌≡◌, ◌∷◌, false, Option, refl, sym, ◌∙◌, ap}
+use Rattle.std.proofs.lemmas.Result.{on_ok_weaker}
+use Rattle.type_table.specs.Types.{CType}
+use Rattle.name_rules.specs.Values.{Shape, a_value}
+use Rattle.name_rules.specs.Uses.{assigned_shape}
+use Rattle.shape_steps.specs.State as states
+use Rattle.shape_stacks.specs.Views.{state_in}
+use Rattle.expr_shapes.proofs.forms.va_arg.Goals as goal
+
+pub returns : goal.returns
+returns c =
+    on_ok_weaker c.put.result (λ put rows u s token last. put rows
+    ∙ ap (λ (t : Option CType). states.put 2 (a_value t) (state_in rows c.args.stacks.now)) (c.value_of-value.ensures rows ∙ c.type_at.ensures rows)) c.put.ensures

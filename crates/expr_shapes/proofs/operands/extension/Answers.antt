@@ -1,0 +1,13 @@
+use Rattle.std.proofs.Common.{◌≡◌, ◌∷◌, false, Option, refl, sym, ◌∙◌, ap}
+use Rattle.std.proofs.lemmas.Result.{on_ok_weaker}
+use Rattle.type_table.specs.Types.{CType}
+use Rattle.name_rules.specs.Values.{Shape, a_value}
+use Rattle.name_rules.specs.Uses.{assigned_shape}
+use Rattle.shape_steps.specs.State as states
+use Rattle.shape_stacks.specs.Views.{state_in}
+use Rattle.expr_shapes.proofs.operands.extension.Goals as goal
+
+pub returns : goal.returns
+returns c =
+    on_ok_weaker c.put.result (λ put rows u s token. put rows
+    ∙ ap (λ (shape : Shape). states.put 1 shape (state_in rows c.args.stacks.now)) (c.shape_at-shape.ensures rows)) c.put.ensures

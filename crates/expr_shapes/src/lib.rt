@@ -1,0 +1,22 @@
+//! What each op of an expression does to the stacks, by the types of its operands. Of a name and of a member, what was found
+//! of them is given.
+#![tactic(auto)]
+
+mod faults;
+mod forms;
+mod operands;
+mod operators;
+mod plain;
+#[cfg(test)]
+mod tests;
+
+pub use faults::{
+    calls_no_function, has_no_pointer, has_wrong_count, index_has_no_pointer, is_no_place,
+    offset_has_no_pointer, prefix_has_no_place, prefix_has_no_pointer,
+};
+pub use forms::{cast, named, offset, offset_index, offset_member, statements, va_arg, variadic};
+pub use operands::{extension, name, number, plain_operand, text};
+pub use operators::{
+    arrow, assign, binary, call, comma, condition, index, member, post, prefix, sizeof,
+};
+pub use plain::Plain;

@@ -1,0 +1,8 @@
+mod Goes
+mod Idle
+mod Parts
+mod Rules
+mod Stacks
+mod Trees
+mod Units
+mod Weights

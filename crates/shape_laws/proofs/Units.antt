@@ -1,0 +1,112 @@
+-- Units and programs: what the steps over tapes find are the faults that the definitions on trees say.
+use Rattle.std.proofs.Common.{◌≡◌, ℕ, ◌+◌, true, false, List, [], ◌∷◌, ◌++◌, None, refl, sym, ◌∙◌, ap, arith}
+use Rattle.tape_ops.specs.declared.op.Op.{Op}
+use Rattle.c_tree.specs.Unit.{Item, function_item, decl_item, asm_item, semi_item}
+use Rattle.c_tape.specs.Tape.{expr_tape, item_tape, tape_of}
+use Rattle.name_rules.specs.Spellings.{Spelling}
+use Rattle.name_rules.specs.Faults.{Fault, IsFirst}
+use Rattle.name_rules.specs.Scopes.{Names}
+use Rattle.type_rules.specs.Judging.{item_faults, items_faults_of}
+use Rattle.type_rules.specs.Program.{Source, names_of, judged, faults_of}
+use Rattle.shape_steps.specs.State.{nothing}
+use Rattle.shape_steps.specs.Steps.{step, run}
+use Rattle.shape_steps.specs.OpFaults.{op_faults}
+use Rattle.shape_steps.specs.Found.{faults_found}
+use Rattle.shape_laws.specs.Laws.{ShapesAreLeft, UnitsLeaveNothing, FaultsAreFound, found_on, all_found, FirstFaultIsFound, NoneIsFound}
+use Rattle.shape_laws.proofs.Goes.{Over, total, total_append, Sum, at, behind, behind_op, Goes, as_is, nowhere, one, join, from, next, same, reaching, without}
+use Rattle.shape_laws.proofs.Stacks.{declaring, token_in, none_kept}
+use Rattle.shape_laws.proofs.Idle.{pieces_idle}
+use Rattle.shape_laws.proofs.Trees.{expr_goes, words_go, contents_go, decl_goes, block_items_go}
+use Rattle.shape_laws.proofs.Weights.{SameTotals, same_faults, no_faults}
+
+-- a tape, with states and faults apart
+
+state_behind : (k : Over) (tape : List Op) (it : Sum) → (behind k tape it).state ≡ run k.spelling k.names it.state tape
+state_behind k [] it = refl
+state_behind k (op ∷ tape) it = state_behind k tape (behind_op k op it)
+
+weight_behind : (k : Over) (tape : List Op) (it : Sum) → (behind k tape it).weight ≡
+    it.weight + total k.weight (faults_found k.spelling k.names it.state tape)
+weight_behind k [] it = omega arith
+weight_behind k (op ∷ tape) it =
+    let others = weight_behind k tape (behind_op k op it) in
+    let e = total_append k.weight (op_faults k.spelling k.names it.state op)
+    (faults_found k.spelling k.names (step k.spelling k.names it.state op) tape) in omega arith
+
+module _ (k : Over) where
+  item_goes : (item : Item) → Goes k (item_tape item) as_is as_is (item_faults k.spelling k.names item)
+  item_goes (function_item exts ws d attrs opening items closing) =
+      same (without (without (next
+      (without (without (without
+      (join (without (words_go k ws false) (one [] (λ st. refl))) (contents_go k d true None))
+      (from (declaring (token_in d) None) (pieces_idle k d)))
+      (one [] (λ st. refl))) (one [] (λ st. refl))) (reaching as_is (block_items_go k items false) (none_kept k items)))
+      (one [] (λ st. refl))) (one [] (λ st. refl)))
+      (omega (arith, total_append k.weight))
+  item_goes (decl_item d) = decl_goes k d
+  item_goes (asm_item keyword group semi) = nowhere
+  item_goes (semi_item semi) = nowhere
+
+  items_go : (items : List Item) → Goes k (tape_of items) as_is as_is (items_faults_of k.spelling k.names items)
+  items_go [] = nowhere
+  items_go (item ∷ items) = next (item_goes item) (items_go items)
+
+over : Spelling → Names → (Fault → ℕ) → Over
+over u s w = record { spelling = u; names = s; weight = w }
+
+pub shapes_are_left : ShapesAreLeft
+unfolding over
+shapes_are_left u s e called st =
+    sym (state_behind (over u s (λ f. 0)) (expr_tape called e) (at st 0)) ∙
+    ap (λ (it : Sum). it.state) ((expr_goes (over u s (λ f. 0)) e called).goes st 0)
+
+pub units_leave_nothing : UnitsLeaveNothing
+unfolding over
+units_leave_nothing u s items st =
+    sym (state_behind (over u s (λ f. 0)) (tape_of items) (at st 0)) ∙
+    ap (λ (it : Sum). it.state) ((items_go (over u s (λ f. 0)) items).goes st 0)
+
+unit_totals : (u : Spelling) (s : Names) (items : List Item) →
+    SameTotals (faults_found u s nothing (tape_of items)) (items_faults_of u s items)
+unfolding over
+unit_totals u s items w =
+    let found = weight_behind (over u s w) (tape_of items) (at nothing 0) in let known =
+    ap (λ (it : Sum). it.weight) ((items_go (over u s w) items).goes nothing 0) in omega arith
+
+pub faults_are_found : FaultsAreFound
+faults_are_found u s items f = same_faults _ _ (unit_totals u s items) f
+
+-- programs
+
+append_totals : (fs gs hs is : List Fault) → SameTotals fs gs → SameTotals hs is → SameTotals (fs ++ hs) (gs ++ is)
+append_totals fs gs hs is first second w = let e = first w in let e2 = second w in omega (arith, total_append w)
+
+found_totals : (sources : List Source) (s : Names) → SameTotals (found_on sources s) (judged sources s)
+found_totals [] s = λ w. refl
+found_totals (it ∷ sources) s =
+    append_totals (faults_found it.spelling s nothing (tape_of it.items)) (items_faults_of it.spelling s it.items)
+    (found_on sources s) (judged sources s)
+    (unit_totals it.spelling s it.items) (found_totals sources s)
+
+program_totals : (sources : List Source) → SameTotals (all_found sources) (faults_of sources)
+program_totals sources =
+    append_totals (names_of sources).faults (names_of sources).faults _ _ (λ w. refl)
+    (found_totals sources (names_of sources))
+
+same_first : (fs gs : List Fault) → SameTotals fs gs → (f : Fault) → IsFirst f fs → IsFirst f gs
+same_first fs gs e f first =
+    record { there = (same_faults fs gs e f).0 first.there; first = λ g c. first.first g ((same_faults fs gs e g).1 c) }
+
+pub first_fault_is_found : FirstFaultIsFound
+first_fault_is_found sources f = (
+  same_first (all_found sources) (faults_of sources) (program_totals sources) f,
+  same_first (faults_of sources)
+      (all_found sources) (λ w. sym (program_totals sources w)) f,
+)
+
+pub none_is_found : NoneIsFound
+none_is_found sources = (
+  no_faults (all_found sources) (faults_of sources) (program_totals sources),
+  no_faults (faults_of sources)
+      (all_found sources) (λ w. sym (program_totals sources w)),
+)

@@ -1,0 +1,46 @@
+-- The steps over a tape give each expression its shape, and find the faults of its unit, as they are said on the tree.
+use Rattle.std.specs.Prelude.{◌≡◌, ◌↔◌, Bool, Contains, List, [], ◌∷◌, ◌++◌}
+use Rattle.c_tree.specs.Tree.{Expr}
+use Rattle.c_tree.specs.Unit.{Item}
+use Rattle.c_tape.specs.Tape.{expr_tape, tape_of}
+use Rattle.name_rules.specs.Spellings.{Spelling}
+use Rattle.name_rules.specs.Faults.{Fault, IsFirst}
+use Rattle.name_rules.specs.Scopes.{Names}
+use Rattle.type_rules.specs.Shapes.{shape_of, is_zero}
+use Rattle.type_rules.specs.Judging.{items_faults_of}
+use Rattle.type_rules.specs.Program.{Source, names_of, HasNoFault, IsFirstFault}
+use Rattle.shape_steps.specs.State.{expression, State, nothing, operand_put}
+use Rattle.shape_steps.specs.Steps.{run}
+use Rattle.shape_steps.specs.Found.{faults_found}
+
+-- the tape of an expression leaves one operand more: its shape, and whether it is a zero
+abbrev pub ShapesAreLeft : Type 0
+ShapesAreLeft =
+    (u : Spelling) (s : Names) (e : Expr) (called : Bool) (st : State)
+    → run u s st (expr_tape called e) ≡ operand_put 0 (expression (shape_of u s e) (is_zero u s e)) st
+
+-- the tape of a unit leaves nothing behind
+abbrev pub UnitsLeaveNothing : Type 0
+UnitsLeaveNothing = (u : Spelling) (s : Names) (items : List Item) (st : State) → run u s st (tape_of items) ≡ st
+
+-- what is found on the tape of a unit are the faults of its expressions and initialisers
+abbrev pub FaultsAreFound : Type 0
+FaultsAreFound =
+    (u : Spelling) (s : Names) (items : List Item) (f : Fault)
+    → Contains (faults_found u s nothing (tape_of items)) f ↔ Contains (items_faults_of u s items) f
+
+-- what is found on the tapes of several units, over what is known of names behind them all
+abbrev pub found_on : List Source → Names → List Fault
+found_on [] s = []
+found_on (it ∷ sources) s = faults_found it.spelling s nothing (tape_of it.items) ++ found_on sources s
+
+abbrev pub all_found : List Source → List Fault
+all_found sources = (names_of sources).faults ++ found_on sources (names_of sources)
+
+-- the first fault of a program is the first of the faults of names and of those that are found on its tapes
+abbrev pub FirstFaultIsFound : Type 0
+FirstFaultIsFound = (sources : List Source) (f : Fault) → IsFirst f (all_found sources) ↔ IsFirstFault sources f
+
+-- a program has no fault where neither names have one nor one is found on its tapes
+abbrev pub NoneIsFound : Type 0
+NoneIsFound = (sources : List Source) → (all_found sources ≡ []) ↔ HasNoFault sources

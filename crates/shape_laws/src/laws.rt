@@ -1,0 +1,28 @@
+//! Laws of the steps over tapes, on well-formed trees.
+
+ghost use Rattle.shape_laws.specs.Laws.{ShapesAreLeft, UnitsLeaveNothing, FaultsAreFound, FirstFaultIsFound, NoneIsFound};
+
+/// The tape of an expression leaves its shape, and whether it is a zero.
+pub fn shapes_are_left()
+    ensures { ShapesAreLeft }
+{}
+
+/// The tape of a unit leaves the stacks as they were.
+pub fn units_leave_nothing()
+    ensures { UnitsLeaveNothing }
+{}
+
+/// The faults that are found on the tape of a unit are those of its expressions and initialisers.
+pub fn faults_are_found()
+    ensures { FaultsAreFound }
+{}
+
+/// The first fault of a program is the first one of its names' faults and of those that are found on its tapes.
+pub fn first_fault_is_found()
+    ensures { FirstFaultIsFound }
+{}
+
+/// A program has no fault exactly where its names have none and none is found on its tapes.
+pub fn none_is_found()
+    ensures { NoneIsFound }
+{}

@@ -1,0 +1,15 @@
+use Rattle.std.proofs.Common.{◌≡◌, ◌∷◌, ◌-◌, ℕ, false, List, Option, drop, length, refl, sym, ◌∙◌, ap}
+use Rattle.std.proofs.lemmas.Result.{on_ok_weaker}
+use Rattle.type_table.specs.Types.{CType}
+use Rattle.name_rules.specs.Values.{a_place}
+use Rattle.shape_steps.specs.State as states
+use Rattle.shape_steps.specs.Steps as steps
+use Rattle.shape_stacks.specs.Stacked.{Stacked}
+use Rattle.shape_stacks.specs.Views.{state_in}
+use Rattle.shape_stacks.proofs.Lists.{left_viewed, set_viewed}
+use Rattle.shape_stacks.proofs.stacks.Stacks.enter_literal.Goals as goal
+
+pub returns : goal.returns
+returns c =
+    on_ok_weaker c.enter.result (λ entered rows. entered rows
+    ∙ ap (λ (t : Option CType). steps.within (states.whole t) (state_in rows c.args.self.now)) (c.type_at-ty.ensures rows ∙ ap (λ (n : ℕ). states.type_at n (state_in rows c.args.self.now)) (c.depth_below.ensures rows))) c.enter.ensures

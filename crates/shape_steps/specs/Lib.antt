@@ -1,0 +1,4 @@
+pub mod Found
+pub mod OpFaults
+pub mod State
+pub mod Steps
