@@ -64,11 +64,7 @@ pub(crate) fn answer(rt: &impl Abort, alloc: Global, source: &str) -> Result<Str
 }
 
 /// Compares the answers for sources with those of a table.
-pub(crate) fn compare(
-    rt: &impl Abort,
-    alloc: Global,
-    table: &[(&str, &str)],
-) -> Result<(), Fail> {
+pub(crate) fn compare(rt: &impl Abort, alloc: Global, table: &[(&str, &str)]) -> Result<(), Fail> {
     for (source, expected) in table {
         let text = answer(rt, alloc, *source)?;
         assert_eq!(rt; text.as_str(), *expected, "{}", *source);

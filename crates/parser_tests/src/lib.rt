@@ -6,17 +6,35 @@
 #[cfg(test)]
 mod answers;
 #[cfg(test)]
+mod attributes;
+#[cfg(test)]
+mod extensions;
+#[cfg(test)]
+mod form_trees;
+#[cfg(test)]
+mod functions;
+#[cfg(test)]
+mod heights;
+#[cfg(test)]
+mod initialisers;
+#[cfg(test)]
 mod mixes;
 #[cfg(test)]
 mod operators;
 #[cfg(test)]
 mod refused_units;
 #[cfg(test)]
+mod scopes;
+#[cfg(test)]
 mod shown;
 #[cfg(test)]
 mod shown_statements;
 #[cfg(test)]
 mod sources;
+#[cfg(test)]
+mod statement_trees;
+#[cfg(test)]
+mod statements;
 #[cfg(test)]
 mod text;
 #[cfg(test)]

@@ -96,7 +96,15 @@ fn operand(rt: &impl Abort, alloc: Global, tokens: &Tokens, at: &mut u32) -> Box
             *at += 1;
             let operand = leaf(rt, alloc, tokens, at);
             let sign = Punct::Star;
-            boxed(rt, alloc, Expr::Prefix { token, sign, operand })
+            boxed(
+                rt,
+                alloc,
+                Expr::Prefix {
+                    token,
+                    sign,
+                    operand,
+                },
+            )
         }
         Some(Punct::OpenParen) => {
             let close = TokenId::new(*at + 1);
@@ -108,7 +116,16 @@ fn operand(rt: &impl Abort, alloc: Global, tokens: &Tokens, at: &mut u32) -> Box
             };
             let operand = leaf(rt, alloc, tokens, at);
             let open = token;
-            boxed(rt, alloc, Expr::Cast { open, type_name, close, operand })
+            boxed(
+                rt,
+                alloc,
+                Expr::Cast {
+                    open,
+                    type_name,
+                    close,
+                    operand,
+                },
+            )
         }
         _ => leaf(rt, alloc, tokens, at),
     }

@@ -114,7 +114,10 @@ static KINDS: [(&str, &str); 47] = [
     ("typedef int T; int f(int T, T x);", "1:29 S1"),
     ("typedef int T; int f(T T, T x);", "1:27 S1"),
     ("typedef int T; int f(enum { T } x, T y);", "1:36 S1"),
-    ("typedef int T; int f(int (*g)(void), int T, int (T x));", "1:52 S1"),
+    (
+        "typedef int T; int f(int (*g)(void), int T, int (T x));",
+        "1:52 S1",
+    ),
     ("int f(int T, enum { T } x);", "1:21 N1"),
     ("int f(enum { T } x, int T);", "1:25 N1"),
     ("int f(T);", "1:7 S1"),

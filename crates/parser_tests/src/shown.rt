@@ -112,7 +112,9 @@ pub(crate) fn put_expr(text: &mut Text, tokens: &Tokens, e: &Expr) {
         Expr::Paren { inner, .. } => put_between(text, tokens, "paren(", inner, ")"),
         Expr::Ext { operand, .. } => put_between(text, tokens, "ext(", operand, ")"),
         Expr::Compound {
-            type_name, list, ..
+            type_name,
+            list,
+            ..
         } => {
             put_type_name(text, tokens, "compound(", type_name, "; ");
             put_init_list(text, tokens, list);
@@ -124,7 +126,9 @@ pub(crate) fn put_expr(text: &mut Text, tokens: &Tokens, e: &Expr) {
             text.put(")");
         }
         Expr::VaArg {
-            list, type_name, ..
+            list,
+            type_name,
+            ..
         } => {
             put_between(text, tokens, "va_arg(", list, "; ");
             put_type_name(text, tokens, "", type_name, ")");

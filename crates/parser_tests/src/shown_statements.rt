@@ -93,7 +93,10 @@ fn put_stmt(text: &mut Text, tokens: &Tokens, stmt: &Stmt) {
             text.put(";");
         }
         Stmt::Label {
-            name, attrs, body, ..
+            name,
+            attrs,
+            body,
+            ..
         } => {
             text.put("label(");
             text.put_token(tokens, name.token);
@@ -121,13 +124,17 @@ fn put_stmt(text: &mut Text, tokens: &Tokens, stmt: &Stmt) {
             put_part(text, tokens, "; ", body, ")");
         }
         Stmt::While {
-            condition, body, ..
+            condition,
+            body,
+            ..
         } => {
             put_between(text, tokens, "while(", condition, "");
             put_part(text, tokens, "; ", body, ")");
         }
         Stmt::Do {
-            body, condition, ..
+            body,
+            condition,
+            ..
         } => {
             put_part(text, tokens, "do(", body, "; ");
             put_between(text, tokens, "", condition, ")");

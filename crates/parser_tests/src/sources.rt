@@ -185,10 +185,7 @@ pub(crate) static EXPRESSIONS: [(&str, &str); 61] = [
     ("a = b || c ? d : e", "(a = ((b || c) ? d : e))"),
     ("(a, b, c)", "paren(((a , b) , c))"),
     ("x[a, b = c]", "index(x; (a , (b = c)))"),
-    (
-        "f(a, (b, c), d = e)",
-        "call(f; a, paren((b , c)), (d = e))",
-    ),
+    ("f(a, (b, c), d = e)", "call(f; a, paren((b , c)), (d = e))"),
     ("f()()", "call(call(f))"),
     (
         "f(1, g)(2)[i].m->n++--",
