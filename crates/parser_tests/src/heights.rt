@@ -7,8 +7,8 @@ use std::alloc::{AllocError, Global};
 use std::process::Abort;
 use std::test::Fail;
 
-/// What stands before a nest, what opens a level of it, what stands inside, what closes a level, what stands behind; how
-/// many levels a unit 500 high has; and the fault where there is one level more.
+/// What stands before a nest, what opens a level of it, what stands inside, what closes a level, what stands behind;
+/// how many levels a unit 500 high has; and the fault where there is one level more.
 type Nest = (
     &'static str,
     &'static str,
@@ -331,12 +331,11 @@ fn put(source: &mut String, piece: &str, count: u32) -> Result<(), AllocError> {
 
 /// The source of a nest with so many levels.
 fn nested(alloc: Global, nest: &Nest, count: u32) -> Result<String, AllocError> {
-    let (before, open, inside, close, behind, _, _) = *nest;
-    let mut source = String::from_str(alloc, before)?;
-    put(&mut source, open, count)?;
-    source.push_str(inside)?;
-    put(&mut source, close, count)?;
-    source.push_str(behind)?;
+    let mut source = String::from_str(alloc, nest.0)?;
+    put(&mut source, nest.1, count)?;
+    source.push_str(nest.2)?;
+    put(&mut source, nest.3, count)?;
+    source.push_str(nest.4)?;
     Ok(source)
 }
 
@@ -349,16 +348,30 @@ fn height_text(rt: &impl Abort, alloc: Global, source: &str) -> Result<String, A
     }
 }
 
+/// Compares the height or the fault of a source.
+fn compare_height(
+    rt: &impl Abort,
+    alloc: Global,
+    source: &str,
+    expected: &str,
+) -> Result<(), Fail> {
+    let text = height_text(rt, alloc, source)?;
+    assert_eq!(rt; text.as_str(), expected, "{}", source);
+    Ok(())
+}
+
+fn compare_nest(rt: &impl Abort, alloc: Global, nest: &Nest) -> Result<(), Fail> {
+    let most = nest.5;
+    assert!(rt; most < 1000);
+    let lower = nested(alloc, nest, most)?;
+    compare_height(rt, alloc, lower.as_str(), "500 high")?;
+    let higher = nested(alloc, nest, most + 1)?;
+    compare_height(rt, alloc, higher.as_str(), nest.6)
+}
+
 fn compare_nests(rt: &impl Abort, alloc: Global, table: &[Nest]) -> Result<(), Fail> {
     for nest in table {
-        let (_, open, _, _, _, most, fault) = *nest;
-        assert!(rt; most < 1000);
-        let lower = nested(alloc, nest, most)?;
-        let text = height_text(rt, alloc, lower.as_str())?;
-        assert_eq!(rt; text.as_str(), "500 high", "{}", open);
-        let higher = nested(alloc, nest, most + 1)?;
-        let text = height_text(rt, alloc, higher.as_str())?;
-        assert_eq!(rt; text.as_str(), fault, "{}", open);
+        compare_nest(rt, alloc, nest)?;
     }
     Ok(())
 }

@@ -39,3 +39,5 @@ mod statements;
 mod text;
 #[cfg(test)]
 mod trees;
+#[cfg(test)]
+mod words;
