@@ -290,7 +290,8 @@ pub(crate) static NAMES: [(&str, &str); 40] = [
     ),
     (
         "typedef int T; int v[(T)(T)1], w[(T)(x)(1)], u[(T)++x];",
-        "typedef int T; int array(v; cast(<T>; cast(<T>; 1))), array(w; cast(<T>; call(paren(x); 1))), array(u; cast(<T>; ++(x)));",
+        "typedef int T; int array(v; cast(<T>; cast(<T>; 1))), array(w; cast(<T>; call(paren(x); \
+         1))), array(u; cast(<T>; ++(x)));",
     ),
     (
         "enum { T }; int v[(T)-1], w[(T)&v], u[(T)(1)];",
@@ -390,7 +391,8 @@ pub(crate) static NAMES: [(&str, &str); 40] = [
     ),
     (
         "typedef int T; int f(int (T)(int), int (T)[3]), v[sizeof (int (T))];",
-        "typedef int T; int fun(f; int fun(fun(_; <T>); int), int array(fun(_; <T>); 3)), array(v; sizeoftype(int fun(_; <T>)));",
+        "typedef int T; int fun(f; int fun(fun(_; <T>); int), int array(fun(_; <T>); 3)), array(v; \
+         sizeoftype(int fun(_; <T>)));",
     ),
     (
         "typedef int T; int f(int (*T)(T));",
@@ -406,15 +408,19 @@ pub(crate) static NAMES: [(&str, &str); 40] = [
     ),
     (
         "typedef signed int t; typedef int plain; struct tag { unsigned t:4; const t:5; plain r:5; }; t f(t (t));",
-        "typedef signed int t; typedef int plain; struct tag {unsigned t : 4; const <t> _ : 5; <plain> r : 5;}; <t> fun(f; <t> fun(_; <t>));",
+        "typedef signed int t; typedef int plain; struct tag {unsigned t : 4; const <t> _ : 5; \
+         <plain> r : 5;}; <t> fun(f; <t> fun(_; <t>));",
     ),
     (
-        "typedef int MILES, KLICKSP(); typedef struct { double hi, lo; } range; MILES distance; extern KLICKSP *metricp; range z, *zp;",
-        "typedef int MILES, fun(KLICKSP;); typedef struct {double hi, lo;} range; <MILES> distance; extern <KLICKSP> ptr(metricp); <range> z, ptr(zp);",
+        "typedef int MILES, KLICKSP(); typedef struct { double hi, lo; } range; MILES distance; \
+         extern KLICKSP *metricp; range z, *zp;",
+        "typedef int MILES, fun(KLICKSP;); typedef struct {double hi, lo;} range; <MILES> distance; \
+         extern <KLICKSP> ptr(metricp); <range> z, ptr(zp);",
     ),
     (
         "typedef void fv(int), (*pfv)(int); fv *signal2(int, fv *); pfv signal3(int, pfv);",
-        "typedef void fun(fv; int), fun(paren(ptr(pfv)); int); <fv> ptr(fun(signal2; int, <fv> ptr(_))); <pfv> fun(signal3; int, <pfv>);",
+        "typedef void fun(fv; int), fun(paren(ptr(pfv)); int); <fv> ptr(fun(signal2; int, <fv> \
+         ptr(_))); <pfv> fun(signal3; int, <pfv>);",
     ),
     (
         "enum { A = 1, B = A + 1 } e, v[B]; struct s { int x : A, y : (B) * 2; };",
@@ -426,7 +432,8 @@ pub(crate) static NAMES: [(&str, &str); 40] = [
     ),
 ];
 
-/// Sources with a word of a lattice, which stands where qualifiers do, with their trees, or with the refused token and the fault.
+/// Sources with a word of a lattice, which stands where qualifiers do, with their trees, or with the refused token and
+/// the fault.
 pub(crate) static LATTICE_WORDS: [(&str, &str); 13] = [
     (
         "$tainted int x; int $tainted y;",
