@@ -124,7 +124,7 @@ static BODIES: [Nest; 9] = [
 ];
 
 /// Declarators in declarators.
-static DECLARATORS: [Nest; 12] = [
+static DECLARATORS: [Nest; 14] = [
     ("int ", "*", "x", "", ";", 496, "1:501 S2"),
     ("int ", "(", "x", ")", ";", 496, "1:501 S2"),
     ("int x", "[]", "", "", ";", 496, "1:998 S2"),
@@ -153,10 +153,28 @@ static DECLARATORS: [Nest; 12] = [
         493,
         "1:511 S2",
     ),
+    (
+        "int v[sizeof(int",
+        "(",
+        "__attribute__((a)) *",
+        ")",
+        ")];",
+        493,
+        "1:511 S2",
+    ),
+    (
+        "int v[sizeof(int",
+        "(",
+        "__attribute__((a)) int",
+        ")",
+        ")];",
+        491,
+        "1:528 S2",
+    ),
 ];
 
 /// Statements in statements.
-static STATEMENTS: [Nest; 20] = [
+static STATEMENTS: [Nest; 29] = [
     ("void f(void){", "{", "", "}", "}", 497, "1:511 S2"),
     ("void f(void){", "if(1)", ";", "", "}", 496, "1:2494 S2"),
     (
@@ -264,6 +282,63 @@ static STATEMENTS: [Nest; 20] = [
         "}",
         494,
         "1:513 S2",
+    ),
+    ("void f(void){", "{", ";", "}", "}", 496, "1:511 S2"),
+    ("void f(void){", "{", "x.a;", "}", "}", 494, "1:510 S2"),
+    ("void f(void){", "{", "int x;", "}", "}", 494, "1:513 S2"),
+    (
+        "void f(void){",
+        "{",
+        "int x={1};",
+        "}",
+        "}",
+        492,
+        "1:514 S2",
+    ),
+    (
+        "void f(void){",
+        "{",
+        "struct __attribute__((a)) s x;",
+        "}",
+        "}",
+        493,
+        "1:515 S2",
+    ),
+    (
+        "void f(void){",
+        "{",
+        "enum __attribute__((a)) e x;",
+        "}",
+        "}",
+        493,
+        "1:513 S2",
+    ),
+    (
+        "void f(void){",
+        "{",
+        "enum{A __attribute__((a))};",
+        "}",
+        "}",
+        492,
+        "1:514 S2",
+    ),
+    (
+        "void f(void){",
+        "{",
+        "asm(\"a\");",
+        "}",
+        "}",
+        496,
+        "1:511 S2",
+    ),
+    (
+        "void f(void){",
+        "{",
+        "_Static_assert(1);",
+        "}",
+        "}",
+        496,
+        "1:511 S2",
     ),
 ];
 
