@@ -6,12 +6,13 @@ ghost use Rattle.c_tree.specs.Levels.{IsOperator, expr_level, is_assignment};
 ghost use Rattle.c_tree.specs.View.{expr_of};
 ghost use Rattle.c_ops.specs.Op.{operator_of};
 
-use crate::trees::{array_of, shown};
-use c_lexer::{Tokens, lex};
+use crate::answers::tokens_of;
+use crate::trees::shown;
+use c_lexer::Tokens;
 use c_ops::{Op, OpList, OpsFault, build_ops, level_of_binary};
 use c_syntax::{Expr, Specs, TypeName};
 use c_words::{Punct, TokenKind};
-use qual_base::{NameId, Numbered, QualWords, TokenId, UnitNo};
+use qual_base::{NameId, Numbered, TokenId};
 use std::alloc::{AllocError, Global};
 use std::process::Abort;
 use std::test::Fail;
@@ -77,6 +78,13 @@ fn sign_at(tokens: &Tokens, at: u32) -> Option<Punct> {
     }
 }
 
+/// A node in a box.
+fn boxed(rt: &impl Abort, alloc: Global, node: Expr) -> Box<Expr>
+    ensures { result.value ≡ node }
+{
+    Box::new(alloc, node).expect(rt, "memory")
+}
+
 /// A name, `*` before one, or `()` before one, which stands for a cast.
 fn operand(rt: &impl Abort, alloc: Global, tokens: &Tokens, at: &mut u32) -> Box<Expr>
     ensures { 13 ≤ expr_level (expr_of result.value) }
@@ -87,7 +95,16 @@ fn operand(rt: &impl Abort, alloc: Global, tokens: &Tokens, at: &mut u32) -> Box
         Some(Punct::Star) => {
             *at += 1;
             let operand = leaf(rt, alloc, tokens, at);
-            c_build::prefix(alloc, token, Punct::Star, operand).expect(rt, "memory")
+            let sign = Punct::Star;
+            boxed(
+                rt,
+                alloc,
+                Expr::Prefix {
+                    token,
+                    sign,
+                    operand,
+                },
+            )
         }
         Some(Punct::OpenParen) => {
             let close = TokenId::new(*at + 1);
@@ -98,7 +115,17 @@ fn operand(rt: &impl Abort, alloc: Global, tokens: &Tokens, at: &mut u32) -> Box
                 declr: None,
             };
             let operand = leaf(rt, alloc, tokens, at);
-            c_build::cast(alloc, token, type_name, close, operand).expect(rt, "memory")
+            let open = token;
+            boxed(
+                rt,
+                alloc,
+                Expr::Cast {
+                    open,
+                    type_name,
+                    close,
+                    operand,
+                },
+            )
         }
         _ => leaf(rt, alloc, tokens, at),
     }
@@ -113,8 +140,8 @@ fn leaf(rt: &impl Abort, alloc: Global, tokens: &Tokens, at: &mut u32) -> Box<Ex
     let name = name_at(tokens, *at);
     *at += 1;
     match name {
-        Some(name) => c_build::name_use(alloc, token, name).expect(rt, "memory"),
-        None => c_build::number_use(alloc, token).expect(rt, "memory"),
+        Some(name) => boxed(rt, alloc, Expr::NameUse { token, name }),
+        None => boxed(rt, alloc, Expr::NumberUse { token }),
     }
 }
 
@@ -164,10 +191,8 @@ fn list_of(rt: &impl Abort, alloc: Global, tokens: &Tokens) -> (OpList, Option<O
     (list, None)
 }
 
-fn read(rt: &impl Abort, alloc: Global, source: &[u8]) -> (OpList, Option<Op>) {
-    assert!(rt; source.len() < 1000);
-    let words = QualWords::new(alloc);
-    let tokens = lex(alloc, UnitNo::new(1), source, &words).expect(rt, "tokens");
+fn read(rt: &impl Abort, alloc: Global, source: &str) -> (OpList, Option<Op>) {
+    let tokens = tokens_of(rt, alloc, 1, source);
     list_of(rt, alloc, &tokens)
 }
 
@@ -179,7 +204,7 @@ fn fault_text(alloc: Global, fault: OpsFault) -> Result<String, AllocError> {
 }
 
 /// Why a list has no tree, or that it has one.
-fn answer(rt: &impl Abort, alloc: Global, source: &[u8]) -> Result<String, AllocError> {
+fn answer(rt: &impl Abort, alloc: Global, source: &str) -> Result<String, AllocError> {
     let (list, _) = read(rt, alloc, source);
     match build_ops(alloc, list) {
         Ok(_tree) => String::from_str(alloc, "a tree"),
@@ -188,106 +213,106 @@ fn answer(rt: &impl Abort, alloc: Global, source: &[u8]) -> Result<String, Alloc
 }
 
 /// Sources with the trees worked out by hand from the precedence table, or with the first bad target's token.
-static TREES: [(&[u8], &str); 46] = [
-    (b"a", "a"),
-    (b"a , b , c", "((a , b) , c)"),
-    (b"a = b = c", "(a = (b = c))"),
-    (b"a = b , c", "((a = b) , c)"),
-    (b"a , b = c", "(a , (b = c))"),
-    (b"a += b <<= c", "(a += (b <<= c))"),
-    (b"a ? b : c", "(a ? b : c)"),
-    (b"a ? : b", "(a ? : b)"),
-    (b"a ? b : c ? d : e", "(a ? b : (c ? d : e))"),
-    (b"a || b ? c : d || e", "((a || b) ? c : (d || e))"),
-    (b"a = b ? c : d", "(a = (b ? c : d))"),
-    (b"a ? b : c , d", "((a ? b : c) , d)"),
-    (b"a || b || c", "((a || b) || c)"),
-    (b"a || b && c", "(a || (b && c))"),
-    (b"a && b || c", "((a && b) || c)"),
-    (b"a && b && c", "((a && b) && c)"),
-    (b"a && b | c", "(a && (b | c))"),
-    (b"a | b && c", "((a | b) && c)"),
-    (b"a | b | c", "((a | b) | c)"),
-    (b"a | b ^ c", "(a | (b ^ c))"),
-    (b"a ^ b | c", "((a ^ b) | c)"),
-    (b"a ^ b ^ c", "((a ^ b) ^ c)"),
-    (b"a ^ b & c", "(a ^ (b & c))"),
-    (b"a & b ^ c", "((a & b) ^ c)"),
-    (b"a & b & c", "((a & b) & c)"),
-    (b"a & b == c", "(a & (b == c))"),
-    (b"a != b & c", "((a != b) & c)"),
-    (b"a == b != c", "((a == b) != c)"),
-    (b"a == b < c", "(a == (b < c))"),
-    (b"a > b != c", "((a > b) != c)"),
-    (b"a < b >= c", "((a < b) >= c)"),
-    (b"a <= b << c", "(a <= (b << c))"),
-    (b"a >> b > c", "((a >> b) > c)"),
-    (b"a << b >> c", "((a << b) >> c)"),
-    (b"a << b + c", "(a << (b + c))"),
-    (b"a - b >> c", "((a - b) >> c)"),
-    (b"a - b - c", "((a - b) - c)"),
-    (b"a + b * c", "(a + (b * c))"),
-    (b"a / b - c", "((a / b) - c)"),
-    (b"a * b / c % d", "(((a * b) / c) % d)"),
-    (b"* a = b", "(*(a) = b)"),
-    (b"(int) a * b", "(cast(int; a) * b)"),
-    (b"a = (int) b + c", "(a = (cast(int; b) + c))"),
+static TREES: [(&str, &str); 46] = [
+    ("a", "a"),
+    ("a , b , c", "((a , b) , c)"),
+    ("a = b = c", "(a = (b = c))"),
+    ("a = b , c", "((a = b) , c)"),
+    ("a , b = c", "(a , (b = c))"),
+    ("a += b <<= c", "(a += (b <<= c))"),
+    ("a ? b : c", "(a ? b : c)"),
+    ("a ? : b", "(a ? : b)"),
+    ("a ? b : c ? d : e", "(a ? b : (c ? d : e))"),
+    ("a || b ? c : d || e", "((a || b) ? c : (d || e))"),
+    ("a = b ? c : d", "(a = (b ? c : d))"),
+    ("a ? b : c , d", "((a ? b : c) , d)"),
+    ("a || b || c", "((a || b) || c)"),
+    ("a || b && c", "(a || (b && c))"),
+    ("a && b || c", "((a && b) || c)"),
+    ("a && b && c", "((a && b) && c)"),
+    ("a && b | c", "(a && (b | c))"),
+    ("a | b && c", "((a | b) && c)"),
+    ("a | b | c", "((a | b) | c)"),
+    ("a | b ^ c", "(a | (b ^ c))"),
+    ("a ^ b | c", "((a ^ b) | c)"),
+    ("a ^ b ^ c", "((a ^ b) ^ c)"),
+    ("a ^ b & c", "(a ^ (b & c))"),
+    ("a & b ^ c", "((a & b) ^ c)"),
+    ("a & b & c", "((a & b) & c)"),
+    ("a & b == c", "(a & (b == c))"),
+    ("a != b & c", "((a != b) & c)"),
+    ("a == b != c", "((a == b) != c)"),
+    ("a == b < c", "(a == (b < c))"),
+    ("a > b != c", "((a > b) != c)"),
+    ("a < b >= c", "((a < b) >= c)"),
+    ("a <= b << c", "(a <= (b << c))"),
+    ("a >> b > c", "((a >> b) > c)"),
+    ("a << b >> c", "((a << b) >> c)"),
+    ("a << b + c", "(a << (b + c))"),
+    ("a - b >> c", "((a - b) >> c)"),
+    ("a - b - c", "((a - b) - c)"),
+    ("a + b * c", "(a + (b * c))"),
+    ("a / b - c", "((a / b) - c)"),
+    ("a * b / c % d", "(((a * b) / c) % d)"),
+    ("* a = b", "(*(a) = b)"),
+    ("(int) a * b", "(cast(int; a) * b)"),
+    ("a = (int) b + c", "(a = (cast(int; b) + c))"),
     (
-        b"a = b + c * d == e ? f : g , h",
+        "a = b + c * d == e ? f : g , h",
         "((a = (((b + (c * d)) == e) ? f : g)) , h)",
     ),
     (
-        b"a || b && c | d ^ e & f == g < h",
+        "a || b && c | d ^ e & f == g < h",
         "(a || (b && (c | (d ^ (e & (f == (g < h)))))))",
     ),
     (
-        b"a * b + c << d < e == f & g ^ h",
+        "a * b + c << d < e == f & g ^ h",
         "(((((((a * b) + c) << d) < e) == f) & g) ^ h)",
     ),
 ];
 
-static BAD: [(&[u8], &str); 8] = [
-    (b"a + 1 = 2", "bad 3"),
-    (b"a + b = c", "bad 3"),
-    (b"a ? b : c = d", "bad 5"),
-    (b"() a = b", "bad 3"),
-    (b"a = b + c = d = e", "bad 5"),
-    (b"a = b + c = d", "bad 5"),
-    (b"a + b = c + d = e", "bad 3"),
-    (b"a , b * c += d", "bad 5"),
+static BAD: [(&str, &str); 8] = [
+    ("a + 1 = 2", "bad 3"),
+    ("a + b = c", "bad 3"),
+    ("a ? b : c = d", "bad 5"),
+    ("() a = b", "bad 3"),
+    ("a = b + c = d = e", "bad 5"),
+    ("a = b + c = d", "bad 5"),
+    ("a + b = c + d = e", "bad 3"),
+    ("a , b * c += d", "bad 5"),
 ];
 
 /// Lists that end with an operator, and the height of the tree if one node came behind it.
-static HEIGHTS: [(&[u8], u32); 15] = [
-    (b"a +", 2),
-    (b"a + b +", 3),
-    (b"a + b *", 3),
-    (b"a * b +", 3),
-    (b"a = b = c =", 4),
-    (b"a , b ,", 3),
-    (b"a = b ,", 3),
-    (b"a ? b : c ? :", 3),
-    (b"a + b * c == d ? e :", 5),
-    (b"* a +", 3),
-    (b"a ? b : * c ,", 4),
-    (b"a << b + c <", 4),
-    (b"a - b * c +", 4),
-    (b"a + b * c , d =", 4),
-    (b"a || b && c | d ^ e & f == g < h <<", 9),
+static HEIGHTS: [(&str, u32); 15] = [
+    ("a +", 2),
+    ("a + b +", 3),
+    ("a + b *", 3),
+    ("a * b +", 3),
+    ("a = b = c =", 4),
+    ("a , b ,", 3),
+    ("a = b ,", 3),
+    ("a ? b : c ? :", 3),
+    ("a + b * c == d ? e :", 5),
+    ("* a +", 3),
+    ("a ? b : * c ,", 4),
+    ("a << b + c <", 4),
+    ("a - b * c +", 4),
+    ("a + b * c , d =", 4),
+    ("a || b && c | d ^ e & f == g < h <<", 9),
 ];
 
 /// Lists, and whether an assignment may come next.
-static TARGETS: [(&[u8], bool); 10] = [
-    (b"a", true),
-    (b"* a", true),
-    (b"() a", false),
-    (b"a + b", false),
-    (b"a ? b : c", false),
-    (b"a = b", true),
-    (b"a , b", true),
-    (b"a , * b", true),
-    (b"a = () b", false),
-    (b"a = b + c", false),
+static TARGETS: [(&str, bool); 10] = [
+    ("a", true),
+    ("* a", true),
+    ("() a", false),
+    ("a + b", false),
+    ("a ? b : c", false),
+    ("a = b", true),
+    ("a , b", true),
+    ("a , * b", true),
+    ("a = () b", false),
+    ("a = b + c", false),
 ];
 
 /// Each list stands in parentheses, as the size of an array.
@@ -295,11 +320,8 @@ static TARGETS: [(&[u8], bool); 10] = [
 fn each_list_has_its_tree(rt: HostRuntime) -> Result<(), Fail> {
     let alloc = rt.alloc();
     for (source, expected) in &TREES {
-        let mut size = Vec::from_slice(alloc, b"(")?;
-        size.extend_from_slice(*source)?;
-        size.push(b')')?;
-        let source = array_of(alloc, size.as_slice())?;
-        let text = shown(&rt, alloc, 1, source.as_slice())?;
+        let source = format!(in alloc; "int v[({})];", *source)?;
+        let text = shown(&rt, alloc, 1, source.as_str())?;
         let whole = format!(in alloc; "int array(v; paren({expected}));")?;
         assert_eq!(rt; text.as_str(), whole.as_str());
     }

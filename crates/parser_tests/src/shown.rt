@@ -1,175 +1,23 @@
-//! The texts of trees, by which tests compare them.
+//! The texts of expressions, specifiers and declarators, by which tests compare trees.
 //!
 //! Each form has its operator or its name, and parentheses round its parts: `(a + b)`, `-(a)`, `(a)++`, `paren(a)`,
-//! `cast(int; a)`, `sizeof(a)` and `sizeoftype(int)`; `ptr(const p)`, `array(a; 3)` and `fun(f; int x, ...)`, with the
-//! declarator inside first, or `_` where there is none. A typedef name among specifiers is `<T>`. What today's grammar
-//! lacks is `?`.
+//! `cast(int; a)`, `sizeof(a)` and `sizeoftype(int)`, `compound(int; {1})`, `stmtexpr({a;})`, `ext(a)`; `ptr(const p)`,
+//! `array(a; 3)` and `fun(f; int x, ...)`, with the declarator inside first, or `_` where there is none. A typedef name
+//! among specifiers is `<T>`. An attribute is `attr((a))`, its tokens in a row.
 
+use crate::shown_statements::{put_block, put_designators, put_init_list};
+use crate::text::{
+    Text, operator_text, put_array_words, put_assert, put_attr, put_attrs, put_ellipsis,
+    put_extensions, put_pointer_words, put_texts, sign_text,
+};
 use c_lexer::Tokens;
 use c_syntax::{
-    ArraySize, ArrayWord, Decl, Declaration, Declr, Ellipsis, Enum, Enumerator, Expr, Identifier,
-    Item, Listed, Marked, MemDeclr, Param, PointerWord, Qual, SpecWord, Struct, StructItem, Unit,
+    ArraySize, Declr, Enum, Enumerator, Expr, Listed, Marked, MemDeclr, Param, SpecWord, Struct,
+    StructItem, TypeName,
 };
-use c_words::Punct;
-use qual_base::{NoMemory, Numbered, TokenId};
-use std::alloc::Global;
-
-/// A text that grows piece by piece, and whether no piece was lost for want of memory.
-#[derive(Drop)]
-struct Text {
-    pieces: String,
-    complete: bool,
-}
-
-impl Text {
-    fn put(&mut self, piece: &str) {
-        if self.pieces.push_str(piece).is_err() {
-            self.complete = false;
-        }
-    }
-
-    /// What stands before an item of a list.
-    fn put_before(&mut self, is_first: bool, first: &str, later: &str) {
-        if is_first {
-            self.put(first);
-        } else {
-            self.put(later);
-        }
-    }
-
-    /// The bytes of a token.
-    fn put_token(&mut self, tokens: &Tokens, at: TokenId) {
-        if at.number() >= tokens.len() {
-            self.put("?");
-            return;
-        }
-        for byte in tokens.bytes(at) {
-            if self.pieces.push(*byte as char).is_err() {
-                self.complete = false;
-            }
-        }
-    }
-
-    fn put_qual(&mut self, tokens: &Tokens, qual: Qual) {
-        match qual {
-            Qual::Word(word) => self.put_token(tokens, word.token),
-            Qual::Element { token } | Qual::Index { token } => self.put_token(tokens, token),
-        }
-    }
-
-    fn put_tag(&mut self, tokens: &Tokens, tag: Option<Identifier>) {
-        match tag {
-            Some(tag) => {
-                self.put(" ");
-                self.put_token(tokens, tag.token);
-            }
-            None => {}
-        }
-    }
-}
-
-fn put_pointer_words(text: &mut Text, tokens: &Tokens, words: &[PointerWord]) {
-    for word in words {
-        match word {
-            PointerWord::Qual(qual) => text.put_qual(tokens, *qual),
-            PointerWord::Attr(_) => text.put("?"),
-        }
-        text.put(" ");
-    }
-}
-
-fn put_array_words(text: &mut Text, tokens: &Tokens, words: &[ArrayWord]) {
-    for word in words {
-        text.put(" ");
-        match word {
-            ArrayWord::Static { token } => text.put_token(tokens, *token),
-            ArrayWord::Qual(qual) => text.put_qual(tokens, *qual),
-        }
-    }
-}
-
-/// The end of parameters.
-fn put_ellipsis(text: &mut Text, tokens: &Tokens, ellipsis: &Option<Ellipsis>) {
-    match ellipsis {
-        Some(ellipsis) => {
-            text.put(", ");
-            for qual in ellipsis.quals.as_slice() {
-                text.put_qual(tokens, *qual);
-                text.put(" ");
-            }
-            text.put_token(tokens, ellipsis.dots);
-        }
-        None => {}
-    }
-    text.put(")");
-}
-
-/// Adjacent texts.
-fn put_texts(text: &mut Text, tokens: &Tokens, texts: &[TokenId]) {
-    let mut is_first = true;
-    for at in texts {
-        text.put_before(is_first, "text(", " ");
-        text.put_token(tokens, *at);
-        is_first = false;
-    }
-    text.put(")");
-}
-
-/// The sign of an assignment, a prefix or a postfix form.
-fn sign_text(sign: Punct) -> &'static str {
-    match sign {
-        Punct::Equal => "=",
-        Punct::StarEqual => "*=",
-        Punct::SlashEqual => "/=",
-        Punct::PercentEqual => "%=",
-        Punct::PlusEqual => "+=",
-        Punct::MinusEqual => "-=",
-        Punct::ShiftLeftEqual => "<<=",
-        Punct::ShiftRightEqual => ">>=",
-        Punct::AmpersandEqual => "&=",
-        Punct::CaretEqual => "^=",
-        Punct::BarEqual => "|=",
-        Punct::PlusPlus => "++",
-        Punct::MinusMinus => "--",
-        Punct::Ampersand => "&",
-        Punct::Star => "*",
-        Punct::Plus => "+",
-        Punct::Minus => "-",
-        Punct::Tilde => "~",
-        Punct::Bang => "!",
-        _ => "?",
-    }
-}
-
-/// The operator between two operands.
-fn operator_text(e: &Expr) -> &'static str {
-    match e {
-        Expr::Comma { .. } => ",",
-        Expr::Assign { sign, .. } => sign_text(*sign),
-        Expr::Or { .. } => "||",
-        Expr::And { .. } => "&&",
-        Expr::BitOr { .. } => "|",
-        Expr::BitXor { .. } => "^",
-        Expr::BitAnd { .. } => "&",
-        Expr::Equal { .. } => "==",
-        Expr::NotEqual { .. } => "!=",
-        Expr::Less { .. } => "<",
-        Expr::Greater { .. } => ">",
-        Expr::LessEqual { .. } => "<=",
-        Expr::GreaterEqual { .. } => ">=",
-        Expr::ShiftLeft { .. } => "<<",
-        Expr::ShiftRight { .. } => ">>",
-        Expr::Plus { .. } => "+",
-        Expr::Minus { .. } => "-",
-        Expr::Times { .. } => "*",
-        Expr::Divide { .. } => "/",
-        Expr::Remainder { .. } => "%",
-        _ => "?",
-    }
-}
 
 #[cycle(shown)]
-fn put_expr(text: &mut Text, tokens: &Tokens, e: &Expr) {
+pub(crate) fn put_expr(text: &mut Text, tokens: &Tokens, e: &Expr) {
     match e {
         Expr::Comma { left, right, .. }
         | Expr::Assign { left, right, .. }
@@ -213,10 +61,8 @@ fn put_expr(text: &mut Text, tokens: &Tokens, e: &Expr) {
             operand,
             ..
         } => {
-            text.put("cast(");
-            put_words(text, tokens, type_name.specs.words.as_slice());
-            put_some_declr(text, tokens, " ", &type_name.declr, "");
-            put_between(text, tokens, "; ", operand, ")");
+            put_type_name(text, tokens, "cast(", type_name, "; ");
+            put_between(text, tokens, "", operand, ")");
         }
         Expr::Prefix { sign, operand, .. } => {
             text.put(sign_text(*sign));
@@ -236,10 +82,7 @@ fn put_expr(text: &mut Text, tokens: &Tokens, e: &Expr) {
             ..
         } => {
             text.put_token(tokens, keyword.token);
-            text.put("type(");
-            put_words(text, tokens, type_name.specs.words.as_slice());
-            put_some_declr(text, tokens, " ", &type_name.declr, "");
-            text.put(")");
+            put_type_name(text, tokens, "type(", type_name, ")");
         }
         Expr::Index { base, index, .. } => {
             put_between(text, tokens, "index(", base, "; ");
@@ -267,19 +110,69 @@ fn put_expr(text: &mut Text, tokens: &Tokens, e: &Expr) {
             text.put_token(tokens, *token),
         Expr::TextUse { texts } => put_texts(text, tokens, texts.as_slice()),
         Expr::Paren { inner, .. } => put_between(text, tokens, "paren(", inner, ")"),
-        Expr::Ext { .. }
-        | Expr::Compound { .. }
-        | Expr::StmtExpr { .. }
-        | Expr::VaArg { .. }
-        | Expr::VaStart { .. }
-        | Expr::VaCopy { .. }
-        | Expr::Offset { .. } => text.put("?"),
+        Expr::Ext { operand, .. } => put_between(text, tokens, "ext(", operand, ")"),
+        Expr::Compound {
+            type_name,
+            list,
+            ..
+        } => {
+            put_type_name(text, tokens, "compound(", type_name, "; ");
+            put_init_list(text, tokens, list);
+            text.put(")");
+        }
+        Expr::StmtExpr { block, .. } => {
+            text.put("stmtexpr(");
+            put_block(text, tokens, block);
+            text.put(")");
+        }
+        Expr::VaArg {
+            list,
+            type_name,
+            ..
+        } => {
+            put_between(text, tokens, "va_arg(", list, "; ");
+            put_type_name(text, tokens, "", type_name, ")");
+        }
+        Expr::VaStart { list, last, .. } => {
+            put_between(text, tokens, "va_start(", list, "; ");
+            put_between(text, tokens, "", last, ")");
+        }
+        Expr::VaCopy { target, source, .. } => {
+            put_between(text, tokens, "va_copy(", target, "; ");
+            put_between(text, tokens, "", source, ")");
+        }
+        Expr::Offset {
+            type_name,
+            member,
+            steps,
+            ..
+        } => {
+            put_type_name(text, tokens, "offsetof(", type_name, "; ");
+            text.put_token(tokens, member.token);
+            put_designators(text, tokens, steps.as_slice());
+            text.put(")");
+        }
     }
+}
+
+/// The name of a type with what stands before and behind it.
+#[cycle(shown)]
+fn put_type_name(
+    text: &mut Text,
+    tokens: &Tokens,
+    before: &str,
+    type_name: &TypeName,
+    behind: &str,
+) {
+    text.put(before);
+    put_words(text, tokens, type_name.specs.words.as_slice());
+    put_some_declr(text, tokens, " ", &type_name.declr, "");
+    text.put(behind);
 }
 
 /// An expression with what stands before and behind it.
 #[cycle(shown)]
-fn put_between(text: &mut Text, tokens: &Tokens, before: &str, e: &Expr, behind: &str) {
+pub(crate) fn put_between(text: &mut Text, tokens: &Tokens, before: &str, e: &Expr, behind: &str) {
     text.put(before);
     put_expr(text, tokens, e);
     text.put(behind);
@@ -297,7 +190,7 @@ fn put_arguments(text: &mut Text, tokens: &Tokens, arguments: &[Expr]) {
 }
 
 #[cycle(shown)]
-fn put_words(text: &mut Text, tokens: &Tokens, words: &[SpecWord]) {
+pub(crate) fn put_words(text: &mut Text, tokens: &Tokens, words: &[SpecWord]) {
     let mut is_first = true;
     for word in words {
         text.put_before(is_first, "", " ");
@@ -320,13 +213,14 @@ fn put_word(text: &mut Text, tokens: &Tokens, word: &SpecWord) {
             text.put_token(tokens, name.token);
             text.put(">");
         }
-        SpecWord::Attr(_) => text.put("?"),
+        SpecWord::Attr(attr) => put_attr(text, tokens, *attr),
     }
 }
 
 #[cycle(shown)]
 fn put_struct(text: &mut Text, tokens: &Tokens, it: &Struct) {
     text.put_token(tokens, it.keyword.token);
+    put_attrs(text, tokens, " ", it.attrs.as_slice(), "");
     text.put_tag(tokens, it.tag);
     match &it.body {
         Some(body) => put_struct_items(text, tokens, body.items.as_slice()),
@@ -350,11 +244,12 @@ fn put_struct_items(text: &mut Text, tokens: &Tokens, items: &[StructItem]) {
 fn put_struct_item(text: &mut Text, tokens: &Tokens, item: &StructItem) {
     match item {
         StructItem::Member(it) => {
+            put_extensions(text, it.extensions.as_slice());
             put_words(text, tokens, it.specs.words.as_slice());
             put_member_declrs(text, tokens, it.declrs.as_slice());
         }
         StructItem::Semi(_) => text.put(";"),
-        StructItem::Assert(_) => text.put("?"),
+        StructItem::Assert(it) => put_assert(text, tokens, *it),
     }
 }
 
@@ -363,6 +258,7 @@ fn put_member_declrs(text: &mut Text, tokens: &Tokens, declrs: &[Listed<MemDeclr
     let mut is_first = true;
     for declr in declrs {
         text.put_before(is_first, " ", ", ");
+        put_attrs(text, tokens, "", declr.attrs.as_slice(), " ");
         put_member_declr(text, tokens, &declr.item);
         is_first = false;
     }
@@ -372,17 +268,26 @@ fn put_member_declrs(text: &mut Text, tokens: &Tokens, declrs: &[Listed<MemDeclr
 #[cycle(shown)]
 fn put_member_declr(text: &mut Text, tokens: &Tokens, declr: &MemDeclr) {
     match declr {
-        MemDeclr::Named { declr, width, .. } => {
+        MemDeclr::Named {
+            declr,
+            width,
+            attrs,
+        } => {
             put_declr(text, tokens, declr);
             put_value(text, tokens, " : ", width);
+            put_attrs(text, tokens, " ", attrs.as_slice(), "");
         }
-        MemDeclr::Unnamed { width, .. } => put_between(text, tokens, "_ : ", &width.part, ""),
+        MemDeclr::Unnamed { width, attrs } => {
+            put_between(text, tokens, "_ : ", &width.part, "");
+            put_attrs(text, tokens, " ", attrs.as_slice(), "");
+        }
     }
 }
 
 #[cycle(shown)]
 fn put_enum(text: &mut Text, tokens: &Tokens, it: &Enum) {
     text.put_token(tokens, it.keyword);
+    put_attrs(text, tokens, " ", it.attrs.as_slice(), "");
     text.put_tag(tokens, it.tag);
     match &it.body {
         Some(body) => {
@@ -399,6 +304,7 @@ fn put_enumerators(text: &mut Text, tokens: &Tokens, items: &[Enumerator]) {
     for item in items {
         text.put_before(is_first, " {", ", ");
         text.put_token(tokens, item.name.token);
+        put_attrs(text, tokens, " ", item.attrs.as_slice(), "");
         put_value(text, tokens, " = ", &item.value);
         is_first = false;
     }
@@ -414,11 +320,12 @@ fn put_value(text: &mut Text, tokens: &Tokens, before: &str, value: &Option<Mark
 }
 
 #[cycle(shown)]
-fn put_declr(text: &mut Text, tokens: &Tokens, declr: &Declr) {
+pub(crate) fn put_declr(text: &mut Text, tokens: &Tokens, declr: &Declr) {
     match declr {
         Declr::DeclName { token, .. } => text.put_token(tokens, *token),
-        Declr::DeclParen { inner, .. } | Declr::AbsParen { inner, .. } => {
+        Declr::DeclParen { attrs, inner, .. } | Declr::AbsParen { attrs, inner, .. } => {
             text.put("paren(");
+            put_attrs(text, tokens, "", attrs.as_slice(), " ");
             put_declr(text, tokens, inner);
             text.put(")");
         }
@@ -519,47 +426,7 @@ fn put_params(text: &mut Text, tokens: &Tokens, params: &[Param]) {
         text.put_before(is_first, " ", ", ");
         put_words(text, tokens, param.specs.words.as_slice());
         put_some_declr(text, tokens, " ", &param.declr, "");
+        put_attrs(text, tokens, " ", param.attrs.as_slice(), "");
         is_first = false;
     }
-}
-
-fn put_declaration(text: &mut Text, tokens: &Tokens, it: &Declaration) {
-    put_words(text, tokens, it.specs.words.as_slice());
-    let mut is_first = true;
-    for declr in it.declrs.as_slice() {
-        text.put_before(is_first, " ", ", ");
-        put_declr(text, tokens, &declr.item.declr);
-        if declr.item.init.is_some() {
-            text.put(" = ?");
-        }
-        is_first = false;
-    }
-    text.put(";");
-}
-
-fn put_decl(text: &mut Text, tokens: &Tokens, decl: &Decl) {
-    match decl {
-        Decl::Declaration(it) => put_declaration(text, tokens, it),
-        Decl::Assert(_) => text.put("?"),
-    }
-}
-
-/// The items of a unit in a line.
-pub(crate) fn unit_text(alloc: Global, tokens: &Tokens, unit: &Unit) -> Result<String, NoMemory> {
-    let mut text = Text {
-        pieces: String::new(alloc),
-        complete: true,
-    };
-    let mut is_first = true;
-    for item in unit.items.as_slice() {
-        text.put_before(is_first, "", " ");
-        match item {
-            Item::Decl(it) => put_decl(&mut text, tokens, it),
-            Item::Semi(_) => text.put(";"),
-            Item::Function { .. } | Item::AsmDecl { .. } => text.put("?"),
-        }
-        is_first = false;
-    }
-    let Text { pieces, complete } = text;
-    if complete { Ok(pieces) } else { Err(NoMemory) }
 }
