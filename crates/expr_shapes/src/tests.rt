@@ -21,7 +21,10 @@ fn text_is_indexed(rt: HostRuntime) -> Result<(), Fail> {
     text(&mut stacks, &types, &plain)?;
     index(&mut stacks, &types)?;
     prefix(&mut stacks, &types, &plain, Punct::Ampersand)?;
-    assert_eq!(rt; stacks.shape_at(0), ExprShape::Value(Some(ValueType::PointerTo(plain.base))));
+    assert_eq!(rt;
+        stacks.shape_at(0),
+        ExprShape::Value(Some(ValueType::PointerTo(plain.base)))
+    );
     Ok(())
 }
 
@@ -36,6 +39,9 @@ fn zeros_take_the_type_of_the_other_branch(rt: HostRuntime) -> Result<(), Fail> 
     number(&mut stacks, &types, &plain, true)?;
     condition(&mut stacks, &types, false)?;
     extension(&mut stacks)?;
-    assert_eq!(rt; stacks.shape_at(0), ExprShape::Value(Some(ValueType::Of(plain.text))));
+    assert_eq!(rt;
+        stacks.shape_at(0),
+        ExprShape::Value(Some(ValueType::Of(plain.text)))
+    );
     Ok(())
 }

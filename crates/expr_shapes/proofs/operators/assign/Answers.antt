@@ -11,4 +11,4 @@ pub returns : goal.returns
 returns c =
     on_ok_weaker c.put.result (λ put rows u s sign token first last. put rows
     ∙ ap (λ (shape : Shape). states.put 2 shape (state_in rows c.args.stacks.now))
-        (c.assigned-shape.ensures rows ∙ ap assigned_shape (c.shape_at.ensures rows))) c.put.ensures
+    (c.assigned-shape.ensures rows ∙ ap assigned_shape (c.shape_at.ensures rows))) c.put.ensures
