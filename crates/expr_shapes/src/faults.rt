@@ -57,7 +57,8 @@ fn is_star(sign: Punct) -> bool
 
 /// Whether the operand of `&`, `++` or `--` before it is no place. Constant time.
 pub fn prefix_has_no_place(stacks: &Stacks, types: &TypeTable, sign: Punct) -> bool
-    ensures { result ≡ (wants_place sign && not (states.shape_at 0 (state_in types.now stacks.now)).is_place) }
+    ensures { result
+        ≡ (wants_place sign && not (states.shape_at 0 (state_in types.now stacks.now)).is_place) }
 {
     if wants_place(sign) {
         is_no_place(stacks, types, 0)
@@ -68,7 +69,8 @@ pub fn prefix_has_no_place(stacks: &Stacks, types: &TypeTable, sign: Punct) -> b
 
 /// Whether the operand of `*` is no pointer. Constant time.
 pub fn prefix_has_no_pointer(stacks: &Stacks, types: &TypeTable, sign: Punct) -> bool
-    ensures { result ≡ (is_star sign && is_no_pointer (states.value_at 0 (state_in types.now stacks.now))) }
+    ensures { result
+        ≡ (is_star sign && is_no_pointer (states.value_at 0 (state_in types.now stacks.now))) }
 {
     if is_star(sign) {
         has_no_pointer(stacks, types, 0)
@@ -109,7 +111,8 @@ pub fn calls_no_function(stacks: &Stacks, types: &TypeTable, count: u32) -> bool
 
 /// Whether what is called takes another number of arguments than this. Constant time.
 pub fn has_wrong_count(stacks: &Stacks, types: &TypeTable, count: u32) -> bool
-    ensures { result ≡ lacks_argument (states.value_at count (state_in types.now stacks.now)) count }
+    ensures { result
+        ≡ lacks_argument (states.value_at count (state_in types.now stacks.now)) count }
 {
     match stacks.value_at(types, count as usize) {
         Some(called) => !shape_values::takes(types, &called, count),

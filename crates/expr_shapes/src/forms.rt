@@ -31,7 +31,9 @@ fn value_of(ty: &Option<TypeId>) -> Option<ValueType>
 /// A type that was named. Constant time but for growth.
 pub fn named(stacks: &mut Stacks, ty: &Option<TypeId>) -> Result<(), NoMemory>
     ensures { OnOk result ((rows : List row.Row)
-        → state_in rows stacks.new ≡ states.operand_put 0 (states.named_type (some_type rows ty.now)) (state_in rows stacks.old)) }
+        → state_in rows stacks.new
+        ≡ states.operand_put 0 (states.named_type (some_type rows ty.now))
+        (state_in rows stacks.old)) }
 {
     stacks.put_type(0, ty)
 }
@@ -58,7 +60,8 @@ pub(crate) fn named_value(stacks: &Stacks, types: &TypeTable) -> Option<ValueTyp
 /// A cast. Constant time.
 pub fn cast(stacks: &mut Stacks, types: &TypeTable) -> Result<(), NoMemory>
     ensures { OnOk result ((u : Spelling) (s : Names) (token last : ℕ)
-        → state_in types.now stacks.new ≡ steps.form_step u s (state_in types.now stacks.old) (forms.Cast token last)) }
+        → state_in types.now stacks.new
+        ≡ steps.form_step u s (state_in types.now stacks.old) (forms.Cast token last)) }
 {
     let value = named_value(stacks, types);
     let is_zero = is_zero_cast(types, &value, stacks.is_zero_at(0));
@@ -74,7 +77,8 @@ pub fn statements(
 ) -> Result<(), NoMemory>
     requires { ArePlain types.now plain.now }
     ensures { OnOk result ((u : Spelling) (s : Names) (token : ℕ)
-        → state_in types.now stacks.new ≡ steps.form_step u s (state_in types.now stacks.old) (forms.StmtExpr has_value token)) }
+        → state_in types.now stacks.new
+        ≡ steps.form_step u s (state_in types.now stacks.old) (forms.StmtExpr has_value token)) }
 {
     if has_value {
         let value = stacks.value_at(types, 0);
@@ -87,7 +91,8 @@ pub fn statements(
 /// An argument of a list of them. Constant time.
 pub fn va_arg(stacks: &mut Stacks) -> Result<(), NoMemory>
     ensures { OnOk result ((rows : List row.Row) (u : Spelling) (s : Names) (token last : ℕ)
-        → state_in rows stacks.new ≡ steps.form_step u s (state_in rows stacks.old) (forms.VaArg token last)) }
+        → state_in rows stacks.new
+        ≡ steps.form_step u s (state_in rows stacks.old) (forms.VaArg token last)) }
 {
     let value = value_of(&stacks.type_at(0));
     stacks.put(2, &ExprShape::Value(value), false)
@@ -97,7 +102,8 @@ pub fn va_arg(stacks: &mut Stacks) -> Result<(), NoMemory>
 pub fn variadic(stacks: &mut Stacks, types: &TypeTable, plain: &Plain) -> Result<(), NoMemory>
     requires { ArePlain types.now plain.now }
     ensures { OnOk result ((u : Spelling) (s : Names) (token last : ℕ)
-        → state_in types.now stacks.new ≡ steps.form_step u s (state_in types.now stacks.old) (forms.VaStart token last)) }
+        → state_in types.now stacks.new
+        ≡ steps.form_step u s (state_in types.now stacks.old) (forms.VaStart token last)) }
 {
     let _ = types;
     stacks.put(2, &ExprShape::Value(Some(ValueType::Of(plain.void))), false)
@@ -106,7 +112,9 @@ pub fn variadic(stacks: &mut Stacks, types: &TypeTable, plain: &Plain) -> Result
 /// A member in an offset, of which this type was found. Constant time.
 pub fn offset_member(stacks: &mut Stacks, ty: &Option<TypeId>) -> Result<(), NoMemory>
     ensures { OnOk result ((rows : List row.Row)
-        → state_in rows stacks.new ≡ states.operand_put 1 (states.named_type (some_type rows ty.now)) (state_in rows stacks.old)) }
+        → state_in rows stacks.new
+        ≡ states.operand_put 1 (states.named_type (some_type rows ty.now))
+        (state_in rows stacks.old)) }
 {
     stacks.put_type(1, ty)
 }
@@ -114,7 +122,8 @@ pub fn offset_member(stacks: &mut Stacks, ty: &Option<TypeId>) -> Result<(), NoM
 /// An index in an offset. Constant time.
 pub fn offset_index(stacks: &mut Stacks, types: &TypeTable) -> Result<(), NoMemory>
     ensures { OnOk result ((u : Spelling) (s : Names) (token : ℕ)
-        → state_in types.now stacks.new ≡ steps.form_step u s (state_in types.now stacks.old) (forms.OffsetIndex token)) }
+        → state_in types.now stacks.new
+        ≡ steps.form_step u s (state_in types.now stacks.old) (forms.OffsetIndex token)) }
 {
     let ty = shape_values::target(types, &value_of(&stacks.type_at(1)));
     stacks.put_type(2, &ty)
@@ -124,7 +133,8 @@ pub fn offset_index(stacks: &mut Stacks, types: &TypeTable) -> Result<(), NoMemo
 pub fn offset(stacks: &mut Stacks, types: &TypeTable, plain: &Plain) -> Result<(), NoMemory>
     requires { ArePlain types.now plain.now }
     ensures { OnOk result ((u : Spelling) (s : Names) (token : ℕ)
-        → state_in types.now stacks.new ≡ steps.form_step u s (state_in types.now stacks.old) (forms.Offset token)) }
+        → state_in types.now stacks.new
+        ≡ steps.form_step u s (state_in types.now stacks.old) (forms.Offset token)) }
 {
     let _ = types;
     stacks.put(1, &ExprShape::Value(Some(ValueType::Of(plain.base))), false)

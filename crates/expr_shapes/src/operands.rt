@@ -20,7 +20,8 @@ use type_table::TypeTable;
 /// A name, of which this was found. Constant time but for growth.
 pub fn name(stacks: &mut Stacks, shape: &ExprShape) -> Result<(), NoMemory>
     ensures { OnOk result ((rows : List row.Row)
-        → state_in rows stacks.new ≡ states.put 0 (shape_in rows shape.now) (state_in rows stacks.old)) }
+        → state_in rows stacks.new
+        ≡ states.put 0 (shape_in rows shape.now) (state_in rows stacks.old)) }
 {
     stacks.put(0, shape, false)
 }
@@ -34,7 +35,8 @@ pub fn number(
 ) -> Result<(), NoMemory>
     requires { ArePlain types.now plain.now }
     ensures { OnOk result ((u : Spelling) (s : Names) (token : ℕ)
-        → is_naught ≡ u.is_naught token → state_in types.now stacks.new ≡ steps.expr_step u s (state_in types.now stacks.old) (exprs.Number token)) }
+        → is_naught ≡ u.is_naught token → state_in types.now stacks.new
+        ≡ steps.expr_step u s (state_in types.now stacks.old) (exprs.Number token)) }
 {
     let _ = types;
     stacks.put(
@@ -48,7 +50,8 @@ pub fn number(
 pub fn plain_operand(stacks: &mut Stacks, types: &TypeTable, plain: &Plain) -> Result<(), NoMemory>
     requires { ArePlain types.now plain.now }
     ensures { OnOk result ((u : Spelling) (s : Names) (token : ℕ)
-        → state_in types.now stacks.new ≡ steps.expr_step u s (state_in types.now stacks.old) (exprs.Char token)) }
+        → state_in types.now stacks.new
+        ≡ steps.expr_step u s (state_in types.now stacks.old) (exprs.Char token)) }
 {
     let _ = types;
     stacks.put(0, &ExprShape::Value(Some(ValueType::Of(plain.base))), false)
@@ -58,7 +61,8 @@ pub fn plain_operand(stacks: &mut Stacks, types: &TypeTable, plain: &Plain) -> R
 pub fn text(stacks: &mut Stacks, types: &TypeTable, plain: &Plain) -> Result<(), NoMemory>
     requires { ArePlain types.now plain.now }
     ensures { OnOk result ((u : Spelling) (s : Names) (token : ℕ)
-        → state_in types.now stacks.new ≡ steps.expr_step u s (state_in types.now stacks.old) (exprs.Text token)) }
+        → state_in types.now stacks.new
+        ≡ steps.expr_step u s (state_in types.now stacks.old) (exprs.Text token)) }
 {
     let _ = types;
     stacks.put(0, &ExprShape::Place(Some(plain.text)), false)
@@ -67,7 +71,8 @@ pub fn text(stacks: &mut Stacks, types: &TypeTable, plain: &Plain) -> Result<(),
 /// `__extension__`. Constant time.
 pub fn extension(stacks: &mut Stacks) -> Result<(), NoMemory>
     ensures { OnOk result ((rows : List row.Row) (u : Spelling) (s : Names) (token : ℕ)
-        → state_in rows stacks.new ≡ steps.expr_step u s (state_in rows stacks.old) (exprs.Ext token)) }
+        → state_in rows stacks.new
+        ≡ steps.expr_step u s (state_in rows stacks.old) (exprs.Ext token)) }
 {
     let shape = stacks.shape_at(0);
     stacks.put(1, &shape, false)

@@ -24,7 +24,8 @@ use type_table::TypeTable;
 /// The comma. Constant time.
 pub fn comma(stacks: &mut Stacks, types: &TypeTable) -> Result<(), NoMemory>
     ensures { OnOk result ((u : Spelling) (s : Names) (token : ℕ)
-        → state_in types.now stacks.new ≡ steps.expr_step u s (state_in types.now stacks.old) (exprs.Comma token)) }
+        → state_in types.now stacks.new
+        ≡ steps.expr_step u s (state_in types.now stacks.old) (exprs.Comma token)) }
 {
     let value = stacks.value_at(types, 0);
     stacks.put(2, &ExprShape::Value(value), false)
@@ -32,8 +33,10 @@ pub fn comma(stacks: &mut Stacks, types: &TypeTable) -> Result<(), NoMemory>
 
 /// An assignment. Constant time.
 pub fn assign(stacks: &mut Stacks) -> Result<(), NoMemory>
-    ensures { OnOk result ((rows : List row.Row) (u : Spelling) (s : Names) (sign : Punct) (token first last : ℕ)
-        → state_in rows stacks.new ≡ steps.expr_step u s (state_in rows stacks.old) (exprs.Assign sign token first last)) }
+    ensures { OnOk result
+        ((rows : List row.Row) (u : Spelling) (s : Names) (sign : Punct) (token first last : ℕ)
+        → state_in rows stacks.new
+        ≡ steps.expr_step u s (state_in rows stacks.old) (exprs.Assign sign token first last)) }
 {
     let shape = shape_values::assigned(&stacks.shape_at(1));
     stacks.put(2, &shape, false)
@@ -42,8 +45,10 @@ pub fn assign(stacks: &mut Stacks) -> Result<(), NoMemory>
 /// The type of the value of a condition. Constant time.
 fn condition_value(stacks: &Stacks, types: &TypeTable) -> Option<ValueType>
     ensures { some_value_type types.now result
-        ≡ cond_type (states.is_zero_at 1 (state_in types.now stacks.now)) (states.is_zero_at 0 (state_in types.now stacks.now))
-        (states.value_at 1 (state_in types.now stacks.now)) (states.value_at 0 (state_in types.now stacks.now)) }
+        ≡ cond_type (states.is_zero_at 1 (state_in types.now stacks.now))
+        (states.is_zero_at 0 (state_in types.now stacks.now))
+        (states.value_at 1 (state_in types.now stacks.now))
+        (states.value_at 0 (state_in types.now stacks.now)) }
 {
     let first = stacks.value_at(types, 1);
     let second = stacks.value_at(types, 0);
@@ -62,7 +67,9 @@ fn operand_count(has_middle: bool) -> usize
 /// `?:`, with or without its middle. Constant time.
 pub fn condition(stacks: &mut Stacks, types: &TypeTable, has_middle: bool) -> Result<(), NoMemory>
     ensures { OnOk result ((u : Spelling) (s : Names) (token first last : ℕ)
-        → state_in types.now stacks.new ≡ steps.expr_step u s (state_in types.now stacks.old) (exprs.Cond has_middle token first last)) }
+        → state_in types.now stacks.new
+        ≡ steps.expr_step u s (state_in types.now stacks.old)
+        (exprs.Cond has_middle token first last)) }
 {
     let value = condition_value(stacks, types);
     let count = operand_count(has_middle);
@@ -78,7 +85,9 @@ pub fn binary(
 ) -> Result<(), NoMemory>
     requires { ArePlain types.now plain.now }
     ensures { OnOk result ((u : Spelling) (s : Names) (token first last : ℕ)
-        → state_in types.now stacks.new ≡ steps.expr_step u s (state_in types.now stacks.old) (exprs.Binary sign token first last)) }
+        → state_in types.now stacks.new
+        ≡ steps.expr_step u s (state_in types.now stacks.old)
+        (exprs.Binary sign token first last)) }
 {
     let first = stacks.value_at(types, 1);
     let second = stacks.value_at(types, 0);
@@ -95,7 +104,8 @@ pub fn prefix(
 ) -> Result<(), NoMemory>
     requires { ArePlain types.now plain.now }
     ensures { OnOk result ((u : Spelling) (s : Names) (token last : ℕ)
-        → state_in types.now stacks.new ≡ steps.expr_step u s (state_in types.now stacks.old) (exprs.Prefix sign token last)) }
+        → state_in types.now stacks.new
+        ≡ steps.expr_step u s (state_in types.now stacks.old) (exprs.Prefix sign token last)) }
 {
     let shape = shape_values::prefix(types, plain.base, sign, &stacks.shape_at(0));
     stacks.put(1, &shape, false)
@@ -104,7 +114,8 @@ pub fn prefix(
 /// `++` or `--` behind its operand. Constant time.
 pub fn post(stacks: &mut Stacks, types: &TypeTable) -> Result<(), NoMemory>
     ensures { OnOk result ((u : Spelling) (s : Names) (sign : Punct) (token first : ℕ)
-        → state_in types.now stacks.new ≡ steps.expr_step u s (state_in types.now stacks.old) (exprs.Post sign token first)) }
+        → state_in types.now stacks.new
+        ≡ steps.expr_step u s (state_in types.now stacks.old) (exprs.Post sign token first)) }
 {
     let value = stacks.value_at(types, 0);
     stacks.put(1, &ExprShape::Value(value), false)
@@ -113,7 +124,8 @@ pub fn post(stacks: &mut Stacks, types: &TypeTable) -> Result<(), NoMemory>
 /// `[ ]`. Constant time.
 pub fn index(stacks: &mut Stacks, types: &TypeTable) -> Result<(), NoMemory>
     ensures { OnOk result ((u : Spelling) (s : Names) (token first last : ℕ)
-        → state_in types.now stacks.new ≡ steps.expr_step u s (state_in types.now stacks.old) (exprs.Index token first last)) }
+        → state_in types.now stacks.new
+        ≡ steps.expr_step u s (state_in types.now stacks.old) (exprs.Index token first last)) }
 {
     let first = stacks.value_at(types, 1);
     let second = stacks.value_at(types, 0);
@@ -124,7 +136,8 @@ pub fn index(stacks: &mut Stacks, types: &TypeTable) -> Result<(), NoMemory>
 /// The end of a call with so many arguments. Constant time for each of them.
 pub fn call(stacks: &mut Stacks, types: &TypeTable, count: u32) -> Result<(), NoMemory>
     ensures { OnOk result ((u : Spelling) (s : Names) (token : ℕ)
-        → state_in types.now stacks.new ≡ steps.expr_step u s (state_in types.now stacks.old) (exprs.Call token count)) }
+        → state_in types.now stacks.new
+        ≡ steps.expr_step u s (state_in types.now stacks.old) (exprs.Call token count)) }
 {
     let called = stacks.value_at(types, count as usize);
     let ty = shape_values::result(types, &called);
@@ -138,7 +151,8 @@ pub fn call(stacks: &mut Stacks, types: &TypeTable, count: u32) -> Result<(), No
 /// What a pointer before `->` points at. Constant time.
 pub fn arrow(stacks: &mut Stacks, types: &TypeTable) -> Result<(), NoMemory>
     ensures { OnOk result ((u : Spelling) (s : Names) (token first last : ℕ)
-        → state_in types.now stacks.new ≡ steps.expr_step u s (state_in types.now stacks.old) (exprs.Arrow token first last)) }
+        → state_in types.now stacks.new
+        ≡ steps.expr_step u s (state_in types.now stacks.old) (exprs.Arrow token first last)) }
 {
     let value = stacks.value_at(types, 0);
     let ty = shape_values::target(types, &value);
@@ -148,7 +162,8 @@ pub fn arrow(stacks: &mut Stacks, types: &TypeTable) -> Result<(), NoMemory>
 /// A member, of which this type was found. Constant time.
 pub fn member(stacks: &mut Stacks, ty: &Option<TypeId>) -> Result<(), NoMemory>
     ensures { OnOk result ((rows : List row.Row)
-        → state_in rows stacks.new ≡ states.put 1 (a_place (some_type rows ty.now)) (state_in rows stacks.old)) }
+        → state_in rows stacks.new
+        ≡ states.put 1 (a_place (some_type rows ty.now)) (state_in rows stacks.old)) }
 {
     stacks.put(1, &ExprShape::Place(*ty), false)
 }
@@ -157,7 +172,8 @@ pub fn member(stacks: &mut Stacks, ty: &Option<TypeId>) -> Result<(), NoMemory>
 pub fn sizeof(stacks: &mut Stacks, types: &TypeTable, plain: &Plain) -> Result<(), NoMemory>
     requires { ArePlain types.now plain.now }
     ensures { OnOk result ((u : Spelling) (s : Names) (token : ℕ)
-        → state_in types.now stacks.new ≡ steps.form_step u s (state_in types.now stacks.old) (forms.Sizeof token)) }
+        → state_in types.now stacks.new
+        ≡ steps.form_step u s (state_in types.now stacks.old) (forms.Sizeof token)) }
 {
     let _ = types;
     stacks.put(1, &ExprShape::Value(Some(ValueType::Of(plain.base))), false)

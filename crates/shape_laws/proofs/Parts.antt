@@ -75,7 +75,8 @@ module _ (k : Over) where
       below st = under_arguments k es (operand_of k f ∷ st.operands)
 
       found : (st : State) → call_faults (place k.spelling opening)
-          (value (shape_of_operand (first_operand (drop (count es) (arguments_on k es (operand_of k f ∷ st.operands)))))) (count es)
+          (value (shape_of_operand
+              (first_operand (drop (count es) (arguments_on k es (operand_of k f ∷ st.operands)))))) (count es)
           ≡ call_faults (place k.spelling opening) (value (shape_of k.spelling k.names f)) (rules.count es)
       found st = ap (λ (operands : List Operand). call_faults (place k.spelling opening)
           (value (shape_of_operand (first_operand operands))) (count es)) (below st)
@@ -84,7 +85,8 @@ module _ (k : Over) where
 
       left : (st : State) → put (suc (count es))
           (a_value (some_result_type
-          (value (shape_of_operand (first_operand (drop (count es) (arguments_on k es (operand_of k f ∷ st.operands))))))))
+          (value (shape_of_operand
+              (first_operand (drop (count es) (arguments_on k es (operand_of k f ∷ st.operands))))))))
           (with_arguments k es (with_expr k f st))
           ≡ with_expr k (call f opening es closing) st
       left st =

@@ -18,7 +18,8 @@ impl Stacks {
     /// The operands of an initialiser in braces begin. Constant time but for growth.
     #[tactic(auto, using(crate::proofs::Lists::length_viewed))]
     pub fn begin(&mut self) -> Result<(), NoMemory>
-        ensures { OnOk result ((rows : List row.Row) → state_in rows self.new ≡ steps.begun (state_in rows self.old)) }
+        ensures { OnOk result
+            ((rows : List row.Row) → state_in rows self.new ≡ steps.begun (state_in rows self.old)) }
     {
         let count = self.operands.len();
         self.bases.push(count)
@@ -27,7 +28,8 @@ impl Stacks {
     /// What is gone through next. Constant time but for growth.
     pub fn enter(&mut self, it: &Braces) -> Result<(), NoMemory>
         ensures { OnOk result ((rows : List row.Row)
-            → state_in rows self.new ≡ steps.within (braces_in rows it.now) (state_in rows self.old)) }
+            → state_in rows self.new
+            ≡ steps.within (braces_in rows it.now) (state_in rows self.old)) }
     {
         self.braces.push(*it)
     }
@@ -35,7 +37,8 @@ impl Stacks {
     /// What is gone through; outside of all initialisers a list that initialises nothing. Constant time.
     #[tactic(auto, using(crate::proofs::Lists::first_found))]
     pub fn braces(&self) -> Braces
-        ensures { (rows : List row.Row) → braces_in rows result ≡ states.first_braces (state_in rows self.now).braces }
+        ensures { (rows : List row.Row) → braces_in rows result
+            ≡ states.first_braces (state_in rows self.now).braces }
     {
         self.braces.at(0, Braces::Untargeted)
     }
@@ -43,7 +46,8 @@ impl Stacks {
     /// The innermost list ends. Constant time.
     #[tactic(auto, using(crate::proofs::Lists::braces_left))]
     pub fn leave_list(&mut self)
-        ensures { (rows : List row.Row) → state_in rows self.new ≡ steps.list_left (state_in rows self.old) }
+        ensures { (rows : List row.Row) → state_in rows self.new
+            ≡ steps.list_left (state_in rows self.old) }
     {
         self.braces.take_off(1);
     }
@@ -59,7 +63,10 @@ impl Stacks {
     /// The list of a compound literal is gone through next. Constant time but for growth.
     pub fn enter_literal(&mut self) -> Result<(), NoMemory>
         ensures { OnOk result ((rows : List row.Row)
-            → state_in rows self.new ≡ steps.within (states.whole (states.type_at (states.depth_below (state_in rows self.old)) (state_in rows self.old))) (state_in rows self.old)) }
+            → state_in rows self.new
+            ≡ steps.within (states.whole
+            (states.type_at (states.depth_below (state_in rows self.old)) (state_in rows self.old)))
+            (state_in rows self.old)) }
     {
         let ty = self.type_at(self.depth_below());
         self.enter(&Braces::Whole(ty))
@@ -68,7 +75,8 @@ impl Stacks {
     /// The innermost initialiser in braces ends, with its operands. Constant time for each of these.
     pub fn leave(&mut self)
         ensures { (rows : List row.Row) → state_in rows self.new
-            ≡ steps.braces_left (states.operands_below (state_in rows self.old)) (state_in rows self.old) }
+            ≡ steps.braces_left (states.operands_below (state_in rows self.old))
+            (state_in rows self.old) }
     {
         let base = self.bases.at(0, 0);
         self.operands.keep(base);
@@ -79,7 +87,8 @@ impl Stacks {
     /// A compound literal ends, with its operands and its type, and is an operand itself. Constant time for each operand.
     pub fn leave_literal(&mut self) -> Result<(), NoMemory>
         ensures { OnOk result ((rows : List row.Row) → state_in rows self.new
-            ≡ steps.braces_left (steps.literal_put (states.operands_below (state_in rows self.old))) (state_in rows self.old)) }
+            ≡ steps.braces_left (steps.literal_put (states.operands_below (state_in rows self.old)))
+            (state_in rows self.old)) }
     {
         self.leave();
         let ty = self.type_at(0);
@@ -101,7 +110,9 @@ impl Stacks {
 
     /// The innermost list, behind a designator of an element. Constant time.
     pub fn index(&mut self, types: &TypeTable) -> Result<(), NoMemory>
-        ensures { OnOk result (state_in types.now self.new ≡ steps.in_braces steps.with_index (state_in types.now self.old)) }
+        ensures { OnOk result
+            (state_in types.now self.new
+            ≡ steps.in_braces steps.with_index (state_in types.now self.old)) }
     {
         let it = self.braces();
         let next = indexed(types, &it);
@@ -123,7 +134,8 @@ fn is_last(it: &Braces) -> bool
 /// A list behind an item.
 fn passed(it: &Braces) -> Braces
     requires { is_last it.now ≡ false }
-    ensures { (rows : List row.Row) → braces_in rows result ≡ steps.with_item (braces_in rows it.now) }
+    ensures { (rows : List row.Row) → braces_in rows result
+        ≡ steps.with_item (braces_in rows it.now) }
 {
     match it {
         Braces::Whole(ty) => Braces::Whole(*ty),

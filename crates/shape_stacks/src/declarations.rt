@@ -12,7 +12,8 @@ use qual_base::{NoMemory, TokenId};
 impl Stacks {
     /// A declaration begins, behind its specifiers. Constant time but for growth.
     pub fn open(&mut self) -> Result<(), NoMemory>
-        ensures { OnOk result ((rows : List row.Row) → state_in rows self.new ≡ states.opened (state_in rows self.old)) }
+        ensures { OnOk result
+            ((rows : List row.Row) → state_in rows self.new ≡ states.opened (state_in rows self.old)) }
     {
         self.declarations.push(OpenDeclaration {
             name: None,
@@ -23,7 +24,8 @@ impl Stacks {
     /// The innermost declaration ends. Constant time.
     #[tactic(auto, using(crate::proofs::Lists::declarations_left))]
     pub fn close(&mut self)
-        ensures { (rows : List row.Row) → state_in rows self.new ≡ states.closed (state_in rows self.old) }
+        ensures { (rows : List row.Row) → state_in rows self.new
+            ≡ states.closed (state_in rows self.old) }
     {
         self.declarations.take_off(1);
     }
@@ -44,7 +46,8 @@ impl Stacks {
     /// The token of the name declared last by the innermost declaration. Constant time.
     #[tactic(auto, using(crate::proofs::Lists::declared_found))]
     pub fn declared_last(&self) -> Option<TokenId>
-        ensures { (rows : List row.Row) → result ≡ states.declared_last (state_in rows self.now).declarations }
+        ensures { (rows : List row.Row) → result
+            ≡ states.declared_last (state_in rows self.now).declarations }
     {
         self.innermost().declared
     }
@@ -53,7 +56,9 @@ impl Stacks {
     #[tactic(auto, using(crate::proofs::Lists::name_changed))]
     pub fn name(&mut self, token: TokenId) -> Result<(), NoMemory>
         ensures { OnOk result ((rows : List row.Row)
-            → state_in rows self.new ≡ states.with_declarations (states.changed (states.with_name token)) (state_in rows self.old)) }
+            → state_in rows self.new
+            ≡ states.with_declarations (states.changed (states.with_name token))
+            (state_in rows self.old)) }
     {
         let it = self.innermost();
         self.declarations.replace(OpenDeclaration {
@@ -66,7 +71,8 @@ impl Stacks {
     #[tactic(auto, using(crate::proofs::Lists::declared_changed))]
     pub fn declare(&mut self) -> Result<(), NoMemory>
         ensures { OnOk result ((rows : List row.Row)
-            → state_in rows self.new ≡ states.with_declarations (states.changed states.with_declared) (state_in rows self.old)) }
+            → state_in rows self.new
+            ≡ states.with_declarations (states.changed states.with_declared) (state_in rows self.old)) }
     {
         let it = self.innermost();
         self.declarations.replace(OpenDeclaration {
@@ -79,7 +85,8 @@ impl Stacks {
     #[tactic(auto, using(crate::proofs::Lists::member_changed))]
     pub fn leave_name(&mut self) -> Result<(), NoMemory>
         ensures { OnOk result ((rows : List row.Row)
-            → state_in rows self.new ≡ states.with_declarations (states.changed states.without_name) (state_in rows self.old)) }
+            → state_in rows self.new
+            ≡ states.with_declarations (states.changed states.without_name) (state_in rows self.old)) }
     {
         let it = self.innermost();
         self.declarations.replace(OpenDeclaration {

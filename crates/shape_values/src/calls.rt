@@ -45,7 +45,8 @@ fn result_of(types: &TypeTable, ty: TypeId) -> Option<TypeId>
 /// What a call gives, by the type of what is called. Constant time.
 #[tactic(auto, using(crate::proofs::Pointers::result_pointed, crate::proofs::Pointers::no_result))]
 pub fn result(types: &TypeTable, called: &Option<ValueType>) -> Option<TypeId>
-    ensures { some_type types.now result ≡ rules.some_result_type (some_value_type types.now called.now) }
+    ensures { some_type types.now result
+        ≡ rules.some_result_type (some_value_type types.now called.now) }
 {
     let Some(value) = called else {
         return None;

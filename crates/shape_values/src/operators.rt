@@ -65,7 +65,8 @@ pub fn binary(
 ) -> Option<ValueType>
     requires { type_of types.now plain ≡ base [] }
     ensures { some_value_type types.now result
-        ≡ rules.binary_type sign (some_value_type types.now a.now) (some_value_type types.now b.now) }
+        ≡ rules.binary_type sign (some_value_type types.now a.now)
+        (some_value_type types.now b.now) }
 {
     if is_additive(sign) {
         sum(types, plain, a, b)
@@ -117,7 +118,8 @@ pub fn cond(
     b: &Option<ValueType>,
 ) -> Option<ValueType>
     ensures { some_value_type types.now result
-        ≡ rules.cond_type first_is_zero last_is_zero (some_value_type types.now a.now) (some_value_type types.now b.now) }
+        ≡ rules.cond_type first_is_zero last_is_zero (some_value_type types.now a.now)
+        (some_value_type types.now b.now) }
 {
     if last_is_zero {
         *a
@@ -159,7 +161,8 @@ pub fn prefix(types: &TypeTable, plain: TypeId, sign: Punct, operand: &ExprShape
 
 /// Of an assignment, by its target. Constant time.
 pub fn assigned(left: &ExprShape) -> ExprShape
-    ensures { (rows : List row.Row) → shape_in rows result ≡ uses.assigned_shape (shape_in rows left.now) }
+    ensures { (rows : List row.Row) → shape_in rows result
+        ≡ uses.assigned_shape (shape_in rows left.now) }
 {
     match left {
         ExprShape::Place(Some(ty)) => ExprShape::Value(Some(ValueType::Of(*ty))),

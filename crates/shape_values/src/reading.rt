@@ -79,7 +79,8 @@ pub fn target(types: &TypeTable, value: &Option<ValueType>) -> Option<TypeId>
 
 /// A pointer to what is in a place. Constant time.
 pub fn address(shape: &ExprShape) -> Option<ValueType>
-    ensures { (rows : List row.Row) → some_value_type rows result ≡ rules.address (shape_in rows shape.now) }
+    ensures { (rows : List row.Row) → some_value_type rows result
+        ≡ rules.address (shape_in rows shape.now) }
 {
     match shape {
         ExprShape::Place(Some(ty)) => Some(ValueType::PointerTo(*ty)),

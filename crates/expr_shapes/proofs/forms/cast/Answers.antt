@@ -11,9 +11,12 @@ pub returns : goal.returns
 returns c =
     let rows = c.args.types.now in let st = state_in rows c.args.stacks.now in
     let zero =
-    c.is_zero_cast-is_zero.ensures ∙ ap (λ (t : Option CType). is_plain_void_pointer t && c.is_zero_at.result) c.named_value-value.ensures
+    c.is_zero_cast-is_zero.ensures ∙
+    ap (λ (t : Option CType). is_plain_void_pointer t && c.is_zero_at.result) c.named_value-value.ensures
     ∙ ap (λ (b : Bool). is_plain_void_pointer (states.type_at 1 st) && b) (c.is_zero_at.ensures rows)
     in
     on_ok_weaker c.put.result (λ put u s token last. put rows
-    ∙ ap (λ (t : Option CType). states.operand_put 2 (states.expression (a_value t) c.is_zero_cast-is_zero.result) st) c.named_value-value.ensures
-    ∙ ap (λ (b : Bool). states.operand_put 2 (states.expression (a_value (states.type_at 1 st)) b) st) zero) c.put.ensures
+    ∙ ap (λ (t : Option CType). states.operand_put 2 (states.expression (a_value t) c.is_zero_cast-is_zero.result) st)
+    c.named_value-value.ensures
+    ∙ ap (λ (b : Bool). states.operand_put 2 (states.expression (a_value (states.type_at 1 st)) b) st) zero)
+    c.put.ensures

@@ -10,4 +10,5 @@ use Rattle.expr_shapes.proofs.forms.va_arg.Goals as goal
 pub returns : goal.returns
 returns c =
     on_ok_weaker c.put.result (λ put rows u s token last. put rows
-    ∙ ap (λ (t : Option CType). states.put 2 (a_value t) (state_in rows c.args.stacks.now)) (c.value_of-value.ensures rows ∙ c.type_at.ensures rows)) c.put.ensures
+    ∙ ap (λ (t : Option CType). states.put 2 (a_value t) (state_in rows c.args.stacks.now))
+    (c.value_of-value.ensures rows ∙ c.type_at.ensures rows)) c.put.ensures

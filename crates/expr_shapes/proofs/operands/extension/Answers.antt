@@ -10,4 +10,5 @@ use Rattle.expr_shapes.proofs.operands.extension.Goals as goal
 pub returns : goal.returns
 returns c =
     on_ok_weaker c.put.result (λ put rows u s token. put rows
-    ∙ ap (λ (shape : Shape). states.put 1 shape (state_in rows c.args.stacks.now)) (c.shape_at-shape.ensures rows)) c.put.ensures
+    ∙ ap (λ (shape : Shape). states.put 1 shape (state_in rows c.args.stacks.now)) (c.shape_at-shape.ensures rows))
+    c.put.ensures

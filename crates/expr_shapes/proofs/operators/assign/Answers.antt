@@ -10,4 +10,5 @@ use Rattle.expr_shapes.proofs.operators.assign.Goals as goal
 pub returns : goal.returns
 returns c =
     on_ok_weaker c.put.result (λ put rows u s sign token first last. put rows
-    ∙ ap (λ (shape : Shape). states.put 2 shape (state_in rows c.args.stacks.now)) (c.assigned-shape.ensures rows ∙ ap assigned_shape (c.shape_at.ensures rows))) c.put.ensures
+    ∙ ap (λ (shape : Shape). states.put 2 shape (state_in rows c.args.stacks.now))
+    (c.assigned-shape.ensures rows ∙ ap assigned_shape (c.shape_at.ensures rows))) c.put.ensures

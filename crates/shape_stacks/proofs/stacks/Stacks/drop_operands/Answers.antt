@@ -7,5 +7,12 @@ use Rattle.shape_stacks.proofs.stacks.Stacks.drop_operands.Goals as goal
 
 pub returns : goal.returns
 returns c =
-    λ rows. dropped_viewed rows c.args.count (record { operands = c.self.inside.operands; bases = c.self.inside.bases; braces = c.self.inside.braces; declarations = c.self.inside.declarations }) c.take_off.new.self c.take_off.ensures
+    λ rows. dropped_viewed rows c.args.count
+    (record {
+      operands = c.self.inside.operands;
+      bases = c.self.inside.bases;
+      braces =
+          c.self.inside.braces;
+      declarations = c.self.inside.declarations;
+    }) c.take_off.new.self c.take_off.ensures
     ∙ ap (λ (st : Stacked). states.dropped c.args.count (state_in rows st)) c.self.view_is

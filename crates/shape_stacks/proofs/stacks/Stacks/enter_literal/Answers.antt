@@ -12,4 +12,6 @@ use Rattle.shape_stacks.proofs.stacks.Stacks.enter_literal.Goals as goal
 pub returns : goal.returns
 returns c =
     on_ok_weaker c.enter.result (λ entered rows. entered rows
-    ∙ ap (λ (t : Option CType). steps.within (states.whole t) (state_in rows c.args.self.now)) (c.type_at-ty.ensures rows ∙ ap (λ (n : ℕ). states.type_at n (state_in rows c.args.self.now)) (c.depth_below.ensures rows))) c.enter.ensures
+    ∙ ap (λ (t : Option CType). steps.within (states.whole t) (state_in rows c.args.self.now))
+    (c.type_at-ty.ensures rows ∙
+    ap (λ (n : ℕ). states.type_at n (state_in rows c.args.self.now)) (c.depth_below.ensures rows))) c.enter.ensures

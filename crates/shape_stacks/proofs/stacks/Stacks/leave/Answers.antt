@@ -11,6 +11,16 @@ use Rattle.shape_stacks.proofs.stacks.Stacks.leave.Goals as goal
 
 pub returns : goal.returns
 returns c =
-    λ rows. left_viewed rows (record { operands = c.self.inside.operands; bases = c.self.inside.bases; braces = c.self.inside.braces; declarations = c.self.inside.declarations }) c.keep.new.self c.take_off.new.self c.take_off-2.new.self
-    (c.keep.ensures ∙ ap (λ (n : ℕ). drop (length c.self.inside.operands - n) c.self.inside.operands) c.at-base.ensures) c.take_off.ensures c.take_off-2.ensures
-    ∙ ap (λ (st : Stacked). steps.braces_left (states.operands_below (state_in rows st)) (state_in rows st)) c.self.view_is
+    λ rows. left_viewed rows
+    (record {
+      operands = c.self.inside.operands;
+      bases = c.self.inside.bases;
+      braces =
+          c.self.inside.braces;
+      declarations = c.self.inside.declarations;
+    }) c.keep.new.self c.take_off.new.self
+    c.take_off-2.new.self
+    (c.keep.ensures ∙ ap (λ (n : ℕ). drop (length c.self.inside.operands - n) c.self.inside.operands) c.at-base.ensures)
+    c.take_off.ensures c.take_off-2.ensures
+    ∙ ap (λ (st : Stacked). steps.braces_left (states.operands_below (state_in rows st)) (state_in rows st))
+    c.self.view_is

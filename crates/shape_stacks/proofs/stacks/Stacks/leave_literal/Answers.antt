@@ -12,5 +12,7 @@ use Rattle.shape_stacks.proofs.stacks.Stacks.leave_literal.Goals as goal
 pub returns : goal.returns
 returns c =
     on_ok_weaker c.put.result (λ put rows. put rows
-    ∙ ap (λ (t : Option CType). states.operand_put 1 (states.expression (a_place t) false) (state_in rows c.leave.new.self)) (c.type_at-ty.ensures rows)
-    ∙ ap (λ (st : states.State). states.operand_put 1 (states.expression (a_place (states.type_at 0 st)) false) st) (c.leave.ensures rows)) c.put.ensures
+    ∙ ap (λ (t : Option CType). states.operand_put 1 (states.expression (a_place t) false)
+    (state_in rows c.leave.new.self)) (c.type_at-ty.ensures rows)
+    ∙ ap (λ (st : states.State). states.operand_put 1 (states.expression (a_place (states.type_at 0 st)) false) st)
+    (c.leave.ensures rows)) c.put.ensures

@@ -10,6 +10,14 @@ use Rattle.shape_stacks.proofs.stacks.Stacks.put_operand.Goals as goal
 pub returns : goal.returns
 returns c =
     on_ok_weaker c.push.result (λ pushed rows.
-    put_viewed rows c.args.count (record { operands = c.self.inside.operands; bases = c.self.inside.bases; braces = c.self.inside.braces; declarations = c.self.inside.declarations }) c.args.it.now c.push.new.self
+    put_viewed rows c.args.count
+    (record {
+      operands = c.self.inside.operands;
+      bases = c.self.inside.bases;
+      braces =
+          c.self.inside.braces;
+      declarations = c.self.inside.declarations;
+    }) c.args.it.now c.push.new.self
     (pushed ∙ ap (λ (os : List Operand). c.args.it.now ∷ os) c.take_off.ensures)
-    ∙ ap (λ (st : Stacked). states.operand_put c.args.count (operand_in rows c.args.it.now) (state_in rows st)) c.self.view_is) c.push.ensures.pushed
+    ∙ ap (λ (st : Stacked). states.operand_put c.args.count (operand_in rows c.args.it.now) (state_in rows st))
+    c.self.view_is) c.push.ensures.pushed
