@@ -55,12 +55,17 @@ abbrev other_types : List CType → List CType
 other_types [] = []
 other_types (t ∷ ts) = ts
 
-lows_of : (rows : List Row) (ns : List ℕ) (made : List CType) → ((t : ℕ → CType) → Knows t rows → map t ns ≡ made) → AreBelow (length rows) ns
+lows_of : (rows : List Row) (ns : List ℕ) (made : List CType) → ((t : ℕ → CType) → Knows t rows → map t ns ≡ made)
+    → AreBelow (length rows) ns
 lows_of rows [] made alike = tt
-lows_of rows (n ∷ ns) made alike =
-    (low_of rows n (first_type made) (λ t knows. ap first_type (alike t knows)), lows_of rows ns (other_types made) (λ t knows. ap other_types (alike t knows)))
+lows_of rows (n ∷ ns) made alike = (
+  low_of rows n (first_type made) (λ t knows. ap first_type (alike t knows)),
+  lows_of rows ns (other_types made)
+      (λ t knows. ap other_types (alike t knows)),
+)
 
-so_far_low_of : (rows : List Row) (s : SoFar) (made : CType) → ((t : ℕ → CType) → Knows t rows → so_far_type t s ≡ made) → IsLow (length rows) s
+so_far_low_of : (rows : List Row) (s : SoFar) (made : CType)
+    → ((t : ℕ → CType) → Knows t rows → so_far_type t s ≡ made) → IsLow (length rows) s
 so_far_low_of rows so_fars.Base made alike = tt
 so_far_low_of rows so_fars.Void made alike = tt
 so_far_low_of rows (so_fars.Struct n) made alike = tt
@@ -69,7 +74,8 @@ so_far_low_of rows (so_fars.Type ty) made alike = low_of rows ty made alike
 module _ (rows : List Row) (s : State) (is : IsShown rows s) where
   pub so_far_low : IsLow (length rows) s.specifiers.so_far
   unfolding state_of
-  so_far_low = so_far_low_of rows s.specifiers.so_far is.shown.specifiers.type (λ t knows. ap (λ (x : steps.State). x.specifiers.type) (is.alike t knows))
+  so_far_low = so_far_low_of rows s.specifiers.so_far is.shown.specifiers.type
+      (λ t knows. ap (λ (x : steps.State). x.specifiers.type) (is.alike t knows))
 
   pub type_low : (d : OpenDeclaration) (rest : List OpenDeclaration) → s.declarations ≡ d ∷ rest → d.ty < length rows
   unfolding state_of
@@ -78,21 +84,24 @@ module _ (rows : List Row) (s : State) (is : IsShown rows s) where
       (λ t knows. ap (λ ds. (steps.innermost_or steps.no_declaration (map (declaration_of t) ds)).type) (sym there)
       ∙ ap (λ (x : steps.State). (steps.innermost_or steps.no_declaration x.declarations).type) (is.alike t knows))
 
-  pub declared_low : (d : OpenDeclaration) (rest : List OpenDeclaration) → s.declarations ≡ d ∷ rest → d.declared < length rows
+  pub declared_low : (d : OpenDeclaration) (rest : List OpenDeclaration) → s.declarations ≡ d ∷ rest
+      → d.declared < length rows
   unfolding state_of
   declared_low d rest there =
       low_of rows d.declared (steps.innermost_or steps.no_declaration is.shown.declarations).declared
       (λ t knows. ap (λ ds. (steps.innermost_or steps.no_declaration (map (declaration_of t) ds)).declared) (sym there)
       ∙ ap (λ (x : steps.State). (steps.innermost_or steps.no_declaration x.declarations).declared) (is.alike t knows))
 
-  pub params_low : (ns : Vec ℕ Global) (rest : List (Vec ℕ Global)) → s.finished ≡ ns ∷ rest → AreBelow (length rows) ns.items
+  pub params_low : (ns : Vec ℕ Global) (rest : List (Vec ℕ Global)) → s.finished ≡ ns ∷ rest
+      → AreBelow (length rows) ns.items
   unfolding state_of
   params_low ns rest there =
       lows_of rows ns.items (steps.innermost_or [] is.shown.finished)
       (λ t knows. ap (λ ds. steps.innermost_or [] (map (types_of_list t) ds)) (sym there)
       ∙ ap (λ (x : steps.State). steps.innermost_or [] x.finished) (is.alike t knows))
 
-pub top_is : (ds : List OpenDeclaration) (d : OpenDeclaration) → Some d ≡ top ds → (rest : List OpenDeclaration) × (ds ≡ d ∷ rest)
+pub top_is : (ds : List OpenDeclaration) (d : OpenDeclaration) → Some d ≡ top ds
+    → (rest : List OpenDeclaration) × (ds ≡ d ∷ rest)
 top_is [] d is = absurd cc
 top_is (e ∷ ds) d is = (ds, ap (λ x. x ∷ ds) (some_is is))
   where

@@ -5,7 +5,8 @@ use Rattle.name_rules.specs.Spellings.{Spelling}
 use Rattle.name_steps.specs.State.{State}
 use Rattle.name_steps.specs.Steps.{step, run}
 
-pub runs_on : (u : Spelling) (tape : List Op) (i : ℕ) (op : Op) (s after : State) → op ≡ slice_index_or tape i op → i < length tape → after ≡ step u s op
+pub runs_on : (u : Spelling) (tape : List Op) (i : ℕ) (op : Op) (s after : State) → op ≡ slice_index_or tape i op
+    → i < length tape → after ≡ step u s op
     → run u (drop (i + 1) tape) after ≡ run u (drop i tape) s
 runs_on u [] i op s after is lt made = absurd (omega arith)
 runs_on u (x ∷ tape) zero op s after is lt made = ap (run u tape) (made ∙ ap (step u s) is)

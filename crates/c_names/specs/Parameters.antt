@@ -11,5 +11,6 @@ abbrev pub parameter_added : Spelling → Option Named → CType → State → S
 parameter_added u it t st =
     record st {
       names = declared_param u it (length (parameters st).types) (parameters st).own (decayed t) st.names;
-      parameters = with_innermost (record (parameters st) { types = (parameters st).types ++ decayed t ∷ [] }) st.parameters;
+      parameters = with_innermost
+          (record (parameters st) { types = (parameters st).types ++ decayed t ∷ [] }) st.parameters;
     }

@@ -25,7 +25,8 @@ impl State {
     /// The name of a declarator. Constant time.
     #[tactic(auto, unfolding(crate::specs::Shown::state_of))]
     fn set_name(&mut self, token: TokenId, name: NameId) -> Result<(), NoMemory>
-        ensures { OnOk result ((t : ℕ → CType) → state_of t self.new ≡ with_name token name (state_of t self.old)) }
+        ensures { OnOk result
+            ((t : ℕ → CType) → state_of t self.new ≡ with_name token name (state_of t self.old)) }
     {
         match self.declarations.pop() {
             Some(mut declaration) => {
@@ -40,7 +41,9 @@ impl State {
     #[tactic(auto, using(crate::proofs::Low::declared_low), unfolding(crate::specs::Shown::state_of))]
     fn point(&mut self, types: &mut Types) -> Result<(), NoMemory>
         requires { IsShown types.old self.old }
-        ensures shown { OnOk result ((t : ℕ → CType) → Knows t types.new → state_of t self.new ≡ pointed (state_of t self.old)) }
+        ensures shown { OnOk result
+            ((t : ℕ → CType) → Knows t types.new → state_of t self.new
+            ≡ pointed (state_of t self.old)) }
         ensures grown { OnOk result (Grows types.old types.new) }
     {
         let specifiers = mem::replace(&mut self.specifiers, no_specifiers(self.alloc));
@@ -61,7 +64,9 @@ impl State {
     #[tactic(auto, using(crate::proofs::Low::declared_low, crate::proofs::Low::params_low), unfolding(crate::specs::Shown::state_of))]
     fn call(&mut self, types: &mut Types, has_ellipsis: bool) -> Result<(), NoMemory>
         requires { IsShown types.old self.old }
-        ensures shown { OnOk result ((t : ℕ → CType) → Knows t types.new → state_of t self.new ≡ called_with has_ellipsis (state_of t self.old)) }
+        ensures shown { OnOk result
+            ((t : ℕ → CType) → Knows t types.new → state_of t self.new
+            ≡ called_with has_ellipsis (state_of t self.old)) }
         ensures grown { OnOk result (Grows types.old types.new) }
     {
         let specifiers = mem::replace(&mut self.specifiers, no_specifiers(self.alloc));
@@ -87,7 +92,9 @@ impl State {
     /// The object or function of the file that has the name of the innermost declaration. Constant time.
     #[tactic(auto, unfolding(crate::specs::Shown::state_of))]
     fn linked(&self, spelling: &Spelling) -> Option<Place>
-        ensures { (t : ℕ → CType) → result ≡ linked_some (spelling_of spelling.now) (declaration (state_of t self.now)).name (state_of t self.now).names }
+        ensures { (t : ℕ → CType) → result
+            ≡ linked_some (spelling_of spelling.now) (declaration (state_of t self.now)).name
+            (state_of t self.now).names }
     {
         match self.declarations.top() {
             Some(declaration) => match &declaration.name {
@@ -157,7 +164,9 @@ impl State {
     #[tactic(auto, using(crate::proofs::Low::declared_low), unfolding(crate::specs::Shown::state_of))]
     fn add_parameter(&mut self, spelling: &Spelling, types: &mut Types) -> Result<(), NoMemory>
         requires { IsShown types.old self.old }
-        ensures shown { OnOk result ((t : ℕ → CType) → Knows t types.new → state_of t self.new ≡ with_parameter (spelling_of spelling.now) (state_of t self.old)) }
+        ensures shown { OnOk result
+            ((t : ℕ → CType) → Knows t types.new → state_of t self.new
+            ≡ with_parameter (spelling_of spelling.now) (state_of t self.old)) }
         ensures grown { OnOk result (Grows types.old types.new) }
     {
         match self.declarations.pop() {
@@ -176,7 +185,8 @@ impl State {
     /// A list of parameters ends, and its scope. Constant time but for growth, and for the scope.
     #[tactic(auto, unfolding(crate::specs::Shown::state_of))]
     fn end_parameters(&mut self) -> Result<(), NoMemory>
-        ensures { OnOk result ((t : ℕ → CType) → state_of t self.new ≡ parameters_ended (state_of t self.old)) }
+        ensures { OnOk result
+            ((t : ℕ → CType) → state_of t self.new ≡ parameters_ended (state_of t self.old)) }
     {
         match self.parameters.pop() {
             Some(parameters) => {
@@ -194,7 +204,9 @@ impl State {
     #[tactic(auto, using(crate::proofs::Low::declared_low), unfolding(crate::specs::Shown::state_of))]
     fn declare(&mut self, spelling: &Spelling, types: &Types) -> Result<(), NoMemory>
         requires { IsShown types.now self.old }
-        ensures { OnOk result ((t : ℕ → CType) → Knows t types.now → state_of t self.new ≡ name_declared (spelling_of spelling.now) (state_of t self.old)) }
+        ensures { OnOk result
+            ((t : ℕ → CType) → Knows t types.now → state_of t self.new
+            ≡ name_declared (spelling_of spelling.now) (state_of t self.old)) }
     {
         match self.declarations.pop() {
             Some(mut declaration) => {
@@ -218,7 +230,9 @@ impl State {
     #[tactic(auto, using(crate::proofs::Low::declared_low), unfolding(crate::specs::Shown::state_of))]
     fn declare_member(&mut self, spelling: &Spelling, types: &Types) -> Result<(), NoMemory>
         requires { IsShown types.now self.old }
-        ensures { OnOk result ((t : ℕ → CType) → Knows t types.now → state_of t self.new ≡ with_member (spelling_of spelling.now) (state_of t self.old)) }
+        ensures { OnOk result
+            ((t : ℕ → CType) → Knows t types.now → state_of t self.new
+            ≡ with_member (spelling_of spelling.now) (state_of t self.old)) }
     {
         let number = self.members_of();
         match self.declarations.pop() {
@@ -243,7 +257,9 @@ impl State {
     #[tactic(auto, using(crate::proofs::Low::declared_low), unfolding(crate::specs::Shown::state_of))]
     fn name_type(&mut self, types: &Types, at: &Place) -> Result<(), NoMemory>
         requires { IsShown types.now self.old }
-        ensures { OnOk result ((t : ℕ → CType) → Knows t types.now → state_of t self.new ≡ with_type_name at.now (state_of t self.old)) }
+        ensures { OnOk result
+            ((t : ℕ → CType) → Knows t types.now → state_of t self.new
+            ≡ with_type_name at.now (state_of t self.old)) }
     {
         match self.declarations.pop() {
             Some(declaration) => name_type(&mut self.names, types, at, declaration.declared),
@@ -267,7 +283,9 @@ impl State {
         op: DeclrOp,
     ) -> Result<(), NoMemory>
         requires { IsShown types.old self.old }
-        ensures shown { OnOk result ((t : ℕ → CType) → Knows t types.new → state_of t self.new ≡ declarator_step (spelling_of spelling.now) (state_of t self.old) op) }
+        ensures shown { OnOk result
+            ((t : ℕ → CType) → Knows t types.new → state_of t self.new
+            ≡ declarator_step (spelling_of spelling.now) (state_of t self.old) op) }
         ensures grown { OnOk result (Grows types.old types.new) }
     {
         match op {

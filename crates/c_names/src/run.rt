@@ -42,7 +42,9 @@ impl State {
     /// What an operand or operator does.
     #[tactic(auto, unfolding(crate::specs::Shown::state_of))]
     fn expression(&mut self, spelling: &Spelling, op: ExprOp) -> Result<(), NoMemory>
-        ensures { OnOk result ((t : ℕ → CType) → state_of t self.new ≡ expression_step (spelling_of spelling.now) (state_of t self.old) op) }
+        ensures { OnOk result
+            ((t : ℕ → CType) → state_of t self.new
+            ≡ expression_step (spelling_of spelling.now) (state_of t self.old) op) }
     {
         match op {
             ExprOp::Name {
@@ -72,7 +74,9 @@ impl State {
     /// What a statement, a scope or a silence does.
     #[tactic(auto, unfolding(crate::specs::Shown::state_of))]
     fn statement(&mut self, op: StmtOp) -> Result<(), NoMemory>
-        ensures { OnOk result ((u : spellings.Spelling) (t : ℕ → CType) → state_of t self.new ≡ statement_step u (state_of t self.old) op) }
+        ensures { OnOk result
+            ((u : spellings.Spelling) (t : ℕ → CType) → state_of t self.new
+            ≡ statement_step u (state_of t self.old) op) }
     {
         match op {
             StmtOp::Quiet | StmtOp::Loud | StmtOp::Pop | StmtOp::Return { .. } => Ok(()),
@@ -92,7 +96,9 @@ impl State {
     /// What an op does.
     fn step(&mut self, spelling: &Spelling, types: &mut Types, op: Op) -> Result<(), NoMemory>
         requires { IsShown types.old self.old }
-        ensures shown { OnOk result ((t : ℕ → CType) → Knows t types.new → state_of t self.new ≡ step (spelling_of spelling.now) (state_of t self.old) op) }
+        ensures shown { OnOk result
+            ((t : ℕ → CType) → Knows t types.new → state_of t self.new
+            ≡ step (spelling_of spelling.now) (state_of t self.old) op) }
         ensures grown { OnOk result (Grows types.old types.new) }
     {
         match op {
@@ -110,7 +116,9 @@ impl State {
     /// What the ops of a tape do, one after another. Linear in them but for looking names up in the scopes that are open.
     fn run(&mut self, spelling: &Spelling, types: &mut Types, tape: &[Op]) -> Result<(), NoMemory>
         requires { IsShown types.old self.old }
-        ensures shown { OnOk result ((t : ℕ → CType) → Knows t types.new → state_of t self.new ≡ run (spelling_of spelling.now) tape.now (state_of t self.old)) }
+        ensures shown { OnOk result
+            ((t : ℕ → CType) → Knows t types.new → state_of t self.new
+            ≡ run (spelling_of spelling.now) tape.now (state_of t self.old)) }
         ensures grown { OnOk result (Grows types.old types.new) }
     {
         for op in tape {

@@ -34,7 +34,8 @@ pub(crate) fn no_specifiers(alloc: Global) -> Specifiers
 
 /// The type of specifiers with a tag: an enumeration is an integer type.
 fn tag_type(kind: TagKind, number: StructId, so_far: &SoFar) -> SoFar
-    ensures { (t : ℕ → CType) → so_far_type t result ≡ tag_type kind number (so_far_type t so_far.now) }
+    ensures { (t : ℕ → CType) → so_far_type t result
+        ≡ tag_type kind number (so_far_type t so_far.now) }
 {
     match kind {
         TagKind::Struct | TagKind::Union => SoFar::Struct(number),
@@ -46,7 +47,9 @@ impl State {
     /// An annotation word, or another qualifier. Constant time but for growth.
     #[tactic(auto, unfolding(crate::specs::Shown::state_of))]
     fn add_word(&mut self, spelling: &Spelling, token: TokenId) -> Result<(), NoMemory>
-        ensures { OnOk result ((t : ℕ → CType) → state_of t self.new ≡ with_word (spelling_of spelling.now) token (state_of t self.old)) }
+        ensures { OnOk result
+            ((t : ℕ → CType) → state_of t self.new
+            ≡ with_word (spelling_of spelling.now) token (state_of t self.old)) }
     {
         if spelling.annotates(token) {
             self.specifiers.words.push(spelling.place(token))?;
@@ -138,7 +141,9 @@ impl State {
     #[tactic(auto, using(crate::proofs::Low::so_far_low), unfolding(crate::specs::Shown::state_of))]
     fn end_specifiers(&mut self, types: &mut Types) -> Result<(), NoMemory>
         requires { IsShown types.old self.old }
-        ensures shown { OnOk result ((t : ℕ → CType) → Knows t types.new → state_of t self.new ≡ specifiers_ended (state_of t self.old)) }
+        ensures shown { OnOk result
+            ((t : ℕ → CType) → Knows t types.new → state_of t self.new
+            ≡ specifiers_ended (state_of t self.old)) }
         ensures grown { OnOk result (Grows types.old types.new) }
     {
         let Specifiers {
@@ -159,7 +164,9 @@ impl State {
     #[tactic(auto, unfolding(crate::specs::Shown::state_of))]
     fn add_unnamed(&mut self, types: &Types, at: &Place) -> Result<(), NoMemory>
         requires { IsShown types.now self.old }
-        ensures { OnOk result ((t : ℕ → CType) → Knows t types.now → state_of t self.new ≡ with_unnamed_member at.now (state_of t self.old)) }
+        ensures { OnOk result
+            ((t : ℕ → CType) → Knows t types.now → state_of t self.new
+            ≡ with_unnamed_member at.now (state_of t self.old)) }
     {
         let ty = self.declared_type(types);
         let number = self.members_of();
@@ -171,7 +178,8 @@ impl State {
     fn declared_type(&self, types: &Types) -> TypeId
         requires { IsShown types.now self.now }
         ensures low { result < length types.now }
-        ensures is { (t : ℕ → CType) → Knows t types.now → t result ≡ (declaration (state_of t self.now)).type }
+        ensures is { (t : ℕ → CType) → Knows t types.now → t result
+            ≡ (declaration (state_of t self.now)).type }
     {
         match self.declarations.top() {
             Some(declaration) => declaration.ty,
@@ -188,7 +196,9 @@ impl State {
         op: SpecOp,
     ) -> Result<(), NoMemory>
         requires { IsShown types.old self.old }
-        ensures shown { OnOk result ((t : ℕ → CType) → Knows t types.new → state_of t self.new ≡ specifier_step (spelling_of spelling.now) (state_of t self.old) op) }
+        ensures shown { OnOk result
+            ((t : ℕ → CType) → Knows t types.new → state_of t self.new
+            ≡ specifier_step (spelling_of spelling.now) (state_of t self.old) op) }
         ensures grown { OnOk result (Grows types.old types.new) }
     {
         match op {

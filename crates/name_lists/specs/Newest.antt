@@ -10,5 +10,6 @@ newest [] name = None
 newest (it ∷ entries) name = if nat_eq it.0 name then Some it.1 else newest entries name
 
 -- a map has the newest entry of each name
-pub record AreNewest {V : Type 0} (entries : List (ℕ × V)) (map : HashMap ℕ V (BuildHasherDefault FoldHasher)) : Type 0 where
+pub record AreNewest {V : Type 0} (entries : List (ℕ × V))
+    (map : HashMap ℕ V (BuildHasherDefault FoldHasher)) : Type 0 where
   pub same : (name : ℕ) → get (λ a b. a == b) map name ≡ newest entries name

@@ -20,7 +20,11 @@ has_body None = false
 has_body (Some body) = true
 
 abbrev pub with_member : ℕ → Place → ℕ → OneBody → OneBody
-with_member name at ty body = record { own = body.own ++ record { at = at; ty = ty } ∷ []; known = body.known ++ record { name = name; at = at; ty = ty; own = length body.own } ∷ [] }
+with_member name at ty body = record {
+  own = body.own ++ record { at = at; ty = ty } ∷ [];
+  known = body.known
+      ++ record { name = name; at = at; ty = ty; own = length body.own } ∷ [];
+}
 
 abbrev pub lying_in : ℕ → List Known → List Known
 lying_in own [] = []
@@ -30,4 +34,5 @@ abbrev pub with_inner : ℕ → List Known → OneBody → OneBody
 with_inner own inner body = record body { known = body.known ++ lying_in own inner }
 
 abbrev pub with_unnamed : Place → ℕ → List Known → OneBody → OneBody
-with_unnamed at ty inner body = with_inner (length body.own) inner (record body { own = body.own ++ record { at = at; ty = ty } ∷ [] })
+with_unnamed at ty inner body = with_inner (length body.own) inner
+    (record body { own = body.own ++ record { at = at; ty = ty } ∷ [] })

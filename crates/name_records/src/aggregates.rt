@@ -56,7 +56,8 @@ impl Aggregates {
     /// but for growth.
     pub fn push(&mut self, kind: TagKind, at: &Place) -> Result<StructId, NoMemory>
         ensures number { IfOk result (λ n. n ≡ length self.old) }
-        ensures pushed { OnOk result (self.new ≡ self.old ++ record { kind = kind; at = at.now; body = None } ∷ []) }
+        ensures pushed { OnOk result
+            (self.new ≡ self.old ++ record { kind = kind; at = at.now; body = None } ∷ []) }
     {
         let count = self.all.len();
         if count >= 4_294_967_295 {
@@ -125,7 +126,8 @@ impl Aggregates {
         at: &Place,
         ty: TypeId,
     ) -> Result<(), NoMemory>
-        ensures { OnOk result (self.new ≡ changed_at self.old number (with_body (with_member name at.now ty))) }
+        ensures { OnOk result
+            (self.new ≡ changed_at self.old number (with_body (with_member name at.now ty))) }
     {
         let Some(it) = self.all.get_mut(number.number() as usize) else {
             return Ok(());
@@ -144,7 +146,10 @@ impl Aggregates {
         ty: TypeId,
         inner: StructId,
     ) -> Result<(), NoMemory>
-        ensures { OnOk result (self.new ≡ changed_at self.old number (with_body (with_unnamed at.now ty (known_at self.old inner)))) }
+        ensures { OnOk result
+            (self.new
+            ≡ changed_at self.old number
+            (with_body (with_unnamed at.now ty (known_at self.old inner)))) }
     {
         let known = self.known(alloc, inner)?;
         let Some(it) = self.all.get_mut(number.number() as usize) else {

@@ -10,7 +10,8 @@ one_more (x ∷ xs) zero d lt = refl
 one_more (x ∷ xs) (suc n) d lt = ap (λ ys. x ∷ ys) (one_more xs n d (omega arith))
 
 -- one more scope is the innermost
-pub innermost_next : {X : Type 0} (xs : List X) (at : ℕ) (s : X) → 0 < at → at ≤ length xs → s ≡ slice_index_or xs (at - 1) s
+pub innermost_next : {X : Type 0} (xs : List X) (at : ℕ) (s : X) → 0 < at → at ≤ length xs → s
+    ≡ slice_index_or xs (at - 1) s
     → reverse (take at xs) ≡ s ∷ reverse (take (at - 1) xs)
 innermost_next xs at s some within is =
     let back : suc (at - 1) ≡ at = omega arith in

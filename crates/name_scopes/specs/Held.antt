@@ -16,7 +16,8 @@ number_in maps kinds.Enum tag = get (λ a b. a == b) maps.enums tag
 
 -- a tag has this number, and the others have theirs
 abbrev pub IsSet : TagMaps → TagMaps → TagKind → ℕ → ℕ → Type 0
-IsSet old new kind tag number = (k : TagKind) (t : ℕ) → number_in new k t ≡ (if is_kind kind k && nat_eq tag t then Some number else number_in old k t)
+IsSet old new kind tag number = (k : TagKind) (t : ℕ) → number_in new k t
+    ≡ (if is_kind kind k && nat_eq tag t then Some number else number_in old k t)
 
 abbrev pub AreSame : TagMaps → TagMaps → Type 0
 AreSame old new = (k : TagKind) (t : ℕ) → number_in new k t ≡ number_in old k t

@@ -14,7 +14,8 @@ pub record OneScope : Type 0 where
 -- what a tag of a kind stands for by the first entry of it
 abbrev pub tag_found : List Tag → TagKind → ℕ → Option ℕ
 tag_found [] kind tag = None
-tag_found (it ∷ tags) kind tag = if is_kind it.kind kind && nat_eq it.tag tag then Some it.number else tag_found tags kind tag
+tag_found
+    (it ∷ tags) kind tag = if is_kind it.kind kind && nat_eq it.tag tag then Some it.number else tag_found tags kind tag
 
 abbrev pub no_scope : OneScope
 no_scope = record { names = []; tags = [] }

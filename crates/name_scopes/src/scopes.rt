@@ -86,7 +86,8 @@ impl Scopes {
     /// Has the innermost scope say what a name stands for; where none is open, one is opened. For want of memory the scopes
     /// stay as they were. Constant time but for growth.
     pub fn bind(&mut self, name: NameId, meant: Meant) -> Result<(), NoMemory>
-        ensures bound { OnOk result (self.new ≡ with_name name meant (innermost self.old) ∷ outer_scopes self.old) }
+        ensures bound { OnOk result
+            (self.new ≡ with_name name meant (innermost self.old) ∷ outer_scopes self.old) }
     {
         let mut scope = self.close();
         scope.bind(name, meant)?;
@@ -96,7 +97,8 @@ impl Scopes {
     /// Has the innermost scope say what a tag stands for; where none is open, one is opened. For want of memory the scopes
     /// stay as they were. Constant time but for growth.
     pub fn bind_tag(&mut self, kind: TagKind, tag: NameId, number: StructId) -> Result<(), NoMemory>
-        ensures bound { OnOk result (self.new ≡ with_tag kind tag number (innermost self.old) ∷ outer_scopes self.old) }
+        ensures bound { OnOk result
+            (self.new ≡ with_tag kind tag number (innermost self.old) ∷ outer_scopes self.old) }
     {
         let mut scope = self.close();
         scope.bind_tag(kind, tag, number)?;

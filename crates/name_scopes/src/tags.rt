@@ -109,7 +109,8 @@ impl Tags {
 
     /// Adds an entry. For want of memory the tags stay as they were. Constant time but for growth.
     pub fn push(&mut self, kind: TagKind, tag: NameId, number: StructId) -> Result<(), NoMemory>
-        ensures pushed { OnOk result (self.new ≡ record { kind = kind; tag = tag; number = number } ∷ self.old) }
+        ensures pushed { OnOk result
+            (self.new ≡ record { kind = kind; tag = tag; number = number } ∷ self.old) }
         ensures err { OnErr result (self.new ≡ self.old) }
     {
         let count = self.entries.len();

@@ -24,12 +24,14 @@ grows_twice a b c one two = record {
 pub grows_push : (old new : List Row) → Keeps old new → length old ≤ length new → Grows old new
 grows_push old new keeps longer = record { keeps = keeps; longer = longer }
 
-pub types_known : (rows : List Row) (t : ℕ → CType) (ns : List ℕ) → Knows t rows → AreBelow (length rows) ns → types_in (map t ns) ≡ types_at (types_of rows) ns
+pub types_known : (rows : List Row) (t : ℕ → CType) (ns : List ℕ) → Knows t rows → AreBelow (length rows) ns
+    → types_in (map t ns) ≡ types_at (types_of rows) ns
 types_known rows t [] knows low = refl
 types_known rows t (n ∷ ns) knows low = rw (knows n low.0) (rw (types_known rows t ns knows low.1) refl)
 
 -- more words behind those of a shape
-pub shown_words : (types : List CType) (shape : Shape) (ws es more : Words) → with_words more (shown types shape ws es) ≡ shown types shape (ws ++ more) es
+pub shown_words : (types : List CType) (shape : Shape) (ws es more : Words) → with_words more (shown types shape ws es)
+    ≡ shown types shape (ws ++ more) es
 shown_words types shapes.Base ws es more = refl
 shown_words types shapes.Void ws es more = refl
 shown_words types (shapes.Ref t) ws es more = refl
@@ -61,6 +63,8 @@ parts_more n m (shapes.Ref t) le low = omega arith
 parts_more n m (shapes.Fun ps r e) le low = (below_more n m ps.items le low.0, let h = low.1 in omega arith)
 parts_more n m (shapes.Struct s) le low = tt
 
-pub same_function : {ws vs : Words} {ps qs : CTypes} {r s : CType} {e f : Option Words} → ws ≡ vs → ps ≡ qs → r ≡ s → e ≡ f → function ws ps r e ≡ function vs qs s f
+pub same_function : {ws vs : Words} {ps qs : CTypes} {r s : CType} {e f : Option Words} → ws ≡ vs → ps ≡ qs → r ≡ s → e
+    ≡ f → function ws ps r e ≡ function vs qs s f
 same_function {vs = vs} {ps = ps} {qs = qs} {r = r} {s = s} {e = e} words params back dots =
-    ap (λ ws. function ws ps r e) words ∙ ap (λ ps. function vs ps r e) params ∙ ap (λ r. function vs qs r e) back ∙ ap (λ e. function vs qs s e) dots
+    ap (λ ws. function ws ps r e) words ∙ ap (λ ps. function vs ps r e) params ∙ ap (λ r. function vs qs r e) back
+    ∙ ap (λ e. function vs qs s e) dots

@@ -178,7 +178,8 @@ impl Types {
         ty: TypeId,
     ) -> Result<TypeId, NoMemory>
         requires { ty < length self.old }
-        ensures made { IfOk result (λ at. type_of self.new at ≡ with_words more.items (type_of self.old ty)) }
+        ensures made { IfOk result
+            (λ at. type_of self.new at ≡ with_words more.items (type_of self.old ty)) }
         ensures low { IfOk result (λ at. at < length self.new) }
         ensures grown { OnOk result (Grows self.old self.new) }
     {
@@ -199,7 +200,8 @@ impl Types {
         so_far: &SoFar,
     ) -> Result<TypeId, NoMemory>
         requires { IsLow (length self.old) so_far.now }
-        ensures made { IfOk result (λ ty. Is self.new ty (λ t. with_words words.items (so_far_type t so_far.now))) }
+        ensures made { IfOk result
+            (λ ty. Is self.new ty (λ t. with_words words.items (so_far_type t so_far.now))) }
         ensures low { IfOk result (λ ty. ty < length self.new) }
         ensures grown { OnOk result (Grows self.old self.new) }
     {

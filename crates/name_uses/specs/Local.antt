@@ -9,4 +9,5 @@ use Rattle.name_rules.specs.Declaring.{has_word, declared_here}
 
 -- it belongs to the function in whose body it is, if it is not static
 abbrev pub local_declared : List Keyword → Place → ℕ → CType → Names → Names
-local_declared words at name t s = declared_here at name object_role t (if has_word keywords.Static words then None else s.enclosing) s
+local_declared words at name t s = declared_here at name object_role t
+    (if has_word keywords.Static words then None else s.enclosing) s

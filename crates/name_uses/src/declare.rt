@@ -63,7 +63,9 @@ fn declare_thing(
 
 /// A typedef. Constant time but for growth.
 fn declare_typedef(names: &mut Names, at: &Place, name: NameId, ty: TypeId) -> Result<(), NoMemory>
-    ensures { OnOk result ((t : ℕ → CType) → names_of t names.new ≡ declared_typedef at.now name (t ty) (names_of t names.old)) }
+    ensures { OnOk result
+        ((t : ℕ → CType) → names_of t names.new
+        ≡ declared_typedef at.now name (t ty) (names_of t names.old)) }
 {
     declare_first(names, at, &Role::Typedef, at, ty, &None)?;
     names.bind(name, Meant::Type(ty))?;
@@ -78,7 +80,9 @@ fn declare_local(
     name: NameId,
     ty: TypeId,
 ) -> Result<(), NoMemory>
-    ensures { OnOk result ((t : ℕ → CType) → names_of t names.new ≡ local_declared words.now at.now name (t ty) (names_of t names.old)) }
+    ensures { OnOk result
+        ((t : ℕ → CType) → names_of t names.new
+        ≡ local_declared words.now at.now name (t ty) (names_of t names.old)) }
 {
     let own = if has_word(Keyword::Static, words) {
         None

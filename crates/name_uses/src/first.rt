@@ -20,7 +20,8 @@ pub struct Named {
 
 /// The owner of a declaration: a further one belongs where the first does.
 fn owner(names: &Names, first: &Place, at: &Place, own: &Option<Place>) -> Option<Place>
-    ensures { (t : ℕ → CType) → result ≡ owner_where (names_of t names.now) first.now at.now own.now }
+    ensures { (t : ℕ → CType) → result
+        ≡ owner_where (names_of t names.now) first.now at.now own.now }
 {
     if is_place(first, at) {
         *own
@@ -38,7 +39,9 @@ pub(crate) fn declare_first(
     ty: TypeId,
     own: &Option<Place>,
 ) -> Result<(), NoMemory>
-    ensures { OnOk result ((t : ℕ → CType) → names_of t names.new ≡ declaring at.now (role_of role.now) first.now (t ty) own.now (names_of t names.old)) }
+    ensures { OnOk result
+        ((t : ℕ → CType) → names_of t names.new
+        ≡ declaring at.now (role_of role.now) first.now (t ty) own.now (names_of t names.old)) }
 {
     let owner = owner(names, first, at, own);
     names.push_declared(Declared {
@@ -69,7 +72,9 @@ pub(crate) fn declare_here(
     ty: TypeId,
     own: &Option<Place>,
 ) -> Result<(), NoMemory>
-    ensures { OnOk result ((t : ℕ → CType) → names_of t names.new ≡ declared_here at.now name (role_of role.now) (t ty) own.now (names_of t names.old)) }
+    ensures { OnOk result
+        ((t : ℕ → CType) → names_of t names.new
+        ≡ declared_here at.now name (role_of role.now) (t ty) own.now (names_of t names.old)) }
 {
     let first = the_thing(names.meaning_here(name), at);
     declare_first(names, at, role, &first, ty, own)?;

@@ -23,7 +23,11 @@ pub struct Begun {
 
 /// What a tag stands for, in the innermost scope alone or in all. Takes constant time a scope that is open.
 fn found(names: &Names, is_alone: bool, kind: TagKind, key: NameId) -> Option<StructId>
-    ensures { (t : ℕ → CType) → result ≡ (if is_alone then tag_in (innermost (names_of t names.now).scopes).tags kind key else tag_through (names_of t names.now).scopes kind key) }
+    ensures { (t : ℕ → CType) → result
+        ≡
+        (if is_alone then tag_in
+        (innermost (names_of t names.now).scopes).tags kind key else tag_through
+        (names_of t names.now).scopes kind key) }
 {
     if is_alone {
         names.tag_here(kind, key)
@@ -40,8 +44,11 @@ fn new_tag(
     token: TokenId,
     tag: NameId,
 ) -> Result<StructId, NoMemory>
-    ensures number { IfOk result (λ n. (t : ℕ → CType) → n ≡ length (names_of t names.old).aggregates) }
-    ensures names { IfOk result (λ n. (t : ℕ → CType) → names_of t names.new ≡ new_tag (spelling_of spelling.now) kind token tag (names_of t names.old)) }
+    ensures number { IfOk result
+        (λ n. (t : ℕ → CType) → n ≡ length (names_of t names.old).aggregates) }
+    ensures names { IfOk result
+        (λ n. (t : ℕ → CType) → names_of t names.new
+        ≡ new_tag (spelling_of spelling.now) kind token tag (names_of t names.old)) }
 {
     let at = spelling.place(token);
     let number = names.push_aggregate(kind, &at)?;
@@ -59,7 +66,9 @@ pub fn use_tag(
     token: TokenId,
     tag: NameId,
 ) -> Result<StructId, NoMemory>
-    ensures { IfOk result (λ n. (t : ℕ → CType) → tag_used (spelling_of spelling.now) is_alone kind token tag (names_of t names.old)
+    ensures { IfOk result
+        (λ n. (t : ℕ → CType)
+        → tag_used (spelling_of spelling.now) is_alone kind token tag (names_of t names.old)
         ≡ record { number = n; names = names_of t names.new }) }
 {
     let known = found(names, is_alone, kind, spelling.key(tag));
@@ -79,7 +88,9 @@ fn begin_body(
     at: &Place,
     number: StructId,
 ) -> Result<StructId, NoMemory>
-    ensures { IfOk result (λ m. (t : ℕ → CType) → begun_body at.now kind (record { number = number; names = names_of t names.old })
+    ensures { IfOk result
+        (λ m. (t : ℕ → CType)
+        → begun_body at.now kind (record { number = number; names = names_of t names.old })
         ≡ record { number = number; members_of = m; names = names_of t names.new }) }
 {
     if names.has_body(number) {
@@ -101,7 +112,9 @@ pub fn begin_tag(
     token: TokenId,
     tag: NameId,
 ) -> Result<Begun, NoMemory>
-    ensures { IfOk result (λ b. (t : ℕ → CType) → tag_begun (spelling_of spelling.now) kind token tag (names_of t names.old)
+    ensures { IfOk result
+        (λ b. (t : ℕ → CType)
+        → tag_begun (spelling_of spelling.now) kind token tag (names_of t names.old)
         ≡ record { number = b.number; members_of = b.members_of; names = names_of t names.new }) }
 {
     let at = spelling.place(token);

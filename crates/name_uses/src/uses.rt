@@ -45,7 +45,9 @@ pub fn use_name(
     token: TokenId,
     name: NameId,
 ) -> Result<(), NoMemory>
-    ensures { OnOk result ((t : ℕ → CType) → names_of t names.new ≡ used (spelling_of spelling.now) is_called token name (names_of t names.old)) }
+    ensures { OnOk result
+        ((t : ℕ → CType) → names_of t names.new
+        ≡ used (spelling_of spelling.now) is_called token name (names_of t names.old)) }
 {
     let at = spelling.place(token);
     let found = names.meaning(spelling.key(name));
@@ -83,7 +85,9 @@ pub(crate) fn check_size(
     ty: TypeId,
 ) -> Result<(), NoMemory>
     requires { ty < length types.now }
-    ensures { OnOk result ((t : ℕ → CType) → Knows t types.now → names_of t names.new ≡ sized at.now (t ty) (names_of t names.old)) }
+    ensures { OnOk result
+        ((t : ℕ → CType) → Knows t types.now → names_of t names.new
+        ≡ sized at.now (t ty) (names_of t names.old)) }
 {
     let fails = types.is_too_large(ty);
     names.blame(fails, at, Rule::TypeTooLarge)?;
@@ -93,7 +97,9 @@ pub(crate) fn check_size(
 /// A type's name. Constant time but for growth.
 pub fn name_type(names: &mut Names, types: &Types, at: &Place, ty: TypeId) -> Result<(), NoMemory>
     requires { ty < length types.now }
-    ensures { OnOk result ((t : ℕ → CType) → Knows t types.now → names_of t names.new ≡ type_named at.now (t ty) (names_of t names.old)) }
+    ensures { OnOk result
+        ((t : ℕ → CType) → Knows t types.now → names_of t names.new
+        ≡ type_named at.now (t ty) (names_of t names.old)) }
 {
     names.push_type_name(at, ty)?;
     check_size(names, types, at, ty)?;

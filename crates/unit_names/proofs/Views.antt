@@ -30,11 +30,13 @@ map_get f [] n = refl
 map_get f (x ∷ xs) zero = refl
 map_get f (x ∷ xs) (suc n) = map_get f xs n
 
-pub map_last : {A B : Type 0} (f : A → B) (o : Option A) (xs : List A) → last_or (option_map f o) (map f xs) ≡ option_map f (last_or o xs)
+pub map_last : {A B : Type 0} (f : A → B) (o : Option A) (xs : List A) → last_or (option_map f o) (map f xs)
+    ≡ option_map f (last_or o xs)
 map_last f o [] = refl
 map_last f o (x ∷ xs) = map_last f (Some x) xs
 
-pub map_changed : {A B : Type 0} (f : A → B) (g : A → A) (h : B → B) → ((x : A) → f (g x) ≡ h (f x)) → (xs : List A) (n : ℕ) → map f (rules.changed_at xs n g) ≡ rules.changed_at (map f xs) n h
+pub map_changed : {A B : Type 0} (f : A → B) (g : A → A) (h : B → B) → ((x : A) → f (g x) ≡ h (f x))
+    → (xs : List A) (n : ℕ) → map f (rules.changed_at xs n g) ≡ rules.changed_at (map f xs) n h
 map_changed f g h same [] n = refl
 map_changed f g h same (x ∷ xs) zero = ap (λ y. y ∷ map f xs) (same x)
 map_changed f g h same (x ∷ xs) (suc n) = ap (λ ys. f x ∷ ys) (map_changed f g h same xs n)
@@ -45,15 +47,18 @@ thing_is (e ∷ es) n = ap (λ o. if nat_eq e.0 n then Some e.1 else o) (thing_i
 
 pub tag_is : (ts : List Tag) (kind : TagKind) (n : ℕ) → rules.tag_in (map tagged_of ts) kind n ≡ tag_found ts kind n
 tag_is [] kind n = refl
-tag_is (it ∷ ts) kind n = ap (λ o. if rules.is_kind it.kind kind && nat_eq it.tag n then Some it.number else o) (tag_is ts kind n)
+tag_is (it ∷ ts) kind n = ap (λ o. if rules.is_kind it.kind kind && nat_eq it.tag n then Some it.number else o)
+    (tag_is ts kind n)
 
 module _ (t : ℕ → CType) where
-  pub meaning_is : (es : List (ℕ × Meant)) (n : ℕ) → rules.meaning_in (map (entry_of t) es) n ≡ option_map (meaning_of t) (newest es n)
+  pub meaning_is : (es : List (ℕ × Meant)) (n : ℕ) → rules.meaning_in (map (entry_of t) es) n
+      ≡ option_map (meaning_of t) (newest es n)
   meaning_is [] n = refl
   meaning_is (e ∷ es) n = by_test (nat_eq e.0 n) (meaning_is es n)
     where
       by_test : (b : Bool) → rules.meaning_in (map (entry_of t) es) n ≡ option_map (meaning_of t) (newest es n)
-          → (if b then Some (meaning_of t e.1) else rules.meaning_in (map (entry_of t) es) n) ≡ option_map (meaning_of t) (if b then Some e.1 else newest es n)
+          → (if b then Some (meaning_of t e.1) else rules.meaning_in (map (entry_of t) es) n)
+          ≡ option_map (meaning_of t) (if b then Some e.1 else newest es n)
       by_test true is = refl
       by_test false is = is
 
@@ -66,73 +71,96 @@ module _ (t : ℕ → CType) where
   outer_is (s ∷ ss) = refl
 
   pub through_is : (ss : List OneScope) (round : List (ℕ × Place)) (n : ℕ)
-      → rules.meaning_through (map (scope_of t) ss) round n ≡ rules.or_outer (option_map (meaning_of t) (meant_through ss n)) (rules.some_thing (newest round n))
+      → rules.meaning_through (map (scope_of t) ss) round n
+      ≡ rules.or_outer (option_map (meaning_of t) (meant_through ss n)) (rules.some_thing (newest round n))
   through_is [] round n = ap rules.some_thing (thing_is round n)
-  through_is (s ∷ ss) round n = ap (λ o. rules.or_outer o (rules.meaning_through (map (scope_of t) ss) round n)) (meaning_is s.names n) ∙ by_case (newest s.names n) (through_is ss round n)
+  through_is (s ∷ ss) round n = ap (λ o. rules.or_outer o (rules.meaning_through (map (scope_of t) ss) round n))
+      (meaning_is s.names n) ∙ by_case (newest s.names n) (through_is ss round n)
     where
       by_case : (o : Option Meant)
-          → rules.meaning_through (map (scope_of t) ss) round n ≡ rules.or_outer (option_map (meaning_of t) (meant_through ss n)) (rules.some_thing (newest round n))
+          → rules.meaning_through (map (scope_of t) ss) round n
+          ≡ rules.or_outer (option_map (meaning_of t) (meant_through ss n)) (rules.some_thing (newest round n))
           → rules.or_outer (option_map (meaning_of t) o) (rules.meaning_through (map (scope_of t) ss) round n)
-          ≡ rules.or_outer (option_map (meaning_of t) (or_else o (meant_through ss n))) (rules.some_thing (newest round n))
+          ≡ rules.or_outer (option_map (meaning_of t) (or_else o (meant_through ss n)))
+          (rules.some_thing (newest round n))
       by_case None is = is
       by_case (Some m) is = refl
 
-  pub tag_through_is : (ss : List OneScope) (kind : TagKind) (n : ℕ) → rules.tag_through (map (scope_of t) ss) kind n ≡ tag_through ss kind n
+  pub tag_through_is : (ss : List OneScope) (kind : TagKind) (n : ℕ) → rules.tag_through (map (scope_of t) ss) kind n
+      ≡ tag_through ss kind n
   tag_through_is [] kind n = refl
   tag_through_is (s ∷ ss) kind n =
-      ap (λ o. rules.or_number o (rules.tag_through (map (scope_of t) ss) kind n)) (tag_is s.tags kind n) ∙ by_case (tag_found s.tags kind n) (tag_through_is ss kind n)
+      ap (λ o. rules.or_number o (rules.tag_through (map (scope_of t) ss) kind n)) (tag_is s.tags kind n)
+      ∙ by_case (tag_found s.tags kind n) (tag_through_is ss kind n)
     where
       by_case : (o : Option ℕ) → rules.tag_through (map (scope_of t) ss) kind n ≡ tag_through ss kind n
           → rules.or_number o (rules.tag_through (map (scope_of t) ss) kind n) ≡ or_else o (tag_through ss kind n)
       by_case None is = is
       by_case (Some m) is = refl
 
-  pub first_is : (ds : List Declared) (at : Place) → rules.declared_at (map (declared_of t) ds) at ≡ option_map (declared_of t) (first_declared ds at)
+  pub first_is : (ds : List Declared) (at : Place) → rules.declared_at (map (declared_of t) ds) at
+      ≡ option_map (declared_of t) (first_declared ds at)
   first_is [] at = refl
   first_is (d ∷ ds) at = by_test (rules.is_place d.at at) (first_is ds at)
     where
-      by_test : (b : Bool) → rules.declared_at (map (declared_of t) ds) at ≡ option_map (declared_of t) (first_declared ds at)
-          → (if b then Some (declared_of t d) else rules.declared_at (map (declared_of t) ds) at) ≡ option_map (declared_of t) (if b then Some d else first_declared ds at)
+      by_test : (b : Bool) → rules.declared_at (map (declared_of t) ds) at
+          ≡ option_map (declared_of t) (first_declared ds at)
+          → (if b then Some (declared_of t d) else rules.declared_at (map (declared_of t) ds) at)
+          ≡ option_map (declared_of t) (if b then Some d else first_declared ds at)
       by_test true is = refl
       by_test false is = is
 
-  pub body_is : (all : List Aggregate) (n : ℕ) → rules.body_of (map (aggregate_of t) all) n ≡ option_map (body_of t) (aggregates.body_at all n)
+  pub body_is : (all : List Aggregate) (n : ℕ) → rules.body_of (map (aggregate_of t) all) n
+      ≡ option_map (body_of t) (aggregates.body_at all n)
   body_is all n = ap rules.body_of_some (map_get (aggregate_of t) all n) ∙ by_case (slice_get all n)
     where
-      by_case : (o : Option Aggregate) → rules.body_of_some (option_map (aggregate_of t) o) ≡ option_map (body_of t) (aggregates.body_of_some o)
+      by_case : (o : Option Aggregate) → rules.body_of_some (option_map (aggregate_of t) o)
+          ≡ option_map (body_of t) (aggregates.body_of_some o)
       by_case None = refl
       by_case (Some it) = refl
 
-  pub lying_is : (own : ℕ) (ks : List Known) → map (known_of t) (bodies.lying_in own ks) ≡ rules.lying_in own (map (known_of t) ks)
+  pub lying_is : (own : ℕ) (ks : List Known) → map (known_of t) (bodies.lying_in own ks)
+      ≡ rules.lying_in own (map (known_of t) ks)
   lying_is own [] = refl
   lying_is own (k ∷ ks) = ap (λ rest. record (known_of t k) { own = own } ∷ rest) (lying_is own ks)
 
-  pub some_body : (o : Option bodies.OneBody) → rules.or_no_body (option_map (body_of t) o) ≡ body_of t (bodies.or_empty o)
+  pub some_body : (o : Option bodies.OneBody) → rules.or_no_body (option_map (body_of t) o)
+      ≡ body_of t (bodies.or_empty o)
   some_body None = refl
   some_body (Some b) = refl
 
   -- the body of one of them changes
-  pub changed_is : (change : bodies.OneBody → bodies.OneBody) (after : rules.Body → rules.Body) → ((b : bodies.OneBody) → body_of t (change b) ≡ after (body_of t b))
+  pub changed_is : (change : bodies.OneBody → bodies.OneBody) (after : rules.Body → rules.Body)
+      → ((b : bodies.OneBody) → body_of t (change b) ≡ after (body_of t b))
       → (all : List Aggregate) (n : ℕ) → map (aggregate_of t) (rules.changed_at all n (aggregates.with_body change))
-      ≡ rules.changed_at (map (aggregate_of t) all) n (λ it. record it { body = Some (after (rules.or_no_body it.body)) })
+      ≡ rules.changed_at (map (aggregate_of t) all) n
+      (λ it. record it { body = Some (after (rules.or_no_body it.body)) })
   changed_is change after same all n =
-      map_changed (aggregate_of t) (aggregates.with_body change) (λ it. record it { body = Some (after (rules.or_no_body it.body)) })
-      (λ it. ap (λ b. let a : rules.Aggregate = record { kind = it.kind; at = it.at; body = Some b } in a) (same (bodies.or_empty it.body) ∙ ap after (sym (some_body it.body)))) all n
+      map_changed (aggregate_of t) (aggregates.with_body change)
+      (λ it. record it { body = Some (after (rules.or_no_body it.body)) })
+      (λ it. ap (λ b. let a : rules.Aggregate = record { kind = it.kind; at = it.at; body = Some b } in a)
+      (same (bodies.or_empty it.body) ∙ ap after (sym (some_body it.body)))) all n
 
-  pub member_is : (name : ℕ) (at : Place) (ty : ℕ) (b : bodies.OneBody) → body_of t (bodies.with_member name at ty b) ≡ rules.with_member name at (t ty) (body_of t b)
+  pub member_is : (name : ℕ) (at : Place) (ty : ℕ) (b : bodies.OneBody) → body_of t (bodies.with_member name at ty b)
+      ≡ rules.with_member name at (t ty) (body_of t b)
   member_is name at ty b =
       rw (map_more (own_of t) b.own (record { at = at; ty = ty } ∷ []))
-      (rw (map_more (known_of t) b.known (record { name = name; at = at; ty = ty; own = length b.own } ∷ [])) (rw (map_length (own_of t) b.own) refl))
+      (rw (map_more (known_of t) b.known (record { name = name; at = at; ty = ty; own = length b.own } ∷ []))
+      (rw (map_length (own_of t) b.own) refl))
 
   pub unnamed_is : (at : Place) (ty : ℕ) (inner : List Known) (b : bodies.OneBody)
-      → body_of t (bodies.with_unnamed at ty inner b) ≡ rules.with_unnamed at (t ty) (map (known_of t) inner) (body_of t b)
+      → body_of t (bodies.with_unnamed at ty inner b)
+      ≡ rules.with_unnamed at (t ty) (map (known_of t) inner) (body_of t b)
   unnamed_is at ty inner b =
       rw (map_more (own_of t) b.own (record { at = at; ty = ty } ∷ []))
-      (rw (map_more (known_of t) b.known (bodies.lying_in (length b.own) inner)) (rw (lying_is (length b.own) inner) (rw (map_length (own_of t) b.own) refl)))
+      (rw (map_more (known_of t) b.known (bodies.lying_in (length b.own) inner))
+      (rw (lying_is (length b.own) inner) (rw (map_length (own_of t) b.own) refl)))
 
   -- the members that lie in a struct
-  pub inner_is : (all : List Aggregate) (n : ℕ) → map (known_of t) (aggregates.known_at all n) ≡ (rules.or_no_body (rules.body_of (map (aggregate_of t) all) n)).known
-  inner_is all n = ap (λ (b : rules.Body). b.known) (sym (some_body (aggregates.body_at all n)) ∙ ap rules.or_no_body (sym (body_is all n)))
+  pub inner_is : (all : List Aggregate) (n : ℕ) → map (known_of t) (aggregates.known_at all n)
+      ≡ (rules.or_no_body (rules.body_of (map (aggregate_of t) all) n)).known
+  inner_is all n = ap (λ (b : rules.Body). b.known)
+      (sym (some_body (aggregates.body_at all n)) ∙ ap rules.or_no_body (sym (body_is all n)))
 
 last_from : {A : Type 0} (x : A) (xs : List A) → slice_get (x ∷ xs) (length xs) ≡ last_or (Some x) xs
 last_from x [] = refl
@@ -142,4 +170,5 @@ pub last_get : {A : Type 0} (xs : List A) → slice_get xs (length xs - 1) ≡ l
 last_get [] = refl
 last_get (x ∷ xs) = let e : length (x ∷ xs) - 1 ≡ length xs = omega arith in rw e (last_from x xs)
 
-pub ruleset views = (map_more, map_length, map_last, thing_is, tag_is, meaning_is, innermost_is, outer_is, through_is, tag_through_is, first_is, body_is, lying_is)
+pub ruleset views =
+    (map_more, map_length, map_last, thing_is, tag_is, meaning_is, innermost_is, outer_is, through_is, tag_through_is, first_is, body_is, lying_is)

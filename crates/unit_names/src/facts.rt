@@ -18,7 +18,9 @@ impl Names {
     /// A rule may fail at a place. Constant time but for growth.
     #[tactic(auto, using(crate::proofs::Views::views), unfolding(crate::specs::Shown::names_of))]
     pub fn blame(&mut self, fails: bool, at: &Place, rule: Rule) -> Result<(), NoMemory>
-        ensures { OnOk result ((t : ℕ → CType) → names_of t self.new ≡ with_faults (fault_where fails at.now (rule_of rule)) (names_of t self.old)) }
+        ensures { OnOk result
+            ((t : ℕ → CType) → names_of t self.new
+            ≡ with_faults (fault_where fails at.now (rule_of rule)) (names_of t self.old)) }
     {
         if fails {
             self.faults.push(Fault { at: *at, rule })?;
@@ -29,7 +31,9 @@ impl Names {
     /// One more declaration. Constant time but for growth.
     #[tactic(auto, using(crate::proofs::Views::views), unfolding(crate::specs::Shown::names_of))]
     pub fn push_declared(&mut self, declared: Declared) -> Result<(), NoMemory>
-        ensures { OnOk result ((t : ℕ → CType) → names_of t self.new ≡ with_declared (declared_of t declared) (names_of t self.old)) }
+        ensures { OnOk result
+            ((t : ℕ → CType) → names_of t self.new
+            ≡ with_declared (declared_of t declared) (names_of t self.old)) }
     {
         self.declared.push(declared)?;
         Ok(())
@@ -49,7 +53,8 @@ impl Names {
     /// The newest declaration. Constant time.
     #[tactic(auto, using(crate::proofs::Views::views), unfolding(crate::specs::Shown::names_of))]
     pub fn last_declared(&self) -> Option<Declared>
-        ensures { (t : ℕ → CType) → option_map (declared_of t) result ≡ last_or None (names_of t self.now).declared }
+        ensures { (t : ℕ → CType) → option_map (declared_of t) result
+            ≡ last_or None (names_of t self.now).declared }
     {
         self.declared.as_slice().last().copied()
     }
@@ -57,8 +62,11 @@ impl Names {
     /// One more struct, union or enum. Constant time but for growth.
     #[tactic(auto, using(crate::proofs::Views::views), unfolding(crate::specs::Shown::names_of))]
     pub fn push_aggregate(&mut self, kind: TagKind, at: &Place) -> Result<StructId, NoMemory>
-        ensures number { IfOk result (λ n. (t : ℕ → CType) → n ≡ length (names_of t self.old).aggregates) }
-        ensures pushed { OnOk result ((t : ℕ → CType) → names_of t self.new ≡ with_aggregate kind at.now (names_of t self.old)) }
+        ensures number { IfOk result
+            (λ n. (t : ℕ → CType) → n ≡ length (names_of t self.old).aggregates) }
+        ensures pushed { OnOk result
+            ((t : ℕ → CType) → names_of t self.new
+            ≡ with_aggregate kind at.now (names_of t self.old)) }
     {
         let number = self.aggregates.push(kind, at)?;
         Ok(number)
@@ -75,7 +83,8 @@ impl Names {
     /// Whether a struct has a body. Constant time.
     #[tactic(auto, using(crate::proofs::Views::views), unfolding(crate::specs::Shown::names_of))]
     pub fn has_body(&self, number: StructId) -> bool
-        ensures { (t : ℕ → CType) → result ≡ has_body (body_of (names_of t self.now).aggregates number) }
+        ensures { (t : ℕ → CType) → result
+            ≡ has_body (body_of (names_of t self.now).aggregates number) }
     {
         self.aggregates.has_body(number)
     }
@@ -83,7 +92,8 @@ impl Names {
     /// How many own members a struct has. Constant time.
     #[tactic(auto, using(crate::proofs::Views::views), unfolding(crate::specs::Shown::names_of))]
     pub fn count_own(&self, number: StructId) -> usize
-        ensures { (t : ℕ → CType) → result ≡ length (or_no_body (body_of (names_of t self.now).aggregates number)).own }
+        ensures { (t : ℕ → CType) → result
+            ≡ length (or_no_body (body_of (names_of t self.now).aggregates number)).own }
     {
         self.aggregates.count(number)
     }
@@ -97,7 +107,9 @@ impl Names {
         at: &Place,
         ty: TypeId,
     ) -> Result<(), NoMemory>
-        ensures { OnOk result ((t : ℕ → CType) → names_of t self.new ≡ with_body number (with_member name at.now (t ty)) (names_of t self.old)) }
+        ensures { OnOk result
+            ((t : ℕ → CType) → names_of t self.new
+            ≡ with_body number (with_member name at.now (t ty)) (names_of t self.old)) }
     {
         self.aggregates
             .push_member(self.alloc, number, name, at, ty)?;

@@ -11,7 +11,8 @@ impl Names {
     /// The declarations, in the order of the text.
     #[tactic(auto, unfolding(crate::specs::Shown::names_of))]
     pub fn declared(&self) -> &[Declared]
-        ensures { (t : ℕ → CType) → map (declared_of t) result.now ≡ (names_of t self.now).declared }
+        ensures { (t : ℕ → CType) → map (declared_of t) result.now
+            ≡ (names_of t self.now).declared }
     {
         self.declared.as_slice()
     }
@@ -19,7 +20,8 @@ impl Names {
     /// The structs, unions and enums, by their numbers.
     #[tactic(auto, unfolding(crate::specs::Shown::names_of))]
     pub fn aggregates(&self) -> &[Aggregate]
-        ensures { (t : ℕ → CType) → map (aggregate_of t) result.now ≡ (names_of t self.now).aggregates }
+        ensures { (t : ℕ → CType) → map (aggregate_of t) result.now
+            ≡ (names_of t self.now).aggregates }
     {
         self.aggregates.as_slice()
     }
@@ -35,7 +37,8 @@ impl Names {
     /// The types' names, in the order of the text.
     #[tactic(auto, unfolding(crate::specs::Shown::names_of))]
     pub fn type_names(&self) -> &[TypeNamed]
-        ensures { (t : ℕ → CType) → map (type_named_of t) result.now ≡ (names_of t self.now).type_names }
+        ensures { (t : ℕ → CType) → map (type_named_of t) result.now
+            ≡ (names_of t self.now).type_names }
     {
         self.type_names.as_slice()
     }

@@ -15,7 +15,8 @@ impl Names {
     /// A scope begins. Constant time but for growth.
     #[tactic(auto, using(crate::proofs::Views::views), unfolding(crate::specs::Shown::names_of))]
     pub fn enter(&mut self) -> Result<(), NoMemory>
-        ensures { OnOk result ((t : ℕ → CType) → names_of t self.new ≡ enter (names_of t self.old)) }
+        ensures { OnOk result
+            ((t : ℕ → CType) → names_of t self.new ≡ enter (names_of t self.old)) }
     {
         self.scopes.enter()?;
         Ok(())
@@ -46,7 +47,9 @@ impl Names {
     /// The innermost scope says what a name stands for. Constant time but for growth.
     #[tactic(auto, using(crate::proofs::Views::views), unfolding(crate::specs::Shown::names_of))]
     pub fn bind(&mut self, name: NameId, meant: Meant) -> Result<(), NoMemory>
-        ensures { OnOk result ((t : ℕ → CType) → names_of t self.new ≡ bound name (meaning_of t meant) (names_of t self.old)) }
+        ensures { OnOk result
+            ((t : ℕ → CType) → names_of t self.new
+            ≡ bound name (meaning_of t meant) (names_of t self.old)) }
     {
         self.scopes.bind(name, meant)?;
         Ok(())
@@ -55,7 +58,9 @@ impl Names {
     /// The innermost scope says what a tag stands for. Constant time but for growth.
     #[tactic(auto, using(crate::proofs::Views::views), unfolding(crate::specs::Shown::names_of))]
     pub fn bind_tag(&mut self, kind: TagKind, tag: NameId, number: StructId) -> Result<(), NoMemory>
-        ensures { OnOk result ((t : ℕ → CType) → names_of t self.new ≡ tag_bound kind tag number (names_of t self.old)) }
+        ensures { OnOk result
+            ((t : ℕ → CType) → names_of t self.new
+            ≡ tag_bound kind tag number (names_of t self.old)) }
     {
         self.scopes.bind_tag(kind, tag, number)?;
         Ok(())
@@ -64,7 +69,8 @@ impl Names {
     /// What a name stands for. Takes no memory, and constant time a scope that is open.
     #[tactic(auto, using(crate::proofs::Views::views), unfolding(crate::specs::Shown::names_of))]
     pub fn meaning(&self, name: NameId) -> Option<Meant>
-        ensures { (t : ℕ → CType) → option_map (meaning_of t) result ≡ meaning (names_of t self.now) name }
+        ensures { (t : ℕ → CType) → option_map (meaning_of t) result
+            ≡ meaning (names_of t self.now) name }
     {
         match self.scopes.meaning(name) {
             Some(meant) => Some(meant),
@@ -78,7 +84,8 @@ impl Names {
     /// What the innermost scope says of a name. Takes no memory, and constant time.
     #[tactic(auto, using(crate::proofs::Views::views), unfolding(crate::specs::Shown::names_of))]
     pub fn meaning_here(&self, name: NameId) -> Option<Meant>
-        ensures { (t : ℕ → CType) → option_map (meaning_of t) result ≡ inner_meaning (names_of t self.now) name }
+        ensures { (t : ℕ → CType) → option_map (meaning_of t) result
+            ≡ inner_meaning (names_of t self.now) name }
     {
         self.scopes.meaning_here(name)
     }
@@ -86,7 +93,8 @@ impl Names {
     /// What the innermost scope says of a tag. Takes no memory, and constant time.
     #[tactic(auto, using(crate::proofs::Views::views), unfolding(crate::specs::Shown::names_of))]
     pub fn tag_here(&self, kind: TagKind, tag: NameId) -> Option<StructId>
-        ensures { (t : ℕ → CType) → result ≡ tag_in (innermost (names_of t self.now).scopes).tags kind tag }
+        ensures { (t : ℕ → CType) → result
+            ≡ tag_in (innermost (names_of t self.now).scopes).tags kind tag }
     {
         self.scopes.tag_here(kind, tag)
     }

@@ -9,7 +9,11 @@ use Rattle.c_names.proofs.Low.{knows_before}
 use Rattle.c_names.proofs.run.name_unit.Goals as goal
 
 pub run-requires : goal.run-requires
-run-requires c = record { shown = with_names c.requires.shown; alike = λ t knows. c.new-state.ensures t ∙ ap with_names (c.requires.alike t knows) }
+run-requires c = record {
+  shown = with_names c.requires.shown;
+  alike = λ t knows. c.new-state.ensures t
+      ∙ ap with_names (c.requires.alike t knows);
+}
 
 pub returns-clause-named : goal.returns-clause-named
 unfolding state_of
@@ -27,5 +31,7 @@ returns-clause-shown c =
       shown = (run u tape (with_names c.requires.shown)).names;
       alike = λ t knows.
           let before = knows_before c.args.types.now c.run.new.types t c.in_ok-run.ensures.grown knows in
-          ap (λ (x : State). x.names) (c.in_ok-run.ensures.shown t knows ∙ ap (run u tape) (c.new-state.ensures t ∙ ap with_names (c.requires.alike t before)));
+          ap (λ (x : State). x.names)
+          (c.in_ok-run.ensures.shown t knows
+          ∙ ap (run u tape) (c.new-state.ensures t ∙ ap with_names (c.requires.alike t before)));
     }

@@ -12,4 +12,6 @@ name_unit-requires c = record { shown = no_names; alike = λ t knows. c.in_ok-na
 pub returns-clause-named : goal.returns-clause-named
 returns-clause-named c =
     λ t knows.
-    c.in_ok-named.ensures.named t knows ∙ ap (λ (s : Names). (run (spelling_of c.args.spelling.now) c.args.tape.now (with_names s)).names) (c.in_ok-names.ensures t)
+    c.in_ok-named.ensures.named t knows
+    ∙ ap (λ (s : Names). (run (spelling_of c.args.spelling.now) c.args.tape.now (with_names s)).names)
+    (c.in_ok-names.ensures t)

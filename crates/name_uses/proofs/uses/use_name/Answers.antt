@@ -15,7 +15,10 @@ returns c =
     let it : Use = use_of c.use_by-it.result in
     let found = c.meaning-found.ensures t ∙ ap (meaning s) c.key.ensures in
     let means = c.use_by-it.ensures t ∙ ap (λ (o : Option Meaning). use_by o c.args.is_called) found in
-    used_is s (names_of t c.push_use.new.self) (names_of t c.blame.new.self) at it c.is_missing.result c.is_missing.ensures
+    used_is s (names_of t c.push_use.new.self)
+    (names_of t c.blame.new.self) at it c.is_missing.result c.is_missing.ensures
     (c.in_ok-push_use.ensures t) (c.in_ok-blame.ensures t)
     ∙ ap (λ x. used_as at x s) means
-    ∙ ap (λ p. used_as p (use_by (meaning s ((spelling_of c.args.spelling.now).key c.args.name)) c.args.is_called) s) c.place-at.ensures
+    ∙ ap
+    (λ p. used_as p
+    (use_by (meaning s ((spelling_of c.args.spelling.now).key c.args.name)) c.args.is_called) s) c.place-at.ensures

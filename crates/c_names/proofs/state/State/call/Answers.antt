@@ -5,7 +5,8 @@ use Rattle.c_names.proofs.state.State.call.Goals.{in-Some, in-None}
 pub function-requires-clause-params : goal.function-requires-clause-params
 function-requires-clause-params c =
     elim c.match-pop.branch [
-      | in-Some w ↦ rw w.params-is (params_low c.args.types.now c.args.self.now c.requires w.in-Some.params _ w.in-Some.ensures)
+      | in-Some w ↦ rw w.params-is
+          (params_low c.args.types.now c.args.self.now c.requires w.in-Some.params _ w.in-Some.ensures)
       | in-None w ↦ rw w.params-is (rw w.new-params.ensures.items tt)
     ]
 

@@ -18,6 +18,7 @@ loop-op-preserved c =
       shown = shown_after u op c.loop-op.types c.step.new.types c.loop-op.self c.step.new.self known.shown grown c.in_ok-step.ensures.shown;
       grown = grows_twice c.args.types.now c.loop-op.types c.step.new.types known.grown grown;
       runs = λ t knows.
-          runs_on u tape c.loop-op.op-index op (state_of t c.loop-op.self) (state_of t c.step.new.self) c.op-item.is within (c.in_ok-step.ensures.shown t knows)
+          runs_on u tape c.loop-op.op-index op (state_of t c.loop-op.self)
+          (state_of t c.step.new.self) c.op-item.is within (c.in_ok-step.ensures.shown t knows)
           ∙ known.runs t (knows_before c.loop-op.types c.step.new.types t grown knows);
     }

@@ -12,5 +12,6 @@ invariant-loop-op l =
       shown : IsShown l.types l.self;
       grown : Grows l.initial.types l.types;
       runs : (t : ℕ → CType) → Knows t l.types
-          → run (spelling_of l.spelling) (drop l.op-index l.tape) (state_of t l.self) ≡ run (spelling_of l.spelling) l.tape (state_of t l.initial.self);
+          → run (spelling_of l.spelling) (drop l.op-index l.tape) (state_of t l.self)
+          ≡ run (spelling_of l.spelling) l.tape (state_of t l.initial.self);
     }

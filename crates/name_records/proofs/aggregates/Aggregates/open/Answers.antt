@@ -11,7 +11,8 @@ returns-in_default c =
     let size = all.ok.0 in
     let beyond : length all.items ≤ c.number.result = let p = past c.number.result _ c.in_default.ensures.variant.1 in omega arith in
     unchanged all.items c.number.result change beyond
-    ∙ ap (λ n. changed_at all.items n change) c.number.ensures ∙ ap (λ xs. changed_at xs c.args.number change) c.self.view_is
+    ∙ ap (λ n. changed_at all.items n change) c.number.ensures
+    ∙ ap (λ xs. changed_at xs c.args.number change) c.self.view_is
 
 pub returns : goal.returns
 returns c =
@@ -21,4 +22,5 @@ returns c =
     let there = c.in-Some.ensures.variant.0 refl in
     let within : c.number.result < length all.items = omega arith in
     changed all.items c.number.result c.in-Some.it.now c.open.new.self change within c.in-Some.ensures.value c.open.ensures
-    ∙ ap (λ n. changed_at all.items n change) c.number.ensures ∙ ap (λ xs. changed_at xs c.args.number change) c.self.view_is
+    ∙ ap (λ n. changed_at all.items n change) c.number.ensures
+    ∙ ap (λ xs. changed_at xs c.args.number change) c.self.view_is

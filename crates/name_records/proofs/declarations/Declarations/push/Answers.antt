@@ -6,7 +6,9 @@ use Rattle.name_records.proofs.declarations.Declarations.push.Goals as goal
 
 pub invariant_of-self-then-known : goal.invariant_of-self-then-known
 invariant_of-self-then-known c =
-    rw c.in-Ok.ensures.items (first_known c.self.inside.all.items c.args.declared c.self.inside.first.map c.self.invariant (sym c.has-known.ensures ∙ c.if-known.true))
+    rw c.in-Ok.ensures.items
+    (first_known c.self.inside.all.items c.args.declared c.self.inside.first.map c.self.invariant
+    (sym c.has-known.ensures ∙ c.if-known.true))
 
 pub invariant_of-self-in-Ok-set : goal.invariant_of-self-in-Ok-set
 invariant_of-self-in-Ok-set c =
@@ -17,4 +19,5 @@ invariant_of-self-in-Ok-set c =
     let unknown = sym c.has-known.ensures ∙ c.if-known.false in
     let newest = newest_is all.items c.push.new.self.items d c.index-newest.result.now c.len-count.result c.in-Ok.ensures.items (c.len-count.ensures ∙ all.ok.0) c.index-newest.ensures in
     let Set : Declared → Type 0 = λ e. IsSet map after e.at e in
-    rw c.in-Ok.ensures.items (first_new all.items d map c.self.invariant after unknown (subst Set newest c.in-Ok-set.ensures.set))
+    rw c.in-Ok.ensures.items
+    (first_new all.items d map c.self.invariant after unknown (subst Set newest c.in-Ok-set.ensures.set))

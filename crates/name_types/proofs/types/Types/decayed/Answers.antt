@@ -8,7 +8,8 @@ returns-in_ok-at-clause-made c =
     λ t knows.
     let before = knows_before _ _ t c.in_ok-at.ensures.grown knows in
     let is = sym (c.is_function.ensures t before) ∙ c.if-is_function.true in
-    c.in_ok-at.ensures.made t knows ∙ ap (λ ws. pointer ws (t c.args.ty)) c.new.ensures.items ∙ sym (decayed_function (t c.args.ty) is)
+    c.in_ok-at.ensures.made t knows ∙ ap (λ ws. pointer ws (t c.args.ty)) c.new.ensures.items
+    ∙ sym (decayed_function (t c.args.ty) is)
 
 pub returns-else-is_function-clause-made : goal.returns-else-is_function-clause-made
 returns-else-is_function-clause-made c =

@@ -12,7 +12,8 @@ same_words true ws = refl
 same_words false ws = refl
 
 pub add-requires : goal.add-requires
-add-requires c = (below_more _ _ c.args.params.items c.in_ok-result.ensures.grown.longer c.requires.params, c.in_ok-result.ensures.low)
+add-requires c =
+    (below_more _ _ c.args.params.items c.in_ok-result.ensures.grown.longer c.requires.params, c.in_ok-result.ensures.low)
 
 pub returns-clause-made : goal.returns-clause-made
 returns-clause-made c =
@@ -23,4 +24,5 @@ returns-clause-made c =
     let params = sym (types_known c.decayed.new.self t ns middle low) in
     let back = sym (middle c.in_ok-result.result c.in_ok-result.ensures.low) ∙ c.in_ok-result.ensures.made t middle in
     let words = same_words c.args.has_ellipsis c.args.words.items in
-    knows c.in_ok-at.at c.in_ok-at.ensures.low ∙ c.in_ok-at.ensures.there ∙ same_function c.new.ensures.items params back words
+    knows c.in_ok-at.at c.in_ok-at.ensures.low ∙ c.in_ok-at.ensures.there
+    ∙ same_function c.new.ensures.items params back words

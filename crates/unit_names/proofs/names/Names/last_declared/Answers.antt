@@ -12,4 +12,6 @@ unfolding names_of
 returns c =
     λ t.
     let all = c.args.self.now.declared in
-    ap (option_map (declared_of t)) (c.copied.ensures ∙ c.last.ensures.value ∙ ap (λ ds. slice_get ds (length ds - 1)) c.as_slice.ensures ∙ last_get all) ∙ sym (map_last (declared_of t) None all)
+    ap (option_map (declared_of t))
+    (c.copied.ensures ∙ c.last.ensures.value ∙ ap (λ ds. slice_get ds (length ds - 1)) c.as_slice.ensures
+    ∙ last_get all) ∙ sym (map_last (declared_of t) None all)

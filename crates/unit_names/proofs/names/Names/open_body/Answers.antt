@@ -13,4 +13,6 @@ returns c =
     λ t.
     let all = c.args.self.now.aggregates in
     let old = names_of t c.args.self.now in
-    ap (λ xs. record old { aggregates = xs }) (ap (map (aggregate_of t)) c.open.ensures ∙ changed_is t (λ body. body) (λ body. body) (λ b. refl) all c.args.number)
+    ap (λ xs. record old { aggregates = xs })
+    (ap (map (aggregate_of t)) c.open.ensures
+    ∙ changed_is t (λ body. body) (λ body. body) (λ b. refl) all c.args.number)

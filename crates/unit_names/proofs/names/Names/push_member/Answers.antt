@@ -15,4 +15,5 @@ returns c =
     let old = names_of t c.args.self.now in
     let at = c.args.at.now in
     ap (λ xs. record old { aggregates = xs }) (ap (map (aggregate_of t)) c.in_ok-push_member.ensures
-    ∙ changed_is t (with_member c.args.name at c.args.ty) (rules.with_member c.args.name at (t c.args.ty)) (member_is t c.args.name at c.args.ty) all c.args.number)
+    ∙ changed_is t (with_member c.args.name at c.args.ty) (rules.with_member c.args.name at (t c.args.ty))
+    (member_is t c.args.name at c.args.ty) all c.args.number)

@@ -17,5 +17,9 @@ returns c =
     let ty = c.args.ty in
     let inner = known_at all c.args.inner in
     ap (λ xs. record old { aggregates = xs }) (ap (map (aggregate_of t)) c.in_ok-push_unnamed.ensures
-    ∙ changed_is t (with_unnamed at ty inner) (rules.with_unnamed at (t ty) (map (known_of t) inner)) (unnamed_is t at ty inner) all c.args.number
-    ∙ ap (λ ks. rules.changed_at (map (aggregate_of t) all) c.args.number (λ it. record it { body = Some (rules.with_unnamed at (t ty) ks (rules.or_no_body it.body)) })) (inner_is t all c.args.inner))
+    ∙ changed_is t (with_unnamed at ty inner) (rules.with_unnamed at (t ty) (map (known_of t) inner))
+    (unnamed_is t at ty inner) all c.args.number
+    ∙ ap
+    (λ ks. rules.changed_at (map (aggregate_of t) all) c.args.number
+    (λ it. record it { body = Some (rules.with_unnamed at (t ty) ks (rules.or_no_body it.body)) }))
+    (inner_is t all c.args.inner))
