@@ -17,7 +17,12 @@ fn dollar_words(rt: &impl Abort, alloc: Global) -> QualWords {
 }
 
 /// The tokens of a source of this unit.
-pub(crate) fn tokens_of(rt: &impl Abort, alloc: Global, unit: u32, source: &str) -> Tokens {
+pub(crate) fn tokens_of<'a>(
+    rt: &impl Abort,
+    alloc: Global,
+    unit: u32,
+    source: &'a str,
+) -> Tokens<'a> {
     let bytes = source.as_bytes();
     assert!(rt; bytes.len() < 100000);
     let words = dollar_words(rt, alloc);
