@@ -214,6 +214,61 @@ fn a_source_that_does_not_lex_gives_its_first_fault(rt: HostRuntime) -> Result<(
     Ok(())
 }
 
+/// `int x; void f(void) { `, parentheses round an `x`, and `; }`.
+fn nested(alloc: Global, count: u32) -> Result<Vec<u8>, AllocError> {
+    let mut source = b"int x; void f(void) { ".to_vec(alloc)?;
+    for _ in 0..count {
+        source.push(b'(')?;
+    }
+    source.push(b'x')?;
+    for _ in 0..count {
+        source.push(b')')?;
+    }
+    source.extend_from_slice(b"; }")?;
+    Ok(source)
+}
+
+#[test]
+fn a_source_that_is_no_unit_names_the_first_bad_token(rt: HostRuntime) -> Result<(), Fail> {
+    let cases: [(&[u8], &[u8]); 9] = [
+        (
+            b"typedef int T1; void f(void) { int T1; T1 = 1; }",
+            b"not yet s.c\n",
+        ),
+        (
+            b"typedef int T1; int *x; int z; void f(void) { z = (T1)*x; } void h(void) { int T1; z = (T1)*z; }",
+            b"not yet s.c\n",
+        ),
+        (b"int f(", b"malformed s.c:1:7: S1\n"),
+        (b"typedef int A; int A;", b"malformed s.c:1:20: N1\n"),
+        (b"long float x;", b"malformed s.c:1:6: C1\n"),
+        (
+            b"int x; void f(void) { x + 1 = 2; }",
+            b"malformed s.c:1:29: O1\n",
+        ),
+        (b"int x[sizeof(enum {x})];", b"malformed s.c:1:20: S1\n"),
+        (
+            b"# 7 \"a.h\"\nint x;\n# 40 \"b.c\" 2\nint y = x x;",
+            b"malformed b.c:40:11: S1\n",
+        ),
+        (
+            b"int f(int a) { return a } int g;",
+            b"malformed s.c:1:25: S1\n",
+        ),
+    ];
+    for (source, text) in cases {
+        let found = answer(rt.alloc(), &plain(LATTICE, source))?;
+        assert_eq!(rt; found.1.as_slice(), text);
+    }
+    let low = nested(rt.alloc(), 495)?;
+    let found = answer(rt.alloc(), &plain(LATTICE, low.as_slice()))?;
+    assert_eq!(rt; found.1.as_slice(), b"not yet s.c\n".as_slice());
+    let high = nested(rt.alloc(), 496)?;
+    let found = answer(rt.alloc(), &plain(LATTICE, high.as_slice()))?;
+    assert_eq!(rt; found.1.as_slice(), b"malformed s.c:1:518: S2\n".as_slice());
+    Ok(())
+}
+
 #[test]
 fn a_lattice_file_that_does_not_read_gives_its_first_fault(rt: HostRuntime) -> Result<(), Fail> {
     let cases: [(&[u8], &[u8]); 8] = [
