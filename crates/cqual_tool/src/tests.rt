@@ -230,7 +230,7 @@ fn nested(alloc: Global, count: u32) -> Result<Vec<u8>, AllocError> {
 
 #[test]
 fn a_source_that_is_no_unit_names_the_first_bad_token(rt: HostRuntime) -> Result<(), Fail> {
-    let cases: [(&[u8], &[u8]); 9] = [
+    let cases: [(&[u8], &[u8]); 14] = [
         (
             b"typedef int T1; void f(void) { int T1; T1 = 1; }",
             b"not yet s.c\n",
@@ -255,6 +255,11 @@ fn a_source_that_is_no_unit_names_the_first_bad_token(rt: HostRuntime) -> Result
             b"int f(int a) { return a } int g;",
             b"malformed s.c:1:25: S1\n",
         ),
+        (b"int f( { }", b"malformed s.c:1:8: S1\n"),
+        (b"void f(void) { else; }", b"malformed s.c:1:16: S1\n"),
+        (b"int x = (1;", b"malformed s.c:1:11: S1\n"),
+        (b"int a; a b;", b"malformed s.c:1:8: S1\n"),
+        (b"short double x;", b"malformed s.c:1:7: C1\n"),
     ];
     for (source, text) in cases {
         let found = answer(rt.alloc(), &plain(LATTICE, source))?;
