@@ -56,7 +56,14 @@ where
         (declaration_on depth exts.items (sized_specs words) (sized_item first) room) }
 {
     let known = one_declr(place.alloc, first)?;
-    let declrs = more_declrs(lent, known, Kind::Value, room.saturating_sub(1), place, depth)?;
+    let declrs = more_declrs(
+        lent,
+        known,
+        Kind::Value,
+        room.saturating_sub(1),
+        place,
+        depth,
+    )?;
     let semi = semicolon(place)?;
     Ok(decl_nodes::declaration(place.alloc, exts, words, declrs, semi)?)
 }

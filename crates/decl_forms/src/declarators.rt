@@ -17,8 +17,7 @@ use decl_nodes::{no_init, some_init};
 use init_forms::init;
 use qual_base::NoMemory;
 use reader_base::{
-    Answer, Ask, Place, ReadError, attrs, is_comma, is_equal, kind_at, label, named_declr,
-    take_one,
+    Answer, Ask, Place, ReadError, attrs, is_comma, is_equal, kind_at, label, named_declr, take_one,
 };
 use std::alloc::Global;
 use typedef_scope::Kind;

@@ -5,8 +5,6 @@ mod declarations;
 mod declarators;
 mod kinds;
 
-pub use declarations::{
-    declaration, declaration_behind, declaration_from, declaration_on,
-};
+pub use declarations::{declaration, declaration_behind, declaration_from, declaration_on};
 pub use declarators::{declr_behind, some_init_here};
 pub use kinds::has_typedef;

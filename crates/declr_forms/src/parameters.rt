@@ -20,8 +20,8 @@ use c_syntax::{Attr, Declr, Ellipsis, Qual};
 use decl_nodes::{words_of_attrs, words_of_quals};
 use qual_base::{NoMemory, TokenId};
 use reader_base::{
-    Answer, Ask, Place, ReadError, attrs, declr_inside, is_close_paren, is_comma,
-    is_dots, kind_at, quals, specs_here, specs_inside, take_one,
+    Answer, Ask, Place, ReadError, attrs, declr_inside, is_close_paren, is_comma, is_dots, kind_at,
+    quals, specs_here, specs_inside, take_one,
 };
 use std::alloc::Global;
 use typedef_scope::Kind;

@@ -76,7 +76,7 @@ module _ (k : Over) where
 
       found : (st : State) → call_faults (place k.spelling opening)
           (value (shape_of_operand
-              (first_operand (drop (count es) (arguments_on k es (operand_of k f ∷ st.operands)))))) (count es)
+          (first_operand (drop (count es) (arguments_on k es (operand_of k f ∷ st.operands)))))) (count es)
           ≡ call_faults (place k.spelling opening) (value (shape_of k.spelling k.names f)) (rules.count es)
       found st = ap (λ (operands : List Operand). call_faults (place k.spelling opening)
           (value (shape_of_operand (first_operand operands))) (count es)) (below st)
@@ -86,7 +86,7 @@ module _ (k : Over) where
       left : (st : State) → put (suc (count es))
           (a_value (some_result_type
           (value (shape_of_operand
-              (first_operand (drop (count es) (arguments_on k es (operand_of k f ∷ st.operands))))))))
+          (first_operand (drop (count es) (arguments_on k es (operand_of k f ∷ st.operands))))))))
           (with_arguments k es (with_expr k f st))
           ≡ with_expr k (call f opening es closing) st
       left st =

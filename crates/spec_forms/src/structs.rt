@@ -19,10 +19,9 @@ use decl_nodes::{
 };
 use qual_base::TokenId;
 use reader_base::{
-    Answer, Ask, Begun, Place, ReadError, attrs, close_brace,
-    expr_inside, extensions, is_close_brace, is_colon, is_comma, is_open_brace, is_semicolon,
-    is_static_assert, kind_at, named_declr, refused, room_for, semicolon, specs_here, static_assert, tag,
-    take_one,
+    Answer, Ask, Begun, Place, ReadError, attrs, close_brace, expr_inside, extensions,
+    is_close_brace, is_colon, is_comma, is_open_brace, is_semicolon, is_static_assert, kind_at,
+    named_declr, refused, room_for, semicolon, specs_here, static_assert, tag, take_one,
 };
 
 /// A width alone, the colon of which stands first.
