@@ -34,7 +34,8 @@ fn greater(one: u32, other: u32) -> u32
 /// The height of a node above two parts. Between operands an operator has no height, unless it has a middle.
 fn above_both(one: u32, other: u32) -> u32
     ensures both { (x y : ℕ) → one ≡ capped x → other ≡ capped y → result ≡ capped (max x y + 1) }
-    ensures operands { (x y : ℕ) → one ≡ capped x → other ≡ capped y → result ≡ capped (max x (max 0 y) + 1) }
+    ensures operands { (x y : ℕ) → one ≡ capped x → other ≡ capped y → result ≡ capped
+        (max x (max 0 y) + 1) }
 {
     above(greater(one, other))
 }
@@ -173,7 +174,8 @@ fn of_exprs(es: &[Expr]) -> u32
 
 #[cycle(height)]
 fn of_type_name(t: &TypeName) -> u32
-    ensures { result ≡ capped (max (specs_height (spec_words_from t.now.specs.words.items)) (some_declr_height (some_declr_from t.now.declr)) + 1) }
+    ensures { result ≡ capped (max (specs_height (spec_words_from t.now.specs.words.items))
+        (some_declr_height (some_declr_from t.now.declr)) + 1) }
 {
     let words = of_words(t.specs.words.as_slice());
     above_both(words, of_some_declr(&t.declr))
@@ -209,7 +211,8 @@ fn of_word(word: &SpecWord) -> u32
 
 #[cycle(height)]
 fn of_struct(it: &Struct) -> u32
-    ensures { result ≡ capped (max (attrs_height it.now.attrs.items) (some_body_height (some_body_from it.now.body)) + 1) }
+    ensures { result ≡ capped
+        (max (attrs_height it.now.attrs.items) (some_body_height (some_body_from it.now.body)) + 1) }
 {
     let attrs = of_attrs(it.attrs.as_slice());
     match &it.body {
@@ -241,7 +244,8 @@ fn of_struct_item(item: &StructItem) -> u32
 
 #[cycle(height)]
 fn of_member(it: &Member) -> u32
-    ensures { result ≡ capped (max (specs_height (spec_words_from it.now.specs.words.items)) (mem_declrs_height (mem_declrs_from it.now.declrs.items)) + 1) }
+    ensures { result ≡ capped (max (specs_height (spec_words_from it.now.specs.words.items))
+        (mem_declrs_height (mem_declrs_from it.now.declrs.items)) + 1) }
 {
     let words = of_words(it.specs.words.as_slice());
     above_both(words, of_mem_declrs(it.declrs.as_slice()))
@@ -316,7 +320,9 @@ fn of_enumerators(items: &[Enumerator]) -> u32
 
 #[cycle(height)]
 fn of_enumerator(item: &Enumerator) -> u32
-    ensures { result ≡ capped (max (attrs_height item.now.attrs.items) (some_value_height (some_value_from item.now.value)) + 1) }
+    ensures { result ≡ capped
+        (max (attrs_height item.now.attrs.items)
+        (some_value_height (some_value_from item.now.value)) + 1) }
 {
     let attrs = of_attrs(item.attrs.as_slice());
     above_both(attrs, of_some_value(&item.value))
@@ -399,7 +405,9 @@ fn of_params(params: &[Param]) -> u32
 
 #[cycle(height)]
 fn of_param(param: &Param) -> u32
-    ensures { result ≡ capped (max (specs_height (spec_words_from param.now.specs.words.items)) (max (some_declr_height (some_declr_from param.now.declr)) (attrs_height param.now.attrs.items)) + 1) }
+    ensures { result ≡ capped (max (specs_height (spec_words_from param.now.specs.words.items))
+        (max (some_declr_height (some_declr_from param.now.declr))
+        (attrs_height param.now.attrs.items)) + 1) }
 {
     let words = of_words(param.specs.words.as_slice());
     let declr = of_some_declr(&param.declr);
@@ -436,7 +444,8 @@ fn of_init_items(items: &[InitItem]) -> u32
 
 #[cycle(height)]
 fn of_init_item(item: &InitItem) -> u32
-    ensures { result ≡ capped (max (desigs_height (desigs_from item.now.desigs.items)) (init_height (init_of item.now.init)) + 1) }
+    ensures { result ≡ capped (max (desigs_height (desigs_from item.now.desigs.items))
+        (init_height (init_of item.now.init)) + 1) }
 {
     let desigs = of_desigs(item.desigs.as_slice());
     above_both(desigs, of_init(&item.init))
@@ -507,7 +516,12 @@ fn of_init_declrs(declrs: &[Listed<InitDeclr>]) -> u32
 
 #[cycle(height)]
 fn of_init_declr(attrs: &[Attr], it: &InitDeclr) -> u32
-    ensures { result ≡ capped (max (attrs_height attrs.now) (max (declr_height (declr_of it.now.declr.value)) (max (label_height it.now.label) (max (attrs_height it.now.attrs.items) (some_init_height (some_init_from it.now.init))))) + 1) }
+    ensures { result ≡ capped
+        (max (attrs_height attrs.now)
+        (max (declr_height (declr_of it.now.declr.value))
+        (max (label_height it.now.label)
+        (max (attrs_height it.now.attrs.items) (some_init_height (some_init_from it.now.init))))) +
+        1) }
 {
     let attrs = of_attrs(attrs);
     let declr = of_declr(&it.declr);

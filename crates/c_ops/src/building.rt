@@ -36,7 +36,8 @@ fn step(
 ) -> Result<Box<Expr>, OpsFault>
     requires operators { AreOperators (stack_of waiting.old.items) }
     requires operator { IsOperator (operator_of next.op) }
-    ensures { IsStep (stack_of waiting.old.items) (expr_of last.value) (entry_of next) result (stack_of waiting.new.items) }
+    ensures { IsStep (stack_of waiting.old.items) (expr_of last.value) (entry_of next) result
+        (stack_of waiting.new.items) }
 {
     let Row {
         token,
@@ -61,7 +62,10 @@ fn step(
 /// Linear in the operators, each of which is joined with its operands once. Answers `BadTarget` with the first assignment
 /// operator whose left side, what stands since the last comma or assignment, is not one unary form.
 pub fn build_ops(alloc: Global, flat: OpList) -> Result<Box<Expr>, OpsFault>
-    ensures tree { IfOk result (λ e. (bad_target (operations_of flat) ≡ None) × (expr_of e.value ≡ the_tree (operations_of flat)) × IsTheTreeOf (operations_of flat) (expr_of e.value)) }
+    ensures tree { IfOk result
+        (λ e. (bad_target (operations_of flat) ≡ None) ×
+        (expr_of e.value ≡ the_tree (operations_of flat)) × IsTheTreeOf (operations_of flat)
+        (expr_of e.value)) }
     ensures target { IfErr result (IsFaultOf (operations_of flat)) }
 {
     let OpList { first, rows } = flat;

@@ -15,7 +15,8 @@ use qual_base::TokenId;
 fn logic_of(left: Box<Expr>, token: TokenId, sign: Punct, right: Box<Expr>) -> Expr
     requires least { 1 ≤ binary_level sign }
     requires most { binary_level sign ≤ 2 }
-    ensures { expr_of result ≡ operation (expr_of left.value) (binary sign) token (expr_of right.value) }
+    ensures { expr_of result ≡ operation (expr_of left.value) (binary sign) token
+        (expr_of right.value) }
 {
     match sign {
         Punct::BarBar => Expr::Or { left, token, right },
@@ -28,7 +29,8 @@ fn logic_of(left: Box<Expr>, token: TokenId, sign: Punct, right: Box<Expr>) -> E
 fn bits_of(left: Box<Expr>, token: TokenId, sign: Punct, right: Box<Expr>) -> Expr
     requires least { 3 ≤ binary_level sign }
     requires most { binary_level sign ≤ 5 }
-    ensures { expr_of result ≡ operation (expr_of left.value) (binary sign) token (expr_of right.value) }
+    ensures { expr_of result ≡ operation (expr_of left.value) (binary sign) token
+        (expr_of right.value) }
 {
     match sign {
         Punct::Bar => Expr::BitOr { left, token, right },
@@ -41,7 +43,8 @@ fn bits_of(left: Box<Expr>, token: TokenId, sign: Punct, right: Box<Expr>) -> Ex
 /// `==` or `!=` with its operands.
 fn equality_of(left: Box<Expr>, token: TokenId, sign: Punct, right: Box<Expr>) -> Expr
     requires { binary_level sign ≡ 6 }
-    ensures { expr_of result ≡ operation (expr_of left.value) (binary sign) token (expr_of right.value) }
+    ensures { expr_of result ≡ operation (expr_of left.value) (binary sign) token
+        (expr_of right.value) }
 {
     match sign {
         Punct::EqualEqual => Expr::Equal { left, token, right },
@@ -53,7 +56,8 @@ fn equality_of(left: Box<Expr>, token: TokenId, sign: Punct, right: Box<Expr>) -
 /// `<`, `>`, `<=` or `>=` with its operands.
 fn order_of(left: Box<Expr>, token: TokenId, sign: Punct, right: Box<Expr>) -> Expr
     requires { binary_level sign ≡ 7 }
-    ensures { expr_of result ≡ operation (expr_of left.value) (binary sign) token (expr_of right.value) }
+    ensures { expr_of result ≡ operation (expr_of left.value) (binary sign) token
+        (expr_of right.value) }
 {
     match sign {
         Punct::Less => Expr::Less { left, token, right },
@@ -67,7 +71,8 @@ fn order_of(left: Box<Expr>, token: TokenId, sign: Punct, right: Box<Expr>) -> E
 /// `<<` or `>>` with its operands.
 fn shift_of(left: Box<Expr>, token: TokenId, sign: Punct, right: Box<Expr>) -> Expr
     requires { binary_level sign ≡ 8 }
-    ensures { expr_of result ≡ operation (expr_of left.value) (binary sign) token (expr_of right.value) }
+    ensures { expr_of result ≡ operation (expr_of left.value) (binary sign) token
+        (expr_of right.value) }
 {
     match sign {
         Punct::ShiftLeft => Expr::ShiftLeft { left, token, right },
@@ -79,7 +84,8 @@ fn shift_of(left: Box<Expr>, token: TokenId, sign: Punct, right: Box<Expr>) -> E
 /// `+` or `-` with its operands.
 fn sum_of(left: Box<Expr>, token: TokenId, sign: Punct, right: Box<Expr>) -> Expr
     requires { binary_level sign ≡ 9 }
-    ensures { expr_of result ≡ operation (expr_of left.value) (binary sign) token (expr_of right.value) }
+    ensures { expr_of result ≡ operation (expr_of left.value) (binary sign) token
+        (expr_of right.value) }
 {
     match sign {
         Punct::Plus => Expr::Plus { left, token, right },
@@ -91,7 +97,8 @@ fn sum_of(left: Box<Expr>, token: TokenId, sign: Punct, right: Box<Expr>) -> Exp
 /// `*`, `/` or `%` with its operands.
 fn product_of(left: Box<Expr>, token: TokenId, sign: Punct, right: Box<Expr>) -> Expr
     requires { binary_level sign ≡ 10 }
-    ensures { expr_of result ≡ operation (expr_of left.value) (binary sign) token (expr_of right.value) }
+    ensures { expr_of result ≡ operation (expr_of left.value) (binary sign) token
+        (expr_of right.value) }
 {
     match sign {
         Punct::Star => Expr::Times { left, token, right },
@@ -104,7 +111,8 @@ fn product_of(left: Box<Expr>, token: TokenId, sign: Punct, right: Box<Expr>) ->
 /// A binary operator with its operands.
 fn binary_of(left: Box<Expr>, token: TokenId, sign: Punct, right: Box<Expr>) -> Expr
     requires { 1 ≤ binary_level sign }
-    ensures { expr_of result ≡ operation (expr_of left.value) (binary sign) token (expr_of right.value) }
+    ensures { expr_of result ≡ operation (expr_of left.value) (binary sign) token
+        (expr_of right.value) }
 {
     match level_of_binary(sign) {
         1 | 2 => logic_of(left, token, sign, right),
@@ -125,7 +133,8 @@ fn conditional(
     colon: TokenId,
     otherwise: Box<Expr>,
 ) -> Expr
-    ensures { expr_of result ≡ operation (expr_of condition.value) (cond (some_expr_in middle) colon) question (expr_of otherwise.value) }
+    ensures { expr_of result ≡ operation (expr_of condition.value)
+        (cond (some_expr_in middle) colon) question (expr_of otherwise.value) }
 {
     match middle {
         None => Expr::Cond {
@@ -148,7 +157,8 @@ fn conditional(
 /// An operator with its operands.
 pub fn operated(left: Box<Expr>, token: TokenId, op: Op, right: Box<Expr>) -> Expr
     requires { IsOperator (operator_of op) }
-    ensures { expr_of result ≡ operation (expr_of left.value) (operator_of op) token (expr_of right.value) }
+    ensures { expr_of result ≡ operation (expr_of left.value) (operator_of op) token
+        (expr_of right.value) }
 {
     match op {
         Op::Binary(sign) => binary_of(left, token, sign, right),

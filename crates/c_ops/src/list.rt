@@ -67,7 +67,8 @@ impl OpList {
 
     /// The last operand.
     fn last(&self) -> &Box<Expr>
-        ensures { expr_of result.now.value ≡ last_of (operations_of self.now).first (operations_of self.now).rest }
+        ensures { expr_of result.now.value ≡ last_of (operations_of self.now).first
+            (operations_of self.now).rest }
     {
         match self.rows.last() {
             Some(row) => &row.operand,
@@ -88,7 +89,9 @@ impl OpList {
     /// Whether an assignment may come next: what stands since the last comma or assignment is one unary form (C99,
     /// 6.5.16). Constant time.
     pub fn is_target(&self) -> bool
-        ensures { result ≡ (begins_side (operator_before None (operations_of self.now).rest) && nat_le 14 (expr_level (last_of (operations_of self.now).first (operations_of self.now).rest))) }
+        ensures { result ≡ (begins_side
+            (operator_before None (operations_of self.now).rest) && nat_le 14
+            (expr_level (last_of (operations_of self.now).first (operations_of self.now).rest))) }
     {
         self.begins_side() && is_unary(self.last())
     }
@@ -134,7 +137,8 @@ impl OpList {
     /// The height of the tree where a last expression of a height ends what waits behind the first so many rows.
     fn whole(&self, count: usize, last: u32) -> u32
         requires { count ≤ length self.now.rest }
-        ensures { (e : _) → last ≡ capped (expr_height e) → result ≡ capped (expr_height (finished (waits_at (expr_of self.now.first.value) self.now.rest count) e)) }
+        ensures { (e : _) → last ≡ capped (expr_height e) → result ≡ capped
+            (expr_height (finished (waits_at (expr_of self.now.first.value) self.now.rest count) e)) }
     {
         let mut height = last;
         let mut below = count;
@@ -169,7 +173,9 @@ impl OpList {
     ) -> Result<(), (Box<Expr>, NoMemory)>
         requires operator { IsOperator (operator_of op) }
         requires operand { 13 ≤ expr_level (expr_of operand.value) }
-        ensures pushed { OnOk result (operations_of self.new ≡ appended (operations_of self.old) (record { operator = operator_of op; token = token; operand = expr_of operand.value } ∷ [])) }
+        ensures pushed { OnOk result (operations_of self.new ≡ appended (operations_of self.old)
+            (record { operator = operator_of op; token = token; operand = expr_of operand.value } ∷
+            [])) }
         ensures err { OnErr result (self.new ≡ self.old) }
         ensures back { IfErr result (λ e. e.0 ≡ operand) }
     {

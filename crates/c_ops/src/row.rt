@@ -37,7 +37,8 @@ pub(crate) fn greater(one: u32, other: u32) -> u32
 
 /// The height of an operator with its operands: `left` is that of the left one and the middle.
 pub(crate) fn above_both(left: u32, right: u32) -> u32
-    ensures { (x y z : ℕ) → left ≡ capped (max x y) → right ≡ capped z → result ≡ capped (max x (max y z) + 1) }
+    ensures { (x y z : ℕ) → left ≡ capped (max x y) → right ≡ capped z → result ≡ capped
+        (max x (max y z) + 1) }
 {
     left.max(right).saturating_add(1)
 }

@@ -25,7 +25,8 @@ pub(crate) struct Waiting {
 /// The operator with both its operands.
 fn join(alloc: Global, left: Waiting, right: Box<Expr>) -> Result<Box<Expr>, NoMemory>
     requires { IsOperator (operator_of left.op) }
-    ensures { IfOk result (λ e. expr_of e.value ≡ operation (expr_of left.tree.value) (operator_of left.op) left.token (expr_of right.value)) }
+    ensures { IfOk result (λ e. expr_of e.value ≡ operation (expr_of left.tree.value)
+        (operator_of left.op) left.token (expr_of right.value)) }
 {
     let Waiting { tree, op, token } = left;
     match Box::new(alloc, operated(tree, token, op, right)) {
@@ -56,7 +57,9 @@ pub(crate) fn settle(
     level: u8,
 ) -> Result<Box<Expr>, NoMemory>
     requires { AreOperators (stack_of waiting.old.items) }
-    ensures { IfOk result (λ e. record { below = stack_of waiting.new.items; last = expr_of e.value } ≡ settle_of level (stack_of waiting.old.items) (expr_of last.value)) }
+    ensures { IfOk result
+        (λ e. record { below = stack_of waiting.new.items; last = expr_of e.value }
+        ≡ settle_of level (stack_of waiting.old.items) (expr_of last.value)) }
 {
     let mut last = last;
     while let Some(left) = take_ended(waiting, level) {

@@ -171,7 +171,8 @@ fn binary_shape<'a>(
     token: TokenId,
     right: &'a Box<Expr>,
 ) -> Shape<'a>
-    ensures { shaped result ≡ operation (expr_of left.now.value) (binary sign) token (expr_of right.now.value) }
+    ensures { shaped result ≡ operation (expr_of left.now.value) (binary sign) token
+        (expr_of right.now.value) }
 {
     let between = Between::Binary(sign);
     Shape::Operation {

@@ -149,7 +149,9 @@ impl Mix {
     /// The mix with one more word, or none where no mix begins with the words and this one. Takes no memory, and
     /// constant time.
     pub fn with(self, word: &SpecWord) -> Option<Mix>
-        ensures read { (ws : SpecWords) → AreRead self ws → MatchOption result (Begins (pushed ws (spec_word_of word.now)) → ⊥) (λ mix. AreRead mix (pushed ws (spec_word_of word.now))) }
+        ensures read { (ws : SpecWords) → AreRead self ws → MatchOption result
+            (Begins (pushed ws (spec_word_of word.now)) → ⊥)
+            (λ mix. AreRead mix (pushed ws (spec_word_of word.now))) }
         ensures steps { result ≡ with_class self (class_of (spec_word_of word.now)) }
     {
         self.with_class(class_of(word))

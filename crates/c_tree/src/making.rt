@@ -18,7 +18,8 @@ use std::alloc::Global;
 
 /// A cast.
 pub fn cast(open: TokenId, type_name: TypeName, close: TokenId, operand: Box<Expr>) -> Expr
-    ensures { expr_of result ≡ trees.cast «open» (spec_words_from type_name.specs.words.items) (lists.some_declr_from type_name.declr) close (expr_of operand.value) }
+    ensures { expr_of result ≡ trees.cast «open» (spec_words_from type_name.specs.words.items)
+        (lists.some_declr_from type_name.declr) close (expr_of operand.value) }
 {
     Expr::Cast {
         open,
@@ -30,7 +31,9 @@ pub fn cast(open: TokenId, type_name: TypeName, close: TokenId, operand: Box<Exp
 
 /// `sizeof` or `_Alignof` of a type.
 pub fn sizeof_type(keyword: Word, open: TokenId, type_name: TypeName, close: TokenId) -> Expr
-    ensures { expr_of result ≡ trees.sizeof_type keyword «open» (spec_words_from type_name.specs.words.items) (lists.some_declr_from type_name.declr) close }
+    ensures { expr_of result ≡ trees.sizeof_type keyword «open»
+        (spec_words_from type_name.specs.words.items)
+        (lists.some_declr_from type_name.declr) close }
 {
     Expr::SizeofType {
         keyword,
@@ -42,7 +45,8 @@ pub fn sizeof_type(keyword: Word, open: TokenId, type_name: TypeName, close: Tok
 
 /// A call.
 pub fn call(callee: Box<Expr>, open: TokenId, arguments: Vec<Expr>, close: TokenId) -> Expr
-    ensures { expr_of result ≡ trees.call (expr_of callee.value) «open» (lists.exprs_from arguments.items) close }
+    ensures { expr_of result ≡ trees.call (expr_of callee.value) «open»
+        (lists.exprs_from arguments.items) close }
 {
     Expr::Call {
         callee,
@@ -60,7 +64,8 @@ pub fn struct_word(
     tag: Option<Identifier>,
     body: Option<Braced<StructItem>>,
 ) -> Result<SpecWord, NoMemory>
-    ensures { IfOk result (λ word. spec_word_of word ≡ trees.struct_type keyword attrs.items tag (lists.some_body_from body)) }
+    ensures { IfOk result (λ word. spec_word_of word ≡ trees.struct_type keyword attrs.items tag
+        (lists.some_body_from body)) }
 {
     let made = Box::new(
         alloc,
@@ -85,7 +90,9 @@ pub fn enum_word(
     tag: Option<Identifier>,
     body: Option<BracedList<Enumerator>>,
 ) -> Result<SpecWord, NoMemory>
-    ensures { IfOk result (λ word. spec_word_of word ≡ trees.enum_type (trees.enum_of keyword attrs.items tag (lists.some_enum_body_from body))) }
+    ensures { IfOk result
+        (λ word. spec_word_of word ≡ trees.enum_type
+        (trees.enum_of keyword attrs.items tag (lists.some_enum_body_from body))) }
 {
     let made = Box::new(
         alloc,
@@ -109,7 +116,8 @@ pub fn member(
     declrs: Vec<Listed<MemDeclr>>,
     semi: TokenId,
 ) -> StructItem
-    ensures { struct_item_of result ≡ trees.member extensions.items (spec_words_from specs.words.items) (lists.mem_declrs_from declrs.items) semi }
+    ensures { struct_item_of result ≡ trees.member extensions.items
+        (spec_words_from specs.words.items) (lists.mem_declrs_from declrs.items) semi }
 {
     StructItem::Member(Member {
         extensions,
@@ -121,7 +129,8 @@ pub fn member(
 
 /// A member's declarator with its width.
 pub fn named(declr: Box<Declr>, width: Option<Marked<Box<Expr>>>, attrs: Vec<Attr>) -> MemDeclr
-    ensures { mem_declr_of result ≡ trees.named (declr_of declr.value) (lists.some_value_from width) attrs.items }
+    ensures { mem_declr_of result ≡ trees.named (declr_of declr.value)
+        (lists.some_value_from width) attrs.items }
 {
     MemDeclr::Named {
         declr,
@@ -138,7 +147,8 @@ pub fn array(
     size: Option<ArraySize>,
     close: TokenId,
 ) -> Declr
-    ensures { declr_of result ≡ trees.array (declr_of inner.value) «open» words.items (lists.some_size_from size) close }
+    ensures { declr_of result ≡ trees.array (declr_of inner.value) «open» words.items
+        (lists.some_size_from size) close }
 {
     Declr::Array {
         inner,
@@ -157,7 +167,8 @@ pub fn params(
     ellipsis: Option<Ellipsis>,
     close: TokenId,
 ) -> Declr
-    ensures { declr_of result ≡ trees.params (declr_of inner.value) «open» (lists.params_from params.items) (option_map dots_of ellipsis) close }
+    ensures { declr_of result ≡ trees.params (declr_of inner.value) «open»
+        (lists.params_from params.items) (option_map dots_of ellipsis) close }
 {
     Declr::Params {
         inner,
@@ -183,7 +194,8 @@ pub fn abs_array(
     size: Option<ArraySize>,
     close: TokenId,
 ) -> Declr
-    ensures { declr_of result ≡ trees.abs_array (lists.some_declr_from inner) «open» words.items (lists.some_size_from size) close }
+    ensures { declr_of result ≡ trees.abs_array (lists.some_declr_from inner) «open» words.items
+        (lists.some_size_from size) close }
 {
     Declr::AbsArray {
         inner,
@@ -202,7 +214,8 @@ pub fn abs_params(
     ellipsis: Option<Ellipsis>,
     close: TokenId,
 ) -> Declr
-    ensures { declr_of result ≡ trees.abs_params (lists.some_declr_from inner) «open» (lists.params_from params.items) (option_map dots_of ellipsis) close }
+    ensures { declr_of result ≡ trees.abs_params (lists.some_declr_from inner) «open»
+        (lists.params_from params.items) (option_map dots_of ellipsis) close }
 {
     Declr::AbsParams {
         inner,
@@ -220,7 +233,8 @@ pub fn declaration(
     declrs: Vec<Listed<InitDeclr>>,
     semi: TokenId,
 ) -> Declaration
-    ensures { declaration_of result ≡ trees.declaration extensions.items (spec_words_from specs.words.items) (lists.init_declrs_from declrs.items) semi }
+    ensures { declaration_of result ≡ trees.declaration extensions.items
+        (spec_words_from specs.words.items) (lists.init_declrs_from declrs.items) semi }
 {
     Declaration {
         extensions,

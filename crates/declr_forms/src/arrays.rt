@@ -80,7 +80,8 @@ pub(crate) fn array<'a, F>(
 where
     F: Fn(Ask, &mut Place<'a>) -> Result<Answer, ReadError>,
     requires { Lends F.Fn lent.now depth }
-    ensures { ReadsDeclr place.old place.new result (declaring.array_with (knot depth) (declared_of known) room) }
+    ensures { ReadsDeclr place.old place.new result
+        (declaring.array_with (knot depth) (declared_of known) room) }
 {
     let opening = take_one(place)?;
     let words = array_words(place)?;

@@ -47,7 +47,8 @@ fn is_name(place: &Place) -> bool
 /// Whether what stands behind a parenthesis and attributes makes it that of parameters, where no
 /// name must come.
 fn opens_params(attrs: &[Attr], place: &Place) -> bool
-    ensures { result ≡ declaring.opens_params attrs.now place.now.scopes (kind_at place.now.rest.now) }
+    ensures { result ≡ declaring.opens_params attrs.now place.now.scopes
+        (kind_at place.now.rest.now) }
 {
     match attrs {
         [] => is_close_paren(kind_at(place.rest)) || begins_word(place),
@@ -91,7 +92,8 @@ fn paren<'a, F>(
 where
     F: Fn(Ask, &mut Place<'a>) -> Result<Answer, ReadError>,
     requires { Lends F.Fn lent.now depth }
-    ensures { ReadsDeclr place.old place.new result (paren_behind depth mode wanted flag opening attrs.items room) }
+    ensures { ReadsDeclr place.old place.new result
+        (paren_behind depth mode wanted flag opening attrs.items room) }
 {
     let inner = room.saturating_sub(1);
     let found = declr_inside(lent, mode, wanted, flag, inner, place, depth)?;
@@ -117,7 +119,8 @@ fn named_paren<'a, F>(
 where
     F: Fn(Ask, &mut Place<'a>) -> Result<Answer, ReadError>,
     requires { Lends F.Fn lent.now depth }
-    ensures { ReadsDeclr place.old place.new result (declaring.named_paren (knot depth) wanted flag room) }
+    ensures { ReadsDeclr place.old place.new result
+        (declaring.named_paren (knot depth) wanted flag room) }
 {
     room_for(2, room, place)?;
     let opening = take_one(place)?;
@@ -151,7 +154,8 @@ fn opened_by<'a, F>(
 where
     F: Fn(Ask, &mut Place<'a>) -> Result<Answer, ReadError>,
     requires { Lends F.Fn lent.now depth }
-    ensures { ReadsDeclr place.old place.new result (declaring.opened_by (knot depth) mode wanted flag opening attrs.items room) }
+    ensures { ReadsDeclr place.old place.new result
+        (declaring.opened_by (knot depth) mode wanted flag opening attrs.items room) }
 {
     if opens_params(attrs.as_slice(), place) {
         let none = Declared {
@@ -180,7 +184,8 @@ fn opened<'a, F>(
 where
     F: Fn(Ask, &mut Place<'a>) -> Result<Answer, ReadError>,
     requires { Lends F.Fn lent.now depth }
-    ensures { ReadsDeclr place.old place.new result (declaring.opened_with (knot depth) mode wanted flag room) }
+    ensures { ReadsDeclr place.old place.new result
+        (declaring.opened_with (knot depth) mode wanted flag room) }
 {
     room_for(1, room, place)?;
     let opening = take_one(place)?;
@@ -201,7 +206,8 @@ fn some_paren<'a, F>(
 where
     F: Fn(Ask, &mut Place<'a>) -> Result<Answer, ReadError>,
     requires { Lends F.Fn lent.now depth }
-    ensures { ReadsDeclr place.old place.new result (declaring.some_paren (knot depth) mode wanted flag room) }
+    ensures { ReadsDeclr place.old place.new result
+        (declaring.some_paren (knot depth) mode wanted flag room) }
 {
     match mode {
         Mode::Named => named_paren(lent, wanted, flag, room, place, depth),
@@ -224,7 +230,8 @@ fn core<'a, F>(
 where
     F: Fn(Ask, &mut Place<'a>) -> Result<Answer, ReadError>,
     requires { Lends F.Fn lent.now depth }
-    ensures { ReadsDeclr place.old place.new result (declaring.core_with (knot depth) mode wanted flag room) }
+    ensures { ReadsDeclr place.old place.new result
+        (declaring.core_with (knot depth) mode wanted flag room) }
 {
     if is_open_paren(kind_at(place.rest)) {
         some_paren(lent, mode, wanted, flag, room, place, depth)
@@ -247,7 +254,8 @@ fn direct<'a, F>(
 where
     F: Fn(Ask, &mut Place<'a>) -> Result<Answer, ReadError>,
     requires { Lends F.Fn lent.now depth }
-    ensures { ReadsDeclr place.old place.new result (declaring.direct_with (knot depth) mode wanted flag room) }
+    ensures { ReadsDeclr place.old place.new result
+        (declaring.direct_with (knot depth) mode wanted flag room) }
 {
     let core = core(lent, mode, wanted, flag, room, place, depth)?;
     suffixes(lent, core, flag, room, place, depth)
@@ -267,7 +275,8 @@ fn pointer<'a, F>(
 where
     F: Fn(Ask, &mut Place<'a>) -> Result<Answer, ReadError>,
     requires { Lends F.Fn lent.now depth }
-    ensures { ReadsDeclr place.old place.new result (declaring.pointer_with (knot depth) mode wanted flag room) }
+    ensures { ReadsDeclr place.old place.new result
+        (declaring.pointer_with (knot depth) mode wanted flag room) }
 {
     room_for(least_pointer(mode), room, place)?;
     let token = take_one(place)?;
@@ -299,7 +308,8 @@ pub fn declarator<'a, F>(
 where
     F: Fn(Ask, &mut Place<'a>) -> Result<Answer, ReadError>,
     requires { Lends F.Fn lent.now depth }
-    ensures { ReadsDeclr place.old place.new result (declaring.declr_with (knot depth) mode wanted flag room) }
+    ensures { ReadsDeclr place.old place.new result
+        (declaring.declr_with (knot depth) mode wanted flag room) }
 {
     if is_star(kind_at(place.rest)) {
         pointer(lent, mode, wanted, flag, room, place, depth)

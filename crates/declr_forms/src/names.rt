@@ -39,7 +39,8 @@ fn absent(mode: Mode, place: &mut Place) -> Result<Declared, ReadError>
 
 /// Has the innermost scope hold a name where a kind is wanted, and answers whether it may.
 fn hold_wanted(wanted: Option<Kind>, name: NameId, place: &mut Place) -> Result<bool, NoMemory>
-    ensures held { IfOk result (λ may. at_name wanted name place.old.scopes ≡ then_some may place.new.scopes) }
+    ensures held { IfOk result
+        (λ may. at_name wanted name place.old.scopes ≡ then_some may place.new.scopes) }
     ensures rest { place.new.rest ≡ place.old.rest }
 {
     match wanted {

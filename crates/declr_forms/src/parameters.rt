@@ -100,7 +100,8 @@ fn param_words<'a, F>(
 where
     F: Fn(Ask, &mut Place<'a>) -> Result<Answer, ReadError>,
     requires { Lends F.Fn lent.now depth }
-    ensures { ReadsSpecs place.old place.new result (declaring.param_words (knot depth) (sized_specs known) room) }
+    ensures { ReadsSpecs place.old place.new result
+        (declaring.param_words (knot depth) (sized_specs known) room) }
 {
     match known.words.as_slice() {
         [] => specs_here(lent, room, place, depth),
@@ -118,7 +119,8 @@ fn param_attrs(
     place: &mut Place,
     depth: u32,
 ) -> Result<Vec<Attr>, ReadError>
-    ensures { ReadsRow place.old place.new result (attrs_behind depth (some_declr_from declr.now.declr) room) }
+    ensures { ReadsRow place.old place.new result
+        (attrs_behind depth (some_declr_from declr.now.declr) room) }
 {
     if takes_attrs(declr) {
         attrs(room, place)
@@ -139,7 +141,8 @@ fn parameter<'a, F>(
 where
     F: Fn(Ask, &mut Place<'a>) -> Result<Answer, ReadError>,
     requires { Lends F.Fn lent.now depth }
-    ensures { ReadsParam place.old place.new result (declaring.param_with (knot depth) (sized_specs known) room) }
+    ensures { ReadsParam place.old place.new result
+        (declaring.param_with (knot depth) (sized_specs known) room) }
 {
     let words = param_words(lent, known, room, place, depth)?;
     let wanted = Some(Kind::Value);
@@ -186,7 +189,8 @@ fn param_turn<'a, F>(
 where
     F: Fn(Ask, &mut Place<'a>) -> Result<Answer, ReadError>,
     requires { Lends F.Fn lent.now depth }
-    ensures { Turns (list_of known.old) (list_of known.new) place.old place.new result (params_turn depth room) }
+    ensures { Turns (list_of known.old) (list_of known.new) place.old place.new result
+        (params_turn depth room) }
 {
     if let Some(_) = &known.dots {
         return Ok(false);
@@ -243,7 +247,8 @@ pub(crate) fn parameters<'a, F>(
 where
     F: Fn(Ask, &mut Place<'a>) -> Result<Answer, ReadError>,
     requires { Lends F.Fn lent.now depth }
-    ensures { ReadsParams place.old place.new result (declaring.params_with (knot depth) lead.items room) }
+    ensures { ReadsParams place.old place.new result
+        (declaring.params_with (knot depth) lead.items room) }
 {
     let mut known = ParamList {
         items: SizedParams::new(place.alloc),

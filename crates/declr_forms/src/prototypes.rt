@@ -74,7 +74,8 @@ pub(crate) fn prototype<'a, F>(
 where
     F: Fn(Ask, &mut Place<'a>) -> Result<Answer, ReadError>,
     requires { Lends F.Fn lent.now depth }
-    ensures { ReadsDeclr place.old place.new result (declaring.prototype_with (knot depth) (declared_of known) opening lead.items room) }
+    ensures { ReadsDeclr place.old place.new result
+        (declaring.prototype_with (knot depth) (declared_of known) opening lead.items room) }
 {
     let Declared {
         declr: inner,
@@ -101,7 +102,8 @@ pub(crate) fn params_behind<'a, F>(
 where
     F: Fn(Ask, &mut Place<'a>) -> Result<Answer, ReadError>,
     requires { Lends F.Fn lent.now depth }
-    ensures { ReadsDeclr place.old place.new result (declaring.params_behind (knot depth) (declared_of known) room) }
+    ensures { ReadsDeclr place.old place.new result
+        (declaring.params_behind (knot depth) (declared_of known) room) }
 {
     let opening = take_one(place)?;
     let none = Vec::new(place.alloc);

@@ -23,7 +23,8 @@ use std::mem::replace;
 
 /// Whether a declarator has the parameters directly around its name, or goes on with them.
 fn is_functions(known: &Declared, kind: TokenKind) -> bool
-    ensures { result ≡ (is_some (declared_of known.now).closed || (tokens.is_open_paren kind && declaring.is_bare (declared_of known.now).declr)) }
+    ensures { result ≡ (is_some (declared_of known.now).closed ||
+        (tokens.is_open_paren kind && declaring.is_bare (declared_of known.now).declr)) }
 {
     match &known.closed {
         Some(_) => true,
@@ -58,7 +59,8 @@ fn brackets<'a, F>(
 where
     F: Fn(Ask, &mut Place<'a>) -> Result<Answer, ReadError>,
     requires { Lends F.Fn lent.now depth }
-    ensures { ReadsDeclr place.old place.new result (brackets_at depth flag room (declared_of known)) }
+    ensures { ReadsDeclr place.old place.new result
+        (brackets_at depth flag room (declared_of known)) }
 {
     let own = room_at(flag, room, &known, kind_at(place.rest))?;
     room_above(known.declr.height, own, place)?;
@@ -78,7 +80,8 @@ fn prototypes<'a, F>(
 where
     F: Fn(Ask, &mut Place<'a>) -> Result<Answer, ReadError>,
     requires { Lends F.Fn lent.now depth }
-    ensures { ReadsDeclr place.old place.new result (params_at depth flag room (declared_of known)) }
+    ensures { ReadsDeclr place.old place.new result
+        (params_at depth flag room (declared_of known)) }
 {
     let own = room_at(flag, room, &known, kind_at(place.rest))?;
     room_above(known.declr.height, own, place)?;
@@ -105,7 +108,8 @@ fn suffix_turn<'a, F>(
 where
     F: Fn(Ask, &mut Place<'a>) -> Result<Answer, ReadError>,
     requires { Lends F.Fn lent.now depth }
-    ensures { Turns (declared_of known.old) (declared_of known.new) place.old place.new result (suffixes_turn depth flag room) }
+    ensures { Turns (declared_of known.old) (declared_of known.new) place.old place.new result
+        (suffixes_turn depth flag room) }
 {
     if is_open_bracket(kind_at(place.rest)) {
         let inner = replace(known, none());
@@ -139,7 +143,8 @@ pub(crate) fn suffixes<'a, F>(
 where
     F: Fn(Ask, &mut Place<'a>) -> Result<Answer, ReadError>,
     requires { Lends F.Fn lent.now depth }
-    ensures { ReadsDeclr place.old place.new result (more_suffixes depth flag room (declared_of core)) }
+    ensures { ReadsDeclr place.old place.new result
+        (more_suffixes depth flag room (declared_of core)) }
 {
     suffixes_step(flag, room, depth);
     let mut known = core;

@@ -19,7 +19,8 @@ pub fn type_name<'a, F>(
 where
     F: Fn(Ask, &mut Place<'a>) -> Result<Answer, ReadError>,
     requires { Lends F.Fn lent.now depth }
-    ensures { ReadsTypeName place.old place.new result (declaring.type_name_with (knot depth) room) }
+    ensures { ReadsTypeName place.old place.new result
+        (declaring.type_name_with (knot depth) room) }
 {
     let inner = room.saturating_sub(1);
     let none = SizedSpecs::new(place.alloc);

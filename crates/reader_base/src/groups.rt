@@ -55,7 +55,8 @@ fn inside_of(kind: TokenKind) -> Inside
 
 /// Takes a token inside the innermost bracket, beside those round it.
 fn bracket_step(innermost: Bracket, opened: &mut Opened, place: &mut Place) -> Result<(), ReadError>
-    ensures { Reads (λ _. opened_of opened.new) place.old place.new result (tokens.bracket_step innermost (reverse opened.old.brackets.items)) }
+    ensures { Reads (λ _. opened_of opened.new) place.old place.new result
+        (tokens.bracket_step innermost (reverse opened.old.brackets.items)) }
 {
     let [first, rest @ ..] = place.rest else {
         return Err(refused(Fault::Unexpected, place.rest));
@@ -80,7 +81,8 @@ fn bracket_step(innermost: Bracket, opened: &mut Opened, place: &mut Place) -> R
 
 /// Takes a token where a bracket is open.
 fn bracket_turn(opened: &mut Opened, place: &mut Place) -> Result<bool, ReadError>
-    ensures { Turns (opened_of opened.old) (opened_of opened.new) place.old place.new result tokens.bracket_turn }
+    ensures { Turns (opened_of opened.old)
+        (opened_of opened.new) place.old place.new result tokens.bracket_turn }
 {
     match opened.brackets.pop() {
         Some(innermost) => {
@@ -170,7 +172,8 @@ fn attrs_step(room: u16)
 /// One attribute more, where one stands.
 #[tactic(auto, unfolding(c_reading::specs::Reading::and_then, c_reading::specs::Reading::fits))]
 fn attr_turn(known: &mut Vec<Attr>, room: u16, place: &mut Place) -> Result<bool, ReadError>
-    ensures { Turns known.old.items known.new.items place.old place.new result (rows.attr_turn room) }
+    ensures { Turns known.old.items known.new.items place.old place.new result
+        (rows.attr_turn room) }
 {
     if !is_attribute(kind_at(place.rest)) {
         return Ok(false);

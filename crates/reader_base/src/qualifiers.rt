@@ -143,7 +143,8 @@ fn pointer_word_turn(
     room: u16,
     place: &mut Place,
 ) -> Result<bool, ReadError>
-    ensures { Turns known.old.items known.new.items place.old place.new result (rows.pointer_word_turn room) }
+    ensures { Turns known.old.items known.new.items place.old place.new result
+        (rows.pointer_word_turn room) }
 {
     if is_attribute(kind_at(place.rest)) {
         room_for(2, room, place)?;

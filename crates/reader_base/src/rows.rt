@@ -22,7 +22,8 @@ fn extensions_step(room: u16)
 /// `__extension__` once more, where it stands.
 #[tactic(auto, unfolding(c_reading::specs::Reading::and_then, c_reading::specs::Reading::fits))]
 fn extension_turn(known: &mut Vec<TokenId>, room: u16, place: &mut Place) -> Result<bool, ReadError>
-    ensures { Turns known.old.items known.new.items place.old place.new result (rows.extension_turn room) }
+    ensures { Turns known.old.items known.new.items place.old place.new result
+        (rows.extension_turn room) }
 {
     if !is_extension(kind_at(place.rest)) {
         return Ok(false);

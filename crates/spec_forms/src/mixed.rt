@@ -126,7 +126,8 @@ impl Mixed {
     /// One word more, in constant time, amortised; where memory is wanting, no words are left.
     #[tactic(auto, using(crate::proofs::Pushing::words_pushed, crate::proofs::Pushing::mix_pushed, crate::proofs::Pushing::typed_pushed))]
     pub fn push(&mut self, next: SizedWord, alloc: Global) -> Result<(), NoMemory>
-        ensures { OnOk result (sized_specs self.new.words ≡ pushed (sized_specs self.old.words) (spec_word_of next.word)) }
+        ensures { OnOk result (sized_specs self.new.words ≡ pushed (sized_specs self.old.words)
+            (spec_word_of next.word)) }
     {
         let mix = then_class(self.mix, class_of(&next.word));
         let typed = self.typed || is_type_word(&next.word);
