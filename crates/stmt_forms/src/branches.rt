@@ -89,7 +89,8 @@ fn switch_inside<'a, F>(
 where
     F: Fn(Ask, &mut Place<'a>) -> Result<Answer, ReadError>,
     requires { Lends F.Fn lent.now depth }
-    ensures { ReadsStmt place.old place.new result (stating.headed_inside (knot depth) trees.switch_stmt room) }
+    ensures { ReadsStmt place.old place.new result
+        (stating.headed_inside (knot depth) trees.switch_stmt room) }
 {
     let below = room.saturating_sub(1);
     let keyword = take_one(place)?;
@@ -112,7 +113,8 @@ fn while_inside<'a, F>(
 where
     F: Fn(Ask, &mut Place<'a>) -> Result<Answer, ReadError>,
     requires { Lends F.Fn lent.now depth }
-    ensures { ReadsStmt place.old place.new result (stating.headed_inside (knot depth) trees.while_stmt room) }
+    ensures { ReadsStmt place.old place.new result
+        (stating.headed_inside (knot depth) trees.while_stmt room) }
 {
     let below = room.saturating_sub(1);
     let keyword = take_one(place)?;

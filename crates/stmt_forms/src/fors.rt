@@ -28,7 +28,8 @@ fn start_expr<'a, F>(
 where
     F: Fn(Ask, &mut Place<'a>) -> Result<Answer, ReadError>,
     requires { Lends F.Fn lent.now depth }
-    ensures { ReadsStart place.old place.new result (stating.start_value_with (knot depth) (begun_of begun) room) }
+    ensures { ReadsStart place.old place.new result
+        (stating.start_value_with (knot depth) (begun_of begun) room) }
 {
     let value = expr_inside(lent, Reach::Whole, begun, room, place, depth)?;
     let semi = semicolon(place)?;
