@@ -41,7 +41,8 @@ fn declaration_parts<'a>(
     declrs: &'a [Listed<InitDeclr>],
     todo: &mut Todo<'a>,
 ) -> Result<(), NoMemory>
-    ensures { OnOk result (todo.new ≡ declaration_of_parts (spec_words_from words.now.items) (init_declrs_from declrs.now) ++ todo.old) }
+    ensures { OnOk result (todo.new ≡ declaration_of_parts (spec_words_from words.now.items)
+        (init_declrs_from declrs.now) ++ todo.old) }
 {
     let is_alone = is_tag_alone(words.as_slice(), declrs);
     todo.declr_op(DeclrOp::DeclarationEnd)?;

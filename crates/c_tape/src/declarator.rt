@@ -22,7 +22,8 @@ pub fn specifiers<'a>(
     is_alone: bool,
     todo: &mut Todo<'a>,
 ) -> Result<(), NoMemory>
-    ensures { OnOk result (todo.new ≡ specs_with (words_tape is_alone (spec_words_from words.now.items)) ++ todo.old) }
+    ensures { OnOk result
+        (todo.new ≡ specs_with (words_tape is_alone (spec_words_from words.now.items)) ++ todo.old) }
 {
     todo.spec_op(SpecOp::SpecsEnd)?;
     todo.words(words.as_slice(), is_alone)
@@ -31,7 +32,8 @@ pub fn specifiers<'a>(
 /// A declarator of a name, and whether it is of a function with a body: what is in it, and then what its type is made of.
 #[tactic(auto, using(crate::proofs::TodoLemmas::list_assoc))]
 pub fn declarator<'a>(d: &'a Box<Declr>, is_own: bool, todo: &mut Todo<'a>) -> Result<(), NoMemory>
-    ensures { OnOk result (todo.new ≡ contents is_own (declr_of d.now.value) ++ pieces (declr_of d.now.value) ++ todo.old) }
+    ensures { OnOk result (todo.new ≡ contents is_own (declr_of d.now.value) ++ pieces
+        (declr_of d.now.value) ++ todo.old) }
 {
     todo.pieces(d)?;
     todo.contents(d, is_own)
@@ -76,7 +78,9 @@ fn some_size<'a>(size: &'a Option<ArraySize>, todo: &mut Todo<'a>) -> Result<(),
 }
 
 fn stated_params<'a>(params: &'a [Param], todo: &mut Todo<'a>) -> Result<(), NoMemory>
-    ensures { OnOk result (todo.new ≡ (if says_none (params_from params.now) then [] else params_tape (params_from params.now)) ++ todo.old) }
+    ensures { OnOk result
+        (todo.new ≡ (if says_none (params_from params.now) then [] else params_tape
+        (params_from params.now)) ++ todo.old) }
 {
     if is_void_list(params) {
         Ok(())
@@ -92,7 +96,8 @@ fn parameter_list<'a>(
     is_own: bool,
     todo: &mut Todo<'a>,
 ) -> Result<(), NoMemory>
-    ensures { OnOk result (todo.new ≡ params_with is_own (says_none (params_from params.now.items)) (params_tape (params_from params.now.items)) ++ todo.old) }
+    ensures { OnOk result (todo.new ≡ params_with is_own (says_none (params_from params.now.items))
+        (params_tape (params_from params.now.items)) ++ todo.old) }
 {
     todo.declr_op(DeclrOp::ParamsEnd)?;
     stated_params(params.as_slice(), todo)?;

@@ -68,7 +68,8 @@ fn operation<'a>(
     op: ExprOp,
     todo: &mut Todo<'a>,
 ) -> Result<(), NoMemory>
-    ensures { OnOk result (todo.new ≡ (boxed_tape left.now ++ boxed_tape right.now ++ expr op) ++ todo.old) }
+    ensures { OnOk result
+        (todo.new ≡ (boxed_tape left.now ++ boxed_tape right.now ++ expr op) ++ todo.old) }
 {
     todo.expr_op(op)?;
     todo.expr(right)?;

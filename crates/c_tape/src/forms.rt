@@ -46,7 +46,9 @@ pub fn cast<'a>(
     operand: &'a Box<Expr>,
     todo: &mut Todo<'a>,
 ) -> Result<(), NoMemory>
-    ensures { OnOk result (todo.new ≡ (type_tape words.now.items d.now ++ boxed_tape operand.now ++ form (forms.Cast «open» (last_token (expr_of operand.now.value)))) ++ todo.old) }
+    ensures { OnOk result
+        (todo.new ≡ (type_tape words.now.items d.now ++ boxed_tape operand.now ++ form
+        (forms.Cast «open» (last_token (expr_of operand.now.value)))) ++ todo.old) }
 {
     todo.form_op(FormOp::Cast {
         token: open,
@@ -63,7 +65,9 @@ pub fn size_of_value<'a>(
     operand: &'a Box<Expr>,
     todo: &mut Todo<'a>,
 ) -> Result<(), NoMemory>
-    ensures { OnOk result (todo.new ≡ (stmt stmts.Quiet ++ boxed_tape operand.now ++ form (forms.Sizeof keyword)) ++ todo.old) }
+    ensures { OnOk result
+        (todo.new ≡ (stmt stmts.Quiet ++ boxed_tape operand.now ++ form (forms.Sizeof keyword)) ++
+        todo.old) }
 {
     todo.form_op(FormOp::Sizeof { token: keyword })?;
     todo.expr(operand)?;
@@ -78,7 +82,9 @@ pub fn size_of_type<'a>(
     d: &'a Option<Box<Declr>>,
     todo: &mut Todo<'a>,
 ) -> Result<(), NoMemory>
-    ensures { OnOk result (todo.new ≡ (stmt stmts.Quiet ++ type_tape words.now.items d.now ++ form (forms.Sizeof keyword)) ++ todo.old) }
+    ensures { OnOk result
+        (todo.new ≡ (stmt stmts.Quiet ++ type_tape words.now.items d.now ++ form
+        (forms.Sizeof keyword)) ++ todo.old) }
 {
     todo.form_op(FormOp::Sizeof { token: keyword })?;
     type_name(words, d, todo)?;
@@ -106,7 +112,9 @@ pub fn compound<'a>(
     items: &'a Vec<InitItem>,
     todo: &mut Todo<'a>,
 ) -> Result<(), NoMemory>
-    ensures { OnOk result (todo.new ≡ (type_tape words.now.items d.now ++ literal_tape «open» items.now.items) ++ todo.old) }
+    ensures { OnOk result
+        (todo.new ≡ (type_tape words.now.items d.now ++ literal_tape «open» items.now.items) ++
+        todo.old) }
 {
     literal(open, items, todo)?;
     type_name(words, d, todo)
@@ -119,7 +127,9 @@ pub fn statement_expression<'a>(
     items: &'a Vec<BlockItem>,
     todo: &mut Todo<'a>,
 ) -> Result<(), NoMemory>
-    ensures { OnOk result (todo.new ≡ (in_scope (block_items_tape true (block_items_from items.now.items)) ++ form (forms.StmtExpr (ends_in_value (block_items_from items.now.items)) «open»)) ++ todo.old) }
+    ensures { OnOk result
+        (todo.new ≡ (in_scope (block_items_tape true (block_items_from items.now.items)) ++ form
+        (forms.StmtExpr (ends_in_value (block_items_from items.now.items)) «open»)) ++ todo.old) }
 {
     todo.form_op(FormOp::StmtExpr {
         has_value: has_last_value(items.as_slice()),
@@ -140,7 +150,9 @@ pub fn next_argument<'a>(
     close: TokenId,
     todo: &mut Todo<'a>,
 ) -> Result<(), NoMemory>
-    ensures { OnOk result (todo.new ≡ (boxed_tape list.now ++ type_tape words.now.items d.now ++ form (forms.VaArg keyword close)) ++ todo.old) }
+    ensures { OnOk result
+        (todo.new ≡ (boxed_tape list.now ++ type_tape words.now.items d.now ++ form
+        (forms.VaArg keyword close)) ++ todo.old) }
 {
     todo.form_op(FormOp::VaArg {
         token: keyword,
@@ -159,7 +171,9 @@ pub fn list_start<'a>(
     close: TokenId,
     todo: &mut Todo<'a>,
 ) -> Result<(), NoMemory>
-    ensures { OnOk result (todo.new ≡ (boxed_tape list.now ++ boxed_tape parameter.now ++ form (forms.VaStart keyword close)) ++ todo.old) }
+    ensures { OnOk result
+        (todo.new ≡ (boxed_tape list.now ++ boxed_tape parameter.now ++ form
+        (forms.VaStart keyword close)) ++ todo.old) }
 {
     todo.form_op(FormOp::VaStart {
         token: keyword,
@@ -178,7 +192,9 @@ pub fn list_copy<'a>(
     close: TokenId,
     todo: &mut Todo<'a>,
 ) -> Result<(), NoMemory>
-    ensures { OnOk result (todo.new ≡ (boxed_tape target.now ++ boxed_tape source.now ++ form (forms.VaCopy keyword close)) ++ todo.old) }
+    ensures { OnOk result
+        (todo.new ≡ (boxed_tape target.now ++ boxed_tape source.now ++ form
+        (forms.VaCopy keyword close)) ++ todo.old) }
 {
     todo.form_op(FormOp::VaCopy {
         token: keyword,
@@ -196,7 +212,9 @@ fn offset_steps<'a>(
     steps: &'a Vec<Desig>,
     todo: &mut Todo<'a>,
 ) -> Result<(), NoMemory>
-    ensures { OnOk result (todo.new ≡ (form (forms.OffsetMember member.now.token member.now.name) ++ steps_tape (desigs_from steps.now.items) ++ form (forms.Offset keyword)) ++ todo.old) }
+    ensures { OnOk result
+        (todo.new ≡ (form (forms.OffsetMember member.now.token member.now.name) ++ steps_tape
+        (desigs_from steps.now.items) ++ form (forms.Offset keyword)) ++ todo.old) }
 {
     todo.form_op(FormOp::Offset { token: keyword })?;
     todo.steps(steps.as_slice())?;
@@ -216,7 +234,10 @@ pub fn offset<'a>(
     steps: &'a Vec<Desig>,
     todo: &mut Todo<'a>,
 ) -> Result<(), NoMemory>
-    ensures { OnOk result (todo.new ≡ (stmt stmts.Quiet ++ type_tape words.now.items d.now ++ form (forms.OffsetMember member.now.token member.now.name) ++ steps_tape (desigs_from steps.now.items) ++ form (forms.Offset keyword)) ++ todo.old) }
+    ensures { OnOk result
+        (todo.new ≡ (stmt stmts.Quiet ++ type_tape words.now.items d.now ++ form
+        (forms.OffsetMember member.now.token member.now.name) ++ steps_tape
+        (desigs_from steps.now.items) ++ form (forms.Offset keyword)) ++ todo.old) }
 {
     offset_steps(keyword, member, steps, todo)?;
     type_name(words, d, todo)?;

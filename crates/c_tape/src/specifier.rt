@@ -75,7 +75,10 @@ fn body_begins<'a>(
 /// A struct or union.
 #[tactic(auto, using(crate::proofs::TodoLemmas::list_assoc))]
 fn struct_or_union<'a>(it: &'a Struct, is_alone: bool, todo: &mut Todo<'a>) -> Result<(), NoMemory>
-    ensures { OnOk result (todo.new ≡ struct_tape is_alone (tag_kind it.now.keyword.keyword) it.now.keyword.token it.now.tag (some_body_from it.now.body) ++ todo.old) }
+    ensures { OnOk result
+        (todo.new ≡ struct_tape is_alone
+        (tag_kind it.now.keyword.keyword) it.now.keyword.token it.now.tag
+        (some_body_from it.now.body) ++ todo.old) }
 {
     let kind = kind_of_tag(it.keyword.keyword);
     match &it.body {
@@ -96,7 +99,8 @@ fn enum_parts<'a>(
     body: &'a Option<BracedList<Enumerator>>,
     todo: &mut Todo<'a>,
 ) -> Result<(), NoMemory>
-    ensures { OnOk result (todo.new ≡ enum_body_tape keyword tag.now (some_enum_body_from body.now) ++ todo.old) }
+    ensures { OnOk result
+        (todo.new ≡ enum_body_tape keyword tag.now (some_enum_body_from body.now) ++ todo.old) }
 {
     match body {
         None => tag_alone(TagKind::Enum, tag, false, todo),
@@ -162,7 +166,9 @@ pub fn expand_words<'a>(
 }
 
 fn unnamed_struct<'a>(it: &'a Struct, todo: &mut Todo<'a>) -> Result<(), NoMemory>
-    ensures { OnOk result (todo.new ≡ unnamed_word_tape (struct_type it.now.keyword it.now.attrs.items it.now.tag (some_body_from it.now.body)) ++ todo.old) }
+    ensures { OnOk result
+        (todo.new ≡ unnamed_word_tape (struct_type it.now.keyword it.now.attrs.items it.now.tag
+        (some_body_from it.now.body)) ++ todo.old) }
 {
     match &it.tag {
         None => todo.spec_op(SpecOp::UnnamedMember {
@@ -210,7 +216,8 @@ fn members<'a>(
     declrs: &'a [Listed<MemDeclr>],
     todo: &mut Todo<'a>,
 ) -> Result<(), NoMemory>
-    ensures { OnOk result (todo.new ≡ members_tape (spec_words_from words.now.items) (mem_declrs_from declrs.now) ++ todo.old) }
+    ensures { OnOk result (todo.new ≡ members_tape (spec_words_from words.now.items)
+        (mem_declrs_from declrs.now) ++ todo.old) }
 {
     match declrs.split_first() {
         None => todo.unnamed(words.as_slice()),
@@ -223,7 +230,11 @@ fn members<'a>(
 
 #[tactic(auto, using(crate::proofs::TodoLemmas::list_assoc))]
 fn member<'a>(it: &'a Member, todo: &mut Todo<'a>) -> Result<(), NoMemory>
-    ensures { OnOk result (todo.new ≡ (specs_with (words_tape false (spec_words_from it.now.specs.words.items)) ++ members_tape (spec_words_from it.now.specs.words.items) (mem_declrs_from it.now.declrs.items) ++ declr declrs_ops.DeclarationEnd) ++ todo.old) }
+    ensures { OnOk result
+        (todo.new ≡ (specs_with
+        (words_tape false (spec_words_from it.now.specs.words.items)) ++ members_tape
+        (spec_words_from it.now.specs.words.items)
+        (mem_declrs_from it.now.declrs.items) ++ declr declrs_ops.DeclarationEnd) ++ todo.old) }
 {
     todo.declr_op(DeclrOp::DeclarationEnd)?;
     members(&it.specs.words, it.declrs.as_slice(), todo)?;
@@ -269,7 +280,10 @@ fn named_member<'a>(
     width: &'a Option<Marked<Box<Expr>>>,
     todo: &mut Todo<'a>,
 ) -> Result<(), NoMemory>
-    ensures { OnOk result (todo.new ≡ (contents false (declr_of it.now.value) ++ pieces (declr_of it.now.value) ++ declr declrs_ops.Member ++ some_value_tape (some_value_from width.now)) ++ todo.old) }
+    ensures { OnOk result
+        (todo.new ≡ (contents false (declr_of it.now.value) ++ pieces
+        (declr_of it.now.value) ++ declr declrs_ops.Member ++ some_value_tape
+        (some_value_from width.now)) ++ todo.old) }
 {
     some_value(width, todo)?;
     todo.declr_op(DeclrOp::Member)?;

@@ -30,7 +30,8 @@ fn dropped<'a>(e: &'a Option<Box<Expr>>, todo: &mut Todo<'a>) -> Result<(), NoMe
 /// An expression whose value is dropped.
 #[tactic(auto, using(crate::proofs::TodoLemmas::list_assoc))]
 fn condition<'a>(e: &'a Box<Expr>, todo: &mut Todo<'a>) -> Result<(), NoMemory>
-    ensures { OnOk result (todo.new ≡ expr_tape false (expr_of e.now.value) ++ stmt stmts.Pop ++ todo.old) }
+    ensures { OnOk result
+        (todo.new ≡ expr_tape false (expr_of e.now.value) ++ stmt stmts.Pop ++ todo.old) }
 {
     todo.stmt_op(StmtOp::Pop)?;
     todo.expr(e)
@@ -41,7 +42,9 @@ fn expression_statement<'a>(
     is_kept: bool,
     todo: &mut Todo<'a>,
 ) -> Result<(), NoMemory>
-    ensures { OnOk result (todo.new ≡ (if is_kept then some_expr_tape (some_expr_from e.now) else dropped_tape (some_expr_from e.now)) ++ todo.old) }
+    ensures { OnOk result
+        (todo.new ≡ (if is_kept then some_expr_tape (some_expr_from e.now) else dropped_tape
+        (some_expr_from e.now)) ++ todo.old) }
 {
     if is_kept {
         some_expr(e, todo)
@@ -74,7 +77,8 @@ fn returned<'a>(
 /// A statement inside another one, with a scope of its own.
 #[tactic(auto, using(crate::proofs::TodoLemmas::list_assoc))]
 fn part<'a>(s: &'a Box<Stmt>, todo: &mut Todo<'a>) -> Result<(), NoMemory>
-    ensures { OnOk result (todo.new ≡ in_scope (stmt_tape false (stmt_of s.now.value)) ++ todo.old) }
+    ensures { OnOk result
+        (todo.new ≡ in_scope (stmt_tape false (stmt_of s.now.value)) ++ todo.old) }
 {
     todo.stmt_op(StmtOp::Leave)?;
     todo.stmt(s)?;
@@ -92,7 +96,9 @@ fn some_else<'a>(other: &'a Option<Marked<Box<Stmt>>>, todo: &mut Todo<'a>) -> R
 
 #[tactic(auto, using(crate::proofs::TodoLemmas::list_assoc))]
 fn block<'a>(items: &'a Vec<BlockItem>, todo: &mut Todo<'a>) -> Result<(), NoMemory>
-    ensures { OnOk result (todo.new ≡ in_scope (block_items_tape false (block_items_from items.now.items)) ++ todo.old) }
+    ensures { OnOk result
+        (todo.new ≡ in_scope
+        (block_items_tape false (block_items_from items.now.items)) ++ todo.old) }
 {
     todo.stmt_op(StmtOp::Leave)?;
     todo.block_items(items.as_slice(), false)?;
@@ -101,7 +107,9 @@ fn block<'a>(items: &'a Vec<BlockItem>, todo: &mut Todo<'a>) -> Result<(), NoMem
 
 #[tactic(auto, using(crate::proofs::TodoLemmas::list_assoc))]
 fn case<'a>(e: &'a Box<Expr>, body: &'a Box<Stmt>, todo: &mut Todo<'a>) -> Result<(), NoMemory>
-    ensures { OnOk result (todo.new ≡ (quietly (expr_tape false (expr_of e.now.value)) ++ stmt_tape false (stmt_of body.now.value)) ++ todo.old) }
+    ensures { OnOk result
+        (todo.new ≡ (quietly (expr_tape false (expr_of e.now.value)) ++ stmt_tape false
+        (stmt_of body.now.value)) ++ todo.old) }
 {
     todo.stmt(body)?;
     todo.quiet(e)
@@ -114,7 +122,10 @@ fn choice<'a>(
     other: &'a Option<Marked<Box<Stmt>>>,
     todo: &mut Todo<'a>,
 ) -> Result<(), NoMemory>
-    ensures { OnOk result (todo.new ≡ in_scope (expr_tape false (expr_of e.now.value) ++ stmt stmts.Pop ++ in_scope (stmt_tape false (stmt_of body.now.value)) ++ some_else_tape (some_else_from other.now)) ++ todo.old) }
+    ensures { OnOk result
+        (todo.new ≡ in_scope (expr_tape false (expr_of e.now.value) ++ stmt stmts.Pop ++ in_scope
+        (stmt_tape false (stmt_of body.now.value)) ++ some_else_tape (some_else_from other.now)) ++
+        todo.old) }
 {
     todo.stmt_op(StmtOp::Leave)?;
     some_else(other, todo)?;
@@ -130,7 +141,9 @@ fn switch_or_while<'a>(
     body: &'a Box<Stmt>,
     todo: &mut Todo<'a>,
 ) -> Result<(), NoMemory>
-    ensures { OnOk result (todo.new ≡ in_scope (expr_tape false (expr_of e.now.value) ++ stmt stmts.Pop ++ in_scope (stmt_tape false (stmt_of body.now.value))) ++ todo.old) }
+    ensures { OnOk result
+        (todo.new ≡ in_scope (expr_tape false (expr_of e.now.value) ++ stmt stmts.Pop ++ in_scope
+        (stmt_tape false (stmt_of body.now.value))) ++ todo.old) }
 {
     todo.stmt_op(StmtOp::Leave)?;
     part(body, todo)?;
@@ -140,7 +153,9 @@ fn switch_or_while<'a>(
 
 #[tactic(auto, using(crate::proofs::TodoLemmas::list_assoc))]
 fn do_while<'a>(body: &'a Box<Stmt>, e: &'a Box<Expr>, todo: &mut Todo<'a>) -> Result<(), NoMemory>
-    ensures { OnOk result (todo.new ≡ in_scope (in_scope (stmt_tape false (stmt_of body.now.value)) ++ expr_tape false (expr_of e.now.value) ++ stmt stmts.Pop) ++ todo.old) }
+    ensures { OnOk result
+        (todo.new ≡ in_scope (in_scope (stmt_tape false (stmt_of body.now.value)) ++ expr_tape false
+        (expr_of e.now.value) ++ stmt stmts.Pop) ++ todo.old) }
 {
     todo.stmt_op(StmtOp::Leave)?;
     condition(e, todo)?;
@@ -156,7 +171,10 @@ fn for_behind<'a>(
     body: &'a Box<Stmt>,
     todo: &mut Todo<'a>,
 ) -> Result<(), NoMemory>
-    ensures { OnOk result (todo.new ≡ (dropped_tape (some_expr_from e.now) ++ dropped_tape (some_expr_from step.now) ++ in_scope (stmt_tape false (stmt_of body.now.value)) ++ stmt stmts.Leave) ++ todo.old) }
+    ensures { OnOk result
+        (todo.new ≡ (dropped_tape (some_expr_from e.now) ++ dropped_tape
+        (some_expr_from step.now) ++ in_scope
+        (stmt_tape false (stmt_of body.now.value)) ++ stmt stmts.Leave) ++ todo.old) }
 {
     todo.stmt_op(StmtOp::Leave)?;
     part(body, todo)?;
@@ -172,7 +190,10 @@ fn for_declared<'a>(
     body: &'a Box<Stmt>,
     todo: &mut Todo<'a>,
 ) -> Result<(), NoMemory>
-    ensures { OnOk result (todo.new ≡ in_scope (declaration_tape (declaration_of it.now.value) ++ dropped_tape (some_expr_from e.now) ++ dropped_tape (some_expr_from step.now) ++ in_scope (stmt_tape false (stmt_of body.now.value))) ++ todo.old) }
+    ensures { OnOk result
+        (todo.new ≡ in_scope (declaration_tape (declaration_of it.now.value) ++ dropped_tape
+        (some_expr_from e.now) ++ dropped_tape (some_expr_from step.now) ++ in_scope
+        (stmt_tape false (stmt_of body.now.value))) ++ todo.old) }
 {
     for_behind(e, step, body, todo)?;
     declaration(it, todo)?;
@@ -187,7 +208,10 @@ fn for_value<'a>(
     body: &'a Box<Stmt>,
     todo: &mut Todo<'a>,
 ) -> Result<(), NoMemory>
-    ensures { OnOk result (todo.new ≡ in_scope (dropped_tape (some_expr_from value.now) ++ dropped_tape (some_expr_from e.now) ++ dropped_tape (some_expr_from step.now) ++ in_scope (stmt_tape false (stmt_of body.now.value))) ++ todo.old) }
+    ensures { OnOk result
+        (todo.new ≡ in_scope (dropped_tape (some_expr_from value.now) ++ dropped_tape
+        (some_expr_from e.now) ++ dropped_tape (some_expr_from step.now) ++ in_scope
+        (stmt_tape false (stmt_of body.now.value))) ++ todo.old) }
 {
     for_behind(e, step, body, todo)?;
     dropped(value, todo)?;
@@ -245,7 +269,8 @@ pub fn expand_stmt<'a>(s: &'a Stmt, is_kept: bool, todo: &mut Todo<'a>) -> Resul
 }
 
 fn block_item<'a>(item: &'a BlockItem, is_kept: bool, todo: &mut Todo<'a>) -> Result<(), NoMemory>
-    ensures { OnOk result (todo.new ≡ block_item_tape is_kept (block_item_of item.now) ++ todo.old) }
+    ensures { OnOk result
+        (todo.new ≡ block_item_tape is_kept (block_item_of item.now) ++ todo.old) }
 {
     match item {
         BlockItem::Decl(it) => decl(it, todo),
@@ -260,7 +285,8 @@ pub fn expand_block_items<'a>(
     is_kept: bool,
     todo: &mut Todo<'a>,
 ) -> Result<(), NoMemory>
-    ensures { OnOk result (todo.new ≡ block_items_tape is_kept (block_items_from items.now) ++ todo.old) }
+    ensures { OnOk result
+        (todo.new ≡ block_items_tape is_kept (block_items_from items.now) ++ todo.old) }
 {
     match items.split_first() {
         None => Ok(()),

@@ -60,7 +60,8 @@ pub fn is_void_list(params: &[Param]) -> bool
 }
 
 fn is_void_param(param: &Param, rest: &[Param]) -> bool
-    ensures { result ≡ says_none (more_params (spec_words_from param.now.specs.words.items) (some_declr_from param.now.declr) param.now.attrs.items (params_from rest.now)) }
+    ensures { result ≡ says_none (more_params (spec_words_from param.now.specs.words.items)
+        (some_declr_from param.now.declr) param.now.attrs.items (params_from rest.now)) }
 {
     match (&param.declr, rest.split_first()) {
         (None, None) => are_bare(param.specs.words.as_slice()),

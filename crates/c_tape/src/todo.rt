@@ -171,7 +171,8 @@ impl<'a> Todo<'a> {
     /// An expression that says nothing.
     #[tactic(auto, using(crate::proofs::TodoLemmas::list_assoc))]
     pub fn quiet(&mut self, e: &'a Box<Expr>) -> Result<(), NoMemory>
-        ensures { OnOk result (self.new ≡ quietly (expr_tape false (expr_of e.now.value)) ++ self.old) }
+        ensures { OnOk result
+            (self.new ≡ quietly (expr_tape false (expr_of e.now.value)) ++ self.old) }
     {
         self.stmt_op(StmtOp::Loud)?;
         self.expr(e)?;
@@ -180,7 +181,8 @@ impl<'a> Todo<'a> {
 
     #[tactic(auto, using(crate::proofs::TodoLemmas::pending_push))]
     pub fn words(&mut self, words: &'a [SpecWord], is_alone: bool) -> Result<(), NoMemory>
-        ensures { OnOk result (self.new ≡ words_tape is_alone (spec_words_from words.now) ++ self.old) }
+        ensures { OnOk result
+            (self.new ≡ words_tape is_alone (spec_words_from words.now) ++ self.old) }
     {
         match self.tasks.push(Task::Words(words, is_alone)) {
             Ok(()) => Ok(()),
@@ -210,7 +212,8 @@ impl<'a> Todo<'a> {
 
     #[tactic(auto, using(crate::proofs::TodoLemmas::pending_push))]
     pub fn block_items(&mut self, items: &'a [BlockItem], is_kept: bool) -> Result<(), NoMemory>
-        ensures { OnOk result (self.new ≡ block_items_tape is_kept (block_items_from items.now) ++ self.old) }
+        ensures { OnOk result
+            (self.new ≡ block_items_tape is_kept (block_items_from items.now) ++ self.old) }
     {
         match self.tasks.push(Task::BlockItems(items, is_kept)) {
             Ok(()) => Ok(()),
@@ -270,7 +273,8 @@ impl<'a> Todo<'a> {
 
     #[tactic(auto, using(crate::proofs::TodoLemmas::pending_push))]
     pub fn struct_items(&mut self, items: &'a [StructItem]) -> Result<(), NoMemory>
-        ensures { OnOk result (self.new ≡ struct_items_tape (struct_items_from items.now) ++ self.old) }
+        ensures { OnOk result
+            (self.new ≡ struct_items_tape (struct_items_from items.now) ++ self.old) }
     {
         match self.tasks.push(Task::StructItems(items)) {
             Ok(()) => Ok(()),
@@ -280,7 +284,8 @@ impl<'a> Todo<'a> {
 
     #[tactic(auto, using(crate::proofs::TodoLemmas::pending_push))]
     pub fn mem_declrs(&mut self, declrs: &'a [Listed<MemDeclr>]) -> Result<(), NoMemory>
-        ensures { OnOk result (self.new ≡ mem_declrs_tape (mem_declrs_from declrs.now) ++ self.old) }
+        ensures { OnOk result
+            (self.new ≡ mem_declrs_tape (mem_declrs_from declrs.now) ++ self.old) }
     {
         match self.tasks.push(Task::MemDeclrs(declrs)) {
             Ok(()) => Ok(()),
@@ -290,7 +295,8 @@ impl<'a> Todo<'a> {
 
     #[tactic(auto, using(crate::proofs::TodoLemmas::pending_push))]
     pub fn enumerators(&mut self, items: &'a [Enumerator]) -> Result<(), NoMemory>
-        ensures { OnOk result (self.new ≡ enumerators_tape (enumerators_from items.now) ++ self.old) }
+        ensures { OnOk result
+            (self.new ≡ enumerators_tape (enumerators_from items.now) ++ self.old) }
     {
         match self.tasks.push(Task::Enumerators(items)) {
             Ok(()) => Ok(()),
@@ -380,7 +386,8 @@ impl<'a> Todo<'a> {
 
     #[tactic(auto, using(crate::proofs::TodoLemmas::pending_push))]
     pub fn init_declrs(&mut self, declrs: &'a [Listed<InitDeclr>]) -> Result<(), NoMemory>
-        ensures { OnOk result (self.new ≡ init_declrs_tape (init_declrs_from declrs.now) ++ self.old) }
+        ensures { OnOk result
+            (self.new ≡ init_declrs_tape (init_declrs_from declrs.now) ++ self.old) }
     {
         match self.tasks.push(Task::InitDeclrs(declrs)) {
             Ok(()) => Ok(()),
