@@ -31,7 +31,8 @@ pub trait Files {
     /// A start that fails counts among the names like one that does not fail.
     fn start(&mut self, name: &str) -> Result<(), Failed>
         ensures contents { contents self.new ≡ contents self.old }
-        ensures rest { OnOk result (rest self.new ≡ option_map (λ files. content_of files name.now) (contents self.old)) }
+        ensures rest { OnOk result (rest self.new ≡ option_map (λ files. content_of files name.now)
+            (contents self.old)) }
         ensures started { Records (started self.old) (started self.new) name.now }
         ensures count { GoesOn (faults self.old) (faults self.new) }
         ensures failed { OnErr result (Rose (faults self.old) (faults self.new)) };
@@ -40,7 +41,8 @@ pub trait Files {
     fn next(&mut self, into: &mut [u8]) -> Result<usize, Failed>
         requires { 0 < length into.old }
         ensures contents { contents self.new ≡ contents self.old }
-        ensures moves { IfOk result (λ n. Consumes (rest self.old) (rest self.new) (take n into.new)) }
+        ensures moves { IfOk result
+            (λ n. Consumes (rest self.old) (rest self.new) (take n into.new)) }
         ensures end { IfOk result (λ n. IfSome (rest self.old) (λ left. (n ≡ 0) ↔ (left ≡ []))) }
         ensures within { IfOk result (λ n. n ≤ length into.new) }
         ensures started { started self.new ≡ started self.old }

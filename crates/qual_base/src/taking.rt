@@ -46,11 +46,15 @@ pub fn take_all<F: Files>(
     limit: usize,
 ) -> Result<Vec<u8>, TakeFault>
     requires { limit < usize.MAX }
-    ensures whole { IfOk result (λ v. IfSome (F.contents files.old) (λ all. v.items ≡ content_of all name.now)) }
+    ensures whole { IfOk result
+        (λ v. IfSome (F.contents files.old) (λ all. v.items ≡ content_of all name.now)) }
     ensures within { IfOk result (λ v. vec_len v ≤ limit) }
-    ensures fits { IfOk result (λ _. IfSome (F.contents files.old) (λ all. length (content_of all name.now) ≤ limit)) }
-    ensures too_large { IsErrOf result TakeFault.TooLarge → IfSome (F.contents files.old) (λ all. limit < length (content_of all name.now)) }
-    ensures read_fault { IsErrOf result TakeFault.ReadFault → Rose (F.faults files.old) (F.faults files.new) }
+    ensures fits { IfOk result
+        (λ _. IfSome (F.contents files.old) (λ all. length (content_of all name.now) ≤ limit)) }
+    ensures too_large { IsErrOf result TakeFault.TooLarge → IfSome (F.contents files.old)
+        (λ all. limit < length (content_of all name.now)) }
+    ensures read_fault { IsErrOf result TakeFault.ReadFault → Rose (F.faults files.old)
+        (F.faults files.new) }
     ensures count { GoesOn (F.faults files.old) (F.faults files.new) }
     ensures started { Records (F.started files.old) (F.started files.new) name.now }
     ensures contents { F.contents files.new ≡ F.contents files.old }

@@ -39,7 +39,8 @@ impl QualWords {
     /// memory the words stay as they were.
     pub fn push(&mut self, word: &[u8], lattice: LatticeNo, elem: Elem) -> Result<(), NoMemory>
         ensures pairs { OnOk result (self.new ≡ with_pair self.old (word.now, (lattice, elem))) }
-        ensures means { OnOk result (MeansTheSame self.new (self.old ++ (word.now, (lattice, elem)) ∷ [])) }
+        ensures means { OnOk result
+            (MeansTheSame self.new (self.old ++ (word.now, (lattice, elem)) ∷ [])) }
         ensures err { OnErr result (self.new ≡ self.old) }
     {
         if self.pairs.contains_key(word) {

@@ -41,7 +41,14 @@ impl MemFiles {
     /// The names that were started are kept with this allocator. Where there is no memory for one, the call goes on,
     /// and from then on the names are not told.
     pub fn new(alloc: Global, files: Vec<(String, Vec<u8>)>, fail: Vec<u64>) -> MemFiles
-        ensures { result ≡ record { files = files_of files.items; fail = fail.items; calls = 0; faults = 0; started = Some []; rest = [] } }
+        ensures { result ≡ record {
+          files = files_of files.items;
+          fail = fail.items;
+          calls = 0;
+          faults = 0;
+          started = Some [];
+          rest = [];
+        } }
     {
         MemFiles {
             files,
@@ -81,12 +88,15 @@ impl Files for MemFiles {
     ghost faults = { λ s. s.faults };
 
     fn start(&mut self, name: &str) -> Result<(), Failed>
-        ensures fails { is_err result ≡ (fails_at self.old.fail (one_more self.old.calls) || not (has_file self.old.files name.now)) }
-        ensures rest { self.new.rest ≡ (if is_err result then self.old.rest else content_of self.old.files name.now) }
+        ensures fails { is_err result ≡ (fails_at self.old.fail (one_more self.old.calls) || not
+            (has_file self.old.files name.now)) }
+        ensures rest { self.new.rest ≡
+            (if is_err result then self.old.rest else content_of self.old.files name.now) }
         ensures started { Records self.old.started self.new.started name.now }
         ensures calls { self.new.calls ≡ one_more self.old.calls }
         ensures count { GoesOn self.old.faults self.new.faults }
-        ensures faults { self.new.faults ≡ (if is_err result then one_more self.old.faults else self.old.faults) }
+        ensures faults { self.new.faults ≡
+            (if is_err result then one_more self.old.faults else self.old.faults) }
         ensures files { self.new.files ≡ self.old.files }
         ensures fail { self.new.fail ≡ self.old.fail }
     {
@@ -112,7 +122,8 @@ impl Files for MemFiles {
         ensures started { self.new.started ≡ self.old.started }
         ensures calls { self.new.calls ≡ one_more self.old.calls }
         ensures count { GoesOn self.old.faults self.new.faults }
-        ensures faults { self.new.faults ≡ (if is_err result then one_more self.old.faults else self.old.faults) }
+        ensures faults { self.new.faults ≡
+            (if is_err result then one_more self.old.faults else self.old.faults) }
         ensures files { self.new.files ≡ self.old.files }
         ensures fail { self.new.fail ≡ self.old.fail }
     {

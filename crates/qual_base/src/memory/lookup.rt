@@ -7,7 +7,8 @@ ghost use Rattle.qual_base.specs.Outside.{content_of, Records};
 /// The number of the first file of that name.
 pub fn find(files: &[(String, Vec<u8>)], name: &str) -> Option<usize>
     ensures has { is_some result ≡ has_file (files_of files.now) name.now }
-    ensures content { MatchOption result (content_of (files_of files.now) name.now ≡ []) (λ n. rest_at files.now (Some (n, 0)) ≡ content_of (files_of files.now) name.now) }
+    ensures content { MatchOption result (content_of (files_of files.now) name.now ≡ [])
+        (λ n. rest_at files.now (Some (n, 0)) ≡ content_of (files_of files.now) name.now) }
 {
     for (i, file) in files.iter().enumerate() {
         if file.0.as_str() == name {

@@ -40,7 +40,15 @@ impl MemSink {
     /// numbers of `fail` fail.
     pub fn new(alloc: Global, room: usize, most: usize, fail: Vec<u64>) -> Result<MemSink, NoMemory>
         requires { 1 ≤ most }
-        ensures { IfOk result (λ sink. sink ≡ record { written = []; room = room; most = most; fail = fail.items; calls = 0; faults = 0 }) }
+        ensures { IfOk result
+            (λ sink. sink ≡ record {
+              written = [];
+              room = room;
+              most = most;
+              fail = fail.items;
+              calls = 0;
+              faults = 0;
+            }) }
     {
         match Vec::with_capacity(alloc, room) {
             Ok(bytes) => Ok(MemSink {
@@ -76,14 +84,19 @@ impl Sink for MemSink {
     ghost faults = { λ s. s.faults };
 
     fn put(&mut self, piece: &[u8]) -> Result<usize, Failed>
-        ensures fails { is_err result ≡ (fails_at self.old.fail (one_more self.old.calls) || (nat_lt 0 (length piece.now) && nat_le self.old.room (length self.old.written))) }
-        ensures took { IfOk result (λ n. n ≡ min (length piece.now) (min self.old.most (self.old.room - length self.old.written))) }
+        ensures fails { is_err result ≡ (fails_at self.old.fail (one_more self.old.calls) ||
+            (nat_lt 0 (length piece.now) && nat_le self.old.room (length self.old.written))) }
+        ensures took { IfOk result
+            (λ n. n ≡ min (length piece.now)
+            (min self.old.most (self.old.room - length self.old.written))) }
         ensures some { IfOk result (λ n. 0 < length piece.now → 0 < n) }
-        ensures written { IfOk result (λ n. self.new.written ≡ self.old.written ++ take n piece.now) }
+        ensures written { IfOk result
+            (λ n. self.new.written ≡ self.old.written ++ take n piece.now) }
         ensures err { OnErr result (self.new.written ≡ self.old.written) }
         ensures calls { self.new.calls ≡ one_more self.old.calls }
         ensures count { GoesOn self.old.faults self.new.faults }
-        ensures faults { self.new.faults ≡ (if is_err result then one_more self.old.faults else self.old.faults) }
+        ensures faults { self.new.faults ≡
+            (if is_err result then one_more self.old.faults else self.old.faults) }
         ensures room { self.new.room ≡ self.old.room }
         ensures most { self.new.most ≡ self.old.most }
         ensures fail { self.new.fail ≡ self.old.fail }
