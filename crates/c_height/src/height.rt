@@ -212,7 +212,8 @@ fn of_word(word: &SpecWord) -> u32
 #[cycle(height)]
 fn of_struct(it: &Struct) -> u32
     ensures { result ≡ capped
-        (max (attrs_height it.now.attrs.items) (some_body_height (some_body_from it.now.body)) + 1) }
+        (max (attrs_height it.now.attrs.items)
+        (some_body_height (some_body_from it.now.body)) + 1) }
 {
     let attrs = of_attrs(it.attrs.as_slice());
     match &it.body {

@@ -112,7 +112,9 @@ impl State {
     #[tactic(auto, unfolding(crate::specs::Shown::state_of))]
     fn begin_parameters(&mut self, spelling: &Spelling, is_own: bool) -> Result<(), NoMemory>
         ensures { OnOk result ((t : ℕ → CType) → state_of t self.new
-            ≡ parameters_begun (own_where is_own (linked_some (spelling_of spelling.now) (declaration (state_of t self.old)).name (state_of t self.old).names)) (state_of t self.old)) }
+            ≡ parameters_begun (own_where is_own (linked_some (spelling_of spelling.now)
+            (declaration (state_of t self.old)).name (state_of t self.old).names))
+            (state_of t self.old)) }
     {
         let own = if is_own { self.linked(spelling) } else { None };
         self.names.enter()?;
@@ -133,7 +135,8 @@ impl State {
     ) -> Result<(), NoMemory>
         requires { declared < length types.old }
         ensures shown { OnOk result ((t : ℕ → CType) → Knows t types.new → state_of t self.new
-            ≡ parameter_added (spelling_of spelling.now) (option_map named_of name.now) (t declared) (state_of t self.old)) }
+            ≡ parameter_added (spelling_of spelling.now) (option_map named_of name.now)
+            (t declared) (state_of t self.old)) }
         ensures grown { OnOk result (Grows types.old types.new) }
     {
         let ty = types.decayed(self.alloc, declared)?;

@@ -68,7 +68,8 @@ impl State {
         name: NameId,
     ) -> Result<(), NoMemory>
         ensures { OnOk result ((t : ℕ → CType) → state_of t self.new
-            ≡ with_tag kind (tag_used (spelling_of spelling.now) is_alone kind token name (state_of t self.old).names) (state_of t self.old)) }
+            ≡ with_tag kind (tag_used (spelling_of spelling.now) is_alone kind token name
+            (state_of t self.old).names) (state_of t self.old)) }
     {
         let number = use_tag(&mut self.names, spelling, is_alone, kind, token, name)?;
         self.specifiers.so_far = tag_type(kind, number, &self.specifiers.so_far);
@@ -79,7 +80,11 @@ impl State {
     #[tactic(auto, unfolding(crate::specs::Shown::state_of))]
     fn open_body(&mut self, kind: TagKind, begun: &Begun) -> Result<(), NoMemory>
         ensures { OnOk result ((t : ℕ → CType) → state_of t self.new
-            ≡ with_body kind (record { number = begun.now.number; members_of = begun.now.members_of; names = (state_of t self.old).names }) (state_of t self.old)) }
+            ≡ with_body kind (record {
+              number = begun.now.number;
+              members_of = begun.now.members_of;
+              names = (state_of t self.old).names;
+            }) (state_of t self.old)) }
     {
         let mut outer = mem::replace(&mut self.specifiers, no_specifiers(self.alloc));
         outer.so_far = tag_type(kind, begun.number, &outer.so_far);
@@ -99,7 +104,8 @@ impl State {
         name: NameId,
     ) -> Result<(), NoMemory>
         ensures { OnOk result ((t : ℕ → CType) → state_of t self.new
-            ≡ with_body kind (tag_begun (spelling_of spelling.now) kind token name (state_of t self.old).names) (state_of t self.old)) }
+            ≡ with_body kind (tag_begun (spelling_of spelling.now) kind token name
+            (state_of t self.old).names) (state_of t self.old)) }
     {
         let begun = begin_tag(&mut self.names, spelling, kind, token, name)?;
         self.open_body(kind, &begun)
@@ -109,7 +115,8 @@ impl State {
     #[tactic(auto, unfolding(crate::specs::Shown::state_of))]
     fn begin_untagged(&mut self, kind: TagKind, at: &Place) -> Result<(), NoMemory>
         ensures { OnOk result ((t : ℕ → CType) → state_of t self.new
-            ≡ with_body kind (untagged_begun at.now kind (state_of t self.old).names) (state_of t self.old)) }
+            ≡ with_body kind (untagged_begun at.now kind (state_of t self.old).names)
+            (state_of t self.old)) }
     {
         let begun = begin_untagged(&mut self.names, kind, at)?;
         self.open_body(kind, &begun)

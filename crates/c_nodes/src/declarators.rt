@@ -175,7 +175,8 @@ fn array(
         (λ d. trees.array d «open» words.items (some_size_from size) close)
         (λ d. trees.abs_array d «open» words.items (some_size_from size) close) }
     ensures height { declr_height (declr_of result)
-        ≡ max (some_declr_height (some_declr_from inner)) (some_size_height (some_size_from size)) + 1 }
+        ≡ max (some_declr_height (some_declr_from inner))
+        (some_size_height (some_size_from size)) + 1 }
 {
     match inner {
         Some(inner) if is_named(&inner) => c_tree::array(inner, open, words, size, close),
@@ -219,7 +220,8 @@ fn params(
         (λ d. trees.abs_params d «open» (params_from params.items) (option_map dots_of dots)
         close) }
     ensures height { declr_height (declr_of result)
-        ≡ max (some_declr_height (some_declr_from inner)) (params_height (params_from params.items)) + 1 }
+        ≡ max (some_declr_height (some_declr_from inner))
+        (params_height (params_from params.items)) + 1 }
 {
     match inner {
         Some(inner) if is_named(&inner) => c_tree::params(inner, open, params, dots, close),

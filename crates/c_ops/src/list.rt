@@ -138,7 +138,8 @@ impl OpList {
     fn whole(&self, count: usize, last: u32) -> u32
         requires { count ≤ length self.now.rest }
         ensures { (e : _) → last ≡ capped (expr_height e) → result ≡ capped
-            (expr_height (finished (waits_at (expr_of self.now.first.value) self.now.rest count) e)) }
+            (expr_height
+            (finished (waits_at (expr_of self.now.first.value) self.now.rest count) e)) }
     {
         let mut height = last;
         let mut below = count;

@@ -3,4 +3,3 @@ pub mod Parts
 pub mod Pending
 pub mod Tape
 pub mod Tests
-pub mod Tokens

@@ -10,7 +10,7 @@ use Rattle.c_tree.specs.Lists.{some_declr_from, init_items_from}
 use Rattle.c_tree.specs.Unit.{spec_words_from}
 use Rattle.tape_ops.specs.declared.op.Op.{Op}
 use Rattle.tape_ops.specs.declared.initialiser.InitOp.TheVariants as inits
-use Rattle.c_tape.specs.Tokens.{first_word}
+use Rattle.c_tree.specs.Firsts.{first_word}
 use Rattle.tape_ops.specs.declared.declarator.DeclrOp.TheVariants as declrs
 use Rattle.c_tree.specs.Tree.{SpecWords, InitDeclrs}
 use Rattle.c_tape.specs.Tests.{declares_tag}

@@ -29,7 +29,7 @@ use Rattle.c_tree.specs.Tree.{Expr, operation, cast, prefix, sizeof_value, sizeo
 use Rattle.c_syntax.specs.declared.declaration.Item as rust_item
 use Rattle.c_tree.specs.Unit.{item_of, Item, function_item, decl_item, asm_item, semi_item}
 use Rattle.c_tree.specs.Ends.{first_token, last_token, first_text}
-use Rattle.c_tape.specs.Tokens.{qual_token, first_word}
+use Rattle.c_tree.specs.Firsts.{qual_token, first_word}
 use Rattle.c_tape.specs.Tests.{is_void, tag_kind, says_none, has_ellipsis, declares_tag, is_name, is_end, ends_in_value}
 
 -- a tape of one node

@@ -9,9 +9,9 @@ ghost use Rattle.c_tape.specs.Tests.{says_none};
 
 use crate::testing::{is_name_alone, is_void_list, takes_more};
 use crate::todo::Todo;
-use crate::tokens::token_of_qual;
 use c_shape::{DeclaratorShape, declarator_shape};
 use c_syntax::{ArraySize, ArrayWord, Declr, Ellipsis, Param, PointerWord, Qual, SpecWord};
+use c_tree::token_of_qual;
 use qual_base::NoMemory;
 use tape_ops::{DeclrOp, SpecOp};
 
@@ -23,7 +23,8 @@ pub fn specifiers<'a>(
     todo: &mut Todo<'a>,
 ) -> Result<(), NoMemory>
     ensures { OnOk result
-        (todo.new ≡ specs_with (words_tape is_alone (spec_words_from words.now.items)) ++ todo.old) }
+        (todo.new ≡ specs_with (words_tape is_alone (spec_words_from words.now.items))
+        ++ todo.old) }
 {
     todo.spec_op(SpecOp::SpecsEnd)?;
     todo.words(words.as_slice(), is_alone)

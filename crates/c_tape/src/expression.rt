@@ -85,8 +85,12 @@ fn conditional<'a>(
     otherwise: &'a Box<Expr>,
     todo: &mut Todo<'a>,
 ) -> Result<(), NoMemory>
-    ensures { OnOk result (todo.new ≡ (boxed_tape condition.now ++ some_expr_tape (some_expr_from middle.now) ++ boxed_tape otherwise.now
-        ++ expr (exprs.Cond (has_middle (some_expr_from middle.now)) token (first_token (expr_of condition.now.value)) (last_token (expr_of otherwise.now.value)))) ++ todo.old) }
+    ensures { OnOk result (todo.new
+        ≡ (boxed_tape condition.now ++ some_expr_tape (some_expr_from middle.now)
+        ++ boxed_tape otherwise.now
+        ++ expr (exprs.Cond (has_middle (some_expr_from middle.now)) token
+        (first_token (expr_of condition.now.value))
+        (last_token (expr_of otherwise.now.value)))) ++ todo.old) }
 {
     todo.expr_op(ExprOp::Cond {
         has_middle: is_some(middle),
@@ -116,7 +120,9 @@ fn call<'a>(
     es: &'a Vec<Expr>,
     todo: &mut Todo<'a>,
 ) -> Result<(), NoMemory>
-    ensures { OnOk result (todo.new ≡ (expr_tape true (expr_of callee.now.value) ++ exprs_tape (exprs_from es.now.items) ++ arguments (exprs_from es.now.items)
+    ensures { OnOk result (todo.new
+        ≡ (expr_tape true (expr_of callee.now.value) ++ exprs_tape (exprs_from es.now.items)
+        ++ arguments (exprs_from es.now.items)
         ++ expr (exprs.Call token (count (exprs_from es.now.items)))) ++ todo.old) }
 {
     let count = count_of(es.as_slice())?;
@@ -134,7 +140,9 @@ fn member_behind<'a>(
     member: &Identifier,
     todo: &mut Todo<'a>,
 ) -> Result<(), NoMemory>
-    ensures { OnOk result (todo.new ≡ (boxed_tape base.now ++ expr (exprs.Arrow token (first_token (expr_of base.now.value)) member.now.token)
+    ensures { OnOk result (todo.new
+        ≡ (boxed_tape base.now
+        ++ expr (exprs.Arrow token (first_token (expr_of base.now.value)) member.now.token)
         ++ expr (exprs.Dot token member.now.token member.now.name)) ++ todo.old) }
 {
     todo.expr_op(ExprOp::Dot {

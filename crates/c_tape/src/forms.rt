@@ -15,9 +15,8 @@ use crate::declarator::{some_declr, specifiers};
 use crate::initialiser::rule_of_list;
 use crate::testing::has_last_value;
 use crate::todo::Todo;
-use crate::tokens::first_of_specs;
 use c_syntax::{BlockItem, Declr, Desig, Expr, Identifier, InitItem, SpecWord};
-use c_tree::last;
+use c_tree::{first_of_specs, last};
 use qual_base::{NoMemory, TokenId};
 use tape_ops::{DeclrOp, FormOp, InitOp, StmtOp};
 

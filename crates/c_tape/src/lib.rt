@@ -14,9 +14,7 @@ mod specifier;
 mod statement;
 mod testing;
 mod todo;
-mod tokens;
 mod unit;
 
 pub use list::{Node, OpList};
-pub use tokens::{first_of_specs, first_of_word};
 pub use unit::tape;

@@ -12,11 +12,11 @@ ghost use Rattle.tape_ops.specs.declared.declarator.DeclrOp.TheVariants as declr
 use crate::declarator::{declarator, specifiers};
 use crate::testing::kind_of_tag;
 use crate::todo::Todo;
-use crate::tokens::token_of_qual;
 use c_syntax::{
     BracedList, Declr, Enum, Enumerator, Expr, Identifier, Listed, Marked, MemDeclr, Member,
     SpecWord, Struct, StructItem,
 };
+use c_tree::token_of_qual;
 use c_words::Keyword;
 use qual_base::{NoMemory, TokenId};
 use tape_ops::{DeclrOp, SpecOp, TagKind};

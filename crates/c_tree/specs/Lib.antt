@@ -9,5 +9,6 @@ pub mod WellFormed
 pub mod Unit
 pub mod Laws
 pub mod Ends
+pub mod Firsts
 pub mod Capped
 pub mod Lists

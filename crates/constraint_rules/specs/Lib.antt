@@ -1,6 +1,4 @@
-pub mod Annotations
 pub mod Demands
 pub mod Starts
 pub mod Systems
 pub mod Values
-pub mod Worlds

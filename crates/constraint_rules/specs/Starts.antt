@@ -1,128 +1,21 @@
 -- Where skeletons begin: at each declared name and at each expression that has a fresh one, in the order of the text. What is
 -- the size of an array, the width of a member, the value of an enumerator, a case label, an index of a designator, or an operand
 -- of `sizeof` or `offsetof` gives no fresh skeleton and no site; names that are declared in it have theirs.
-use Rattle.std.specs.Prelude.{ℕ, Bool, true, false, ◌&&◌, ◌||◌, not, List, [], ◌∷◌, ◌++◌, Option, None, Some, if◌then◌else◌}
-use Rattle.c_words.specs.declared.kinds.Punct.{Punct}
-use Rattle.c_words.specs.declared.kinds.Punct.TheVariants as signs
+use Rattle.std.specs.Prelude.{Bool, true, false, ◌&&◌, not, List, [], ◌∷◌, ◌++◌, Option, None, Some}
 use Rattle.c_tree.specs.Tree.{Expr, operation, cast, prefix, sizeof_value, sizeof_type, extension, index, call, dot, arrow, post, compound, name_use, number_use, char_use, text_use, paren, statement_expr, va_arg, va_start, va_copy, offset, comma, assign, cond, binary, SomeExpr, no_expr, some_expr, Exprs, no_exprs, more_exprs, SpecWords, no_words, more_words, SpecWord, storage, thread, inline_word, noreturn, qualifier, basic, struct_type, enum_type, typedef_name, attribute, SomeBody, no_body, some_body, StructItems, no_struct_items, more_struct_items, StructItem, member, member_semi, member_assert, MemDeclrs, no_mem_declrs, more_mem_declrs, MemDeclr, named, unnamed, SomeValue, no_value, some_value, EnumType, enum_of, no_enum_body, some_enum_body, Enumerators, no_enumerators, more_enumerators, Declr, pointer, declr_name, declr_paren, array, params, abs_pointer, abs_paren, abs_array, abs_params, SomeDeclr, no_declr, some_declr, SomeSize, no_size, some_size, ArraySize, size_value, size_star, Params, no_params, more_params, Init, init_value, init_braced, InitList, init_list, InitItems, no_init_items, more_init_items, Desigs, no_desigs, more_desigs, Desig, member_desig, index_desig, SomeInit, no_init, some_init, InitDeclrs, no_init_declrs, more_init_declrs, Declaration, declaration, Decl, decl_declaration, decl_assert, BlockItems, no_block_items, more_block_items, BlockItem, block_decl, block_stmt, Stmt, block, expr_stmt, attr_stmt, label, case_stmt, default_stmt, if_stmt, switch_stmt, while_stmt, do_stmt, for_stmt, goto_stmt, continue_stmt, break_stmt, return_stmt, asm_stmt, SomeElse, no_else, some_else, ForStart, start_declaration, start_value}
 use Rattle.c_tree.specs.Unit.{Item, function_item, decl_item, asm_item, semi_item}
 use Rattle.c_tree.specs.Ends.{first_text}
 use Rattle.type_table.specs.Types.{CType, base, void, pointer}
-use Rattle.name_rules.specs.Spellings.{Place, Spelling, place, Named}
-use Rattle.name_rules.specs.Scopes.{Role, typedef_role, object_role, function_role, parameter_role, field_role, enumerator_role, Declared, declared_at, Use, means, called, missing, Names}
-use Rattle.name_rules.specs.Values.{value, is_pointer, is_additive, undeclared_function}
+use Rattle.name_rules.specs.Spellings.{Place, Spelling, place}
+use Rattle.name_rules.specs.Scopes.{Names}
+use Rattle.name_rules.specs.Values.{value}
 use Rattle.name_rules.specs.Uses.{use_at, type_named_at, text_type}
 use Rattle.type_rules.specs.Tokens.{first_word, declared_name, is_bare}
 use Rattle.type_rules.specs.Shapes.{is_zero, shape_of}
-
--- A skeleton: where it begins, its type, the function that its variables belong to. At a function's name in an expression it is
--- an instance of the function that was first declared at `calls`: a call site.
-pub record Start : Type 0 where
-  pub at : Place
-  pub type : CType
-  pub owner : Option Place
-  pub calls : Option Place
-
--- what a fresh skeleton stands on: the unit, what is known of names, the function around it, and whether nothing is fresh
-pub record Around : Type 0 where
-  pub spelling : Spelling
-  pub names : Names
-  pub enclosing : Option Place
-  pub is_quiet : Bool
-
-abbrev pub quiet : Around → Around
-quiet a = record a { is_quiet = true }
-
-abbrev pub fresh : Around → ℕ → CType → List Start
-fresh a token t = if a.is_quiet then [] else record { at = place a.spelling token; type = t; owner = a.enclosing; calls = None } ∷ []
-
-abbrev pub some_fresh : Around → ℕ → Option CType → List Start
-some_fresh a token None = []
-some_fresh a token (Some t) = fresh a token t
-
--- a name's skeleton is a place of its type
-abbrev pub named_start : Declared → List Start
-named_start d = record { at = d.at; type = pointer [] d.type; owner = d.owner; calls = None } ∷ []
-
-abbrev pub declared_start : Declared → Role → List Start
-declared_start d typedef_role = []
-declared_start d object_role = named_start d
-declared_start d function_role = named_start d
-declared_start d (parameter_role i) = named_start d
-declared_start d (field_role n i) = named_start d
-declared_start d enumerator_role = []
-
-abbrev pub some_declared_start : Option Declared → List Start
-some_declared_start None = []
-some_declared_start (Some d) = declared_start d d.role
-
-abbrev pub name_start : Around → ℕ → List Start
-name_start a token = some_declared_start (declared_at a.names.declared (place a.spelling token))
-
--- a name in an expression: a function's name is an instance of it
-abbrev pub instance : Around → ℕ → Place → CType → List Start
-instance a token at t = if a.is_quiet then [] else record { at = place a.spelling token; type = pointer [] t; owner = a.enclosing; calls = Some at } ∷ []
-
-abbrev pub use_by_role : Around → ℕ → Declared → Role → List Start
-use_by_role a token d typedef_role = []
-use_by_role a token d object_role = []
-use_by_role a token d function_role = instance a token d.at d.type
-use_by_role a token d (parameter_role i) = []
-use_by_role a token d (field_role n i) = []
-use_by_role a token d enumerator_role = fresh a token (base [])
-
-abbrev pub some_use_start : Around → ℕ → Option Declared → List Start
-some_use_start a token None = []
-some_use_start a token (Some d) = use_by_role a token d d.role
-
-abbrev pub use_start : Around → ℕ → Use → List Start
-use_start a token (means at) = some_use_start a token (declared_at a.names.declared at)
-use_start a token called = fresh a token (pointer [] undeclared_function)
-use_start a token missing = []
+use Rattle.row_rules.specs.Starting.{Around, Having, Start, declared_function, fresh, fresh_where, had_name, having, is_fresh_binary, is_fresh_prefix, is_some_pointer, name_start, quiet, some_fresh, some_place, use_start, with_skeleton, without_skeleton}
 
 abbrev pub type_at : Around → SpecWords → Option CType
 type_at a ws = type_named_at a.names.type_names (place a.spelling (first_word ws))
-
--- a place of a type
-abbrev pub some_place : Option CType → Option CType
-some_place None = None
-some_place (Some t) = Some (pointer [] t)
-
-abbrev pub is_some_pointer : Option CType → Bool
-is_some_pointer None = false
-is_some_pointer (Some t) = is_pointer t
-
--- whether an operator's value is fresh: a sum with one pointer is that pointer
-abbrev pub is_fresh_sum : Bool → Bool → Bool
-is_fresh_sum true b = b
-is_fresh_sum false b = not b
-
-abbrev pub is_fresh_binary : Punct → Bool → Bool → Bool
-is_fresh_binary p a b = not (is_additive p) || is_fresh_sum a b
-
-abbrev pub is_fresh_prefix : Punct → Bool
-is_fresh_prefix signs.Plus = true
-is_fresh_prefix signs.Minus = true
-is_fresh_prefix signs.Tilde = true
-is_fresh_prefix signs.Bang = true
-is_fresh_prefix p = false
-
-abbrev pub fresh_where : Bool → List Start → List Start
-fresh_where true starts = starts
-fresh_where false starts = []
-
--- parameters that belong to a function with a body have skeletons
-pub data Having : Type 0 where
-  with_skeleton : Having
-  without_skeleton : Having
-
-abbrev pub having : Bool → Having
-having true = with_skeleton
-having false = without_skeleton
-
-abbrev pub had_name : Having → Around → ℕ → List Start
-had_name with_skeleton a token = name_start a token
-had_name without_skeleton a token = []
 
 -- a struct or union without a tag that a member is made of
 abbrev pub unnamed_start : Around → SpecWord → List Start
@@ -152,27 +45,27 @@ abbrev mutual
       ++ fresh_where (not (is_zero a.spelling a.names m) && not (is_zero a.spelling a.names e2)) (some_fresh a token (shape_of a.spelling a.names (operation e (cond (some_expr m) colon) token e2)).type)))
   expr_starts a (operation e (binary p) token e2) = expr_starts a e ++ (expr_starts a e2
       ++ fresh_where (is_fresh_binary p (is_some_pointer (value (shape_of a.spelling a.names e))) (is_some_pointer (value (shape_of a.spelling a.names e2)))) (fresh a token (base [])))
-  expr_starts a (cast opening ws d closing e) = words_starts a ws ++ (some_declr_starts a d ++ (expr_starts a e ++ some_fresh a opening (type_at a ws)))
+  expr_starts a (cast opening ws d closing e) = words_starts a ws ++ (some_declr_starts a with_skeleton d ++ (expr_starts a e ++ some_fresh a opening (type_at a ws)))
   expr_starts a (prefix token p e) = expr_starts a e ++ fresh_where (is_fresh_prefix p) (fresh a token (base []))
   expr_starts a (sizeof_value word e) = expr_starts (quiet a) e ++ fresh a word.token (base [])
-  expr_starts a (sizeof_type word opening ws d closing) = words_starts (quiet a) ws ++ (some_declr_starts (quiet a) d ++ fresh a word.token (base []))
+  expr_starts a (sizeof_type word opening ws d closing) = words_starts (quiet a) ws ++ (some_declr_starts (quiet a) with_skeleton d ++ fresh a word.token (base []))
   expr_starts a (extension keyword e) = expr_starts a e
   expr_starts a (index e opening e2 closing) = expr_starts a e ++ expr_starts a e2
   expr_starts a (call e opening es closing) = expr_starts a e ++ exprs_starts a es
   expr_starts a (dot e token name) = expr_starts a e
   expr_starts a (arrow e token name) = expr_starts a e
   expr_starts a (post e token p) = expr_starts a e
-  expr_starts a (compound opening ws d closing list) = words_starts a ws ++ (some_declr_starts a d ++ (init_list_starts a list ++ some_fresh a opening (some_place (type_at a ws))))
+  expr_starts a (compound opening ws d closing list) = words_starts a ws ++ (some_declr_starts a with_skeleton d ++ (init_list_starts a list ++ some_fresh a opening (some_place (type_at a ws))))
   expr_starts a (name_use token name) = use_start a token (use_at a.names.uses (place a.spelling token))
   expr_starts a (number_use token) = fresh a token (base [])
   expr_starts a (char_use token) = fresh a token (base [])
   expr_starts a (text_use texts) = fresh a (first_text texts) (pointer [] text_type)
   expr_starts a (paren opening e closing) = expr_starts a e
   expr_starts a (statement_expr opening opening2 items closing closing2) = block_items_starts a items ++ fresh_where (not (ends_in_value items)) (fresh a opening (void []))
-  expr_starts a (va_arg keyword opening e separator ws d closing) = expr_starts a e ++ (words_starts a ws ++ (some_declr_starts a d ++ some_fresh a keyword (type_at a ws)))
+  expr_starts a (va_arg keyword opening e separator ws d closing) = expr_starts a e ++ (words_starts a ws ++ (some_declr_starts a with_skeleton d ++ some_fresh a keyword (type_at a ws)))
   expr_starts a (va_start keyword opening e separator e2 closing) = expr_starts a e ++ (expr_starts a e2 ++ fresh a keyword (void []))
   expr_starts a (va_copy keyword opening e separator e2 closing) = expr_starts a e ++ (expr_starts a e2 ++ fresh a keyword (void []))
-  expr_starts a (offset keyword opening ws d separator name steps closing) = words_starts (quiet a) ws ++ (some_declr_starts (quiet a) d ++ (desigs_starts a steps ++ fresh a keyword (base [])))
+  expr_starts a (offset keyword opening ws d separator name steps closing) = words_starts (quiet a) ws ++ (some_declr_starts (quiet a) with_skeleton d ++ (desigs_starts a steps ++ fresh a keyword (base [])))
 
   -- whether the value of a statement expression is that of its last item
   pub ends_in_value : BlockItems → Bool
@@ -271,18 +164,15 @@ abbrev mutual
   declr_starts a h own (declr_paren opening attrs d closing) = declr_starts a h own d
   declr_starts a h own (array d opening words size closing) = declr_starts a h own d ++ some_size_starts a size
   declr_starts a h own (params d opening ps dots closing) = declr_starts a h own d ++ params_starts a (having (own && is_bare d)) ps
-  declr_starts a h own (abs_pointer star words d) = some_declr_starts a d
+  declr_starts a h own (abs_pointer star words d) = some_declr_starts a h d
   declr_starts a h own (abs_paren opening attrs d closing) = declr_starts a h own d
-  declr_starts a h own (abs_array d opening words size closing) = some_declr_starts a d ++ some_size_starts a size
-  declr_starts a h own (abs_params d opening ps dots closing) = some_declr_starts a d ++ params_starts a without_skeleton ps
+  declr_starts a h own (abs_array d opening words size closing) = some_declr_starts a h d ++ some_size_starts a size
+  declr_starts a h own (abs_params d opening ps dots closing) = some_declr_starts a h d ++ params_starts a without_skeleton ps
 
-  pub some_declr_starts : Around → SomeDeclr → List Start
-  some_declr_starts a no_declr = []
-  some_declr_starts a (some_declr d) = declr_starts a without_skeleton false d
-
-  pub param_declr_starts : Around → Having → SomeDeclr → List Start
-  param_declr_starts a h no_declr = []
-  param_declr_starts a h (some_declr d) = declr_starts a h false d
+  -- of a type name too, whose declarator has no name
+  pub some_declr_starts : Around → Having → SomeDeclr → List Start
+  some_declr_starts a h no_declr = []
+  some_declr_starts a h (some_declr d) = declr_starts a h false d
 
   pub some_size_starts : Around → SomeSize → List Start
   some_size_starts a no_size = []
@@ -294,7 +184,7 @@ abbrev mutual
 
   pub params_starts : Around → Having → Params → List Start
   params_starts a h no_params = []
-  params_starts a h (more_params ws d attrs ps) = words_starts a ws ++ (param_declr_starts a h d ++ params_starts a h ps)
+  params_starts a h (more_params ws d attrs ps) = words_starts a ws ++ (some_declr_starts a h d ++ params_starts a h ps)
 
   pub init_starts : Around → Init → List Start
   init_starts a (init_value e) = expr_starts a e
@@ -363,15 +253,6 @@ abbrev mutual
   pub for_start_starts : Around → ForStart → List Start
   for_start_starts a (start_declaration d) = declaration_starts a d
   for_start_starts a (start_value e semi) = some_expr_starts a e
-
-abbrev pub first_of : Option Declared → Option Place
-first_of None = None
-first_of (Some d) = Some d.first
-
--- the function that was first declared where a declarator's name was
-abbrev pub declared_function : Spelling → Names → Option Named → Option Place
-declared_function u s None = None
-declared_function u s (Some it) = first_of (declared_at s.declared (place u it.token))
 
 -- at file scope a fresh skeleton belongs to nobody
 abbrev pub item_starts : Spelling → Names → Item → List Start

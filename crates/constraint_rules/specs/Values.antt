@@ -1,184 +1,69 @@
 -- The skeleton of each expression (Foster et al. 2006), by cases on the tree: that of a place, which is a reference to what is in
 -- it, or that of a value.
-use Rattle.std.specs.Prelude.{ℕ, Bool, true, false, Option, None, Some, if◌then◌else◌}
-use Rattle.c_words.specs.declared.kinds.Punct.{Punct}
-use Rattle.c_words.specs.declared.kinds.Punct.TheVariants as signs
+use Rattle.std.specs.Prelude.{ℕ, if◌then◌else◌}
 use Rattle.c_tree.specs.Tree.{Expr, operation, cast, prefix, sizeof_value, sizeof_type, extension, index, call, dot, arrow, post, compound, name_use, number_use, char_use, text_use, paren, statement_expr, va_arg, va_start, va_copy, offset, comma, assign, cond, binary, no_expr, some_expr, BlockItems, no_block_items, more_block_items, BlockItem, block_decl, block_stmt, Stmt, block, expr_stmt, attr_stmt, label, case_stmt, default_stmt, if_stmt, switch_stmt, while_stmt, do_stmt, for_stmt, goto_stmt, continue_stmt, break_stmt, return_stmt, asm_stmt}
 use Rattle.c_tree.specs.Ends.{first_text}
-use Rattle.qual_types.specs.declared.look.Kind.TheVariants as kinds
-use Rattle.qual_types.specs.Skel.{Skel, flat, ref, fun}
-use Rattle.name_rules.specs.Spellings.{Place}
-use Rattle.name_rules.specs.Scopes.{Role, typedef_role, object_role, function_role, parameter_role, field_role, enumerator_role, Declared, declared_at, Use, means, called, missing, Known, body_of}
-use Rattle.name_rules.specs.Values.{is_additive, member_in}
+use Rattle.qual_types.specs.Skel.{Skel}
 use Rattle.name_rules.specs.Uses.{use_at}
 use Rattle.type_rules.specs.Shapes.{is_zero}
-use Rattle.constraint_rules.specs.Worlds.{World, at, skeleton}
-
-pub record Val : Type 0 where
-  pub is_place : Bool
-  pub skel : Skel
-
-abbrev pub a_value : Skel → Val
-a_value s = record { is_place = false; skel = s }
-
-abbrev pub a_place : Skel → Val
-a_place s = record { is_place = true; skel = s }
-
--- what a reference holds; of what is none, itself
-abbrev pub contents : Skel → Skel
-contents (ref v s) = s
-contents (flat v k) = flat v k
-contents (fun v ps r e) = fun v ps r e
-
--- the value of a place is what it holds, or the place itself where that is a function
-abbrev pub read : Skel → Skel
-read (ref v (fun u ps r e)) = ref v (fun u ps r e)
-read (ref v (flat u k)) = flat u k
-read (ref v (ref u s)) = ref u s
-read (flat v k) = flat v k
-read (fun v ps r e) = fun v ps r e
-
-abbrev pub value : Val → Skel
-value it = if it.is_place then read it.skel else it.skel
-
-abbrev pub is_ref : Skel → Bool
-is_ref (ref v s) = true
-is_ref (flat v k) = false
-is_ref (fun v ps r e) = false
-
-abbrev pub is_fun : Skel → Bool
-is_fun (ref v s) = false
-is_fun (flat v k) = false
-is_fun (fun v ps r e) = true
-
-abbrev pub is_void : Skel → Bool
-is_void (flat v kinds.Void) = true
-is_void (flat v kinds.Base) = false
-is_void (flat v (kinds.Struct n)) = false
-is_void (ref v s) = false
-is_void (fun v ps r e) = false
-
-abbrev pub result : Skel → Skel
-result (fun v ps r e) = r
-result (flat v k) = flat v k
-result (ref v s) = ref v s
-
-abbrev pub struct_of : Skel → Option ℕ
-struct_of (flat v (kinds.Struct n)) = Some n
-struct_of (flat v kinds.Base) = None
-struct_of (flat v kinds.Void) = None
-struct_of (ref v s) = None
-struct_of (fun v ps r e) = None
-
-abbrev pub member_of : World → Option ℕ → ℕ → Option Known
-member_of w None name = None
-member_of w (Some n) name = member_in (body_of w.names.aggregates n) (w.spelling.key name)
-
-abbrev pub known_skeleton : World → Option Known → Skel
-known_skeleton w None = flat 0 kinds.Base
-known_skeleton w (Some it) = skeleton w it.at
-
--- a member's skeleton is that of its declaration: all objects of a struct share it
-abbrev pub member_skel : World → Skel → ℕ → Skel
-member_skel w s name = known_skeleton w (member_of w (struct_of s) name)
-
-abbrev pub sum_of : Bool → Bool → Skel → Skel → Skel → Skel
-sum_of true true a b own = own
-sum_of true false a b own = a
-sum_of false true a b own = b
-sum_of false false a b own = own
-
--- of two operands and a fresh skeleton
-abbrev pub binary_of : Punct → Skel → Skel → Skel → Skel
-binary_of p a b own = if is_additive p then sum_of (is_ref a) (is_ref b) a b own else own
-
-abbrev pub prefix_of : World → ℕ → Punct → Val → Val
-prefix_of w token signs.Ampersand e = a_value e.skel
-prefix_of w token signs.Star e = a_place (value e)
-prefix_of w token signs.PlusPlus e = a_value (value e)
-prefix_of w token signs.MinusMinus e = a_value (value e)
-prefix_of w token p e = a_value (skeleton w (at w token))
-
-abbrev pub used_by_role : World → ℕ → Place → Role → Val
-used_by_role w token p enumerator_role = a_value (skeleton w (at w token))
-used_by_role w token p function_role = a_place (skeleton w (at w token))
-used_by_role w token p typedef_role = a_place (skeleton w p)
-used_by_role w token p object_role = a_place (skeleton w p)
-used_by_role w token p (parameter_role i) = a_place (skeleton w p)
-used_by_role w token p (field_role n i) = a_place (skeleton w p)
-
-abbrev pub used_some : World → ℕ → Option Declared → Val
-used_some w token None = a_place (flat 0 kinds.Base)
-used_some w token (Some d) = used_by_role w token d.at d.role
-
-abbrev pub used : World → ℕ → Use → Val
-used w token (means p) = used_some w token (declared_at w.names.declared p)
-used w token called = a_place (skeleton w (at w token))
-used w token missing = a_place (flat 0 kinds.Base)
+use Rattle.row_rules.specs.Vals.{Val, a_place, a_value, binary_of, branch, contents, is_ref, member_skel, own, prefix_of, result, used, value}
+use Rattle.row_rules.specs.Worlds.{World, at}
 
 module _ (w : World) where
-  -- the fresh skeleton at a token
-  abbrev pub own : ℕ → Skel
-  own token = skeleton w (at w token)
-
-  -- of a condition: a zero takes the value of the other branch
-  abbrev pub branch : Bool → Bool → ℕ → Skel → Skel → Skel
-  branch first last token a b = if last then a else if first then b else own token
-
   abbrev mutual
     pub val : Expr → Val
     val (operation e comma token e2) = a_value (value (val e2))
     val (operation e (assign p) token e2) = a_value (contents (val e).skel)
-    val (operation e (cond no_expr colon) token e2) = a_value (branch (is_zero w.spelling w.names e) (is_zero w.spelling w.names e2) token (value (val e)) (value (val e2)))
-    val (operation e (cond (some_expr m) colon) token e2) = a_value (branch (is_zero w.spelling w.names m) (is_zero w.spelling w.names e2) token (value (val m)) (value (val e2)))
-    val (operation e (binary p) token e2) = a_value (binary_of p (value (val e)) (value (val e2)) (own token))
-    val (cast opening ws d closing e) = a_value (own opening)
+    val (operation e (cond no_expr colon) token e2) = a_value (branch w (is_zero w.spelling w.names e) (is_zero w.spelling w.names e2) token (value (val e)) (value (val e2)))
+    val (operation e (cond (some_expr m) colon) token e2) = a_value (branch w (is_zero w.spelling w.names m) (is_zero w.spelling w.names e2) token (value (val m)) (value (val e2)))
+    val (operation e (binary p) token e2) = a_value (binary_of p (value (val e)) (value (val e2)) (own w token))
+    val (cast opening ws d closing e) = a_value (own w opening)
     val (prefix token p e) = prefix_of w token p (val e)
-    val (sizeof_value word e) = a_value (own word.token)
-    val (sizeof_type word opening ws d closing) = a_value (own word.token)
+    val (sizeof_value word e) = a_value (own w word.token)
+    val (sizeof_type word opening ws d closing) = a_value (own w word.token)
     val (extension keyword e) = val e
     val (index e opening e2 closing) = a_place (if is_ref (value (val e)) then value (val e) else value (val e2))
     val (call e opening es closing) = a_value (result (contents (value (val e))))
     val (dot e token name) = a_place (member_skel w (value (val e)) name.name)
     val (arrow e token name) = a_place (member_skel w (contents (value (val e))) name.name)
     val (post e token p) = a_value (value (val e))
-    val (compound opening ws d closing list) = a_place (own opening)
+    val (compound opening ws d closing list) = a_place (own w opening)
     val (name_use token name) = used w token (use_at w.names.uses (at w token))
-    val (number_use token) = a_value (own token)
-    val (char_use token) = a_value (own token)
-    val (text_use texts) = a_place (own (first_text texts))
+    val (number_use token) = a_value (own w token)
+    val (char_use token) = a_value (own w token)
+    val (text_use texts) = a_place (own w (first_text texts))
     val (paren opening e closing) = val e
     val (statement_expr opening opening2 items closing closing2) = a_value (items_value opening items)
-    val (va_arg keyword opening e separator ws d closing) = a_value (own keyword)
-    val (va_start keyword opening e separator e2 closing) = a_value (own keyword)
-    val (va_copy keyword opening e separator e2 closing) = a_value (own keyword)
-    val (offset keyword opening ws d separator name steps closing) = a_value (own keyword)
+    val (va_arg keyword opening e separator ws d closing) = a_value (own w keyword)
+    val (va_start keyword opening e separator e2 closing) = a_value (own w keyword)
+    val (va_copy keyword opening e separator e2 closing) = a_value (own w keyword)
+    val (offset keyword opening ws d separator name steps closing) = a_value (own w keyword)
 
     -- of a statement expression that begins at this token
     pub items_value : ℕ → BlockItems → Skel
-    items_value token no_block_items = own token
+    items_value token no_block_items = own w token
     items_value token (more_block_items item no_block_items) = item_value token item
     items_value token (more_block_items item (more_block_items item2 items)) = items_value token (more_block_items item2 items)
 
     pub item_value : ℕ → BlockItem → Skel
-    item_value token (block_decl d) = own token
+    item_value token (block_decl d) = own w token
     item_value token (block_stmt t) = stmt_value token t
 
     pub stmt_value : ℕ → Stmt → Skel
     stmt_value token (expr_stmt (some_expr e) semi) = value (val e)
-    stmt_value token (expr_stmt no_expr semi) = own token
-    stmt_value token (block opening items closing) = own token
-    stmt_value token (attr_stmt attrs semi) = own token
-    stmt_value token (label name colon attrs t) = own token
-    stmt_value token (case_stmt keyword e colon t) = own token
-    stmt_value token (default_stmt keyword colon t) = own token
-    stmt_value token (if_stmt keyword opening e closing t other) = own token
-    stmt_value token (switch_stmt keyword opening e closing t) = own token
-    stmt_value token (while_stmt keyword opening e closing t) = own token
-    stmt_value token (do_stmt keyword t keyword2 opening e closing semi) = own token
-    stmt_value token (for_stmt keyword opening start e semi e2 closing t) = own token
-    stmt_value token (goto_stmt keyword name semi) = own token
-    stmt_value token (continue_stmt keyword semi) = own token
-    stmt_value token (break_stmt keyword semi) = own token
-    stmt_value token (return_stmt keyword e semi) = own token
-    stmt_value token (asm_stmt keyword words group semi) = own token
+    stmt_value token (expr_stmt no_expr semi) = own w token
+    stmt_value token (block opening items closing) = own w token
+    stmt_value token (attr_stmt attrs semi) = own w token
+    stmt_value token (label name colon attrs t) = own w token
+    stmt_value token (case_stmt keyword e colon t) = own w token
+    stmt_value token (default_stmt keyword colon t) = own w token
+    stmt_value token (if_stmt keyword opening e closing t other) = own w token
+    stmt_value token (switch_stmt keyword opening e closing t) = own w token
+    stmt_value token (while_stmt keyword opening e closing t) = own w token
+    stmt_value token (do_stmt keyword t keyword2 opening e closing semi) = own w token
+    stmt_value token (for_stmt keyword opening start e semi e2 closing t) = own w token
+    stmt_value token (goto_stmt keyword name semi) = own w token
+    stmt_value token (continue_stmt keyword semi) = own w token
+    stmt_value token (break_stmt keyword semi) = own w token
+    stmt_value token (return_stmt keyword e semi) = own w token
+    stmt_value token (asm_stmt keyword words group semi) = own w token

@@ -8,7 +8,7 @@ use Rattle.c_tree.specs.Tree.{SpecWords, no_words, more_words, SpecWord, storage
 use Rattle.type_rules.specs.Naming as names
 use Rattle.type_rules.specs.Tokens as trees
 use Rattle.c_tape.specs.Tests as tests
-use Rattle.c_tape.specs.Tokens as tokens
+use Rattle.c_tree.specs.Firsts as tokens
 
 pub same_void : (word : Keyword) → tests.is_void word ≡ trees.is_void word
 same_void keywords.Void = refl

@@ -26,7 +26,7 @@ use Rattle.type_rules.specs.Naming.{Typed, Pieced, typed, expr_named, some_size_
 use Rattle.type_rules.specs.Tokens as trees
 use Rattle.type_rules.specs.Tokens.{first_word, declared_name, some_declared_name, is_bare, leaves_void, leave_void}
 use Rattle.c_tape.specs.Tests as tests
-use Rattle.c_tape.specs.Tokens as tokens
+use Rattle.c_tree.specs.Firsts as tokens
 use Rattle.c_tape.specs.Tape.{expr_tape, some_size_tape, spec, declr, specs_with, type_name_with, params_with, tag_tape, body_tape, words_tape, word_tape, struct_tape, struct_items_tape, members_tape, unnamed_tape, unnamed_word_tape, mem_declrs_tape, mem_declr_tape, some_value_tape, enum_tape, enumerators_tape, some_declr_tape, contents, some_contents, params_tape, some_init_tape, init_declrs_tape, struct_item_tape}
 use Rattle.name_laws.proofs.Running.{between, among_words, declaring, Goes, ◌▸◌, one, stays, in_turn}
 use Rattle.name_laws.proofs.Saying.{Says, quietly_says}

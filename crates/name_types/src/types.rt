@@ -156,7 +156,8 @@ impl Types {
         requires params { AreBelow (length self.old) params.items }
         requires back { back < length self.old }
         ensures made { IfOk result (λ ty. Is self.new ty
-            (λ t. piece_of (to_function (types_in (map t params.items)) (ellipsis_where has_ellipsis words.items)) (t back))) }
+            (λ t. piece_of (to_function (types_in (map t params.items))
+            (ellipsis_where has_ellipsis words.items)) (t back))) }
         ensures low { IfOk result (λ ty. ty < length self.new) }
         ensures grown { OnOk result (Grows self.old self.new) }
     {

@@ -126,7 +126,8 @@ pub fn declare_name(
 ) -> Result<(), NoMemory>
     requires { ty < length types.now }
     ensures { OnOk result ((t : ℕ → CType) → Knows t types.now → names_of t names.new
-        ≡ declared_some (spelling_of spelling.now) (option_map named_of named.now) words.now (t ty) (names_of t names.old)) }
+        ≡ declared_some (spelling_of spelling.now) (option_map named_of named.now) words.now (t ty)
+        (names_of t names.old)) }
 {
     let Some(it) = named else {
         return Ok(());
@@ -149,7 +150,8 @@ pub fn declare_parameter(
 ) -> Result<(), NoMemory>
     requires { ty < length types.now }
     ensures { OnOk result ((t : ℕ → CType) → Knows t types.now → names_of t names.new
-        ≡ declared_param (spelling_of spelling.now) (option_map named_of named.now) number own.now (t ty) (names_of t names.old)) }
+        ≡ declared_param (spelling_of spelling.now) (option_map named_of named.now) number own.now
+        (t ty) (names_of t names.old)) }
 {
     let Some(it) = named else {
         return Ok(());
@@ -178,7 +180,8 @@ pub fn declare_member(
 ) -> Result<(), NoMemory>
     requires { ty < length types.now }
     ensures { OnOk result ((t : ℕ → CType) → Knows t types.now → names_of t names.new
-        ≡ declared_member (spelling_of spelling.now) (option_map named_of named.now) number (t ty) (names_of t names.old)) }
+        ≡ declared_member (spelling_of spelling.now) (option_map named_of named.now) number (t ty)
+        (names_of t names.old)) }
 {
     let Some(it) = named else {
         return Ok(());

@@ -90,7 +90,8 @@ fn array_words_step()
 /// One word more in the brackets of an array, where one stands.
 #[tactic(auto, unfolding(c_reading::specs::Reading::and_then))]
 fn array_word_turn(known: &mut Vec<ArrayWord>, place: &mut Place) -> Result<bool, ReadError>
-    ensures { Turns known.old.items known.new.items place.old place.new result rows.array_word_turn }
+    ensures { Turns known.old.items known.new.items place.old place.new result
+        rows.array_word_turn }
 {
     let [first, rest @ ..] = place.rest else {
         return Ok(false);

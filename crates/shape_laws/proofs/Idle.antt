@@ -11,7 +11,7 @@ use Rattle.c_syntax.specs.declared.parts.ArrayWord.TheVariants as array_words
 use Rattle.tape_ops.specs.declared.op.Op.{Op}
 use Rattle.tape_ops.specs.declared.specifier.TagKind.{TagKind}
 use Rattle.c_tree.specs.Tree.{Exprs, no_exprs, more_exprs, SpecWords, no_words, more_words, SpecWord, storage, thread, inline_word, noreturn, qualifier, basic, struct_type, enum_type, typedef_name, attribute, EnumType, enum_of, Declr, pointer, declr_name, declr_paren, array, params, abs_pointer, abs_paren, abs_array, abs_params, SomeDeclr, no_declr, some_declr, Params, no_params, more_params, Dots}
-use Rattle.c_tape.specs.Tokens as tape_tokens
+use Rattle.c_tree.specs.Firsts as tape_tokens
 use Rattle.c_tape.specs.Tests.{is_bare_word, is_bare, says_none}
 use Rattle.c_tape.specs.Tape.{pointer_words_tape, pointer_word_tape, array_words_tape, array_word_tape, quals_tape, dots_tape, pieces, some_pieces, unnamed_tape, unnamed_word_tape, arguments, tag_tape, body_tape}
 use Rattle.c_tape.specs.Tape as tapes

@@ -7,7 +7,7 @@ use Rattle.tape_ops.specs.declared.statement.StmtOp.TheVariants as stmts
 use Rattle.tape_ops.specs.declared.initialiser.InitOp.TheVariants as inits
 use Rattle.c_tree.specs.Tree.{Expr, operation, call, arrow, Operator, comma, assign, cond, binary, no_expr, some_expr, Exprs, SpecWords, InitList, Params}
 use Rattle.c_syntax.specs.declared.parts.Identifier.{Identifier}
-use Rattle.c_tape.specs.Tokens as tape_tokens
+use Rattle.c_tree.specs.Firsts as tape_tokens
 use Rattle.c_tape.specs.Tests.{says_none}
 use Rattle.c_tape.specs.Tape.{expr, form, init, stmt, count, operator_tape, type_name_with, params_with, rule_of_list, quietly}
 use Rattle.type_table.specs.Types.{CType, base, void, struct, pointer, function}

@@ -19,7 +19,8 @@ impl Stacks {
     #[tactic(auto, using(crate::proofs::Lists::length_viewed))]
     pub fn begin(&mut self) -> Result<(), NoMemory>
         ensures { OnOk result
-            ((rows : List row.Row) → state_in rows self.new ≡ steps.begun (state_in rows self.old)) }
+            ((rows : List row.Row) → state_in rows self.new
+            ≡ steps.begun (state_in rows self.old)) }
     {
         let count = self.operands.len();
         self.bases.push(count)
@@ -54,7 +55,7 @@ impl Stacks {
 
     /// How many operands are above those under the innermost initialiser in braces. Constant time.
     #[tactic(auto, using(crate::proofs::Lists::length_viewed, crate::proofs::Lists::base_found))]
-    fn depth_below(&self) -> usize
+    pub fn depth_below(&self) -> usize
         ensures { (rows : List row.Row) → result ≡ states.depth_below (state_in rows self.now) }
     {
         self.operands.len().saturating_sub(self.bases.at(0, 0))

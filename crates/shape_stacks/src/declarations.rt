@@ -13,7 +13,8 @@ impl Stacks {
     /// A declaration begins, behind its specifiers. Constant time but for growth.
     pub fn open(&mut self) -> Result<(), NoMemory>
         ensures { OnOk result
-            ((rows : List row.Row) → state_in rows self.new ≡ states.opened (state_in rows self.old)) }
+            ((rows : List row.Row) → state_in rows self.new
+            ≡ states.opened (state_in rows self.old)) }
     {
         self.declarations.push(OpenDeclaration {
             name: None,
@@ -31,7 +32,7 @@ impl Stacks {
     }
 
     /// The innermost declaration, or one without names. Constant time.
-    fn innermost(&self) -> OpenDeclaration
+    pub fn innermost(&self) -> OpenDeclaration
         ensures { result ≡ get_or self.now.declarations 0 no_declaration }
     {
         self.declarations.at(
@@ -72,7 +73,8 @@ impl Stacks {
     pub fn declare(&mut self) -> Result<(), NoMemory>
         ensures { OnOk result ((rows : List row.Row)
             → state_in rows self.new
-            ≡ states.with_declarations (states.changed states.with_declared) (state_in rows self.old)) }
+            ≡ states.with_declarations (states.changed states.with_declared)
+            (state_in rows self.old)) }
     {
         let it = self.innermost();
         self.declarations.replace(OpenDeclaration {
@@ -86,7 +88,8 @@ impl Stacks {
     pub fn leave_name(&mut self) -> Result<(), NoMemory>
         ensures { OnOk result ((rows : List row.Row)
             → state_in rows self.new
-            ≡ states.with_declarations (states.changed states.without_name) (state_in rows self.old)) }
+            ≡ states.with_declarations (states.changed states.without_name)
+            (state_in rows self.old)) }
     {
         let it = self.innermost();
         self.declarations.replace(OpenDeclaration {

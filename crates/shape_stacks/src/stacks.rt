@@ -53,7 +53,12 @@ impl Model for Stacks {
 
     ghost Value = { Stacked };
 
-    ghost view = { λ s. record { operands = s.operands; bases = s.bases; braces = s.braces; declarations = s.declarations } };
+    ghost view = { λ s. record {
+      operands = s.operands;
+      bases = s.bases;
+      braces = s.braces;
+      declarations = s.declarations;
+    } };
 }
 
 impl Stacks {

@@ -117,7 +117,8 @@ impl Mixed {
         room: u16,
         place: &Place,
     ) -> Result<(), ReadError>
-        ensures { HasRoom (max (least_of start.now) (specs_height (sized_specs self.now.words))) room
+        ensures { HasRoom (max (least_of start.now)
+            (specs_height (sized_specs self.now.words))) room
             place.now.rest.now result }
     {
         room_for(least_of(start).max(self.words.height), room, place)

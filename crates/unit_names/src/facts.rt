@@ -126,7 +126,8 @@ impl Names {
         inner: StructId,
     ) -> Result<(), NoMemory>
         ensures { OnOk result ((t : ℕ → CType) → names_of t self.new
-            ≡ with_body number (with_unnamed at.now (t ty) (or_no_body (body_of (names_of t self.old).aggregates inner)).known) (names_of t self.old)) }
+            ≡ with_body number (with_unnamed at.now (t ty) (or_no_body
+            (body_of (names_of t self.old).aggregates inner)).known) (names_of t self.old)) }
     {
         self.aggregates
             .push_unnamed(self.alloc, number, at, ty, inner)?;
@@ -158,7 +159,10 @@ impl Names {
     #[tactic(auto, using(crate::proofs::Views::views), unfolding(crate::specs::Shown::names_of))]
     pub fn push_use(&mut self, at: &Place, found: &Use) -> Result<(), NoMemory>
         ensures { OnOk result ((t : ℕ → CType) → names_of t self.new
-            ≡ record (names_of t self.old) { uses = (names_of t self.old).uses ++ record { at = at.now; use_of = use_of found.now } ∷ [] }) }
+            ≡ record (names_of t self.old) {
+              uses = (names_of t self.old).uses
+                  ++ record { at = at.now; use_of = use_of found.now } ∷ [];
+            }) }
     {
         self.uses.push(NameUse {
             at: *at,
@@ -171,7 +175,10 @@ impl Names {
     #[tactic(auto, using(crate::proofs::Views::views), unfolding(crate::specs::Shown::names_of))]
     pub fn push_type_name(&mut self, at: &Place, ty: TypeId) -> Result<(), NoMemory>
         ensures { OnOk result ((t : ℕ → CType) → names_of t self.new
-            ≡ record (names_of t self.old) { type_names = (names_of t self.old).type_names ++ record { at = at.now; type = t ty } ∷ [] }) }
+            ≡ record (names_of t self.old) {
+              type_names = (names_of t self.old).type_names
+                  ++ record { at = at.now; type = t ty } ∷ [];
+            }) }
     {
         self.type_names.push(TypeNamed { at: *at, ty })?;
         Ok(())

@@ -32,7 +32,14 @@ impl Model for MemFiles {
 
     ghost Value = { FilesState };
 
-    ghost view = { λ a. record { files = files_of a.files.items; fail = a.fail.items; calls = a.calls; faults = a.faults; started = names_of a.started; rest = rest_at a.files.items a.at } };
+    ghost view = { λ a. record {
+      files = files_of a.files.items;
+      fail = a.fail.items;
+      calls = a.calls;
+      faults = a.faults;
+      started = names_of a.started;
+      rest = rest_at a.files.items a.at;
+    } };
 }
 
 impl MemFiles {

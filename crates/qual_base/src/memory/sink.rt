@@ -30,9 +30,17 @@ impl Model for MemSink {
 
     ghost Value = { SinkState };
 
-    ghost view = { λ a. record { written = a.bytes.items; room = a.room; most = a.most; fail = a.fail.items; calls = a.calls; faults = a.faults } };
+    ghost view = { λ a. record {
+      written = a.bytes.items;
+      room = a.room;
+      most = a.most;
+      fail = a.fail.items;
+      calls = a.calls;
+      faults = a.faults;
+    } };
 
-    ghost invariant = { λ a. (1 ≤ a.most) × (a.room ≤ vec_capacity a.bytes) × (vec_len a.bytes ≤ a.room) };
+    ghost invariant = { λ a. (1 ≤ a.most) × (a.room ≤ vec_capacity a.bytes)
+        × (vec_len a.bytes ≤ a.room) };
 }
 
 impl MemSink {

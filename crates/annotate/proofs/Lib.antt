@@ -1,0 +1,6 @@
+mod Writing
+mod SceneLemmas
+mod SubsLemmas
+mod LatticeLemmas
+mod SolutionLemmas
+mod ReportLemmas

@@ -1,0 +1,142 @@
+-- Reports from their parts.
+use Rattle.std.proofs.Common.{◌≡◌, ℕ, suc, ◌+◌, ◌<◌, arith, List, [], ◌∷◌, take, get_or, ◌++◌, length, slice_get, Option, Some, None, IsSome, MatchOption, codes, refl, sym, ◌∙◌, ap, subst, append_assoc, append-nil}
+use Rattle.std.proofs.lemmas.Option.{slice_get_within}
+use Rattle.std.proofs.Math.Seq.{take-suc}
+use Rattle.lattice_core.specs.Order.{Order, size, leq, IsLattice, IsJoinOf}
+use Rattle.flow_graph.specs.declared.constraint.Constraint.{Constraint}
+use Rattle.flow_graph.specs.declared.constraint.Limit.{Limit}
+use Rattle.flow_graph.specs.declared.constraint.Link.{Link}
+use Rattle.flow_graph.specs.declared.constraint.Link.TheVariants.{Const, Bound}
+use Rattle.flow_graph.specs.System.{System, IsNoBound}
+use Rattle.flow_graph.specs.Unfolding.{IsAccepted, Printed}
+use Rattle.flow_graph.specs.declared.proof.PathProof.{PathProof}
+use Rattle.flow_graph.specs.PathProofs.{AreApart, Holds, last_of, steps_of}
+use Rattle.flow_laws.specs.Refuting.{ExceededIsRefuted}
+use Rattle.lattice_solver.specs.Solution.{Solution, reached_at, IsKept, Exceeds}
+use Rattle.error_path.specs.Shown.{BeginsOver, EndsWith}
+use Rattle.annotate.specs.Texts.{Scene, line, value_line, error_line, proof_text}
+use Rattle.annotate.specs.Solutions.{IsLineIn}
+use Rattle.annotate.specs.Reports.{IsAtOnce, IsBottom, AtBottom, Above, VarLines, Lines, NextVar, IsError, IsOver, Errors, IsAcceptedReport, IsRejectedReport}
+use Rattle.lattice_core.specs.View.{LatticeView, orders_of, IsElement}
+
+some_is : {A : Type 0} {x y : A} → Some x ≡ Some y → x ≡ y
+some_is e = cc
+
+-- a constraint that is a bound is found as one in its lattice
+pub bound_found : (link : Link) (lattice v e : ℕ) (B : Limit → Type 0) (found : Option Limit) → link ≡ Bound v lattice e → MatchOption found (IsNoBound link lattice) B → IsSome found
+bound_found link lattice v e B None is none = absurd (none v e is)
+bound_found link lattice v e B (Some limit) is given = refl
+
+pub limit_given : (A : Type 0) (B : Limit → Type 0) (found : Option Limit) (limit : Limit) → found ≡ Some limit → MatchOption found A B → B limit
+limit_given A B found limit is given = let Of : Option Limit → Type 0 = λ x. MatchOption x A B in subst Of is given
+
+pub accepted_report : (scene : Scene) (sys : System) (text begun lines : List ℕ) → IsAccepted sys (orders_of scene.lattices) →
+    ((lattice : ℕ) (order : Order) → slice_get (orders_of scene.lattices) lattice ≡ Some order → IsAtOnce sys lattice order) →
+    begun ≡ line (codes "accepted") → text ≡ begun ++ lines → Lines scene sys scene.listed lines → IsAcceptedReport scene sys text
+accepted_report scene sys text begun lines accepted at_once begins is listed = record {
+  accepted = accepted;
+  at_once = at_once;
+  lines = lines;
+  listed = listed;
+  spelled = is ∙ ap (λ (t : List ℕ). t ++ lines) begins;
+}
+
+pub rejected_report : (scene : Scene) (sys : System) (text begun errors : List ℕ) → ExceededIsRefuted → (n : ℕ) → IsOver scene sys n →
+    begun ≡ line (codes "rejected") → text ≡ begun ++ errors → Errors scene sys (length sys.constraints) errors → IsRejectedReport scene sys text
+rejected_report scene sys text begun errors law n over begins is listed = record {
+  rejected = λ accepted. law sys over.lattice over.order n over.exceeded (accepted over.lattice over.order over.there);
+  errors = errors;
+  listed = listed;
+  spelled = is ∙ ap (λ (t : List ℕ). t ++ errors) begins;
+}
+
+-- a line from the least element of the solution of a lattice
+module _ (scene : Scene) (sys : System) (number : ℕ) (order : Order) (there : slice_get (orders_of scene.lattices) number ≡ Some order) (solution : Solution) (var elem bottom : ℕ)
+    (own : solution.lattice ≡ number) (kept : IsKept sys solution order) (lattice : IsLattice order) (is_bottom : IsBottom order bottom) (join : IsJoinOf order (reached_at solution var) elem) where
+  printed : Printed sys number order var elem
+  printed = let Is : ℕ → Type 0 = λ l. Printed sys l order var elem in subst Is own (kept.printed var elem join)
+
+  pub no_line : elem ≡ bottom → IsLineIn scene sys number var []
+  no_line same = record { order = order; there = there; is = AtBottom elem (let Is : ℕ → Type 0 = λ a. IsBottom order a in subst Is (sym same) is_bottom) printed }
+
+  pub a_line : (elem ≡ bottom → ⊥) → IsLineIn scene sys number var (value_line scene number var elem)
+  a_line other = record { order = order; there = there; is = Above elem (λ low. other (lattice.ordered.apart elem bottom (low.1 bottom is_bottom.0) (is_bottom.1 elem low.0))) printed }
+
+-- the lines of one variable more
+pub next_lines : (scene : Scene) (sys : System) (vars : List ℕ) (n var : ℕ) (text lines : List ℕ) → n < length vars → get_or vars n var ≡ var → Lines scene sys (take n vars) text →
+    VarLines scene sys var (length scene.lattices) lines → Lines scene sys (take (n + 1) vars) (text ++ lines)
+next_lines scene sys vars n var text lines within is before here =
+    let step : n + 1 ≡ suc n = omega arith in
+    let more : take (n + 1) vars ≡ take n vars ++ var ∷ [] = ap (λ k. take k vars) step ∙ take-suc vars n var within ∙ ap (λ v. take n vars ++ v ∷ []) is in
+    let Of : List ℕ → Type 0 = λ taken. Lines scene sys taken (text ++ lines) in
+    subst Of (sym more) (NextVar (take n vars) var text lines before here)
+
+bound_is : {v w l m a b : ℕ} → Bound v l a ≡ Bound w m b → (l ≡ m) × (a ≡ b)
+bound_is e = (cc, cc)
+
+constraint_is : {x y : Constraint} → Some x ≡ Some y → x ≡ y
+constraint_is e = cc
+
+-- the error of a bound that an element exceeds, with its path proof
+module _ (sys : System) (solution : Solution) (order : Order) (number : ℕ) (constraint : Constraint) (there : slice_get sys.constraints number ≡ Some constraint)
+    (elem : ℕ) (exceeds : Exceeds sys solution order number elem) where
+  same : exceeds.bound.constraint ≡ constraint
+  same = constraint_is (sym exceeds.bound.there ∙ there)
+
+  pub link_is : constraint.link ≡ Bound exceeds.var solution.lattice exceeds.limit
+  link_is = ap (λ (c : Constraint). c.link) (sym same) ∙ exceeds.bound.link_is
+
+  pub limit_is : (v lattice limit : ℕ) → constraint.link ≡ Bound v lattice limit → (solution.lattice ≡ lattice) × (exceeds.limit ≡ limit)
+  limit_is v lattice limit is = bound_is (sym link_is ∙ is)
+
+module _ (scene : Scene) (sys : System) (solution : Solution) (order : Order) (number : ℕ) (proof : PathProof) (constraint : Constraint) (there : slice_get sys.constraints number ≡ Some constraint)
+    (elem : ℕ) (exceeds : Exceeds sys solution order number elem) where
+  pub error_of : Holds sys (orders_of scene.lattices) proof → EndsWith number proof → AreApart sys (steps_of proof.subs.items) → (begins : BeginsOver sys solution order number proof) →
+      IsError scene sys number (error_line scene solution.lattice begins.element exceeds.limit constraint.span ++ proof_text scene sys (steps_of proof.subs.items) proof.main.items)
+  error_of holds ends apart begins = record {
+    subs = steps_of proof.subs.items;
+    main = proof.main.items;
+    end = proof.end;
+    holds = holds;
+    apart = apart;
+    start = begins.number;
+    start_line = 0;
+    begins = begins.first;
+    last_line = 0;
+    finishes = ends;
+    lattice = solution.lattice;
+    elem = begins.element;
+    from = begins.var;
+    constant = begins.constant;
+    limit = exceeds.limit;
+    at = exceeds.var;
+    bound = record { constraint = constraint; there = there; link_is = link_is sys solution order number constraint there elem exceeds; carried = refl };
+    spelled = refl;
+  }
+
+  -- the same, as the numbers are read
+  pub error_as : Holds sys (orders_of scene.lattices) proof → EndsWith number proof → AreApart sys (steps_of proof.subs.items) → (begins : BeginsOver sys solution order number proof) →
+      (lattice element limit : ℕ) → solution.lattice ≡ lattice → begins.element ≡ element → exceeds.limit ≡ limit →
+      IsError scene sys number (error_line scene lattice element limit constraint.span ++ proof_text scene sys (steps_of proof.subs.items) proof.main.items)
+  error_as holds ends apart begins lattice element limit lattice_is element_is same_limit =
+      let text : ℕ → ℕ → ℕ → List ℕ = λ l e b. error_line scene l e b constraint.span ++ proof_text scene sys (steps_of proof.subs.items) proof.main.items in
+      let In : ℕ → Type 0 = λ l. IsError scene sys number (text l element limit) in
+      let Of : ℕ → Type 0 = λ e. IsError scene sys number (text solution.lattice e limit) in
+      let By : ℕ → Type 0 = λ b. IsError scene sys number (text solution.lattice begins.element b) in
+      subst In lattice_is (subst Of element_is (subst By same_limit (error_of holds ends apart begins)))
+
+const_is : {v w l m a b : ℕ} → Const l a v ≡ Const m b w → a ≡ b
+const_is e = cc
+
+-- the constant that a path proof begins with, as it is read
+module _ (sys : System) (solution : Solution) (order : Order) (bound : ℕ) (proof : PathProof) (begins : BeginsOver sys solution order bound proof) (edge : ℕ) (edge_is : edge ≡ begins.number) where
+  pub edge_within : edge < length sys.constraints
+  edge_within =
+      let within = slice_get_within sys.constraints begins.number begins.constant.constraint begins.constant.there in omega (arith, within, edge_is)
+
+  pub start_link : (start : Constraint) → slice_get sys.constraints edge ≡ Some start → start.link ≡ Const solution.lattice begins.element begins.var
+  start_link start there =
+      ap (λ (c : Constraint). c.link) (constraint_is (sym there ∙ ap (slice_get sys.constraints) edge_is ∙ begins.constant.there)) ∙ begins.constant.link_is
+
+  pub element_is : (start : Constraint) → slice_get sys.constraints edge ≡ Some start → (lattice elem v : ℕ) → start.link ≡ Const lattice elem v → begins.element ≡ elem
+  element_is start there lattice elem v is = const_is (sym (start_link start there) ∙ is)

@@ -1,0 +1,75 @@
+-- What is found of a scene is what its texts name.
+use Rattle.std.proofs.Common.{◌≡◌, ℕ, zero, suc, ◌+◌, ◌<◌, ◌≤◌, ◌⊎◌, inl, inr, Bool, false, if◌then◌else◌, List, [], ◌∷◌, ◌++◌, length, drop, Some, None, slice_get, refl, sym, ◌∙◌, ap, arith, get_or}
+use Rattle.std.proofs.Math.Dec.{eqb}
+use Rattle.std.proofs.lemmas.Bool.{eq-eqb}
+use Rattle.std.proofs.lemmas.Bool.Decides.{eqb_tells}
+use Rattle.std.proofs.lemmas.List.{drop_all}
+use Rattle.std.proofs.lemmas.Option.{slice_get_past}
+use Rattle.std.specs.declared.option.Option.{Option}
+use Rattle.std.specs.Option.{option_map}
+use Rattle.c_lexer.specs.Tokens.{token_spot}
+use Rattle.qual_types.specs.Positions.{PositionView}
+use Rattle.qual_types.specs.Table.{Stands}
+use Rattle.annotate.specs.declared.scene.Scene.{Scene as Lent}
+use Rattle.annotate.specs.declared.scene.UnitText.{UnitText as LentUnit}
+use Rattle.annotate.specs.Texts.{UnitText, Scene, spot_text, unit_in, place_at, place_in, bytes_in, name_text, marks_text, position_text, var_text}
+use Rattle.annotate.specs.Scenes.{unit_of, units_of, Shows}
+
+-- the unit that was found is the scene's
+pub unit_is : (lent : Lent) (s : Scene) → Shows lent s → (number : ℕ) (found other : Option LentUnit) → found ≡ other → option_map unit_of found ≡ unit_in (units_of lent.units.now) number →
+    option_map unit_of other ≡ unit_in s.units number
+unit_is lent s shows number found other same is =
+    ap (option_map unit_of) (sym same) ∙ is ∙ ap (λ (units : List UnitText). unit_in units number) (sym shows.units)
+
+-- a variable past the table has no text
+pub no_var : (lent : Lent) (s : Scene) → Shows lent s → (var : ℕ) → length lent.vars.now ≤ var → [] ≡ var_text s var
+no_var lent s shows var past =
+    let count = shows.count in
+    sym (ap (position_text s) (slice_get_past s.positions var (omega (arith, count, past))))
+
+-- a variable of the table has the text of the position where it stands
+pub var_is : (lent : Lent) (s : Scene) → Shows lent s → (var : ℕ) (position : PositionView) → var < length lent.vars.now → Stands lent.vars.now position var →
+    name_text s position.unit position.token ++ marks_text position.path ≡ var_text s var
+var_is lent s shows var position within stands = sym (ap (position_text s) (shows.stand var position within stands))
+
+-- an item with a number below the length
+pub record There (A : Type 0) (xs : List A) (n : ℕ) : Type 0 where
+  pub item : A
+  pub there : slice_get xs n ≡ Some item
+
+pub item_at : {A : Type 0} (xs : List A) (n : ℕ) → n < length xs → There A xs n
+item_at [] n h = absurd (omega (arith, h))
+item_at (x ∷ xs) zero h = record { item = x; there = refl }
+item_at (x ∷ xs) (suc n) h = let rest = item_at xs n (omega (arith, h)) in record { item = rest.item; there = rest.there }
+
+-- a token of a unit has its place
+pub place_there : (unit : UnitText) (token : ℕ) → token < length unit.lexed.tokens → place_in (Some unit) token ≡ spot_text unit.file unit.lexed.bytes (token_spot unit.lexed token)
+place_there unit token within = ap (place_at unit token) (item_at unit.lexed.tokens token within).there
+
+-- the search for a unit, from a unit of the list on
+not_equal : (a b : ℕ) → (a ≡ b → ⊥) → eqb a b ≡ false
+not_equal a b other = elim (eqb_tells a b) [ inl same ↦ absurd (other same.1) | inr is ↦ is.0 ]
+
+from_here : (units : List LentUnit) (n number : ℕ) (d : LentUnit) → n < length units → (get_or units n d).tokens.now.unit ≡ number → unit_in (units_of (drop n units)) number ≡ Some (unit_of (get_or units n d))
+from_here [] n number d within same = absurd (omega (arith, within))
+from_here (u ∷ us) zero number d within same = ap (λ (is : Bool). if is then Some (unit_of u) else unit_in (units_of us) number) (eq-eqb u.tokens.now.unit number same)
+from_here (u ∷ us) (suc n) number d within same = from_here us n number d (omega (arith, within)) same
+
+past_here : (units : List LentUnit) (n number : ℕ) (d : LentUnit) → n < length units → ((get_or units n d).tokens.now.unit ≡ number → ⊥) →
+    unit_in (units_of (drop n units)) number ≡ unit_in (units_of (drop (suc n) units)) number
+past_here [] n number d within other = absurd (omega (arith, within))
+past_here (u ∷ us) zero number d within other = ap (λ (is : Bool). if is then Some (unit_of u) else unit_in (units_of us) number) (not_equal u.tokens.now.unit number other)
+past_here (u ∷ us) (suc n) number d within other = past_here us n number d (omega (arith, within)) other
+
+pub unit_here : (units : List LentUnit) (n number : ℕ) (u : LentUnit) → n < length units → u ≡ get_or units n u → u.tokens.now.unit ≡ number → unit_in (units_of (drop n units)) number ≡ Some (unit_of u)
+unit_here units n number u within is same =
+    from_here units n number u within (ap (λ (v : LentUnit). v.tokens.now.unit) (sym is) ∙ same) ∙ ap (λ (v : LentUnit). Some (unit_of v)) (sym is)
+
+pub unit_past : (units : List LentUnit) (n number : ℕ) (u : LentUnit) → n < length units → u ≡ get_or units n u → (u.tokens.now.unit ≡ number → ⊥) →
+    unit_in (units_of (drop n units)) number ≡ unit_in (units_of (drop (n + 1) units)) number
+unit_past units n number u within is other =
+    let next : suc n ≡ n + 1 = omega arith in
+    past_here units n number u within (λ same. other (ap (λ (v : LentUnit). v.tokens.now.unit) is ∙ same)) ∙ ap (λ k. unit_in (units_of (drop k units)) number) next
+
+pub no_unit : (units : List LentUnit) (n number : ℕ) → length units ≤ n → unit_in (units_of (drop n units)) number ≡ None
+no_unit units n number past = ap (λ (left : List LentUnit). unit_in (units_of left) number) (drop_all n units past)

@@ -1,0 +1,4 @@
+pub mod Texts
+pub mod Scenes
+pub mod Reports
+pub mod Solutions

@@ -1,0 +1,35 @@
+-- What the lines name, as the code holds it, and what is written of it.
+use Rattle.std.specs.Prelude.{◌≡◌, ℕ, ◌<◌, List, ◌++◌, length, map, slice_get, Some}
+use Rattle.qual_types.specs.Positions.{PositionView}
+use Rattle.qual_types.specs.Table.{Stands}
+use Rattle.annotate.specs.declared.scene.Scene.{Scene as Lent}
+use Rattle.annotate.specs.declared.scene.UnitText.{UnitText as LentUnit}
+use Rattle.annotate.specs.Texts.{UnitText, Scene}
+
+-- a unit, and units, as the texts see them
+abbrev pub unit_of : LentUnit → UnitText
+unit_of unit = record { file = unit.file.now; lexed = unit.tokens.now }
+
+abbrev pub units_of : List LentUnit → List UnitText
+units_of units = map unit_of units
+
+-- The texts' scene is what the code holds: its position of a variable is the one where the variable stands in the table.
+pub record Shows (lent : Lent) (scene : Scene) : Type 0 where
+  pub units : scene.units ≡ units_of lent.units.now
+  pub lattices : scene.lattices ≡ lent.lattices.now
+  pub listed : scene.listed ≡ lent.listed.now
+  pub count : length scene.positions ≡ length lent.vars.now
+  pub stand : (v : ℕ) (p : PositionView) → v < length lent.vars.now → Stands lent.vars.now p v → slice_get scene.positions v ≡ Some p
+
+-- behind what was written stands the text of the scene
+pub record Writes (lent : Lent) (old new : List ℕ) (text : Scene → List ℕ) : Type 0 where
+  pub is : (scene : Scene) → Shows lent scene → new ≡ old ++ text scene
+
+-- behind what was written stands a text of this kind
+pub record Part (old new : List ℕ) (Is : List ℕ → Type 0) : Type 0 where
+  pub text : List ℕ
+  pub added : new ≡ old ++ text
+  pub is : Is text
+
+pub record WritesSome (lent : Lent) (old new : List ℕ) (Is : Scene → List ℕ → Type 0) : Type 0 where
+  pub part : (scene : Scene) → Shows lent scene → Part old new (Is scene)

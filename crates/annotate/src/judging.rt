@@ -1,0 +1,85 @@
+//! Whether a program is accepted, and its report.
+
+ghost use Rattle.std.specs.Prelude.{◌≡◌, ◌<◌, ◌↔◌, ℕ, IfOk, IsTrue};
+ghost use Rattle.std.specs.Bool.{OnTrue, OnFalse};
+ghost use Rattle.flow_graph.specs.System.{IsWellOwned};
+ghost use Rattle.annotate.specs.Scenes.{Shows};
+ghost use Rattle.annotate.specs.Solutions.{AllNamed, AreKept, AreSolutions, IsSomeOver};
+ghost use Rattle.annotate.specs.Reports.{IsJudged};
+
+use crate::reports::{accepted, rejected};
+use crate::scene::Scene;
+use crate::solving::{Solved, solve_all, solved_of};
+use flow_graph::{FlowGraph, names_elements};
+use lattice_core::Lattices;
+use qual_base::{LatticeNo, NoMemory};
+use std::alloc::Global;
+
+/// Whether a program is accepted, and its whole report.
+#[derive(Drop)]
+pub struct Judged {
+    pub accepted: bool,
+    pub text: Vec<u8>,
+}
+
+/// Whether each constant and bound of each lattice names an element of it. Linear in the constraints times the lattices,
+/// and takes no memory.
+pub fn are_named(lattices: &Lattices, graph: &FlowGraph) -> bool
+    ensures { IsTrue result ↔ AllNamed lattices.now graph.now }
+{
+    for n in 0..lattices.len() {
+        let number = LatticeNo::new(n);
+        if !names_elements(graph, number, lattices.get(number)) {
+            return false;
+        }
+    }
+    true
+}
+
+/// Whether a bound of some lattice is exceeded. Linear in the constraints and the lattices.
+fn is_exceeded(scene: &Scene<'_>, graph: &FlowGraph, solutions: &[Solved]) -> bool
+    requires named { AllNamed scene.now.lattices.now graph.now }
+    requires owned { IsWellOwned graph.now }
+    requires solutions { AreSolutions graph.now scene.now.lattices.now solutions.now }
+    ensures over { OnTrue result (IsSomeOver scene.now graph.now) }
+    ensures kept { OnFalse result (AreKept graph.now scene.now.lattices.now solutions.now) }
+{
+    for n in 0..scene.lattices.len() {
+        let number = LatticeNo::new(n);
+        let solved = solved_of(solutions, number);
+        if solved
+            .solver
+            .first_exceeded(graph, scene.lattices.get(number))
+            .is_some()
+        {
+            return true;
+        }
+    }
+    false
+}
+
+/// The report of a program whose constraints are there. Each lattice is solved once. The accepted report takes time linear
+/// in its text, in the variables that it lists times the lattices, in the units of each name and in the path of each
+/// position; the rejected one takes a search for each exceeded bound besides. A text is not longer than memory.
+///
+/// `flow_graph::is_well_owned` and `are_named` test what is asked of the graph. Any variables may be listed.
+pub fn judge(alloc: Global, scene: &Scene<'_>, graph: &FlowGraph) -> Result<Judged, NoMemory>
+    requires named { AllNamed scene.now.lattices.now graph.now }
+    requires owned { IsWellOwned graph.now }
+    ensures { IfOk result (λ judged. (s : _) → Shows scene.now s →
+        IsJudged s graph.now judged.accepted judged.text.items) }
+{
+    let solutions = solve_all(alloc, graph, scene.lattices)?;
+    if is_exceeded(scene, graph, &solutions) {
+        let text = rejected(alloc, scene, graph, &solutions)?;
+        return Ok(Judged {
+            accepted: false,
+            text,
+        });
+    }
+    let text = accepted(alloc, scene, graph, &solutions)?;
+    Ok(Judged {
+        accepted: true,
+        text,
+    })
+}

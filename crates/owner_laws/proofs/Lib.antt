@@ -1,0 +1,6 @@
+mod Belonging
+mod Fitting
+mod Instances
+mod Intervals
+mod Rows
+mod Sites

@@ -1,0 +1,223 @@
+-- The constraints of each form fit where the skeletons of its parts belong to one owner or to nobody.
+use Rattle.std.proofs.Common.{◌≡◌, ℕ, suc, Bool, true, false, List, [], ◌∷◌, ◌++◌, Option, None, Some, refl}
+use Rattle.std.specs.Prelude.{◌&&◌, ◌||◌, ◌^◌, nat_eq, if◌then◌else◌}
+use Rattle.c_words.specs.declared.kinds.Punct.{Punct}
+use Rattle.c_words.specs.declared.kinds.Punct.TheVariants as signs
+use Rattle.qual_base.specs.declared.places.Owner.{Owner}
+use Rattle.qual_base.specs.declared.places.Span.{Span}
+use Rattle.lattice_core.specs.declared.Entry.{Entry}
+use Rattle.lattice_core.specs.declared.Sign.{Sign}
+use Rattle.lattice_core.specs.declared.Sign.TheVariants as kinds_of_sign
+use Rattle.lattice_core.specs.View.{LatticeView}
+use Rattle.flow_graph.specs.declared.constraint.Link.TheVariants.{Bound}
+use Rattle.flow_graph.specs.declared.constraint.Constraint.{Constraint}
+use Rattle.flow_graph.specs.System.{System, owner_of}
+use Rattle.type_table.specs.Types.{CType, pointer}
+use Rattle.qual_types.specs.Skel.{Skel, nodes, root, flat, ref, fun, all_nodes, param_at}
+use Rattle.flow_rules.specs.declared.arrow.Arrow.TheVariants.{Flow}
+use Rattle.flow_rules.specs.Lists.{flow, smash, equal}
+use Rattle.flow_rules.specs.Owners.{IsIn, AllIn, AllStay}
+use Rattle.row_rules.specs.Worlds.{World, all_lattices, constraint, word_span, skeleton}
+use Rattle.row_rules.specs.Annotations.{Annotation, entry_at, signed, links_of_entry, alone, marked, annotation_constraints, annotated, annotating, bounds_of, bounds_from, write_bounds, deref_bounds, uncut, parameters}
+use Rattle.row_rules.specs.Vals.{Val, contents, is_fun, is_ref, is_void, result, value, read}
+use Rattle.row_rules.specs.Rows.{flowing, dereferenced, is_plus_or_minus, assigned, is_logical, prefixed, passed, cast_demand, returned, annotating_name, name_row, into_param, param_row, started}
+use Rattle.name_rules.specs.Values.{is_additive}
+use Rattle.name_rules.specs.Scopes.{Declared, is_place}
+use Rattle.owner_laws.specs.Fitting.{AllFit}
+use Rattle.owner_laws.specs.Rows.{Inside, SomeInside, SomeIn, RowsFit}
+use Rattle.owner_laws.proofs.Fitting.{lists_fit, staying_fits, parts_stay, back}
+
+-- the laws of flow lists that rows stand on
+pub record Flows : Type 0 where
+  pub stay : (own : ℕ → Owner) (owner : Owner) (a b : Skel) → AllIn own owner (nodes a) → AllIn own owner (nodes b) →
+      AllStay own owner (flow Flow true a b)
+  pub made_equal : (own : ℕ → Owner) (owner : Owner) (a b : Skel) → AllIn own owner (nodes a) →
+      AllIn own owner (nodes b) → AllStay own owner (equal Flow true a b)
+  pub smashed : (own : ℕ → Owner) (owner : Owner) (a : Skel) (e : ℕ) → AllIn own owner (nodes a) → IsIn own owner e →
+      AllStay own owner (smash a e)
+
+module _ (sys : System) where
+  none_where : (b : Bool) (cs : List Constraint) → AllFit sys cs → AllFit sys (if b then [] else cs)
+  none_where true cs h = tt
+  none_where false cs h = h
+
+  -- bounds
+
+  bounds_fit : (has : Entry → Bool) (v : ℕ) (where_ : Span) (lattice n : ℕ) (entries : List Entry) →
+      AllFit sys (bounds_of has v where_ lattice n entries)
+  bounds_fit has v where_ lattice n [] = tt
+  bounds_fit has v where_ lattice n (entry ∷ entries) =
+      lists_fit sys (if has entry then constraint (2 ^ lattice) where_ (Bound v lattice n) ∷ [] else [])
+      (bounds_of has v where_ lattice (suc n) entries) (by (has entry))
+      (bounds_fit has v where_ lattice (suc n) entries)
+    where
+      by : (b : Bool) → AllFit sys (if b then constraint (2 ^ lattice) where_ (Bound v lattice n) ∷ [] else [])
+      by true = (tt, tt)
+      by false = tt
+
+  views_fit : (has : Entry → Bool) (v : ℕ) (where_ : Span) (n : ℕ) (views : List LatticeView) →
+      AllFit sys (bounds_from has v where_ n views)
+  views_fit has v where_ n [] = tt
+  views_fit has v where_ n (view ∷ views) =
+      lists_fit sys (bounds_of has v where_ n 0 view.entries) (bounds_from has v where_ (suc n) views)
+      (bounds_fit has v where_ n 0 view.entries) (views_fit has v where_ (suc n) views)
+
+  writes_fit : (w : World) (v : ℕ) (where_ : Span) → AllFit sys (write_bounds w v where_)
+  writes_fit w v where_ = views_fit (λ entry. entry.write) v where_ 0 w.lattices
+
+  dereferenced_fit : (w : World) (s : Skel) (where_ : Span) → AllFit sys (dereferenced w s where_)
+  dereferenced_fit w s where_ =
+      none_where (is_fun (contents s)) (deref_bounds w (root s) where_)
+      (views_fit (λ entry. entry.deref) (root s) where_ 0 w.lattices)
+
+  -- constants and bounds of annotation words
+
+  signed_fits : (m : ℕ × ℕ) (where_ : Span) (v : ℕ) (sign : Sign) → AllFit sys (alone m where_ (signed sign m v))
+  signed_fits m where_ v kinds_of_sign.Pos = (tt, tt)
+  signed_fits m where_ v kinds_of_sign.Neg = (tt, tt)
+  signed_fits m where_ v kinds_of_sign.Eq = (tt, (tt, tt))
+
+  entry_fits : (m : ℕ × ℕ) (where_ : Span) (v : ℕ) (entry : Option Entry) →
+      AllFit sys (alone m where_ (links_of_entry entry m v))
+  entry_fits m where_ v None = tt
+  entry_fits m where_ v (Some entry) = signed_fits m where_ v entry.sign
+
+  marked_fits : (w : World) (m : Option (ℕ × ℕ)) (a : Annotation) → AllFit sys (marked w m a)
+  marked_fits w None a = tt
+  marked_fits w (Some m) a = entry_fits m (word_span a.word) a.variable (entry_at w m)
+
+  annotations_fit : (w : World) (annotations : List Annotation) → AllFit sys (annotation_constraints w annotations)
+  annotations_fit w [] = tt
+  annotations_fit w (a ∷ others) =
+      lists_fit sys (marked w (w.mark a.word) a) (annotation_constraints w others)
+      (marked_fits w (w.mark a.word) a) (annotations_fit w others)
+
+module _ (law : Flows) (sys : System) (owner : Owner) (w : World) where
+  flowing_fits : (zero : Bool) (a t : Skel) (lattices : ℕ) (where_ : Span) → Inside sys owner a →
+      Inside sys owner t → AllFit sys (flowing zero a t lattices where_)
+  flowing_fits zero a t lattices where_ h k =
+      none_where sys (zero || (is_void a || is_void t)) _
+      (staying_fits sys owner lattices where_ (flow Flow true a t) (law.stay (owner_of sys) owner a t h k))
+
+  value_inside : (e : Val) → Inside sys owner e.skel → Inside sys owner (value e)
+  value_inside e h = by e.is_place
+    where
+      by : (b : Bool) → Inside sys owner (if b then read e.skel else e.skel)
+      by true = (parts_stay (owner_of sys) owner e.skel h).read_in
+      by false = h
+
+  assigned_fits : (p : Punct) (zero : Bool) (a b : Skel) (where_ : Span) → Inside sys owner a →
+      Inside sys owner b → AllFit sys (assigned w p zero a b where_)
+  assigned_fits p zero a b where_ h k =
+      lists_fit sys (write_bounds w (root a) where_) _ (writes_fit sys w (root a) where_)
+      (none_where sys (is_plus_or_minus p && is_ref (contents a)) _
+      (flowing_fits zero b (contents a) (all_lattices w) where_ k
+      (parts_stay (owner_of sys) owner a h).contents_in))
+
+  both_flow : (first last : Bool) (a b t : Skel) (where_ : Span) → Inside sys owner a → Inside sys owner b →
+      Inside sys owner t →
+      AllFit sys (flowing first a t (all_lattices w) where_ ++ flowing last b t (all_lattices w) where_)
+  both_flow first last a b t where_ h k l =
+      lists_fit sys (flowing first a t (all_lattices w) where_) (flowing last b t (all_lattices w) where_)
+      (flowing_fits first a t (all_lattices w) where_ h l) (flowing_fits last b t (all_lattices w) where_ k l)
+
+  prefixed_fits : (p : Punct) (zero : Bool) (e : Val) (t : Skel) (where_ : Span) → Inside sys owner e.skel →
+      Inside sys owner t → AllFit sys (prefixed w p zero e t where_)
+  prefixed_fits signs.PlusPlus zero e t where_ h k = writes_fit sys w (root e.skel) where_
+  prefixed_fits signs.MinusMinus zero e t where_ h k = writes_fit sys w (root e.skel) where_
+  prefixed_fits signs.Star zero e t where_ h k = dereferenced_fit sys w (value e) where_
+  prefixed_fits signs.Plus zero e t where_ h k =
+      flowing_fits zero (value e) t (all_lattices w) where_ (value_inside e h) k
+  prefixed_fits signs.Minus zero e t where_ h k =
+      flowing_fits zero (value e) t (all_lattices w) where_ (value_inside e h) k
+  prefixed_fits signs.Tilde zero e t where_ h k =
+      flowing_fits zero (value e) t (all_lattices w) where_ (value_inside e h) k
+  prefixed_fits p zero e t where_ h k = tt
+
+  passed_fits : (zero : Bool) (a : Skel) (t : Option Skel) (e : Option ℕ) (where_ : Span) → Inside sys owner a →
+      SomeInside sys owner t → SomeIn sys owner e → AllFit sys (passed w zero a t e where_)
+  passed_fits zero a (Some t) e where_ h k l = flowing_fits zero a t (all_lattices w) where_ h k
+  passed_fits zero a None None where_ h k l = tt
+  passed_fits zero a None (Some e) where_ h k l =
+      none_where sys (zero || is_void a) _
+      (staying_fits sys owner (all_lattices w) where_ (smash a e) (law.smashed (owner_of sys) owner a e h l))
+
+  returned_fits : (f : Option Skel) (zero : Bool) (a : Skel) (where_ : Span) → SomeInside sys owner f →
+      Inside sys owner a → AllFit sys (returned w f zero a where_)
+  returned_fits None zero a where_ h k = tt
+  returned_fits (Some f) zero a where_ h k =
+      flowing_fits zero a (result f) (all_lattices w) where_ k (parts_stay (owner_of sys) owner f h).result_in
+
+  cast_fits : (t : Option CType) (zero : Bool) (a s : Skel) (where_ : Span) → Inside sys owner a →
+      Inside sys owner s → AllFit sys (cast_demand w t zero a s where_)
+  cast_fits None zero a s where_ h k = tt
+  cast_fits (Some t) zero a s where_ h k =
+      lists_fit sys (annotating w t s) _ (annotations_fit sys w (annotated w t s))
+      (none_where sys (nat_eq (uncut w t) 0) (flowing zero a s (uncut w t) where_)
+      (flowing_fits zero a s (uncut w t) where_ h k))
+
+  -- names
+
+  name_fits : (d : Declared) → Inside sys owner (skeleton w d.first) → Inside sys owner (skeleton w d.at) →
+      AllFit sys (name_row w d)
+  name_fits d h k =
+      lists_fit sys (annotating_name w d) _ (annotations_fit sys w (annotated w (pointer [] d.type) (skeleton w d.at)))
+      (none_where sys (is_place d.first d.at) _
+      (staying_fits sys owner (all_lattices w) (word_span d.at)
+      (equal Flow true (skeleton w d.first) (skeleton w d.at))
+      (law.made_equal (owner_of sys) owner (skeleton w d.first) (skeleton w d.at) h k)))
+
+  into_param_fits : (t : Option Skel) (d : Declared) → ((s : Skel) → t ≡ Some s → Inside sys owner s) →
+      Inside sys owner (skeleton w d.at) → AllFit sys (into_param w t d)
+  into_param_fits None d h k = tt
+  into_param_fits (Some s) d h k =
+      staying_fits sys owner (all_lattices w) (word_span d.at) (flow Flow true s (contents (skeleton w d.at)))
+      (law.stay (owner_of sys) owner s (contents (skeleton w d.at)) (h s refl)
+      (parts_stay (owner_of sys) owner (skeleton w d.at) k).contents_in)
+
+  param_fits : (f : Skel) (n : ℕ) (d : Declared) → Inside sys owner f → Inside sys owner (skeleton w d.at) →
+      AllFit sys (param_row w f n (Some d))
+  param_fits f n d h k =
+      lists_fit sys (annotating_name w d) (into_param w (param_at (parameters f) n) d)
+      (annotations_fit sys w (annotated w (pointer [] d.type) (skeleton w d.at)))
+      (into_param_fits (param_at (parameters f) n) d
+      (λ s e. (parts_stay (owner_of sys) owner f h).param_in n s e) k)
+
+  -- further arguments
+
+  root_in : (s : Skel) → Inside sys owner s → IsIn (owner_of sys) owner (root s)
+  root_in (flat v k) h = h.0
+  root_in (ref v s) h = h.0
+  root_in (fun v ps r e) h = h.0
+
+  started_fits : (f : Option Skel) (list : Skel) (where_ : Span) → SomeInside sys owner f →
+      Inside sys owner list → AllFit sys (started w f list where_)
+  started_fits None list where_ h k = tt
+  started_fits (Some (flat v it)) list where_ h k = tt
+  started_fits (Some (ref v s)) list where_ h k = tt
+  started_fits (Some (fun v ps r None)) list where_ h k = tt
+  started_fits (Some (fun v ps r (Some e))) list where_ h k =
+      let all : AllIn (owner_of sys) owner (nodes r ++ e ∷ []) =
+      back (owner_of sys) owner (all_nodes ps) (nodes r ++ e ∷ []) h.1 in
+      (record { owner = owner; from = (back (owner_of sys) owner (nodes r) (e ∷ []) all).0; to = root_in list k }, tt)
+
+pub rows_fit : Flows → RowsFit
+rows_fit law sys owner w = record {
+  annotations = λ t s. annotations_fit sys w (annotated w t s);
+  writes = writes_fit sys w;
+  dereference = dereferenced_fit sys w;
+  assignment = assigned_fits law sys owner w;
+  operator = λ p first last a b t where_ h k l.
+      none_where sys (is_logical p || (is_additive p && (is_ref a || is_ref b))) _
+      (both_flow law sys owner w first last a b t where_ h k l);
+  condition = λ first last a b t where_ h k l.
+      none_where sys (first || last) _ (both_flow law sys owner w false false a b t where_ h k l);
+  prefix = prefixed_fits law sys owner w;
+  argument = passed_fits law sys owner w;
+  cast = cast_fits law sys owner w;
+  returning = returned_fits law sys owner w;
+  flow_into = flowing_fits law sys owner w;
+  name = name_fits law sys owner w;
+  parameter = param_fits law sys owner w;
+  start_of_list = started_fits law sys owner w;
+}

@@ -1,0 +1,4 @@
+pub mod Belonging
+pub mod Fitting
+pub mod Laws
+pub mod Rows

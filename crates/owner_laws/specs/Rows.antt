@@ -1,0 +1,90 @@
+-- The constraints of each form fit where the skeletons of its parts belong to one owner or to nobody.
+use Rattle.std.specs.Prelude.{◌≡◌, ℕ, Bool, List, Option, None, Some}
+use Rattle.c_words.specs.declared.kinds.Punct.{Punct}
+use Rattle.qual_base.specs.declared.places.Owner.{Owner}
+use Rattle.qual_base.specs.declared.places.Span.{Span}
+use Rattle.flow_graph.specs.declared.constraint.Constraint.{Constraint}
+use Rattle.flow_graph.specs.System.{System, owner_of}
+use Rattle.type_table.specs.Types.{CType}
+use Rattle.qual_types.specs.Skel.{Skel, nodes}
+use Rattle.flow_rules.specs.Owners.{IsIn, AllIn}
+use Rattle.name_rules.specs.Spellings.{Place}
+use Rattle.name_rules.specs.Scopes.{function_role, Declared}
+use Rattle.row_rules.specs.Starting.{Start}
+use Rattle.row_rules.specs.Worlds.{World, at, numbered_from, skeleton}
+use Rattle.row_rules.specs.Sites.{owners_among, site_places, sites_among}
+use Rattle.row_rules.specs.Annotations.{annotating, write_bounds}
+use Rattle.row_rules.specs.Vals.{Val}
+use Rattle.row_rules.specs.Rows.{dereferenced, assigned, computed, chosen, prefixed, passed, instance, cast_demand, returned, flowing, name_row, param_row, started}
+use Rattle.owner_laws.specs.Fitting.{AllFit, start_at}
+use Rattle.owner_laws.specs.Laws.{AreDifferent}
+
+-- all variables of a skeleton belong to the owner or to nobody
+abbrev pub Inside : System → Owner → Skel → Type 0
+Inside sys owner s = AllIn (owner_of sys) owner (nodes s)
+
+abbrev pub SomeInside : System → Owner → Option Skel → Type 0
+SomeInside sys owner None = Unit {0}
+SomeInside sys owner (Some s) = Inside sys owner s
+
+abbrev pub SomeIn : System → Owner → Option ℕ → Type 0
+SomeIn sys owner None = Unit {0}
+SomeIn sys owner (Some v) = IsIn (owner_of sys) owner v
+
+pub record RowsOf (sys : System) (owner : Owner) (w : World) : Type 0 where
+  pub annotations : (t : CType) (s : Skel) → AllFit sys (annotating w t s)
+  pub writes : (v : ℕ) (where_ : Span) → AllFit sys (write_bounds w v where_)
+  pub dereference : (s : Skel) (where_ : Span) → AllFit sys (dereferenced w s where_)
+  pub assignment : (p : Punct) (zero : Bool) (a b : Skel) (where_ : Span) → Inside sys owner a →
+      Inside sys owner b → AllFit sys (assigned w p zero a b where_)
+  pub operator : (p : Punct) (first last : Bool) (a b t : Skel) (where_ : Span) → Inside sys owner a →
+      Inside sys owner b → Inside sys owner t → AllFit sys (computed w p first last a b t where_)
+  pub condition : (first last : Bool) (a b t : Skel) (where_ : Span) → Inside sys owner a → Inside sys owner b →
+      Inside sys owner t → AllFit sys (chosen w first last a b t where_)
+  pub prefix : (p : Punct) (zero : Bool) (e : Val) (t : Skel) (where_ : Span) → Inside sys owner e.skel →
+      Inside sys owner t → AllFit sys (prefixed w p zero e t where_)
+  pub argument : (zero : Bool) (a : Skel) (t : Option Skel) (e : Option ℕ) (where_ : Span) → Inside sys owner a →
+      SomeInside sys owner t → SomeIn sys owner e → AllFit sys (passed w zero a t e where_)
+  pub cast : (t : Option CType) (zero : Bool) (a s : Skel) (where_ : Span) → Inside sys owner a →
+      Inside sys owner s → AllFit sys (cast_demand w t zero a s where_)
+  pub returning : (f : Option Skel) (zero : Bool) (a : Skel) (where_ : Span) → SomeInside sys owner f →
+      Inside sys owner a → AllFit sys (returned w f zero a where_)
+  pub flow_into : (zero : Bool) (a t : Skel) (lattices : ℕ) (where_ : Span) → Inside sys owner a →
+      Inside sys owner t → AllFit sys (flowing zero a t lattices where_)
+  pub name : (d : Declared) → Inside sys owner (skeleton w d.first) → Inside sys owner (skeleton w d.at) →
+      AllFit sys (name_row w d)
+  pub parameter : (f : Skel) (n : ℕ) (d : Declared) → Inside sys owner f → Inside sys owner (skeleton w d.at) →
+      AllFit sys (param_row w f n (Some d))
+  pub start_of_list : (f : Option Skel) (list : Skel) (where_ : Span) → SomeInside sys owner f →
+      Inside sys owner list → AllFit sys (started w f list where_)
+
+abbrev pub RowsFit : Type 0
+RowsFit = (sys : System) (owner : Owner) (w : World) → RowsOf sys owner w
+
+-- the system of skeletons that begin so, with these constraints
+abbrev pub system_with : List Place → List Start → List Constraint → System
+system_with functions starts cs = record {
+  constraints = cs;
+  sites = sites_among functions starts;
+  owners = owners_among functions starts;
+}
+
+-- a world of these skeletons
+pub record KnowsStarts (w : World) (starts : List Start) : Type 0 where
+  pub skeletons_are : w.skeletons ≡ numbered_from 0 starts
+  pub sites_are : w.sites ≡ site_places starts
+
+-- at a token there is an instance of the function that is first declared at a place
+pub record IsInstance (w : World) (starts : List Start) (token : ℕ) (f : Place) : Type 0 where
+  pub here : Start
+  pub begins_here : start_at starts (at w token) ≡ Some here
+  pub calls : here.calls ≡ Some f
+  pub there : Start
+  pub begins_there : start_at starts f ≡ Some there
+  pub is_own : there.owner ≡ Some f
+
+abbrev pub InstancesFit : Type 0
+InstancesFit =
+    (functions : List Place) (starts : List Start) (cs : List Constraint) (w : World) (token : ℕ) (f : Place)
+    → AreDifferent (site_places starts) → KnowsStarts w starts → IsInstance w starts token f
+    → AllFit (system_with functions starts cs) (instance w token f function_role)

@@ -1,0 +1,67 @@
+//! Laws of the owners of variables.
+
+ghost use Rattle.owner_laws.specs.Belonging.{MeaningsBelong, ChangesKeep, AnotherComes, UnitsBelong};
+ghost use Rattle.owner_laws.specs.Fitting.{FittingIsWellOwned, ListsFit, StayingFits, LeadingFits, SkeletonsAtAreOwned, AllPartsStay};
+ghost use Rattle.owner_laws.specs.Laws.{SkeletonsAreOwned, CallsLead};
+ghost use Rattle.owner_laws.specs.Rows.{RowsFit, InstancesFit};
+
+use flow_rules::{crossings_lead, flows_stay};
+
+/// All variables of a skeleton belong to the function that it begins in, or to nobody; so do those
+/// of the skeleton that is found at a place.
+pub fn skeletons_are_owned()
+    ensures all { SkeletonsAreOwned }
+    ensures found { SkeletonsAtAreOwned }
+{}
+
+/// Where no two instances of functions begin at one place, each is the site of its number, and each
+/// flow between it and the skeleton of its function is a call of that site, or a return.
+pub fn calls_lead()
+    ensures { CallsLead }
+{
+    crossings_lead();
+}
+
+/// Where names may mean no more than they may in the body of a function, one that means a thing
+/// means a function, or an object of that function or of nobody.
+pub fn meanings_belong()
+    ensures { MeaningsBelong }
+{}
+
+/// Each change of scopes and of declarations keeps this, where new declarations stand at places of
+/// their own; so does the end of a function, and of a unit.
+pub fn changes_keep()
+    ensures changes { ChangesKeep }
+    ensures functions { AnotherComes }
+    ensures units { UnitsBelong }
+{}
+
+/// Where all variables of a skeleton belong to one owner or to nobody, so do those of what is in
+/// it.
+pub fn parts_stay()
+    ensures { AllPartsStay }
+{}
+
+/// A system is well owned where each of its constraints fits. Flows that stay in one function fit,
+/// and so do the calls and returns of a site that lead from its owner to its target and back.
+pub fn fitting_is_well_owned()
+    ensures whole { FittingIsWellOwned }
+    ensures lists { ListsFit }
+    ensures flows { StayingFits }
+    ensures calls { LeadingFits }
+{}
+
+/// The constraints of a form fit where the skeletons of its parts belong to one owner or to nobody.
+pub fn rows_fit()
+    ensures { RowsFit }
+{
+    flows_stay();
+}
+
+/// The constraints of a function's name in an expression fit, where it is an instance of what is
+/// named, which is its own, and no two instances are at one place.
+pub fn instances_fit()
+    ensures { InstancesFit }
+{
+    calls_lead();
+}

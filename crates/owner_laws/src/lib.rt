@@ -1,0 +1,9 @@
+//! Whose the variables of skeletons are, by where skeletons begin.
+#![tactic(auto)]
+
+mod laws;
+
+pub use laws::{
+    calls_lead, changes_keep, fitting_is_well_owned, instances_fit, meanings_belong, parts_stay,
+    rows_fit, skeletons_are_owned,
+};

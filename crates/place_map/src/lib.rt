@@ -1,0 +1,6 @@
+//! A value at each of some places of a program.
+#![tactic(auto)]
+
+mod map;
+
+pub use map::PlaceMap;

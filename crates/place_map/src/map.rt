@@ -1,0 +1,62 @@
+//! Values by places.
+
+ghost use Rattle.std.specs.Prelude.{◌≡◌, None, OnOk, OnErr};
+ghost use Rattle.name_rules.specs.Spellings.{Place};
+ghost use Rattle.place_map.specs.Values.{value_at, or_else, there, IsSet, AreSame};
+
+use name_scopes::Place;
+use qual_base::NoMemory;
+use std::alloc::Global;
+use std::collections::HashMap;
+
+/// A value at each of some places. Memory is linear in their number.
+///
+/// Clauses see it by the value at a place, `value_at`.
+#[derive(Drop)]
+pub struct PlaceMap<V> {
+    map: HashMap<Place, V>,
+}
+
+impl<V: Copy + Drop> PlaceMap<V> {
+    /// No values. Takes no memory.
+    pub fn new(alloc: Global) -> Self
+        ensures { (at : Place) → value_at result at ≡ None }
+    {
+        PlaceMap {
+            map: HashMap::new(alloc),
+        }
+    }
+
+    /// The value at a place. Constant time.
+    pub fn get(&self, at: &Place) -> Option<V>
+        ensures { result ≡ value_at self.now at.now }
+    {
+        self.map.get(at).copied()
+    }
+
+    /// Has this value be at a place. For want of memory nothing changes. Constant time but for growth.
+    pub fn set(&mut self, at: &Place, value: &V) -> Result<(), NoMemory>
+        ensures set { OnOk result (IsSet self.old self.new at.now value.now) }
+        ensures err { OnErr result (AreSame self.old self.new) }
+    {
+        match self.map.insert(*at, *value) {
+            Ok(_) => Ok(()),
+            Err(_) => Err(NoMemory),
+        }
+    }
+
+    /// Has this value be at a place that has none. Constant time but for growth.
+    #[tactic(auto, using(crate::proofs::Adding::stays, crate::proofs::Adding::comes))]
+    pub fn add(&mut self, at: &Place, value: &V) -> Result<(), NoMemory>
+        ensures { OnOk result ((p : Place)
+            → value_at self.new p ≡ or_else (value_at self.old p) (there at.now value.now p)) }
+    {
+        if self.map.get(at).is_some() {
+            return Ok(());
+        }
+        match self.map.insert(*at, *value) {
+            Ok(_) => Ok(()),
+            Err(_) => Err(NoMemory),
+        }
+    }
+}

@@ -1,0 +1,4 @@
+pub mod Adding
+pub mod Kinds
+pub mod Nodes
+pub mod Parts

@@ -1,0 +1,46 @@
+-- Parts of rows.
+use Rattle.std.specs.Prelude.{ℕ, ◌^◌, nat_eq, Bool, ◌&&◌, ◌||◌, List, [], ◌∷◌, Option, None, Some, if◌then◌else◌}
+use Rattle.c_words.specs.declared.kinds.Punct.{Punct}
+use Rattle.qual_base.specs.declared.places.Span.{Span}
+use Rattle.lattice_core.specs.declared.Entry.{Entry}
+use Rattle.flow_graph.specs.declared.constraint.Constraint.{Constraint}
+use Rattle.flow_graph.specs.declared.constraint.Link.TheVariants.{Bound}
+use Rattle.qual_types.specs.Skel.{Skel}
+use Rattle.flow_rules.specs.Lists.{cross}
+use Rattle.name_rules.specs.Spellings.{Place}
+use Rattle.name_rules.specs.Values.{is_additive}
+use Rattle.row_rules.specs.Worlds.{World, all_lattices, at, constraint, in_all, site_number, skeleton, span}
+use Rattle.type_table.specs.Types.{CType}
+use Rattle.row_rules.specs.Annotations.{uncut}
+use Rattle.row_rules.specs.Vals.{Val, is_ref, value}
+use Rattle.row_rules.specs.Rows.{is_plus_or_minus, is_logical, flowing}
+use Rattle.row_adding.specs.declared.bounds.Attribute.{Attribute}
+use Rattle.row_adding.specs.declared.bounds.Attribute.TheVariants as attributes
+
+-- what an assignment moves into what is in a place
+abbrev pub moved : World → Punct → Bool → Skel → Skel → Span → List Constraint
+moved w p is_zero t b where_ = if is_plus_or_minus p && is_ref t then [] else flowing is_zero b t (all_lattices w) where_
+
+abbrev pub computes_none : Punct → Skel → Skel → Bool
+computes_none p a b = is_logical p || (is_additive p && (is_ref a || is_ref b))
+
+abbrev pub has : Attribute → Entry → Bool
+has attributes.Write = λ entry. entry.write
+has attributes.Deref = λ entry. entry.deref
+
+-- the bound by one element
+abbrev pub bound_by : (Entry → Bool) → ℕ → Span → ℕ → ℕ → Entry → List Constraint
+bound_by test v where_ lattice n entry = if test entry then constraint (2 ^ lattice) where_ (Bound v lattice n) ∷ [] else []
+
+-- the signature of the function of a place, crossed with the instance at a token
+abbrev pub instance_row : World → ℕ → Place → List Constraint
+instance_row w token p = in_all w (span w token token) (cross (site_number w (at w token)) (skeleton w p) (skeleton w (at w token)))
+
+-- an operand flows into what it initialises
+abbrev pub into_some : World → Option Skel → Bool → Val → Span → List Constraint
+into_some w None is_zero it where_ = []
+into_some w (Some t) is_zero it where_ = flowing is_zero (value it) t (all_lattices w) where_
+
+-- the operand of a cast flows in the lattices of which the type has no word
+abbrev pub cast_row : World → CType → Bool → Skel → Skel → Span → List Constraint
+cast_row w type is_zero a t where_ = if nat_eq (uncut w type) 0 then [] else flowing is_zero a t (uncut w type) where_

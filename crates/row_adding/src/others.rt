@@ -1,0 +1,105 @@
+//! The rows of returns, of further arguments, and of initialisers.
+#![tactic(auto, using(crate::proofs::Lists::with_none))]
+
+ghost use Rattle.std.specs.Prelude.{◌≡◌, ◌∷◌, [], IfErr, OnOk, option_map};
+ghost use Rattle.flow_graph.specs.declared.constraint.Link.TheVariants.{Le};
+ghost use Rattle.qual_types.specs.Skel.{root};
+ghost use Rattle.qual_types.specs.Table.{IsVar};
+ghost use Rattle.row_rules.specs.Worlds.{all_lattices, in_all};
+ghost use Rattle.row_rules.specs.Vals as vals;
+ghost use Rattle.row_rules.specs.Rows as rows;
+ghost use Rattle.row_world.specs.Shown.{skel, val};
+ghost use Rattle.row_adding.specs.Adding.{Adds, Halts};
+ghost use Rattle.row_adding.specs.Parts.{into_some};
+
+use crate::flows::{add, flowing_in_all};
+use flow_graph::{FlowGraph, GraphFault, Link};
+use qual_base::{SkelId, Span, VarId};
+use row_world::{Known, Operand, further, outcome, value};
+
+/// A returned value flows into the result of the function around it.
+pub fn returned(
+    known: &Known,
+    graph: &mut FlowGraph,
+    own: &Option<SkelId>,
+    is_zero: bool,
+    returned: SkelId,
+    span: &Span,
+) -> Result<(), GraphFault>
+    ensures ok { OnOk result (Adds known.now graph.old graph.new (λ w. rows.returned w
+        (option_map (skel known.now) own.now) is_zero (skel known.now returned) span.now)) }
+    ensures err { IfErr result (λ fault. Halts known.now graph.old graph.new fault (λ w.
+        rows.returned w (option_map (skel known.now) own.now) is_zero (skel known.now returned)
+        span.now)) }
+{
+    match own {
+        Some(own) => {
+            let into = outcome(known.vars, *own);
+            flowing_in_all(known, graph, is_zero, returned, into, span)
+        }
+        None => Ok(()),
+    }
+}
+
+/// One variable flows into another, in all lattices.
+fn flow_between(
+    known: &Known,
+    graph: &mut FlowGraph,
+    from: VarId,
+    to: VarId,
+    span: &Span,
+) -> Result<(), GraphFault>
+    requires from { IsVar from }
+    requires to { IsVar to }
+    ensures ok { OnOk result (Adds known.now graph.old graph.new
+        (λ w. in_all w span.now (Le from to ∷ []))) }
+    ensures err { IfErr result (λ fault. Halts known.now graph.old graph.new fault
+        (λ w. in_all w span.now (Le from to ∷ []))) }
+{
+    add(graph, known.all_lattices(), span, Link::Le(from, to))
+}
+
+/// The further arguments of the function around it flow into a list of arguments that is begun.
+pub fn started(
+    known: &Known,
+    graph: &mut FlowGraph,
+    own: &Option<SkelId>,
+    list: SkelId,
+    span: &Span,
+) -> Result<(), GraphFault>
+    ensures ok { OnOk result (Adds known.now graph.old graph.new (λ w. rows.started w
+        (option_map (skel known.now) own.now) (skel known.now list) span.now)) }
+    ensures err { IfErr result (λ fault. Halts known.now graph.old graph.new fault (λ w.
+        rows.started w (option_map (skel known.now) own.now) (skel known.now list) span.now)) }
+{
+    match own {
+        Some(own) => match further(known.vars, *own) {
+            Some(from) => flow_between(known, graph, from, known.vars.var(list), span),
+            None => Ok(()),
+        },
+        None => Ok(()),
+    }
+}
+
+/// An operand flows into what it initialises, where that is something.
+pub fn into_target(
+    known: &Known,
+    graph: &mut FlowGraph,
+    target: &Option<SkelId>,
+    is_zero: bool,
+    operand: &Operand,
+    span: &Span,
+) -> Result<(), GraphFault>
+    ensures ok { OnOk result (Adds known.now graph.old graph.new (λ w. into_some w
+        (option_map (skel known.now) target.now) is_zero (val known.now operand.now) span.now)) }
+    ensures err { IfErr result (λ fault. Halts known.now graph.old graph.new fault (λ w. into_some w
+        (option_map (skel known.now) target.now) is_zero (val known.now operand.now) span.now)) }
+{
+    match target {
+        Some(into) => {
+            let from = value(known.vars, operand);
+            flowing_in_all(known, graph, is_zero, from, *into, span)
+        }
+        None => Ok(()),
+    }
+}

@@ -1,0 +1,178 @@
+-- Tapes that change no stack and give no constraint, and parts of tapes that are said in two ways.
+use Rattle.std.proofs.Common.{◌≡◌, ℕ, Bool, true, false, List, [], ◌∷◌, ◌++◌, Option, None, Some, refl, ap, ◌∙◌}
+use Rattle.std.specs.Prelude.{◌&&◌, if◌then◌else◌}
+use Rattle.c_syntax.specs.declared.parts.Identifier.{Identifier}
+use Rattle.c_syntax.specs.declared.parts.Qual.{Qual}
+use Rattle.c_syntax.specs.declared.parts.Qual.TheVariants as quals
+use Rattle.c_syntax.specs.declared.parts.PointerWord.{PointerWord}
+use Rattle.c_syntax.specs.declared.parts.PointerWord.TheVariants as pointer_words
+use Rattle.c_syntax.specs.declared.parts.ArrayWord.{ArrayWord}
+use Rattle.c_syntax.specs.declared.parts.ArrayWord.TheVariants as array_words
+use Rattle.tape_ops.specs.declared.op.Op.{Op}
+use Rattle.tape_ops.specs.declared.specifier.TagKind.{TagKind}
+use Rattle.c_tree.specs.Tree.{SpecWords, no_words, more_words, SpecWord, storage, thread, inline_word, noreturn, qualifier, basic, struct_type, enum_type, typedef_name, attribute, EnumType, enum_of, Declr, pointer, declr_name, declr_paren, array, params, abs_pointer, abs_paren, abs_array, abs_params, SomeDeclr, no_declr, some_declr, Params, no_params, more_params, Dots}
+use Rattle.c_tree.specs.Firsts as tape_tokens
+use Rattle.c_tape.specs.Tests.{is_bare_word, is_bare, is_name, says_none}
+use Rattle.c_tape.specs.Tape.{pointer_words_tape, array_words_tape, quals_tape, dots_tape, pieces, some_pieces, unnamed_tape, unnamed_word_tape, tag_tape}
+use Rattle.flow_graph.specs.declared.constraint.Constraint.{Constraint}
+use Rattle.type_rules.specs.Tokens as rule_tokens
+use Rattle.qual_types.specs.Skel.{Skel}
+use Rattle.row_rules.specs.Worlds.{World}
+use Rattle.row_steps.specs.Rounds.{Rounds}
+use Rattle.constraint_rules.specs.Demands.{words_demand, word_demand, params_demand}
+use Rattle.row_laws.proofs.Goes.{Over, Stacks, Goes, as_is, nowhere, one, join}
+
+abbrev pub Idle : Over → Rounds → List Op → Type 0
+Idle k r tape = Goes k r tape as_is as_is []
+
+module _ (k : Over) (r : Rounds) where
+  pub both : {xs ys : List Op} → Idle k r xs → Idle k r ys → Idle k r (xs ++ ys)
+  both p q = join p q
+
+  pub either : {xs ys : List Op} {f g : Stacks → Stacks} {rows : List Constraint} (b : Bool) →
+      (b ≡ true → Goes k r xs f g rows) → (b ≡ false → Goes k r ys f g rows) →
+      Goes k r (if b then xs else ys) f g rows
+  either true p q = p refl
+  either false p q = q refl
+
+  -- qualifiers
+
+  quals_idle : (qs : List Qual) → Idle k r (quals_tape qs)
+  quals_idle [] = nowhere
+  quals_idle (q ∷ qs) = both (one [] (λ y c s. refl) (λ c s. refl)) (quals_idle qs)
+
+  pointer_words_idle : (words : List PointerWord) → Idle k r (pointer_words_tape words)
+  pointer_words_idle [] = nowhere
+  pointer_words_idle (pointer_words.Qual q ∷ words) = both (one [] (λ y c s. refl) (λ c s. refl)) (pointer_words_idle words)
+  pointer_words_idle (pointer_words.Attr attr ∷ words) = both nowhere (pointer_words_idle words)
+
+  array_words_idle : (words : List ArrayWord) → Idle k r (array_words_tape words)
+  array_words_idle [] = nowhere
+  array_words_idle (array_words.Static token ∷ words) = both nowhere (array_words_idle words)
+  array_words_idle (array_words.Qual q ∷ words) = both (one [] (λ y c s. refl) (λ c s. refl)) (array_words_idle words)
+
+  dots_idle : (dots : Option Dots) → Idle k r (dots_tape dots)
+  dots_idle None = nowhere
+  dots_idle (Some dots) = quals_idle dots.quals
+
+  -- what the types of declarators are made of
+
+  mutual
+    pub pieces_idle : (d : Declr) → Idle k r (pieces d)
+    pieces_idle (pointer star words d) = both (both (pointer_words_idle words) (one [] (λ y c s. refl) (λ c s. refl))) (pieces_idle d)
+    pieces_idle (declr_name token name) = nowhere
+    pieces_idle (declr_paren opening attrs d closing) = pieces_idle d
+    pieces_idle (array d opening words size closing) =
+        both (both (array_words_idle words) (one [] (λ y c s. refl) (λ c s. refl))) (pieces_idle d)
+    pieces_idle (params d opening ps dots closing) = both (both (dots_idle dots) (one [] (λ y c s. refl) (λ c s. refl))) (pieces_idle d)
+    pieces_idle (abs_pointer star words d) =
+        both (both (pointer_words_idle words) (one [] (λ y c s. refl) (λ c s. refl))) (some_pieces_idle d)
+    pieces_idle (abs_paren opening attrs d closing) = pieces_idle d
+    pieces_idle (abs_array d opening words size closing) =
+        both (both (array_words_idle words) (one [] (λ y c s. refl) (λ c s. refl))) (some_pieces_idle d)
+    pieces_idle (abs_params d opening ps dots closing) =
+        both (both (dots_idle dots) (one [] (λ y c s. refl) (λ c s. refl))) (some_pieces_idle d)
+
+    pub some_pieces_idle : (d : SomeDeclr) → Idle k r (some_pieces d)
+    some_pieces_idle no_declr = nowhere
+    some_pieces_idle (some_declr d) = pieces_idle d
+
+  -- tags and members without a declarator
+
+  unnamed_word_idle : (word : SpecWord) → Idle k r (unnamed_word_tape word)
+  unnamed_word_idle (storage word) = nowhere
+  unnamed_word_idle (thread token) = nowhere
+  unnamed_word_idle (inline_word token) = nowhere
+  unnamed_word_idle (noreturn token) = nowhere
+  unnamed_word_idle (qualifier q) = nowhere
+  unnamed_word_idle (basic word) = nowhere
+  unnamed_word_idle (struct_type word attrs None body) = one [] (λ y c s. refl) (λ c s. refl)
+  unnamed_word_idle (struct_type word attrs (Some tag) body) = nowhere
+  unnamed_word_idle (enum_type e) = nowhere
+  unnamed_word_idle (typedef_name name) = nowhere
+  unnamed_word_idle (attribute attr) = nowhere
+
+  pub unnamed_idle : (ws : SpecWords) → Idle k r (unnamed_tape ws)
+  unnamed_idle no_words = nowhere
+  unnamed_idle (more_words word ws) = both (unnamed_word_idle word) (unnamed_idle ws)
+
+  pub tag_idle : (alone : Bool) (kind : TagKind) (tag : Option Identifier) → Idle k r (tag_tape alone kind tag)
+  tag_idle alone kind None = nowhere
+  tag_idle true kind (Some tag) = one [] (λ y c s. refl) (λ c s. refl)
+  tag_idle false kind (Some tag) = one [] (λ y c s. refl) (λ c s. refl)
+
+-- tokens
+
+same_qual : (q : Qual) → tape_tokens.qual_token q ≡ rule_tokens.qual_token q
+same_qual (quals.Word word) = refl
+same_qual (quals.Element token) = refl
+same_qual (quals.Index token) = refl
+
+same_enum : (e : EnumType) → tape_tokens.enum_token e ≡ rule_tokens.enum_token e
+same_enum (enum_of keyword attrs tag body) = refl
+
+same_word : (word : SpecWord) → tape_tokens.word_token word ≡ rule_tokens.word_token word
+same_word (storage word) = refl
+same_word (thread token) = refl
+same_word (inline_word token) = refl
+same_word (noreturn token) = refl
+same_word (qualifier q) = same_qual q
+same_word (basic word) = refl
+same_word (struct_type word attrs tag body) = refl
+same_word (enum_type e) = same_enum e
+same_word (typedef_name name) = refl
+same_word (attribute attr) = refl
+
+pub same_first : (ws : SpecWords) → tape_tokens.first_word ws ≡ rule_tokens.first_word ws
+same_first no_words = refl
+same_first (more_words word ws) = same_word word
+
+-- a list of parameters that says that there are none gives nothing
+
+left : (a b : Bool) → (a && b) ≡ true → a ≡ true
+left true b e = refl
+left false b e = e
+
+right : (a b : Bool) → (a && b) ≡ true → b ≡ true
+right true b e = e
+right false b e = absurd cc
+
+module _ (w : World) where
+  bare_word : (word : SpecWord) → is_bare_word word ≡ true → word_demand w word ≡ []
+  bare_word (storage word) e = refl
+  bare_word (thread token) e = refl
+  bare_word (inline_word token) e = refl
+  bare_word (noreturn token) e = refl
+  bare_word (qualifier q) e = refl
+  bare_word (basic word) e = refl
+  bare_word (struct_type word attrs tag body) e = absurd cc
+  bare_word (enum_type it) e = refl
+  bare_word (typedef_name name) e = refl
+  bare_word (attribute attr) e = refl
+
+  bare_words : (ws : SpecWords) → is_bare ws ≡ true → words_demand w ws ≡ []
+  bare_words no_words e = refl
+  bare_words (more_words word ws) e =
+      ap (λ (rows : List Constraint). rows ++ words_demand w ws)
+      (bare_word word (left (is_bare_word word) (is_bare ws) e))
+      ∙ bare_words ws (right (is_bare_word word) (is_bare ws) e)
+
+  pub none_said : (own : Option Skel) (bare : Bool) (n : ℕ) (ps : Params) → says_none ps ≡ true →
+      params_demand w own bare n ps ≡ []
+  none_said own bare n no_params e = refl
+  none_said own bare n (more_params ws no_declr attrs no_params) e =
+      ap (λ (rows : List Constraint). rows ++ []) (bare_words ws e)
+  none_said own bare n (more_params ws no_declr attrs (more_params ws2 d attrs2 ps)) e = absurd cc
+  none_said own bare n (more_params ws (some_declr d) attrs ps) e = absurd cc
+
+-- a declarator that is its name alone
+pub same_name : (d : Declr) → is_name d ≡ rule_tokens.is_bare d
+same_name (pointer star words d) = refl
+same_name (declr_name token name) = refl
+same_name (declr_paren opening attrs d closing) = same_name d
+same_name (array d opening words size closing) = refl
+same_name (params d opening ps dots closing) = refl
+same_name (abs_pointer star words d) = refl
+same_name (abs_paren opening attrs d closing) = refl
+same_name (abs_array d opening words size closing) = refl
+same_name (abs_params d opening ps dots closing) = refl

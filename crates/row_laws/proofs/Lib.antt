@@ -1,0 +1,8 @@
+mod Alike
+mod Goes
+mod Idle
+mod Parts
+mod Rules
+mod Stacks
+mod Trees
+mod Units

@@ -1,0 +1,280 @@
+-- The stacks behind parts of a tree.
+use Rattle.std.proofs.Common.{◌≡◌, ℕ, zero, suc, ◌-◌, ◌+◌, Bool, true, false, List, [], ◌∷◌, ◌++◌, length, drop, Option, None, Some, refl, sym, ◌∙◌, ap, append_assoc, arith, length-append}
+use Rattle.std.specs.Prelude.{◌&&◌, if◌then◌else◌, take, reverse}
+use Rattle.std.proofs.lemmas.List.{reverse-append, append-nil}
+use Rattle.c_tree.specs.Tree.{Expr, Operator, comma, assign, cond, binary, SomeExpr, no_expr, some_expr, Exprs, no_exprs, more_exprs, SpecWords, Declr, SomeDeclr, Init, init_value, init_braced, InitList, init_list, InitItems, no_init_items, more_init_items, InitDeclrs, no_init_declrs, more_init_declrs, BlockItems, no_block_items, more_block_items, BlockItem, block_decl, block_stmt, Stmt, block, expr_stmt, attr_stmt, label, case_stmt, default_stmt, if_stmt, switch_stmt, while_stmt, do_stmt, for_stmt, goto_stmt, continue_stmt, break_stmt, return_stmt, asm_stmt}
+use Rattle.c_tape.specs.Tests.{is_end, ends_in_value}
+use Rattle.c_tape.specs.Tape.{count}
+use Rattle.type_table.specs.Types.{CType}
+use Rattle.name_rules.specs.Spellings.{Named}
+use Rattle.name_rules.specs.Uses.{type_named_at}
+use Rattle.type_rules.specs.Tokens.{first_word, declared_name, some_declared_name}
+use Rattle.type_rules.specs.Shapes.{is_zero}
+use Rattle.qual_types.specs.Skel.{Skel}
+use Rattle.row_rules.specs.Worlds.{World, at}
+use Rattle.row_rules.specs.Vals.{Val, a_value, value, own}
+use Rattle.row_rules.specs.Rows.{initialised}
+use Rattle.constraint_rules.specs.Values.{val, items_value}
+use Rattle.row_steps.specs.State.{Operand, expression, named_type, first_operand, val_of_operand}
+use Rattle.row_steps.specs.Steps.{initialised_by}
+use Rattle.row_laws.proofs.Goes.{Over, Stacks}
+
+-- lists
+
+pub drop_one_more : {A : Type 0} (n : ℕ) (xs : List A) (y : A) (ys : List A) → drop n xs ≡ y ∷ ys → drop (suc n) xs ≡ ys
+drop_one_more zero [] y ys e = absurd cc
+drop_one_more zero (x ∷ xs) y ys e = cc
+drop_one_more (suc n) [] y ys e = absurd cc
+drop_one_more (suc n) (x ∷ xs) y ys e = drop_one_more n xs y ys e
+
+drop_all : {A : Type 0} (xs ys : List A) → drop (length xs) (xs ++ ys) ≡ ys
+drop_all [] ys = refl
+drop_all (x ∷ xs) ys = drop_all xs ys
+
+take_all : {A : Type 0} (xs ys : List A) → take (length xs) (xs ++ ys) ≡ xs
+take_all {A} [] ys = refl
+take_all {A} (x ∷ xs) ys = ap (λ (zs : List A). x ∷ zs) (take_all xs ys)
+
+above : {A : Type 0} (xs ys : List A) → length (xs ++ ys) - length ys ≡ length xs
+above {A} xs ys = let e : length (xs ++ ys) ≡ length xs + length ys = length-append xs ys in omega arith
+
+pub drop_above : {A : Type 0} (xs ys : List A) → drop (length (xs ++ ys) - length ys) (xs ++ ys) ≡ ys
+drop_above {A} xs ys = ap (λ (n : ℕ). drop n (xs ++ ys)) (above xs ys) ∙ drop_all xs ys
+
+pub take_above : {A : Type 0} (xs ys : List A) → take (length (xs ++ ys) - length ys) (xs ++ ys) ≡ xs
+take_above {A} xs ys = ap (λ (n : ℕ). take n (xs ++ ys)) (above xs ys) ∙ take_all xs ys
+
+-- an operand more
+abbrev pub with_operand : Operand → Stacks → Stacks
+with_operand it c = record c { operands = it ∷ c.operands }
+
+-- a value more, in the place of so many operands
+abbrev pub with_val : ℕ → Val → Stacks → Stacks
+with_val n v c = record c { operands = expression v false ∷ drop n c.operands }
+
+-- a type that was named
+abbrev pub with_value : Option CType → Stacks → Stacks
+with_value t c = with_operand (named_type t) c
+
+abbrev pub with_leaves : List Operand → Stacks → Stacks
+with_leaves operands c = record c { operands = operands ++ c.operands }
+
+-- the value of the operand on top
+abbrev pub top_value : List Operand → Skel
+top_value operands = value (val_of_operand (first_operand operands))
+
+-- the end of a block that begins at a token, by whether it keeps a value
+abbrev pub block_put : World → ℕ → Bool → Stacks → Stacks
+block_put w token kept c = if kept then with_val 1 (a_value (top_value c.operands)) c else with_val 0 (a_value (own w token)) c
+
+-- expressions
+
+module _ (k : Over) where
+  abbrev pub operand_of : Expr → Operand
+  operand_of e = expression (val k.world e) (is_zero k.world.spelling k.world.names e)
+
+  abbrev pub with_expr : Expr → Stacks → Stacks
+  with_expr e c = with_operand (operand_of e) c
+
+  abbrev pub with_some_expr : SomeExpr → Stacks → Stacks
+  with_some_expr no_expr c = c
+  with_some_expr (some_expr e) c = with_expr e c
+
+  abbrev pub with_middle : Operator → Stacks → Stacks
+  with_middle comma c = c
+  with_middle (assign p) c = c
+  with_middle (cond middle colon) c = with_some_expr middle c
+  with_middle (binary p) c = c
+
+  abbrev pub arguments_on : Exprs → List Operand → List Operand
+  arguments_on no_exprs operands = operands
+  arguments_on (more_exprs e es) operands = arguments_on es (operand_of e ∷ operands)
+
+  abbrev pub with_arguments : Exprs → Stacks → Stacks
+  with_arguments es c = record c { operands = arguments_on es c.operands }
+
+  -- what lies under arguments, under so many more operands
+  pub under_more : (es : Exprs) (n : ℕ) (operands : List Operand) →
+      drop (count es + n) (arguments_on es operands) ≡ drop n operands
+  under_more no_exprs n operands =
+      ap (λ (m : ℕ). drop m operands) (let same : 0 + n ≡ n = omega arith in same)
+  under_more (more_exprs e es) n operands =
+      ap (λ (m : ℕ). drop m (arguments_on es (operand_of e ∷ operands)))
+      (let same : suc (count es) + n ≡ count es + suc n = omega arith in same)
+      ∙ under_more es (suc n) (operand_of e ∷ operands)
+
+  -- what is called lies under its arguments
+  pub under_arguments : (es : Exprs) (operands : List Operand) → drop (count es) (arguments_on es operands) ≡ operands
+  under_arguments no_exprs operands = refl
+  under_arguments (more_exprs e es) operands =
+      drop_one_more (count es) (arguments_on es (operand_of e ∷ operands)) (operand_of e) operands
+      (under_arguments es (operand_of e ∷ operands))
+
+  abbrev pub type_at_words : SpecWords → Option CType
+  type_at_words ws = type_named_at k.world.names.type_names (at k.world (first_word ws))
+
+  -- initialisers: the operands of one as they lie on the stack, the last one first
+
+  abbrev mutual
+    pub leaves : Init → List Operand
+    leaves (init_value e) = operand_of e ∷ []
+    leaves (init_braced list) = leaves_in list
+
+    pub leaves_in : InitList → List Operand
+    leaves_in (init_list opening items last closing) = leaves_of items
+
+    pub leaves_of : InitItems → List Operand
+    leaves_of no_init_items = []
+    leaves_of (more_init_items ds equal init items) = leaves_of items ++ leaves init
+
+  -- and in the order of the text, before others
+
+  abbrev mutual
+    pub taken : Init → List Operand → List Operand
+    taken (init_value e) rest = operand_of e ∷ rest
+    taken (init_braced list) rest = taken_in list rest
+
+    pub taken_in : InitList → List Operand → List Operand
+    taken_in (init_list opening items last closing) rest = taken_of items rest
+
+    pub taken_of : InitItems → List Operand → List Operand
+    taken_of no_init_items rest = rest
+    taken_of (more_init_items ds equal init items) rest = taken init (taken_of items rest)
+
+  mutual
+    reversed : (i : Init) (rest : List Operand) → reverse (leaves i) ++ rest ≡ taken i rest
+    reversed (init_value e) rest = refl
+    reversed (init_braced list) rest = reversed_in list rest
+
+    pub reversed_in : (list : InitList) (rest : List Operand) → reverse (leaves_in list) ++ rest ≡ taken_in list rest
+    reversed_in (init_list opening items last closing) rest = reversed_of items rest
+
+    reversed_of : (items : InitItems) (rest : List Operand) → reverse (leaves_of items) ++ rest ≡ taken_of items rest
+    reversed_of no_init_items rest = refl
+    reversed_of (more_init_items ds equal init items) rest =
+        ap (λ (xs : List Operand). xs ++ rest) (reverse-append (leaves_of items) (leaves init))
+        ∙ (append_assoc (reverse (leaves init)) (reverse (leaves_of items)) rest
+        ∙ (ap (λ (xs : List Operand). reverse (leaves init) ++ xs) (reversed_of items rest)
+        ∙ reversed init (taken_of items rest)))
+
+  -- the operands of a list that lie above others, in the order of the text
+  pub taken_above : (list : InitList) (operands : List Operand) →
+      reverse (take (length (leaves_in list ++ operands) - length operands) (leaves_in list ++ operands)) ≡
+      taken_in list []
+  taken_above list operands =
+      ap reverse (take_above (leaves_in list) operands)
+      ∙ (sym (append-nil (reverse (leaves_in list))) ∙ reversed_in list [])
+
+  -- blocks that keep the value of their last expression
+
+  abbrev pub with_kept : Bool → SomeExpr → Stacks → Stacks
+  with_kept true e c = with_some_expr e c
+  with_kept false e c = c
+
+  abbrev pub with_stmt : Bool → Stmt → Stacks → Stacks
+  with_stmt kept (block opening items closing) c = c
+  with_stmt kept (expr_stmt e semi) c = with_kept kept e c
+  with_stmt kept (attr_stmt attrs semi) c = c
+  with_stmt kept (label name colon attrs s) c = c
+  with_stmt kept (case_stmt keyword e colon s) c = c
+  with_stmt kept (default_stmt keyword colon s) c = c
+  with_stmt kept (if_stmt keyword opening e closing s other) c = c
+  with_stmt kept (switch_stmt keyword opening e closing s) c = c
+  with_stmt kept (while_stmt keyword opening e closing s) c = c
+  with_stmt kept (do_stmt keyword s keyword2 opening e closing semi) c = c
+  with_stmt kept (for_stmt keyword opening start e semi e2 closing s) c = c
+  with_stmt kept (goto_stmt keyword name semi) c = c
+  with_stmt kept (continue_stmt keyword semi) c = c
+  with_stmt kept (break_stmt keyword semi) c = c
+  with_stmt kept (return_stmt keyword e semi) c = c
+  with_stmt kept (asm_stmt keyword words group semi) c = c
+
+  abbrev pub with_block_item : Bool → BlockItem → Stacks → Stacks
+  with_block_item kept (block_decl d) c = c
+  with_block_item kept (block_stmt s) c = with_stmt kept s c
+
+  abbrev pub with_items : Bool → BlockItems → Stacks → Stacks
+  with_items kept no_block_items c = c
+  with_items kept (more_block_items item items) c =
+      with_items kept items (with_block_item (kept && is_end items) item c)
+
+  pub no_stmt_kept : (s : Stmt) (c : Stacks) → with_stmt false s c ≡ c
+  no_stmt_kept (block opening items closing) c = refl
+  no_stmt_kept (expr_stmt e semi) c = refl
+  no_stmt_kept (attr_stmt attrs semi) c = refl
+  no_stmt_kept (label name colon attrs s) c = refl
+  no_stmt_kept (case_stmt keyword e colon s) c = refl
+  no_stmt_kept (default_stmt keyword colon s) c = refl
+  no_stmt_kept (if_stmt keyword opening e closing s other) c = refl
+  no_stmt_kept (switch_stmt keyword opening e closing s) c = refl
+  no_stmt_kept (while_stmt keyword opening e closing s) c = refl
+  no_stmt_kept (do_stmt keyword s keyword2 opening e closing semi) c = refl
+  no_stmt_kept (for_stmt keyword opening start e semi e2 closing s) c = refl
+  no_stmt_kept (goto_stmt keyword name semi) c = refl
+  no_stmt_kept (continue_stmt keyword semi) c = refl
+  no_stmt_kept (break_stmt keyword semi) c = refl
+  no_stmt_kept (return_stmt keyword e semi) c = refl
+  no_stmt_kept (asm_stmt keyword words group semi) c = refl
+
+  pub no_item_kept : (item : BlockItem) (c : Stacks) → with_block_item false item c ≡ c
+  no_item_kept (block_decl d) c = refl
+  no_item_kept (block_stmt s) c = no_stmt_kept s c
+
+  pub none_kept : (items : BlockItems) (c : Stacks) → with_items false items c ≡ c
+  none_kept no_block_items c = refl
+  none_kept (more_block_items item items) c = none_kept items (with_block_item false item c) ∙ no_item_kept item c
+
+  -- the value of a block
+  pub value_kept : (token : ℕ) (items : BlockItems) (c : Stacks) →
+      block_put k.world token (ends_in_value items) (with_items true items c) ≡
+      with_val 0 (a_value (items_value k.world token items)) c
+  value_kept token no_block_items c = refl
+  value_kept token (more_block_items (block_decl d) no_block_items) c = refl
+  value_kept token (more_block_items (block_stmt (block opening items closing)) no_block_items) c = refl
+  value_kept token (more_block_items (block_stmt (expr_stmt no_expr semi)) no_block_items) c = refl
+  value_kept token (more_block_items (block_stmt (expr_stmt (some_expr e) semi)) no_block_items) c = refl
+  value_kept token (more_block_items (block_stmt (attr_stmt attrs semi)) no_block_items) c = refl
+  value_kept token (more_block_items (block_stmt (label name colon attrs s)) no_block_items) c = refl
+  value_kept token (more_block_items (block_stmt (case_stmt keyword e colon s)) no_block_items) c = refl
+  value_kept token (more_block_items (block_stmt (default_stmt keyword colon s)) no_block_items) c = refl
+  value_kept token (more_block_items (block_stmt (if_stmt keyword opening e closing s other)) no_block_items) c = refl
+  value_kept token (more_block_items (block_stmt (switch_stmt keyword opening e closing s)) no_block_items) c = refl
+  value_kept token (more_block_items (block_stmt (while_stmt keyword opening e closing s)) no_block_items) c = refl
+  value_kept token (more_block_items (block_stmt (do_stmt keyword s keyword2 opening e closing semi)) no_block_items) c =
+      refl
+  value_kept token (more_block_items (block_stmt (for_stmt keyword opening start e semi e2 closing s)) no_block_items) c =
+      refl
+  value_kept token (more_block_items (block_stmt (goto_stmt keyword name semi)) no_block_items) c = refl
+  value_kept token (more_block_items (block_stmt (continue_stmt keyword semi)) no_block_items) c = refl
+  value_kept token (more_block_items (block_stmt (break_stmt keyword semi)) no_block_items) c = refl
+  value_kept token (more_block_items (block_stmt (return_stmt keyword e semi)) no_block_items) c = refl
+  value_kept token (more_block_items (block_stmt (asm_stmt keyword words group semi)) no_block_items) c = refl
+  value_kept token (more_block_items item (more_block_items item2 items)) c =
+      ap (λ (it : Stacks). block_put k.world token (ends_in_value (more_block_items item2 items))
+      (with_items true (more_block_items item2 items) it)) (no_item_kept item c) ∙
+      value_kept token (more_block_items item2 items) c
+
+-- open declarations
+
+abbrev pub declaring : Option ℕ → Option ℕ → Stacks → Stacks
+declaring name declared c = record c { declarations = record { name = name; declared = declared } ∷ c.declarations }
+
+abbrev pub token_of : Option Named → Option ℕ
+token_of None = None
+token_of (Some it) = Some it.token
+
+abbrev pub token_in : Declr → Option ℕ
+token_in d = token_of (declared_name d)
+
+abbrev pub token_in_some : SomeDeclr → Option ℕ
+token_in_some d = token_of (some_declared_name d)
+
+-- the name declared last, behind these declarators
+abbrev pub declared_in : InitDeclrs → Option ℕ → Option ℕ
+declared_in no_init_declrs declared = declared
+declared_in (more_init_declrs attrs d asm_label attrs2 init ds) declared = declared_in ds (token_in d)
+
+-- what an initialiser initialises is said by the name before it
+pub target_named : (w : World) (name : Option Named) → initialised_by w (token_of name) ≡ initialised w name
+target_named w None = refl
+target_named w (Some it) = refl

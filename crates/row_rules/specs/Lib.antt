@@ -1,0 +1,6 @@
+pub mod Annotations
+pub mod Rows
+pub mod Sites
+pub mod Starting
+pub mod Vals
+pub mod Worlds

@@ -1,0 +1,208 @@
+-- The constraints that one form gives by itself: its row.
+use Rattle.std.specs.Prelude.{ℕ, suc, Bool, true, false, ◌&&◌, ◌||◌, List, [], ◌∷◌, ◌++◌, slice_get, nat_eq, Option, None, Some, if◌then◌else◌}
+use Rattle.c_words.specs.declared.kinds.Punct.{Punct}
+use Rattle.c_words.specs.declared.kinds.Punct.TheVariants as signs
+use Rattle.qual_base.specs.declared.places.Span.{Span}
+use Rattle.flow_graph.specs.declared.constraint.Link.TheVariants.{Le}
+use Rattle.flow_graph.specs.declared.constraint.Constraint.{Constraint}
+use Rattle.type_table.specs.Types.{CType, pointer}
+use Rattle.qual_types.specs.Skel.{Skel, root, param_at}
+use Rattle.flow_rules.specs.declared.arrow.Arrow.TheVariants.{Flow}
+use Rattle.flow_rules.specs.Lists.{flow, equal, cross, smash}
+use Rattle.name_rules.specs.Spellings.{Place, Named}
+use Rattle.name_rules.specs.Scopes.{Role, typedef_role, object_role, function_role, parameter_role, field_role, enumerator_role, Declared, declared_at, Use, means, called, missing, Known, Own, is_place}
+use Rattle.name_rules.specs.Values.{is_additive, own_of, own_number}
+use Rattle.row_rules.specs.Annotations.{annotating, deref_bounds, further, parameters, uncut, write_bounds}
+use Rattle.row_rules.specs.Vals.{Val, contents, is_fun, is_ref, is_void, own, result, value}
+use Rattle.row_rules.specs.Worlds.{World, all_lattices, at, constraints, in_all, site_number, skeleton, span, word_span}
+
+-- An expression's value flows into a skeleton: nothing where it is a zero, or where either is void.
+abbrev pub flowing : Bool → Skel → Skel → ℕ → Span → List Constraint
+flowing is_zero a t lattices where_ = if is_zero || (is_void a || is_void t) then [] else constraints lattices where_ (flow Flow true a t)
+
+-- what is dereferenced is bounded, but where it points to a function
+abbrev pub dereferenced : World → Skel → Span → List Constraint
+dereferenced w s where_ = if is_fun (contents s) then [] else deref_bounds w (root s) where_
+
+abbrev pub is_plus_or_minus : Punct → Bool
+is_plus_or_minus signs.PlusEqual = true
+is_plus_or_minus signs.MinusEqual = true
+is_plus_or_minus p = false
+
+-- an assignment: `+=` and `-=` move a pointer, and nothing flows into it
+abbrev pub assigned : World → Punct → Bool → Skel → Skel → Span → List Constraint
+assigned w p is_zero a b where_ = write_bounds w (root a) where_
+    ++ (if is_plus_or_minus p && is_ref (contents a) then [] else flowing is_zero b (contents a) (all_lattices w) where_)
+
+abbrev pub is_logical : Punct → Bool
+is_logical signs.BarBar = true
+is_logical signs.AmpersandAmpersand = true
+is_logical signs.EqualEqual = true
+is_logical signs.BangEqual = true
+is_logical signs.Less = true
+is_logical signs.Greater = true
+is_logical signs.LessEqual = true
+is_logical signs.GreaterEqual = true
+is_logical p = false
+
+-- both operands of an operator flow into its fresh value, where numbers are computed
+abbrev pub computed : World → Punct → Bool → Bool → Skel → Skel → Skel → Span → List Constraint
+computed w p first_is_zero last_is_zero a b t where_ =
+    if is_logical p || (is_additive p && (is_ref a || is_ref b)) then []
+    else flowing first_is_zero a t (all_lattices w) where_ ++ flowing last_is_zero b t (all_lattices w) where_
+
+-- both branches of a condition flow into its fresh value, where there is one
+abbrev pub chosen : World → Bool → Bool → Skel → Skel → Skel → Span → List Constraint
+chosen w first_is_zero last_is_zero a b t where_ =
+    if first_is_zero || last_is_zero then [] else flowing false a t (all_lattices w) where_ ++ flowing false b t (all_lattices w) where_
+
+abbrev pub prefixed : World → Punct → Bool → Val → Skel → Span → List Constraint
+prefixed w signs.PlusPlus is_zero e t where_ = write_bounds w (root e.skel) where_
+prefixed w signs.MinusMinus is_zero e t where_ = write_bounds w (root e.skel) where_
+prefixed w signs.Star is_zero e t where_ = dereferenced w (value e) where_
+prefixed w signs.Plus is_zero e t where_ = flowing is_zero (value e) t (all_lattices w) where_
+prefixed w signs.Minus is_zero e t where_ = flowing is_zero (value e) t (all_lattices w) where_
+prefixed w signs.Tilde is_zero e t where_ = flowing is_zero (value e) t (all_lattices w) where_
+prefixed w p is_zero e t where_ = []
+
+-- an argument: into its parameter, or past the parameters into what stands for all further arguments
+abbrev pub passed : World → Bool → Skel → Option Skel → Option ℕ → Span → List Constraint
+passed w is_zero a (Some t) e where_ = flowing is_zero a t (all_lattices w) where_
+passed w is_zero a None None where_ = []
+passed w is_zero a None (Some e) where_ = if is_zero || is_void a then [] else in_all w where_ (smash a e)
+
+-- a function's name: its signature, crossed with the instance here
+abbrev pub instance : World → ℕ → Place → Role → List Constraint
+instance w token p function_role = in_all w (span w token token) (cross (site_number w (at w token)) (skeleton w p) (skeleton w (at w token)))
+instance w token p typedef_role = []
+instance w token p object_role = []
+instance w token p (parameter_role i) = []
+instance w token p (field_role n i) = []
+instance w token p enumerator_role = []
+
+abbrev pub some_instance : World → ℕ → Option Declared → List Constraint
+some_instance w token None = []
+some_instance w token (Some d) = instance w token d.at d.role
+
+abbrev pub use_demand : World → ℕ → Use → List Constraint
+use_demand w token (means p) = some_instance w token (declared_at w.names.declared p)
+use_demand w token called = []
+use_demand w token missing = []
+
+-- names
+
+abbrev pub annotating_some : World → Option CType → Skel → List Constraint
+annotating_some w None s = []
+annotating_some w (Some t) s = annotating w t s
+
+-- a cast: the operand flows in the lattices of which the type has no word
+abbrev pub cast_demand : World → Option CType → Bool → Skel → Skel → Span → List Constraint
+cast_demand w None is_zero a t where_ = []
+cast_demand w (Some type) is_zero a t where_ = annotating w type t ++ (if nat_eq (uncut w type) 0 then [] else flowing is_zero a t (uncut w type) where_)
+
+-- annotations of a declared name, whose skeleton is a reference to one of its type
+abbrev pub annotating_name : World → Declared → List Constraint
+annotating_name w d = annotating w (pointer [] d.type) (skeleton w d.at)
+
+-- a declared name: its annotations, and, where it is a further declaration, it is as the first
+abbrev pub name_row : World → Declared → List Constraint
+name_row w d = annotating_name w d
+    ++ (if is_place d.first d.at then [] else in_all w (word_span d.at) (equal Flow true (skeleton w d.first) (skeleton w d.at)))
+
+abbrev pub declared_row : World → Declared → Role → List Constraint
+declared_row w d typedef_role = []
+declared_row w d object_role = name_row w d
+declared_row w d function_role = name_row w d
+declared_row w d (parameter_role i) = name_row w d
+declared_row w d (field_role n i) = name_row w d
+declared_row w d enumerator_role = []
+
+abbrev pub some_declared_row : World → Option Declared → List Constraint
+some_declared_row w None = []
+some_declared_row w (Some d) = declared_row w d d.role
+
+-- a parameter of a function: its annotations, and what the function is given flows into it
+abbrev pub into_param : World → Option Skel → Declared → List Constraint
+into_param w None d = []
+into_param w (Some s) d = in_all w (word_span d.at) (flow Flow true s (contents (skeleton w d.at)))
+
+abbrev pub param_row : World → Skel → ℕ → Option Declared → List Constraint
+param_row w own i None = []
+param_row w own i (Some d) = annotating_name w d ++ into_param w (param_at (parameters own) i) d
+
+-- which row the name of a declarator has: none in a type's name and in a prototype, that of a name, or that of a parameter of the
+-- function of this skeleton
+pub data RowKind : Type 0 where
+  no_row : RowKind
+  row_of_name : RowKind
+  row_of_param : Skel → ℕ → RowKind
+
+abbrev pub row_at : World → RowKind → ℕ → List Constraint
+row_at w no_row token = []
+row_at w row_of_name token = some_declared_row w (declared_at w.names.declared (at w token))
+row_at w (row_of_param own i) token = param_row w own i (declared_at w.names.declared (at w token))
+
+abbrev pub param_kind : Option Skel → Bool → ℕ → RowKind
+param_kind None bare i = no_row
+param_kind (Some own) true i = row_of_param own i
+param_kind (Some own) false i = no_row
+
+-- a returned value flows into the result of the function around it
+abbrev pub returned : World → Option Skel → Bool → Skel → Span → List Constraint
+returned w None is_zero a where_ = []
+returned w (Some own) is_zero a where_ = flowing is_zero a (result own) (all_lattices w) where_
+
+abbrev pub started : World → Option Skel → Skel → Span → List Constraint
+started w None list where_ = []
+started w (Some own) list where_ = begun w (further own) list where_ where
+  begun : World → Option ℕ → Skel → Span → List Constraint
+  begun w None list where_ = []
+  begun w (Some e) list where_ = in_all w where_ (Le e (root list) ∷ [])
+
+-- initialisers: what an item initialises
+
+abbrev pub own_skel : World → Option Own → Option Skel
+own_skel w None = None
+own_skel w (Some it) = Some (contents (skeleton w it.at))
+
+abbrev pub next_of_struct : World → ℕ → ℕ → Option Skel
+next_of_struct w n next = own_skel w (slice_get (own_of w.names.aggregates n) (own_number w.names.aggregates n next))
+
+abbrev pub first_alone : Bool → Skel → Option Skel
+first_alone true s = Some s
+first_alone false s = None
+
+abbrev pub behind_known : Option Known → ℕ → ℕ
+behind_known None next = next
+behind_known (Some it) next = suc it.own
+
+-- a compound literal is a place of its type
+abbrev pub annotating_place : World → Option CType → Skel → List Constraint
+annotating_place w None s = []
+annotating_place w (Some t) s = annotating w (pointer [] t) s
+
+abbrev pub by_role : World → Declared → Role → Option Skel
+by_role w d typedef_role = None
+by_role w d function_role = None
+by_role w d object_role = Some (contents (skeleton w d.at))
+by_role w d (parameter_role i) = Some (contents (skeleton w d.at))
+by_role w d (field_role n i) = Some (contents (skeleton w d.at))
+by_role w d enumerator_role = None
+
+abbrev pub by_first : World → Declared → Option Declared → Option Skel
+by_first w d None = None
+by_first w d (Some first) = by_role w d first.role
+
+abbrev pub initialised_at : World → Option Declared → Option Skel
+initialised_at w None = None
+initialised_at w (Some d) = by_first w d (declared_at w.names.declared d.first)
+
+-- what an initialiser initialises: nothing where the name is a typedef or means a function
+abbrev pub initialised : World → Option Named → Option Skel
+initialised w None = None
+initialised w (Some it) = initialised_at w (declared_at w.names.declared (at w it.token))
+
+-- a function's own skeleton is that of its name in this declaration
+abbrev pub own_skeleton : World → Option Named → Option Skel
+own_skeleton w None = None
+own_skeleton w (Some it) = Some (contents (skeleton w (at w it.token)))

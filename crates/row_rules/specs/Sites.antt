@@ -1,0 +1,65 @@
+-- Functions by numbers, call sites, and the owner of each variable, from where skeletons begin.
+use Rattle.std.specs.Prelude.{ℕ, ◌+◌, Bool, true, false, List, [], ◌∷◌, ◌++◌, replicate, Option, None, Some, if◌then◌else◌}
+use Rattle.qual_base.specs.declared.places.Owner.{Owner}
+use Rattle.qual_base.specs.declared.places.Owner.TheVariants.{Nobody, Function}
+use Rattle.flow_graph.specs.declared.constraint.Site.{Site}
+use Rattle.type_table.specs.Types.{size}
+use Rattle.name_rules.specs.Spellings.{Place}
+use Rattle.name_rules.specs.Scopes.{Role, typedef_role, object_role, function_role, parameter_role, field_role, enumerator_role, Declared, Names, is_place}
+use Rattle.row_rules.specs.Starting.{Start}
+use Rattle.row_rules.specs.Worlds.{number_among}
+
+-- how many variables there are
+abbrev pub variables_among : List Start → ℕ
+variables_among [] = 0
+variables_among (start ∷ starts) = size start.type + variables_among starts
+
+-- Functions are numbered in the order of their first declarations; so is what is first declared as an object and has a body.
+
+abbrev pub has_place : List Place → Place → Bool
+has_place [] p = false
+has_place (q ∷ places) p = if is_place q p then true else has_place places p
+
+abbrev pub is_function_role : Role → Bool
+is_function_role function_role = true
+is_function_role typedef_role = false
+is_function_role object_role = false
+is_function_role (parameter_role i) = false
+is_function_role (field_role n i) = false
+is_function_role enumerator_role = false
+
+abbrev pub is_first_function : List Place → Declared → Bool
+is_first_function bodies d = if is_place d.at d.first then (if is_function_role d.role then true else has_place bodies d.at) else false
+
+abbrev pub functions_among : List Place → List Declared → List Place
+functions_among bodies [] = []
+functions_among bodies (d ∷ ds) = if is_first_function bodies d then d.at ∷ functions_among bodies ds else functions_among bodies ds
+
+abbrev pub functions_of : Names → List Place
+functions_of s = functions_among s.bodies s.declared
+
+abbrev pub owner_by : List Place → Option Place → Owner
+owner_by functions None = Nobody
+owner_by functions (Some p) = Function (number_among 0 functions p)
+
+-- call sites, in the order of their tokens
+
+abbrev pub site_of : List Place → Start → Option Place → List Site
+site_of functions start None = []
+site_of functions start (Some f) = record { unit = start.at.0; token = start.at.1; target = number_among 0 functions f; owner = owner_by functions start.owner } ∷ []
+
+abbrev pub sites_among : List Place → List Start → List Site
+sites_among functions [] = []
+sites_among functions (start ∷ starts) = site_of functions start start.calls ++ sites_among functions starts
+
+abbrev pub place_of : Start → Option Place → List Place
+place_of start None = []
+place_of start (Some f) = start.at ∷ []
+
+abbrev pub site_places : List Start → List Place
+site_places [] = []
+site_places (start ∷ starts) = place_of start start.calls ++ site_places starts
+
+abbrev pub owners_among : List Place → List Start → List Owner
+owners_among functions [] = []
+owners_among functions (start ∷ starts) = replicate (size start.type) (owner_by functions start.owner) ++ owners_among functions starts

@@ -1,0 +1,123 @@
+-- Where a skeleton begins: what stands at one declared name, and what is fresh at one expression.
+use Rattle.std.specs.Prelude.{ℕ, Bool, true, false, ◌||◌, not, List, [], ◌∷◌, Option, None, Some, if◌then◌else◌}
+use Rattle.c_words.specs.declared.kinds.Punct.{Punct}
+use Rattle.c_words.specs.declared.kinds.Punct.TheVariants as signs
+use Rattle.type_table.specs.Types.{CType, base, pointer}
+use Rattle.name_rules.specs.Spellings.{Place, Spelling, place, Named}
+use Rattle.name_rules.specs.Scopes.{Role, typedef_role, object_role, function_role, parameter_role, field_role, enumerator_role, Declared, declared_at, Use, means, called, missing, Names}
+use Rattle.name_rules.specs.Values.{is_pointer, is_additive, undeclared_function}
+
+-- A skeleton: where it begins, its type, the function that its variables belong to. At a function's name in an expression it is
+-- an instance of the function that was first declared at `calls`: a call site.
+pub record Start : Type 0 where
+  pub at : Place
+  pub type : CType
+  pub owner : Option Place
+  pub calls : Option Place
+
+-- what a fresh skeleton stands on: the unit, what is known of names, the function around it, and whether nothing is fresh
+pub record Around : Type 0 where
+  pub spelling : Spelling
+  pub names : Names
+  pub enclosing : Option Place
+  pub is_quiet : Bool
+
+abbrev pub quiet : Around → Around
+quiet a = record a { is_quiet = true }
+
+abbrev pub fresh : Around → ℕ → CType → List Start
+fresh a token t = if a.is_quiet then [] else record { at = place a.spelling token; type = t; owner = a.enclosing; calls = None } ∷ []
+
+abbrev pub some_fresh : Around → ℕ → Option CType → List Start
+some_fresh a token None = []
+some_fresh a token (Some t) = fresh a token t
+
+-- a name's skeleton is a place of its type
+abbrev pub named_start : Declared → List Start
+named_start d = record { at = d.at; type = pointer [] d.type; owner = d.owner; calls = None } ∷ []
+
+abbrev pub declared_start : Declared → Role → List Start
+declared_start d typedef_role = []
+declared_start d object_role = named_start d
+declared_start d function_role = named_start d
+declared_start d (parameter_role i) = named_start d
+declared_start d (field_role n i) = named_start d
+declared_start d enumerator_role = []
+
+abbrev pub some_declared_start : Option Declared → List Start
+some_declared_start None = []
+some_declared_start (Some d) = declared_start d d.role
+
+abbrev pub name_start : Around → ℕ → List Start
+name_start a token = some_declared_start (declared_at a.names.declared (place a.spelling token))
+
+-- a name in an expression: a function's name is an instance of it
+abbrev pub instance : Around → ℕ → Place → CType → List Start
+instance a token at t = if a.is_quiet then [] else record { at = place a.spelling token; type = pointer [] t; owner = a.enclosing; calls = Some at } ∷ []
+
+abbrev pub use_by_role : Around → ℕ → Declared → Role → List Start
+use_by_role a token d typedef_role = []
+use_by_role a token d object_role = []
+use_by_role a token d function_role = instance a token d.at d.type
+use_by_role a token d (parameter_role i) = []
+use_by_role a token d (field_role n i) = []
+use_by_role a token d enumerator_role = fresh a token (base [])
+
+abbrev pub some_use_start : Around → ℕ → Option Declared → List Start
+some_use_start a token None = []
+some_use_start a token (Some d) = use_by_role a token d d.role
+
+abbrev pub use_start : Around → ℕ → Use → List Start
+use_start a token (means at) = some_use_start a token (declared_at a.names.declared at)
+use_start a token called = fresh a token (pointer [] undeclared_function)
+use_start a token missing = []
+
+-- a place of a type
+abbrev pub some_place : Option CType → Option CType
+some_place None = None
+some_place (Some t) = Some (pointer [] t)
+
+abbrev pub is_some_pointer : Option CType → Bool
+is_some_pointer None = false
+is_some_pointer (Some t) = is_pointer t
+
+-- whether an operator's value is fresh: a sum with one pointer is that pointer
+abbrev pub is_fresh_sum : Bool → Bool → Bool
+is_fresh_sum true b = b
+is_fresh_sum false b = not b
+
+abbrev pub is_fresh_binary : Punct → Bool → Bool → Bool
+is_fresh_binary p a b = not (is_additive p) || is_fresh_sum a b
+
+abbrev pub is_fresh_prefix : Punct → Bool
+is_fresh_prefix signs.Plus = true
+is_fresh_prefix signs.Minus = true
+is_fresh_prefix signs.Tilde = true
+is_fresh_prefix signs.Bang = true
+is_fresh_prefix p = false
+
+abbrev pub fresh_where : Bool → List Start → List Start
+fresh_where true starts = starts
+fresh_where false starts = []
+
+-- parameters that belong to a function with a body have skeletons
+pub data Having : Type 0 where
+  with_skeleton : Having
+  without_skeleton : Having
+
+abbrev pub having : Bool → Having
+having true = with_skeleton
+having false = without_skeleton
+
+abbrev pub had_name : Having → Around → ℕ → List Start
+had_name with_skeleton a token = name_start a token
+had_name without_skeleton a token = []
+
+abbrev pub first_of : Option Declared → Option Place
+first_of None = None
+first_of (Some d) = Some d.first
+
+-- the function that was first declared where a declarator's name was
+abbrev pub declared_function : Spelling → Names → Option Named → Option Place
+declared_function u s None = None
+declared_function u s (Some it) = first_of (declared_at s.declared (place u it.token))

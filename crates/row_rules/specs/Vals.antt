@@ -1,0 +1,122 @@
+-- The skeleton of an operand, that of a place, which is a reference to what is in it, or that of a value (Foster et al. 2006), and
+-- what each operator makes of its operands.
+use Rattle.std.specs.Prelude.{ℕ, Bool, true, false, Option, None, Some, if◌then◌else◌}
+use Rattle.c_words.specs.declared.kinds.Punct.{Punct}
+use Rattle.c_words.specs.declared.kinds.Punct.TheVariants as signs
+use Rattle.qual_types.specs.declared.look.Kind.TheVariants as kinds
+use Rattle.qual_types.specs.Skel.{Skel, flat, ref, fun}
+use Rattle.name_rules.specs.Spellings.{Place}
+use Rattle.name_rules.specs.Scopes.{Role, typedef_role, object_role, function_role, parameter_role, field_role, enumerator_role, Declared, declared_at, Use, means, called, missing, Known, body_of}
+use Rattle.name_rules.specs.Values.{is_additive, member_in}
+use Rattle.row_rules.specs.Worlds.{World, at, skeleton}
+
+pub record Val : Type 0 where
+  pub is_place : Bool
+  pub skel : Skel
+
+abbrev pub a_value : Skel → Val
+a_value s = record { is_place = false; skel = s }
+
+abbrev pub a_place : Skel → Val
+a_place s = record { is_place = true; skel = s }
+
+-- what a reference holds; of what is none, itself
+abbrev pub contents : Skel → Skel
+contents (ref v s) = s
+contents (flat v k) = flat v k
+contents (fun v ps r e) = fun v ps r e
+
+-- the value of a place is what it holds, or the place itself where that is a function
+abbrev pub read : Skel → Skel
+read (ref v (fun u ps r e)) = ref v (fun u ps r e)
+read (ref v (flat u k)) = flat u k
+read (ref v (ref u s)) = ref u s
+read (flat v k) = flat v k
+read (fun v ps r e) = fun v ps r e
+
+abbrev pub value : Val → Skel
+value it = if it.is_place then read it.skel else it.skel
+
+abbrev pub is_ref : Skel → Bool
+is_ref (ref v s) = true
+is_ref (flat v k) = false
+is_ref (fun v ps r e) = false
+
+abbrev pub is_fun : Skel → Bool
+is_fun (ref v s) = false
+is_fun (flat v k) = false
+is_fun (fun v ps r e) = true
+
+abbrev pub is_void : Skel → Bool
+is_void (flat v kinds.Void) = true
+is_void (flat v kinds.Base) = false
+is_void (flat v (kinds.Struct n)) = false
+is_void (ref v s) = false
+is_void (fun v ps r e) = false
+
+abbrev pub result : Skel → Skel
+result (fun v ps r e) = r
+result (flat v k) = flat v k
+result (ref v s) = ref v s
+
+abbrev pub struct_of : Skel → Option ℕ
+struct_of (flat v (kinds.Struct n)) = Some n
+struct_of (flat v kinds.Base) = None
+struct_of (flat v kinds.Void) = None
+struct_of (ref v s) = None
+struct_of (fun v ps r e) = None
+
+abbrev pub member_of : World → Option ℕ → ℕ → Option Known
+member_of w None name = None
+member_of w (Some n) name = member_in (body_of w.names.aggregates n) (w.spelling.key name)
+
+abbrev pub known_skeleton : World → Option Known → Skel
+known_skeleton w None = flat 0 kinds.Base
+known_skeleton w (Some it) = skeleton w it.at
+
+-- a member's skeleton is that of its declaration: all objects of a struct share it
+abbrev pub member_skel : World → Skel → ℕ → Skel
+member_skel w s name = known_skeleton w (member_of w (struct_of s) name)
+
+abbrev pub sum_of : Bool → Bool → Skel → Skel → Skel → Skel
+sum_of true true a b own = own
+sum_of true false a b own = a
+sum_of false true a b own = b
+sum_of false false a b own = own
+
+-- of two operands and a fresh skeleton
+abbrev pub binary_of : Punct → Skel → Skel → Skel → Skel
+binary_of p a b own = if is_additive p then sum_of (is_ref a) (is_ref b) a b own else own
+
+abbrev pub prefix_of : World → ℕ → Punct → Val → Val
+prefix_of w token signs.Ampersand e = a_value e.skel
+prefix_of w token signs.Star e = a_place (value e)
+prefix_of w token signs.PlusPlus e = a_value (value e)
+prefix_of w token signs.MinusMinus e = a_value (value e)
+prefix_of w token p e = a_value (skeleton w (at w token))
+
+abbrev pub used_by_role : World → ℕ → Place → Role → Val
+used_by_role w token p enumerator_role = a_value (skeleton w (at w token))
+used_by_role w token p function_role = a_place (skeleton w (at w token))
+used_by_role w token p typedef_role = a_place (skeleton w p)
+used_by_role w token p object_role = a_place (skeleton w p)
+used_by_role w token p (parameter_role i) = a_place (skeleton w p)
+used_by_role w token p (field_role n i) = a_place (skeleton w p)
+
+abbrev pub used_some : World → ℕ → Option Declared → Val
+used_some w token None = a_place (flat 0 kinds.Base)
+used_some w token (Some d) = used_by_role w token d.at d.role
+
+abbrev pub used : World → ℕ → Use → Val
+used w token (means p) = used_some w token (declared_at w.names.declared p)
+used w token called = a_place (skeleton w (at w token))
+used w token missing = a_place (flat 0 kinds.Base)
+
+module _ (w : World) where
+  -- the fresh skeleton at a token
+  abbrev pub own : ℕ → Skel
+  own token = skeleton w (at w token)
+
+  -- of a condition: a zero takes the value of the other branch
+  abbrev pub branch : Bool → Bool → ℕ → Skel → Skel → Skel
+  branch first last token a b = if last then a else if first then b else own token

@@ -1,0 +1,31 @@
+-- Numbers past a table, and what two words say of one thing.
+use Rattle.std.proofs.Common.{◌≡◌, ℕ, zero, suc, ◌+◌, ◌-◌, ◌<◌, ◌≤◌, ◌^◌, arith, List, [], ◌∷◌, length, slice_get, unwrap_or, Option, Some, None, option_map, refl, sym, ◌∙◌, ap}
+use Rattle.qual_types.specs.declared.row.Row.{Row}
+use Rattle.qual_types.specs.declared.look.Kind.TheVariants as kinds
+use Rattle.qual_types.specs.Skel.{Skel, flat, ref, fun, Skels, params_of, param_at}
+use Rattle.qual_types.specs.Rows.{Seen, nothing, seen_at, all_seen, skel_of}
+use Rattle.row_rules.specs.Annotations.{parameters}
+
+seen_length : (n : ℕ) (rows : List Row) → length (all_seen n rows) ≡ length rows
+seen_length n [] = refl
+seen_length n (row ∷ rows) = ap suc (seen_length (n + 1) rows)
+
+none_past : {A : Type 0} (xs : List A) (n : ℕ) → length xs ≤ n → slice_get xs n ≡ None
+none_past [] n le = refl
+none_past (x ∷ xs) zero le = absurd (omega arith)
+none_past (x ∷ xs) (suc n) le = none_past xs n (omega arith)
+
+pub nowhere_is : (rows : List Row) → length rows ≤ 16777216 → skel_of rows 4294967295 ≡ flat 0 kinds.Base
+nowhere_is rows few =
+    let e = seen_length 0 rows in
+    ap (λ (o : Option Seen). (unwrap_or o nothing).tree) (none_past (all_seen 0 rows) 4294967295 (omega arith))
+
+pub same_parameters : (rows : List Row) (s i : ℕ) (o : Option ℕ)
+    → option_map (skel_of rows) o ≡ param_at (params_of (skel_of rows s)) i
+    → option_map (skel_of rows) o ≡ param_at (parameters (skel_of rows s)) i
+same_parameters rows s i o is = is ∙ ap (λ ps. param_at ps i) (same (skel_of rows s))
+  where
+    same : (s : Skel) → params_of s ≡ parameters s
+    same (flat v k) = refl
+    same (ref v s) = refl
+    same (fun v ps r e) = refl

@@ -1,0 +1,93 @@
+//! What does not change while constraints are made.
+
+ghost use Rattle.std.specs.Prelude.{◌≡◌, MatchOption};
+ghost use Rattle.name_rules.specs.Spellings.{place};
+ghost use Rattle.row_rules.specs.Worlds.{World, at, skeleton, site_number, all_lattices, span};
+ghost use Rattle.row_rules.specs.Vals.{own};
+ghost use Rattle.row_world.specs.Shown.{Shows, skel};
+
+use found_names::FoundNames;
+use lattice_core::Lattices;
+use name_scopes::Place;
+use place_map::PlaceMap;
+use qual_base::{Elem, LatticeNo, Numbered, SiteId, SkelId, Span, TokenId};
+use qual_types::VarTable;
+use type_table::TypeTable;
+use unit_spelling::Spelling;
+
+/// What does not change while the constraints of a unit are made.
+///
+/// Clauses say what it knows by `Shows`, of each world that it shows.
+#[derive(Clone, Copy)]
+pub struct Known<'a> {
+    pub types: &'a TypeTable,
+    pub names: &'a FoundNames,
+    pub spelling: &'a Spelling,
+    pub vars: &'a VarTable,
+    /// The skeleton that begins at a place.
+    pub starts: &'a PlaceMap<SkelId>,
+    /// The call site at a place.
+    pub sites: &'a PlaceMap<SiteId>,
+    pub lattices: &'a Lattices,
+    /// The lattice and the element that the annotation word at a place names.
+    pub marks: &'a PlaceMap<(LatticeNo, Elem)>,
+}
+
+impl<'a> Known<'a> {
+    /// A token of the unit. Constant time.
+    pub fn place(&self, token: TokenId) -> Place
+        ensures { (w : World) → Shows self.now w → result ≡ at w token }
+    {
+        self.spelling.place(token)
+    }
+
+    /// The tokens from one to another. Constant time.
+    pub fn span(&self, first: TokenId, last: TokenId) -> Span
+        ensures { (w : World) → Shows self.now w → result ≡ span w first last }
+    {
+        Span {
+            unit: self.spelling.unit,
+            from: first,
+            to: last,
+        }
+    }
+
+    /// The skeleton that begins at a place; past every table where none does. Constant time.
+    pub fn skeleton(&self, at: &Place) -> SkelId
+        ensures { (w : World) → Shows self.now w → skel self.now result ≡ skeleton w at.now }
+    {
+        match self.starts.get(at) {
+            Some(start) => start,
+            None => SkelId::new(u32::MAX),
+        }
+    }
+
+    /// The fresh skeleton at a token. Constant time.
+    pub fn own(&self, token: TokenId) -> SkelId
+        ensures { (w : World) → Shows self.now w → skel self.now result ≡ own w token }
+    {
+        self.skeleton(&self.place(token))
+    }
+
+    /// The call site at a place, where there is one. Constant time.
+    pub fn site(&self, at: &Place) -> Option<SiteId>
+        ensures { (w : World) → Shows self.now w →
+            MatchOption result (Unit {0}) (λ site. site ≡ site_number w at.now) }
+    {
+        self.sites.get(at)
+    }
+
+    /// All lattices, a bit for each. Constant time.
+    pub fn all_lattices(&self) -> u16
+        ensures { (w : World) → Shows self.now w → result ≡ all_lattices w }
+    {
+        all_of(self.lattices)
+    }
+}
+
+/// A bit for each lattice.
+fn all_of(lattices: &Lattices) -> u16
+    ensures { (w : World) → w.lattices ≡ lattices.now → result ≡ all_lattices w }
+{
+    ((1u32 << lattices.len()) - 1) as u16
+}

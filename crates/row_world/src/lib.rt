@@ -1,0 +1,17 @@
+//! What does not change while constraints are made, found at once: skeletons, uses, declarations, members, call sites, marks.
+#![tactic(auto)]
+
+mod known;
+mod lattices;
+mod names;
+mod operand;
+mod skels;
+mod targets;
+mod values;
+
+pub use known::Known;
+pub use operand::Operand;
+pub use skels::{
+    contents, further, is_fun, is_ref, is_void, nowhere, outcome, parameter, read, struct_of,
+};
+pub use values::{binary, is_additive, value};

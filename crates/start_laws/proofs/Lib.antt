@@ -1,0 +1,6 @@
+mod Found
+mod Idle
+mod Parts
+mod States
+mod Trees
+mod Units

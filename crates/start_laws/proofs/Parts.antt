@@ -1,0 +1,254 @@
+-- Where skeletons begin along the tapes of operators, of names of types, and of what stands round other nodes.
+use Rattle.std.proofs.Common.{◌≡◌, ℕ, Bool, true, false, List, [], ◌∷◌, ◌++◌, Option, None, Some, refl, sym, ◌∙◌, ap, append_assoc}
+use Rattle.std.proofs.lemmas.List.{append-nil}
+use Rattle.std.specs.Prelude.{not, ◌&&◌, if◌then◌else◌}
+use Rattle.c_syntax.specs.declared.parts.Identifier.{Identifier}
+use Rattle.c_words.specs.declared.kinds.Punct.{Punct}
+use Rattle.tape_ops.specs.declared.op.Op.{Op}
+use Rattle.tape_ops.specs.declared.op.Op.TheVariants as ops
+use Rattle.tape_ops.specs.declared.specifier.TagKind.{TagKind}
+use Rattle.tape_ops.specs.declared.specifier.SpecOp.TheVariants as specs
+use Rattle.tape_ops.specs.declared.statement.StmtOp.TheVariants as stmts
+use Rattle.tape_ops.specs.declared.expression.ExprOp.TheVariants as exprs
+use Rattle.tape_ops.specs.declared.form.FormOp.TheVariants as forms
+use Rattle.tape_ops.specs.declared.declarator.DeclrOp.TheVariants as declrs
+use Rattle.tape_ops.specs.declared.initialiser.InitOp.TheVariants as inits
+use Rattle.c_tree.specs.Tree.{Expr, operation, Operator, comma, assign, cond, binary, no_expr, some_expr, SpecWords, SomeDeclr, InitList, Params}
+use Rattle.c_tree.specs.Ends.{first_token, last_token}
+use Rattle.c_tape.specs.Tests.{says_none}
+use Rattle.c_tape.specs.Tape.{expr_tape, middle_tape, type_name_with, body_tape, in_scope, quietly, spec, params_with, params_tape, list_tape, rule_of_list, init}
+use Rattle.type_table.specs.Types.{CType, base}
+use Rattle.name_rules.specs.Values.{value}
+use Rattle.type_rules.specs.Shapes.{shape_of, is_zero}
+use Rattle.shape_steps.specs.State.{State, OpenDeclaration}
+use Rattle.row_rules.specs.Starting.{Start, Around, Having, with_skeleton, having, quiet, fresh, some_fresh, fresh_where, some_place, is_some_pointer, is_fresh_binary}
+use Rattle.row_steps.specs.Rounds.{Naming, a_name, own_param, other_param, Rounds, is_quiet, with_round, entered, silenced, left, next_naming, params_naming, round_step}
+use Rattle.row_steps.specs.Starting.{naming_has}
+use Rattle.constraint_rules.specs.Starts.{expr_starts, some_expr_starts, params_starts, type_at}
+use Rattle.start_laws.proofs.Found.{Over, at, behind, starts_at, found, rounds_behind, found_append, rounds_append, Finds, join, same, followed, without, enclosed, around_tape, silent, of_three, of_four}
+use Rattle.start_laws.proofs.States.{operands_left, cast_type, va_arg_type, literal_type, type_name_tape}
+use Rattle.start_laws.proofs.Idle.{none_said, list_none}
+
+-- what is around a tape
+
+pub scoped : {k : Over} {h : Having} {tape : List Op} {f : Around → List Start} → Finds k with_skeleton tape f →
+    Finds k h (in_scope tape) f
+scoped p = around_tape (ops.Stmt stmts.Enter) (ops.Stmt stmts.Leave) entered (λ a. a) (λ st r. refl) (λ st r. refl)
+    (λ r. refl) (λ r. refl) (λ st r. refl) (λ ds r. refl) p
+
+pub quietly_finds : {k : Over} {h : Having} {tape : List Op} {f : Around → List Start} →
+    Finds k with_skeleton tape f → Finds k h (quietly tape) (λ a. f (quiet a))
+quietly_finds p = around_tape (ops.Stmt stmts.Quiet) (ops.Stmt stmts.Loud) silenced quiet (λ st r. refl)
+    (λ st r. refl) (λ r. refl) (λ r. refl) (λ st r. refl) (λ ds r. refl) p
+
+-- the operand of `sizeof` or `offsetof`, whose value is fresh
+pub sizeof_finds : {k : Over} {h : Having} {tape : List Op} {f : Around → List Start} (token : ℕ) →
+    Finds k with_skeleton tape f →
+    Finds k h (ops.Stmt stmts.Quiet ∷ (tape ++ ops.Form (forms.Sizeof token) ∷ []))
+    (λ a. f (quiet a) ++ fresh a token (base []))
+sizeof_finds token p =
+    enclosed (ops.Stmt stmts.Quiet) (ops.Form (forms.Sizeof token)) silenced quiet (λ a. fresh a token (base []))
+    (λ st r. refl) (λ st r. refl) (λ r. refl) (λ r. refl) (λ st r. refl) (λ ds r. refl) p
+
+pub offset_finds : {k : Over} {h : Having} {tape : List Op} {f : Around → List Start} (token : ℕ) →
+    Finds k with_skeleton tape f →
+    Finds k h (ops.Stmt stmts.Quiet ∷ (tape ++ ops.Form (forms.Offset token) ∷ []))
+    (λ a. f (quiet a) ++ fresh a token (base []))
+offset_finds token p =
+    enclosed (ops.Stmt stmts.Quiet) (ops.Form (forms.Offset token)) silenced quiet (λ a. fresh a token (base []))
+    (λ st r. refl) (λ st r. refl) (λ r. refl) (λ r. refl) (λ st r. refl) (λ ds r. refl) p
+
+pub body_finds : {k : Over} {h : Having} {tape : List Op} {f : Around → List Start} (kind : TagKind) (keyword : ℕ)
+    (tag : Option Identifier) → Finds k with_skeleton tape f →
+    Finds k h (body_tape kind keyword tag ++ tape ++ spec specs.BodyEnd) f
+body_finds kind keyword None p =
+    around_tape (ops.Spec (specs.Untagged kind keyword)) (ops.Spec specs.BodyEnd) entered (λ a. a) (λ st r. refl)
+    (λ st r. refl) (λ r. refl) (λ r. refl) (λ st r. refl) (λ ds r. refl) p
+body_finds kind keyword (Some tag) p =
+    around_tape (ops.Spec (specs.TagBody kind tag.token tag.name)) (ops.Spec specs.BodyEnd) entered (λ a. a)
+    (λ st r. refl) (λ st r. refl) (λ r. refl) (λ r. refl) (λ st r. refl) (λ ds r. refl) p
+
+-- names of types
+
+pub type_name_finds : {k : Over} {h : Having} {words d : List Op} {f g : Around → List Start} (first : ℕ) →
+    Finds k h words f → Finds k h d g → Finds k h (type_name_with words d first) (λ a. f a ++ g a)
+type_name_finds first p q =
+    without (ops.Declr (declrs.TypeName first))
+    (join (without (ops.Spec specs.SpecsEnd) p (λ st r. refl) (λ ds r. refl)) q) (λ st r. refl) (λ ds r. refl)
+
+module _ (k : Over) where
+  -- operators
+
+  abbrev pub middle_starts : Around → Operator → List Start
+  middle_starts a comma = []
+  middle_starts a (assign p) = []
+  middle_starts a (cond middle colon) = some_expr_starts a middle
+  middle_starts a (binary p) = []
+
+  abbrev cond_starts : Expr → Expr → Expr → ℕ → Around → List Start
+  cond_starts whole m e2 token a =
+      fresh_where (not (is_zero a.spelling a.names m) && not (is_zero a.spelling a.names e2))
+      (some_fresh a token (shape_of a.spelling a.names whole).type)
+
+  abbrev binary_starts : Punct → Expr → Expr → ℕ → Around → List Start
+  binary_starts p e e2 token a =
+      fresh_where
+      (is_fresh_binary p (is_some_pointer (value (shape_of a.spelling a.names e)))
+      (is_some_pointer (value (shape_of a.spelling a.names e2)))) (fresh a token (base []))
+
+  pub operation_finds : (e : Expr) (op : Operator) (token : ℕ) (e2 : Expr) (called : Bool) →
+      Finds k with_skeleton (expr_tape false e) (λ a. expr_starts a e) →
+      Finds k with_skeleton (middle_tape op) (λ a. middle_starts a op) →
+      Finds k with_skeleton (expr_tape false e2) (λ a. expr_starts a e2) →
+      Finds k with_skeleton (expr_tape called (operation e op token e2)) (λ a. expr_starts a (operation e op token e2))
+  operation_finds e comma token e2 called p m q =
+      without (ops.Expr (exprs.Comma token)) (join (silent p m) q) (λ st r. refl) (λ ds r. refl)
+  operation_finds e (assign sign) token e2 called p m q =
+      without (ops.Expr (exprs.Assign sign token (first_token e) (last_token e2))) (join (silent p m) q) (λ st r. refl)
+      (λ ds r. refl)
+  operation_finds e (cond no_expr colon) token e2 called p m q =
+      of_three (λ a. expr_starts a e) (λ a. expr_starts a e2)
+      (cond_starts (operation e (cond no_expr colon) token e2) e e2 token)
+      (followed (ops.Expr (exprs.Cond false token (first_token e) (last_token e2)))
+      (cond_starts (operation e (cond no_expr colon) token e2) e e2 token) (join (silent p m) q)
+      (λ st r. ap (λ (it : State). starts_at k it r (ops.Expr (exprs.Cond false token (first_token e) (last_token e2))))
+      (operands_left k e (cond no_expr colon) e2 st)) (λ ds r. refl))
+  operation_finds e (cond (some_expr m) colon) token e2 called p q s =
+      of_four (λ a. expr_starts a e) (λ a. expr_starts a m) (λ a. expr_starts a e2)
+      (cond_starts (operation e (cond (some_expr m) colon) token e2) m e2 token)
+      (followed (ops.Expr (exprs.Cond true token (first_token e) (last_token e2)))
+      (cond_starts (operation e (cond (some_expr m) colon) token e2) m e2 token) (join (join p q) s)
+      (λ st r. ap (λ (it : State). starts_at k it r (ops.Expr (exprs.Cond true token (first_token e) (last_token e2))))
+      (operands_left k e (cond (some_expr m) colon) e2 st)) (λ ds r. refl))
+  operation_finds e (binary sign) token e2 called p m q =
+      of_three (λ a. expr_starts a e) (λ a. expr_starts a e2) (binary_starts sign e e2 token)
+      (followed (ops.Expr (exprs.Binary sign token (first_token e) (last_token e2))) (binary_starts sign e e2 token)
+      (join (silent p m) q)
+      (λ st r. ap (λ (it : State). starts_at k it r (ops.Expr (exprs.Binary sign token (first_token e) (last_token e2))))
+      (operands_left k e (binary sign) e2 st)) (λ ds r. refl))
+
+  -- forms with a type's name
+
+  pub cast_finds : (f g i : Around → List Start) (opening : ℕ) (ws : SpecWords) (d : SomeDeclr) (e : Expr) →
+      Finds k with_skeleton (type_name_tape k ws d) (λ a. f a ++ g a) →
+      Finds k with_skeleton (expr_tape false e) i →
+      Finds k with_skeleton (type_name_tape k ws d ++ expr_tape false e ++ ops.Form (forms.Cast opening (last_token e)) ∷ [])
+      (λ a. f a ++ (g a ++ (i a ++ some_fresh a opening (type_at a ws))))
+  cast_finds f g i opening ws d e p q =
+      of_four f g i (λ a. some_fresh a opening (type_at a ws))
+      (followed (ops.Form (forms.Cast opening (last_token e))) (λ a. some_fresh a opening (type_at a ws)) (join p q)
+      (λ st r. ap (some_fresh (at k r) opening) (cast_type k ws d e st)) (λ ds r. refl))
+
+  pub va_arg_finds : (f g i : Around → List Start) (keyword : ℕ) (e : Expr) (ws : SpecWords) (d : SomeDeclr)
+      (closing : ℕ) → Finds k with_skeleton (expr_tape false e) f →
+      Finds k with_skeleton (type_name_tape k ws d) (λ a. g a ++ i a) →
+      Finds k with_skeleton (expr_tape false e ++ type_name_tape k ws d ++ ops.Form (forms.VaArg keyword closing) ∷ [])
+      (λ a. f a ++ (g a ++ (i a ++ some_fresh a keyword (type_at a ws))))
+  va_arg_finds f g i keyword e ws d closing p q =
+      same (followed (ops.Form (forms.VaArg keyword closing)) (λ a. some_fresh a keyword (type_at a ws)) (join p q)
+      (λ st r. ap (some_fresh (at k r) keyword) (va_arg_type k e ws d st)) (λ ds r. refl))
+      (λ r. append_assoc (f (at k r)) (g (at k r) ++ i (at k r)) (some_fresh (at k r) keyword (type_at (at k r) ws))
+      ∙ ap (λ (starts : List Start). f (at k r) ++ starts)
+      (append_assoc (g (at k r)) (i (at k r)) (some_fresh (at k r) keyword (type_at (at k r) ws))))
+
+  pub literal_finds : (f g i : Around → List Start) (opening : ℕ) (ws : SpecWords) (d : SomeDeclr) (list : InitList) →
+      Finds k with_skeleton (type_name_tape k ws d) (λ a. f a ++ g a) →
+      Finds k with_skeleton (list_tape list) i →
+      Finds k with_skeleton
+      (type_name_tape k ws d ++ init inits.Begin ++ list_tape list ++ init (inits.Literal opening) ++ rule_of_list list
+      ++ init inits.LiteralEnd)
+      (λ a. f a ++ (g a ++ (i a ++ some_fresh a opening (some_place (type_at a ws)))))
+  literal_finds f g i opening ws d list p q =
+      of_four f g i (λ a. some_fresh a opening (some_place (type_at a ws)))
+      (without (ops.Init inits.LiteralEnd)
+      (silent (followed (ops.Init (inits.Literal opening)) (λ a. some_fresh a opening (some_place (type_at a ws)))
+      (join (without (ops.Init inits.Begin) p (λ st r. refl) (λ ds r. refl)) q)
+      (λ st r. ap (λ (t : Option CType). some_fresh (at k r) opening (some_place t)) (literal_type k ws d list st))
+      (λ ds r. refl)) (list_none k list with_skeleton)) (λ st r. refl) (λ ds r. refl))
+
+-- parameters
+
+-- along the tape of parameters, of which each has a number
+pub record FindsParams (k : Over) (h : Having) (tape : List Op) (f : Around → List Start) : Type 0 where
+  pub finds : (st : State) (r : Rounds) (n : Naming) (q : Bool) → naming_has n ≡ h →
+      found k st (with_round n q r) tape ≡ f (at k (with_round n q r))
+  pub ends : (st : State) (r : Rounds) (n : Naming) (q : Bool) →
+      left (rounds_behind k st (with_round n q r) tape) ≡ r
+
+pub no_param : {k : Over} {h : Having} → FindsParams k h [] (λ a. [])
+no_param = record { finds = λ st r n q e. refl; ends = λ st r n q. refl }
+
+next_has : (n : Naming) → naming_has (next_naming n) ≡ naming_has n
+next_has a_name = refl
+next_has (own_param f n) = refl
+next_has other_param = refl
+
+pub one_param : {k : Over} {h : Having} {xs ys : List Op} {f g : Around → List Start} → Finds k h xs f →
+    FindsParams k h ys g → FindsParams k h (xs ++ ops.Declr declrs.Param ∷ [] ++ ys) (λ a. f a ++ g a)
+one_param {k} {h} {xs} {ys} {f} {g} p q = record {
+  finds = λ st r n b e.
+      found_append k (xs ++ ops.Declr declrs.Param ∷ []) ys st (with_round n b r)
+      ∙ (ap (λ (it : Rounds). found k st (with_round n b r) (xs ++ ops.Declr declrs.Param ∷ [])
+      ++ found k (behind k st (xs ++ ops.Declr declrs.Param ∷ [])) it ys) (numbered st r n b)
+      ∙ (ap (λ (starts : List Start). starts
+      ++ found k (behind k st (xs ++ ops.Declr declrs.Param ∷ [])) (with_round (next_naming n) b r) ys)
+      (before st r n b e)
+      ∙ ap (λ (starts : List Start). f (at k (with_round n b r)) ++ starts)
+      (q.finds (behind k st (xs ++ ops.Declr declrs.Param ∷ [])) r (next_naming n) b (next_has n ∙ e))));
+  ends = λ st r n b.
+      ap left (rounds_append k (xs ++ ops.Declr declrs.Param ∷ []) ys st (with_round n b r)
+      ∙ ap (λ (it : Rounds). rounds_behind k (behind k st (xs ++ ops.Declr declrs.Param ∷ [])) it ys)
+      (numbered st r n b))
+      ∙ q.ends (behind k st (xs ++ ops.Declr declrs.Param ∷ [])) r (next_naming n) b;
+} where
+  numbered : (st : State) (r : Rounds) (n : Naming) (b : Bool) →
+      rounds_behind k st (with_round n b r) (xs ++ ops.Declr declrs.Param ∷ []) ≡ with_round (next_naming n) b r
+  numbered st r n b = rounds_append k xs (ops.Declr declrs.Param ∷ []) st (with_round n b r)
+      ∙ ap (λ (it : Rounds). round_step (behind k st xs).declarations it (ops.Declr declrs.Param))
+      (p.stays st (with_round n b r))
+
+  before : (st : State) (r : Rounds) (n : Naming) (b : Bool) → naming_has n ≡ h →
+      found k st (with_round n b r) (xs ++ ops.Declr declrs.Param ∷ []) ≡ f (at k (with_round n b r))
+  before st r n b e = found_append k xs (ops.Declr declrs.Param ∷ []) st (with_round n b r)
+      ∙ (append-nil (found k st (with_round n b r) xs) ∙ p.finds st (with_round n b r) e)
+
+pub params_grouped : {k : Over} {h : Having} {tape : List Op} (f g i : Around → List Start) →
+    FindsParams k h tape (λ a. (f a ++ g a) ++ i a) → FindsParams k h tape (λ a. f a ++ (g a ++ i a))
+params_grouped {k} f g i p = record {
+  finds = λ st r n q e. p.finds st r n q e
+      ∙ append_assoc (f (at k (with_round n q r))) (g (at k (with_round n q r))) (i (at k (with_round n q r)));
+  ends = p.ends;
+}
+
+-- a list that says that there are none has none
+pub listed : {k : Over} {h : Having} {f : Around → List Start} (none : Bool) (tape : List Op) →
+    (none ≡ true → (a : Around) → f a ≡ []) → FindsParams k h tape f →
+    FindsParams k h (if none then [] else tape) f
+listed {k} true tape empty p = record {
+  finds = λ st r n q e. sym (empty refl (at k (with_round n q r)));
+  ends = λ st r n q. refl;
+}
+listed false tape empty p = p
+
+params_have : (own : Bool) (ds : List OpenDeclaration) → naming_has (params_naming own ds) ≡ having own
+params_have true ds = refl
+params_have false ds = refl
+
+pub params_with_find : {k : Over} {h : Having} (own : Bool) (ps : Params) →
+    FindsParams k (having own) (params_tape ps) (λ a. params_starts a (having own) ps) →
+    Finds k h (params_with own (says_none ps) (params_tape ps)) (λ a. params_starts a (having own) ps)
+params_with_find {k} own ps p = record {
+  finds = λ st r e. found_append k list (ops.Declr declrs.ParamsEnd ∷ []) st (begun st r)
+      ∙ (append-nil (found k st (begun st r) list)
+      ∙ it.finds st r (params_naming own st.declarations) (is_quiet r) (params_have own st.declarations));
+  stays = λ st r. rounds_append k list (ops.Declr declrs.ParamsEnd ∷ []) st (begun st r)
+      ∙ it.ends st r (params_naming own st.declarations) (is_quiet r);
+} where
+  list : List Op
+  list = if says_none ps then [] else params_tape ps
+
+  it : FindsParams k (having own) list (λ a. params_starts a (having own) ps)
+  it = listed (says_none ps) (params_tape ps) (λ e a. none_said a (having own) ps e) p
+
+  begun : State → Rounds → Rounds
+  begun st r = with_round (params_naming own st.declarations) (is_quiet r) r

@@ -1,0 +1,7 @@
+//! That the skeletons which begin along the tape of a unit are those that the definition on its
+//! tree says.
+#![tactic(auto)]
+
+mod laws;
+
+pub use laws::{starts_are_found, starts_of_program_are_found};

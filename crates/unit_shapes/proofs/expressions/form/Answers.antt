@@ -1,0 +1,88 @@
+use Rattle.std.proofs.Common.{sym, ◌∙◌, ap}
+use Rattle.std.proofs.lemmas.Result.{on_ok_weaker}
+use Rattle.shape_steps.specs.Steps as steps
+use Rattle.shape_stacks.specs.Views.{state_in}
+use Rattle.unit_spelling.specs.Spelled.{spelling_of}
+use Rattle.unit_shapes.specs.Views.{names_in}
+use Rattle.unit_shapes.proofs.expressions.form.Goals as goal
+
+pub returns-in-Cast : goal.returns-in-Cast
+returns-in-Cast c =
+    let rows = c.args.types.now in
+    let u = spelling_of c.args.spelling.now in
+    let s = names_in rows c.args.names.now in
+    let st = state_in rows c.args.stacks.now in
+    on_ok_weaker c.cast.result
+    (λ done. done u s c.in-Cast.token c.in-Cast.last ∙ ap (steps.form_step u s st) (sym c.in-Cast.is)) c.cast.ensures
+
+pub returns-in-Sizeof : goal.returns-in-Sizeof
+returns-in-Sizeof c =
+    let rows = c.args.types.now in
+    let u = spelling_of c.args.spelling.now in
+    let s = names_in rows c.args.names.now in
+    let st = state_in rows c.args.stacks.now in
+    on_ok_weaker c.sizeof.result
+    (λ done. done u s c.in-Sizeof.token ∙ ap (steps.form_step u s st) (sym c.in-Sizeof.is)) c.sizeof.ensures
+
+pub returns-in-StmtExpr : goal.returns-in-StmtExpr
+returns-in-StmtExpr c =
+    let rows = c.args.types.now in
+    let u = spelling_of c.args.spelling.now in
+    let s = names_in rows c.args.names.now in
+    let st = state_in rows c.args.stacks.now in
+    on_ok_weaker c.statements.result
+    (λ done. done u s c.in-StmtExpr.token ∙ ap (steps.form_step u s st) (sym c.in-StmtExpr.is)) c.statements.ensures
+
+pub returns-in-VaArg : goal.returns-in-VaArg
+returns-in-VaArg c =
+    let rows = c.args.types.now in
+    let u = spelling_of c.args.spelling.now in
+    let s = names_in rows c.args.names.now in
+    let st = state_in rows c.args.stacks.now in
+    on_ok_weaker c.va_arg.result
+    (λ done. done rows u s c.in-VaArg.token c.in-VaArg.last ∙ ap (steps.form_step u s st) (sym c.in-VaArg.is)) c.va_arg.ensures
+
+pub returns-in-VaStart : goal.returns-in-VaStart
+returns-in-VaStart c =
+    let rows = c.args.types.now in
+    let u = spelling_of c.args.spelling.now in
+    let s = names_in rows c.args.names.now in
+    let st = state_in rows c.args.stacks.now in
+    on_ok_weaker c.variadic.result
+    (λ done. done u s c.in-VaStart.token c.in-VaStart.last ∙ ap (steps.form_step u s st) (sym c.in-VaStart.is)) c.variadic.ensures
+
+pub returns-in-VaCopy : goal.returns-in-VaCopy
+returns-in-VaCopy c =
+    let rows = c.args.types.now in
+    let u = spelling_of c.args.spelling.now in
+    let s = names_in rows c.args.names.now in
+    let st = state_in rows c.args.stacks.now in
+    on_ok_weaker c.variadic-in-VaCopy.result
+    (λ done. done u s c.in-VaCopy.token c.in-VaCopy.last ∙ ap (steps.form_step u s st) (sym c.in-VaCopy.is)) c.variadic-in-VaCopy.ensures
+
+pub returns-in-OffsetMember : goal.returns-in-OffsetMember
+returns-in-OffsetMember c =
+    let rows = c.args.types.now in
+    let u = spelling_of c.args.spelling.now in
+    let s = names_in rows c.args.names.now in
+    let st = state_in rows c.args.stacks.now in
+    on_ok_weaker c.offset_member.result
+    (λ done. done c.in-OffsetMember.token ∙ ap (steps.form_step u s st) (sym c.in-OffsetMember.is)) c.offset_member.ensures
+
+pub returns-in-OffsetIndex : goal.returns-in-OffsetIndex
+returns-in-OffsetIndex c =
+    let rows = c.args.types.now in
+    let u = spelling_of c.args.spelling.now in
+    let s = names_in rows c.args.names.now in
+    let st = state_in rows c.args.stacks.now in
+    on_ok_weaker c.offset_index.result
+    (λ done. done u s c.in-OffsetIndex.token ∙ ap (steps.form_step u s st) (sym c.in-OffsetIndex.is)) c.offset_index.ensures
+
+pub returns-in-Offset : goal.returns-in-Offset
+returns-in-Offset c =
+    let rows = c.args.types.now in
+    let u = spelling_of c.args.spelling.now in
+    let s = names_in rows c.args.names.now in
+    let st = state_in rows c.args.stacks.now in
+    on_ok_weaker c.offset.result
+    (λ done. done u s c.in-Offset.token ∙ ap (steps.form_step u s st) (sym c.in-Offset.is)) c.offset.ensures

@@ -1,0 +1,12 @@
+use Rattle.std.proofs.Common.{◌∙◌, ap}
+use Rattle.std.proofs.lemmas.Result.{on_ok_weaker}
+use Rattle.shape_steps.specs.State.{State}
+use Rattle.shape_steps.specs.Steps as steps
+use Rattle.unit_shapes.proofs.initialisers.end_list.Goals as goal
+
+pub returns : goal.returns
+returns c =
+    let rows = c.args.types.now in
+    on_ok_weaker c.pass.result
+    (λ passed. passed rows
+    ∙ ap (λ (st : State). steps.in_braces steps.with_item st) (c.leave_list.ensures rows)) c.pass.ensures

@@ -1,0 +1,50 @@
+use Rattle.std.proofs.Common.{sym, ◌∙◌, ap}
+use Rattle.std.proofs.lemmas.Result.{on_ok_weaker}
+use Rattle.shape_steps.specs.Steps as steps
+use Rattle.shape_stacks.specs.Views.{state_in}
+use Rattle.unit_spelling.specs.Spelled.{spelling_of}
+use Rattle.unit_shapes.specs.Views.{names_in}
+use Rattle.unit_shapes.proofs.steps.declarator.Goals as goal
+
+pub returns-in-DeclName : goal.returns-in-DeclName
+returns-in-DeclName c =
+    let rows = c.args.types.now in
+    let u = spelling_of c.args.spelling.now in
+    let s = names_in rows c.args.names.now in
+    let st = state_in rows c.args.stacks.now in
+    on_ok_weaker c.name.result
+    (λ done. done rows ∙ ap (steps.declr_step u s st) (sym c.in-DeclName.is)) c.name.ensures
+
+pub returns-in-Param : goal.returns-in-Param
+returns-in-Param c =
+    let rows = c.args.types.now in
+    let u = spelling_of c.args.spelling.now in
+    let s = names_in rows c.args.names.now in
+    let st = state_in rows c.args.stacks.now in
+    c.close.ensures rows ∙ ap (steps.declr_step u s st) (sym c.in-Param.is)
+
+pub returns-in-Declare : goal.returns-in-Declare
+returns-in-Declare c =
+    let rows = c.args.types.now in
+    let u = spelling_of c.args.spelling.now in
+    let s = names_in rows c.args.names.now in
+    let st = state_in rows c.args.stacks.now in
+    on_ok_weaker c.declare.result
+    (λ done. done rows ∙ ap (steps.declr_step u s st) (sym c.in-Declare.is)) c.declare.ensures
+
+pub returns-in-Member : goal.returns-in-Member
+returns-in-Member c =
+    let rows = c.args.types.now in
+    let u = spelling_of c.args.spelling.now in
+    let s = names_in rows c.args.names.now in
+    let st = state_in rows c.args.stacks.now in
+    on_ok_weaker c.leave_name.result
+    (λ done. done rows ∙ ap (steps.declr_step u s st) (sym c.in-Member.is)) c.leave_name.ensures
+
+pub returns-in-DeclarationEnd : goal.returns-in-DeclarationEnd
+returns-in-DeclarationEnd c =
+    let rows = c.args.types.now in
+    let u = spelling_of c.args.spelling.now in
+    let s = names_in rows c.args.names.now in
+    let st = state_in rows c.args.stacks.now in
+    c.close-in-DeclarationEnd.ensures rows ∙ ap (steps.declr_step u s st) (sym c.in-DeclarationEnd.is)

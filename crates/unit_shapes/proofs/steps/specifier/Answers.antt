@@ -1,0 +1,12 @@
+use Rattle.std.proofs.Common.{sym, ◌∙◌, ap}
+use Rattle.std.proofs.lemmas.Result.{on_ok_weaker}
+use Rattle.shape_steps.specs.Steps as steps
+use Rattle.shape_stacks.specs.Views.{state_in}
+use Rattle.unit_shapes.proofs.steps.specifier.Goals as goal
+
+pub returns-in-SpecsEnd : goal.returns-in-SpecsEnd
+returns-in-SpecsEnd c =
+    let rows = c.args.types.now in
+    on_ok_weaker c.open.result
+    (λ opened. opened rows ∙ ap (steps.spec_step (state_in rows c.args.stacks.now)) (sym c.in-SpecsEnd.is))
+    c.open.ensures

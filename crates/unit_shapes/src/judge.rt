@@ -1,0 +1,106 @@
+//! The loop over a tape.
+
+ghost use Rattle.std.specs.Prelude.{◌≡◌, ◌++◌, None, Some, map, IfOk, OnOk};
+ghost use Rattle.shape_steps.specs.State.{nothing};
+ghost use Rattle.shape_steps.specs.Found.{faults_found};
+ghost use Rattle.shape_stacks.specs.Views.{state_in};
+ghost use Rattle.unit_names.specs.Shown as shown;
+ghost use Rattle.unit_spelling.specs.Spelled.{spelling_of};
+ghost use Rattle.unit_shapes.specs.Faults.{rule_of, some_fault_of, keep, IsFirstOf};
+ghost use Rattle.unit_shapes.specs.Views.{names_in, AreImplicit};
+
+use crate::fault::{Fault, Rule, keep};
+use crate::found::FoundNames;
+use crate::op_faults::note_faults;
+use crate::steps::step;
+use crate::uses::ImplicitTypes;
+use name_records as records;
+use qual_base::NoMemory;
+use shape_stacks::Stacks;
+use std::alloc::Global;
+use tape_ops::Op;
+use type_table::TypeTable;
+use unit_spelling::Spelling;
+
+/// A rule of names among all rules.
+fn rule_of_names(rule: &records::Rule) -> Rule
+    ensures { rule_of result ≡ shown.rule_of rule.now }
+{
+    match rule {
+        records::Rule::Undeclared => Rule::Undeclared,
+        records::Rule::DefinedTwice => Rule::DefinedTwice,
+        records::Rule::TypeTooLarge => Rule::TypeTooLarge,
+    }
+}
+
+/// A fault of names among all faults.
+fn fault_of_names(fault: &records::Fault) -> Fault
+    ensures { some_fault_of (Some result) ≡ Some (shown.fault_of fault.now) }
+{
+    let rule = rule_of_names(&fault.rule);
+    Fault { at: fault.at, rule }
+}
+
+/// The earliest of the faults of names. Linear in them.
+fn first_of_names(faults: &[records::Fault]) -> Option<Fault>
+    ensures { some_fault_of result ≡ keep None (map shown.fault_of faults.now) }
+{
+    let mut best = None;
+    for fault in faults {
+        keep(&mut best, &fault_of_names(fault));
+    }
+    best
+}
+
+/// Keeps the earliest one of a fault that is known and of those of a tape. Linear in the tape, but
+/// for growth.
+fn judge(
+    best: &mut Option<Fault>,
+    stacks: &mut Stacks,
+    spelling: &Spelling,
+    names: &FoundNames,
+    types: &TypeTable,
+    implicit: &ImplicitTypes,
+    tape: &[Op],
+) -> Result<(), NoMemory>
+    requires { AreImplicit types.now implicit.now }
+    ensures { OnOk result (some_fault_of best.new ≡ keep (some_fault_of best.old)
+        (faults_found (spelling_of spelling.now) (names_in types.now names.now)
+        (state_in types.now stacks.old) tape.now)) }
+{
+    for op in tape {
+        note_faults(best, stacks, spelling, names, types, *op);
+        step(stacks, spelling, names, types, implicit, *op)?;
+    }
+    Ok(())
+}
+
+/// The first fault of a unit, of its names and of its expressions, which see also what is declared
+/// behind them; none where the unit has none. Linear in the tape, but for growth.
+pub fn judge_unit(
+    alloc: Global,
+    spelling: &Spelling,
+    names: &FoundNames,
+    types: &TypeTable,
+    implicit: &ImplicitTypes,
+    tape: &[Op],
+) -> Result<Option<Fault>, NoMemory>
+    requires { AreImplicit types.now implicit.now }
+    ensures { IfOk result (λ first. IsFirstOf (some_fault_of first)
+        ((names_in types.now names.now).faults
+        ++ faults_found (spelling_of spelling.now) (names_in types.now names.now) nothing
+        tape.now)) }
+{
+    let mut best = first_of_names(names.names().faults());
+    let mut stacks = Stacks::new(alloc);
+    judge(
+        &mut best,
+        &mut stacks,
+        spelling,
+        names,
+        types,
+        implicit,
+        tape,
+    )?;
+    Ok(best)
+}

@@ -1,0 +1,20 @@
+//! The types of expressions and the faults of a unit, by one loop over its tape (C99, 6.5 and
+//! 6.7.8).
+#![tactic(auto)]
+
+mod expressions;
+mod fault;
+mod found;
+mod initialisers;
+mod judge;
+mod members;
+mod op_faults;
+mod steps;
+mod targets;
+mod uses;
+
+pub use fault::{Fault, Rule};
+pub use found::FoundNames;
+pub use judge::judge_unit;
+pub use steps::step;
+pub use uses::ImplicitTypes;

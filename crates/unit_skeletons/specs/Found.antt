@@ -1,0 +1,45 @@
+-- Skeletons that are found by their places.
+use Rattle.std.specs.Prelude.{◌≡◌, ℕ, ◌+◌, ◌<◌, List, ◌++◌, length, Option, Some, None}
+use Rattle.qual_base.specs.declared.places.Owner.{Owner}
+use Rattle.flow_graph.specs.declared.constraint.Site.{Site}
+use Rattle.qual_types.specs.declared.row.Row.{Row}
+use Rattle.qual_types.specs.Skel.{Skel}
+use Rattle.qual_types.specs.Rows.{skel_of, owners_of}
+use Rattle.name_rules.specs.Spellings.{Place}
+use Rattle.name_records.specs.Held.{PlaceMap, value_at}
+use Rattle.row_rules.specs.Starting.{Start}
+use Rattle.row_rules.specs.Worlds.{Numbered, numbered_from, skeleton_among}
+use Rattle.row_rules.specs.Sites.{variables_among, owners_among}
+
+abbrev pub IsBelow : ℕ → Option ℕ → Type 0
+IsBelow count None = Unit {0}
+IsBelow count (Some n) = n < count
+
+-- the numbers that are found are of the table
+abbrev pub AreBelow : List Row → PlaceMap ℕ → Type 0
+AreBelow rows map = (p : Place) → IsBelow (length rows) (value_at map p)
+
+-- the skeleton of a number that was found, or this where none was
+abbrev pub skel_or : List Row → Option ℕ → Skel → Skel
+skel_or rows None other = other
+skel_or rows (Some n) other = skel_of rows n
+
+-- the skeleton of a place, among those that were found and these
+abbrev pub found_with : List Row → PlaceMap ℕ → List Numbered → Place → Skel
+found_with rows map others p = skel_or rows (value_at map p) (skeleton_among others p)
+
+-- a number of no skeleton, where none was found
+abbrev pub number_or_none : Option ℕ → ℕ
+number_or_none None = 4294967295
+number_or_none (Some n) = n
+
+-- of all skeletons these are not numbered yet
+pub record IsNumbering (rows : List Row) (map : PlaceMap ℕ) (functions : List Place) (rest all : List Start) : Type 0 where
+  pub below : AreBelow rows map
+  pub count : length rows + variables_among rest ≡ variables_among all
+  pub owners : owners_of rows ++ owners_among functions rest ≡ owners_among functions all
+  pub found : (p : Place) → found_with rows map (numbered_from (length rows) rest) p
+      ≡ skeleton_among (numbered_from 0 all) p
+
+abbrev pub site_at : Place → ℕ → Owner → Site
+site_at at target owner = record { unit = at.0; token = at.1; target = target; owner = owner }

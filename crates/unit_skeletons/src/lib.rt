@@ -1,0 +1,15 @@
+//! Skeletons of a unit, numbered, and the functions that they belong to.
+#![tactic(auto)]
+
+mod first_map;
+mod functions;
+mod place_numbers;
+mod sites;
+mod skeletons;
+mod unit;
+
+pub use functions::functions_of;
+pub use place_numbers::PlaceNumbers;
+pub use sites::{CallSites, find_sites};
+pub use skeletons::{Skeletons, number_skeletons};
+pub use unit::{NumberedUnit, number_unit};

@@ -1,0 +1,126 @@
+//! Skeletons by numbers.
+
+ghost use Rattle.std.specs.Prelude.{◌≡◌, ◌+◌, ◌<◌, ◌≤◌, ◌++◌, ◌∷◌, ℕ, List, [], length, map, replicate};
+ghost use Rattle.std.specs.Prelude.{OnOk, IfOk, IsErrOf};
+ghost use Rattle.type_table.specs.Types.{size};
+ghost use Rattle.type_table.specs.Rows.{type_of};
+ghost use Rattle.qual_types.specs.Skel.{within};
+ghost use Rattle.qual_types.specs.Rows.{skel_of, owners_of};
+ghost use Rattle.name_rules.specs.Spellings.{Place};
+ghost use Rattle.name_records.specs.Held.{value_at};
+ghost use Rattle.row_rules.specs.Starting as rules;
+ghost use Rattle.row_rules.specs.Worlds.{numbered_from, skeleton_among};
+ghost use Rattle.row_rules.specs.Sites.{variables_among, owner_by, owners_among};
+ghost use Rattle.unit_starts.specs.Views.{start_in};
+ghost use Rattle.unit_skeletons.specs.Found.{AreBelow, found_with, number_or_none};
+
+use crate::first_map::FirstMap;
+use crate::place_numbers::PlaceNumbers;
+use name_scopes::Place;
+use qual_base::{NoMemory, Numbered, SkelId};
+use qual_types::{QualFault, VarTable};
+use std::alloc::Global;
+use type_table::TypeTable;
+use unit_starts::Start;
+
+/// Skeletons with their variables, and the first that begins at each place. Memory is linear in the variables.
+#[derive(Drop)]
+pub struct Skeletons {
+    pub(crate) vars: VarTable,
+    pub(crate) starts: FirstMap<SkelId>,
+}
+
+impl Skeletons {
+    /// No skeletons. Takes no memory.
+    fn new(alloc: Global) -> Self
+        ensures vars { result.vars ≡ [] }
+        ensures below { AreBelow result.vars result.starts.map }
+        ensures found { (rest : List rules.Start) (p : Place) →
+            found_with result.vars result.starts.map (numbered_from 0 rest) p
+            ≡ skeleton_among (numbered_from 0 rest) p }
+    {
+        Skeletons {
+            vars: VarTable::new(alloc),
+            starts: FirstMap::new(alloc),
+        }
+    }
+
+    /// One more. Linear in its type's size. A call that wants memory in vain leaves them as they may be, and of no more use.
+    fn add(
+        &mut self,
+        types: &TypeTable,
+        functions: &PlaceNumbers,
+        start: &Start,
+    ) -> Result<(), QualFault>
+        requires { AreBelow self.old.vars self.old.starts.map }
+        ensures below { OnOk result (AreBelow self.new.vars self.new.starts.map) }
+        ensures count { OnOk result (length self.new.vars
+            ≡ length self.old.vars + size (start_in types.now start.now).type) }
+        ensures owners { OnOk result (owners_of self.new.vars
+            ≡ owners_of self.old.vars
+            ++ replicate (size (start_in types.now start.now).type)
+            (owner_by functions.now start.now.owner)) }
+        ensures found { OnOk result ((rest : List rules.Start) (p : Place) →
+            found_with self.new.vars self.new.starts.map
+            (numbered_from (length self.new.vars) rest) p
+            ≡ found_with self.old.vars self.old.starts.map
+            (numbered_from (length self.old.vars) (start_in types.now start.now ∷ rest)) p) }
+        ensures too_many { IsErrOf result QualFault.TooMany
+            → 16777216 < length self.old.vars + size (start_in types.now start.now).type }
+    {
+        let owner = functions.owner(&start.owner);
+        let (unit, token) = start.at;
+        let at = self
+            .vars
+            .fresh(types, start.ty, start.outer, unit, token, owner)?;
+        match self.starts.add(&start.at, &at) {
+            Ok(()) => Ok(()),
+            Err(NoMemory) => Err(QualFault::NoMemory),
+        }
+    }
+
+    /// The variables.
+    pub fn vars(&self) -> &VarTable
+        ensures { result.now ≡ self.now.vars }
+    {
+        &self.vars
+    }
+
+    /// The first skeleton that begins at a place, or 2^32 - 1 where none does. Constant time.
+    pub fn at(&self, at: &Place) -> SkelId
+        ensures { result ≡ number_or_none (value_at self.now.starts.map at.now) }
+    {
+        match self.starts.get(at) {
+            Some(number) => number,
+            None => SkelId::new(4_294_967_295),
+        }
+    }
+}
+
+/// Numbers skeletons in the order in which they begin. Linear in their variables, but for growth. More than 16,777,216 variables
+/// are too many.
+pub fn number_skeletons(
+    alloc: Global,
+    types: &TypeTable,
+    functions: &PlaceNumbers,
+    starts: &[Start],
+) -> Result<Skeletons, QualFault>
+    ensures count { IfOk result (λ it. length it.vars
+        ≡ variables_among (map (start_in types.now) starts.now)) }
+    ensures owners { IfOk result (λ it. owners_of it.vars
+        ≡ owners_among functions.now (map (start_in types.now) starts.now)) }
+    ensures found { IfOk result (λ it. (p : Place) →
+        skel_of it.vars (number_or_none (value_at it.starts.map p))
+        ≡ skeleton_among (numbered_from 0 (map (start_in types.now) starts.now)) p) }
+    ensures few { OnOk result
+        (variables_among (map (start_in types.now) starts.now) ≤ 16777216) }
+    ensures too_many { IsErrOf result QualFault.TooMany
+        → 16777216 < variables_among (map (start_in types.now) starts.now) }
+{
+    let mut it = Skeletons::new(alloc);
+    for start in starts {
+        it.add(types, functions, start)?;
+    }
+    it.vars.law();
+    Ok(it)
+}

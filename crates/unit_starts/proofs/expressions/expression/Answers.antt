@@ -1,0 +1,20 @@
+use Rattle.std.proofs.Common.{sym, ◌∙◌, ap}
+use Rattle.row_steps.specs.Starting.{expr_op_starts}
+use Rattle.shape_stacks.specs.Views.{state_in}
+use Rattle.unit_spelling.specs.Spelled.{spelling_of}
+use Rattle.unit_shapes.specs.Views.{names_in}
+use Rattle.unit_starts.proofs.Fresh.{fresh_condition}
+use Rattle.unit_starts.proofs.expressions.expression.Goals as goal
+
+pub returns-in-Cond : goal.returns-in-Cond
+returns-in-Cond c =
+    let rows = c.args.types.now in
+    let u = spelling_of c.args.spelling.now in
+    let s = names_in rows c.args.names.now in
+    let st = state_in rows c.args.stacks.now in
+    let it = c.in-Cond in
+    let known = c.new-around.ensures in
+    c.condition.ensures
+    ∙ fresh_condition u s c.args.rounds.now c.new-around.result known.enclosing known.quiet st it.has_middle it.token it.first
+    it.last c.place-in-Cond.result c.place-in-Cond.ensures
+    ∙ ap (expr_op_starts u s st c.args.rounds.now) (sym it.is)

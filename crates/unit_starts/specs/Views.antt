@@ -1,0 +1,38 @@
+-- What the parts of the program stand for, with the types of a table in place of their numbers.
+use Rattle.std.specs.Prelude.{List, [], ◌∷◌, Option, None, Some, if◌then◌else◌}
+use Rattle.type_table.specs.declared.row.Row.{Row}
+use Rattle.type_table.specs.Types.{CType}
+use Rattle.type_table.specs.Rows.{type_of}
+use Rattle.name_rules.specs.Spellings.{Place, Spelling}
+use Rattle.name_rules.specs.Scopes.{Names}
+use Rattle.qual_types.specs.Skel.{within}
+use Rattle.row_rules.specs.Starting as rules
+use Rattle.unit_starts.specs.declared.start.Start.{Start}
+use Rattle.unit_starts.specs.declared.start.Around.{Around}
+
+abbrev pub start_in : List Row → Start → rules.Start
+start_in rows it =
+    record {
+      at = it.at;
+      type = within it.outer (type_of rows it.ty);
+      owner = it.owner;
+      calls = it.calls;
+    }
+
+abbrev pub starts_in : List Row → Option Start → List rules.Start
+starts_in rows None = []
+starts_in rows (Some it) = start_in rows it ∷ []
+
+abbrev pub around_in : Spelling → Names → Around → rules.Around
+around_in u s it =
+    record { spelling = u; names = s; enclosing = it.enclosing; is_quiet = it.is_quiet }
+
+-- a skeleton that is fresh at a place
+abbrev pub fresh_at : Around → Place → CType → List rules.Start
+fresh_at it at t =
+    if it.is_quiet then []
+    else record { at = at; type = t; owner = it.enclosing; calls = None } ∷ []
+
+abbrev pub some_fresh_at : Around → Place → Option CType → List rules.Start
+some_fresh_at it at None = []
+some_fresh_at it at (Some t) = fresh_at it at t

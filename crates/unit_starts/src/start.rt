@@ -1,0 +1,173 @@
+//! A skeleton that begins, and what is around it.
+
+ghost use Rattle.std.specs.Prelude.{◌≡◌};
+ghost use Rattle.type_table.specs.Rows.{type_of};
+ghost use Rattle.qual_types.specs.Skel.{within};
+ghost use Rattle.shape_values.specs.Views.{value_type, some_value_type, some_type};
+ghost use Rattle.row_steps.specs.Rounds as round_rules;
+ghost use Rattle.row_steps.specs.Starting.{function_at};
+ghost use Rattle.row_rules.specs.Starting.{first_of};
+ghost use Rattle.name_rules.specs.Scopes.{declared_at};
+ghost use Rattle.name_rules.specs.Spellings.{place};
+ghost use Rattle.unit_spelling.specs.Spelled.{spelling_of};
+ghost use Rattle.unit_shapes.specs.Views.{names_in};
+ghost use Rattle.unit_starts.specs.Views.{starts_in, fresh_at, some_fresh_at};
+
+use name_scopes::Place;
+use qual_base::{TokenId, TypeId};
+use shape_values::ValueType;
+use tape_rounds::Rounds;
+use type_table::TypeTable;
+use unit_shapes::FoundNames;
+use unit_spelling::Spelling;
+
+/// A skeleton that begins at a place, of a type, or of a reference to it where `outer` is true. Its variables belong to the function that was first declared at `owner`. At a
+/// function's name in an expression it is an instance of the function that was first declared at `calls`.
+#[derive(Clone, Copy, PartialEq, Eq, Debug)]
+pub struct Start {
+    pub at: Place,
+    pub ty: TypeId,
+    pub outer: bool,
+    pub owner: Option<Place>,
+    pub calls: Option<Place>,
+}
+
+/// The function in whose body something stands, by where it was first declared, and whether nothing is fresh there.
+#[derive(Clone, Copy, PartialEq, Eq, Debug, Drop)]
+pub(crate) struct Around {
+    pub(crate) enclosing: Option<Place>,
+    pub(crate) is_quiet: bool,
+}
+
+/// The function that was first declared where the name at a token was. Constant time.
+fn first_declared(
+    spelling: &Spelling,
+    names: &FoundNames,
+    types: &TypeTable,
+    token: TokenId,
+) -> Option<Place>
+    ensures { result ≡ first_of (declared_at (names_in types.now names.now).declared
+        (place (spelling_of spelling.now) token)) }
+{
+    let _ = types;
+    match names.declared_at(&spelling.place(token)) {
+        Some(declared) => Some(declared.first),
+        None => None,
+    }
+}
+
+/// The function in whose body this is. Constant time.
+fn enclosing(
+    spelling: &Spelling,
+    names: &FoundNames,
+    types: &TypeTable,
+    rounds: &Rounds,
+) -> Option<Place>
+    ensures { result ≡ function_at (spelling_of spelling.now) (names_in types.now names.now)
+        rounds.now.body }
+{
+    match rounds.body() {
+        Some(token) => first_declared(spelling, names, types, token),
+        None => None,
+    }
+}
+
+impl Around {
+    /// What is around an op. Constant time.
+    pub(crate) fn new(
+        spelling: &Spelling,
+        names: &FoundNames,
+        types: &TypeTable,
+        rounds: &Rounds,
+    ) -> Self
+        ensures enclosing { result.enclosing
+            ≡ function_at (spelling_of spelling.now) (names_in types.now names.now)
+            rounds.now.body }
+        ensures quiet { result.is_quiet ≡ round_rules.is_quiet rounds.now }
+    {
+        Around {
+            enclosing: enclosing(spelling, names, types, rounds),
+            is_quiet: rounds.is_quiet(),
+        }
+    }
+
+    /// What is around the innermost that is begun. Constant time.
+    pub(crate) fn outside(
+        spelling: &Spelling,
+        names: &FoundNames,
+        types: &TypeTable,
+        rounds: &Rounds,
+    ) -> Self
+        ensures enclosing { result.enclosing
+            ≡ function_at (spelling_of spelling.now) (names_in types.now names.now)
+            rounds.now.body }
+        ensures quiet { result.is_quiet ≡ round_rules.is_quiet (round_rules.left rounds.now) }
+    {
+        Around {
+            enclosing: enclosing(spelling, names, types, rounds),
+            is_quiet: rounds.is_quiet_outside(),
+        }
+    }
+
+    /// A fresh skeleton of a type, or of a reference to it. Constant time.
+    fn begin(&self, types: &TypeTable, at: &Place, ty: TypeId, outer: bool) -> Option<Start>
+        ensures { starts_in types.now result
+            ≡ fresh_at self.now at.now (within outer (type_of types.now ty)) }
+    {
+        let _ = types;
+        if self.is_quiet {
+            None
+        } else {
+            Some(Start {
+                at: *at,
+                ty,
+                outer,
+                owner: self.enclosing,
+                calls: None,
+            })
+        }
+    }
+
+    /// A fresh skeleton of a type. Constant time.
+    pub(crate) fn fresh(&self, types: &TypeTable, at: &Place, ty: ValueType) -> Option<Start>
+        ensures { starts_in types.now result
+            ≡ fresh_at self.now at.now (value_type types.now ty) }
+    {
+        match ty {
+            ValueType::Of(ty) => self.begin(types, at, ty, false),
+            ValueType::PointerTo(ty) => self.begin(types, at, ty, true),
+        }
+    }
+
+    /// A fresh skeleton of a type where that is known. Constant time.
+    pub(crate) fn some_fresh(
+        &self,
+        types: &TypeTable,
+        at: &Place,
+        ty: &Option<ValueType>,
+    ) -> Option<Start>
+        ensures { starts_in types.now result
+            ≡ some_fresh_at self.now at.now (some_value_type types.now ty.now) }
+    {
+        match ty {
+            Some(ty) => self.fresh(types, at, *ty),
+            None => None,
+        }
+    }
+
+    /// A fresh skeleton of a type that was named. Constant time.
+    pub(crate) fn fresh_named(
+        &self,
+        types: &TypeTable,
+        at: &Place,
+        ty: &Option<TypeId>,
+    ) -> Option<Start>
+        ensures { starts_in types.now result
+            ≡ some_fresh_at self.now at.now (some_type types.now ty.now) }
+    {
+        match ty {
+            Some(ty) => self.fresh(types, at, ValueType::Of(*ty)),
+            None => None,
+        }
+    }
+}

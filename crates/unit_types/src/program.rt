@@ -1,0 +1,85 @@
+//! A unit whose names and types have no fault.
+
+ghost use Rattle.std.specs.Prelude.{◌≡◌};
+ghost use Rattle.unit_shapes.specs.Views.{AreImplicit};
+
+use name_types::Types;
+use std::marker::Model;
+use tape_ops::Op;
+use type_table::TypeTable;
+use unit_names::Names;
+use unit_shapes::{FoundNames, ImplicitTypes};
+use unit_spelling::Spelling;
+
+/// A unit with its names and types, its tape and what is read from its tokens. Memory is linear in
+/// its tape and in its tokens.
+#[derive(Drop)]
+pub struct Program {
+    pub(crate) types: Types,
+    pub(crate) implicit: ImplicitTypes,
+    pub(crate) found: FoundNames,
+    pub(crate) spelling: Spelling,
+    pub(crate) tape: Vec<Op>,
+}
+
+impl Model for Program {
+    ghost use Rattle.unit_shapes.specs.Views.{AreImplicit};
+    ghost use Rattle.unit_types.specs.Resolved.{Resolved};
+
+    ghost Value = { Resolved };
+
+    ghost view = { λ s. record {
+      rows = s.types;
+      implicit = s.implicit;
+      names = s.found;
+      spelling = s.spelling;
+      ops = s.tape.items;
+    } };
+
+    ghost invariant = { λ s. AreImplicit s.types s.implicit };
+}
+
+impl Program {
+    /// The types, by their numbers. Constant time.
+    pub fn types(&self) -> &TypeTable
+        ensures { result.now ≡ self.now.rows }
+    {
+        self.types.table()
+    }
+
+    /// The numbers of the types that no declaration writes. Constant time.
+    pub fn implicit(&self) -> &ImplicitTypes
+        ensures is { result.now ≡ self.now.implicit }
+        ensures implicit { AreImplicit self.now.rows result.now }
+    {
+        &self.implicit
+    }
+
+    /// The names, in the order of the text. Constant time.
+    pub fn names(&self) -> &Names
+        ensures { result.now ≡ self.now.names }
+    {
+        self.found.names()
+    }
+
+    /// The names, each found at once by its place. Constant time.
+    pub fn found_names(&self) -> &FoundNames
+        ensures { result.now ≡ self.now.names }
+    {
+        &self.found
+    }
+
+    /// What is read from the tokens. Constant time.
+    pub fn spelling(&self) -> &Spelling
+        ensures { result.now ≡ self.now.spelling }
+    {
+        &self.spelling
+    }
+
+    /// The tape of the unit. Constant time.
+    pub fn tape(&self) -> &[Op]
+        ensures { result.now ≡ self.now.ops }
+    {
+        self.tape.as_slice()
+    }
+}
