@@ -158,6 +158,22 @@ owners_behind last owner (x ∷ xs) ys h = ap (λ (o : List Owner). unwrap_or (o
 marked : (rows : List Row) (place : Place) (mark : ℕ × ℕ) → IsTopped rows place → mark_set place ≡ Some mark → mark_of rows 0 ≡ Some mark
 marked rows place mark top is = let set : mark_set top.head.place ≡ Some mark = ap mark_set top.place_is ∙ is in rw top.parts set
 
+no_mark : (place : Place) → owner_set place ≡ None → mark_set place ≡ None
+no_mark (OfNobody unit token) e = absurd cc
+no_mark (OfFunction unit token f) e = absurd cc
+no_mark (Inside of) e = refl
+no_mark (Param of i next) e = refl
+no_mark (Result of x) e = refl
+no_mark (Ellipsis of) e = refl
+
+inner_marks : (rows : List Row) (n : ℕ) → AreInner rows → mark_of rows n ≡ None
+inner_marks [] n h = refl
+inner_marks (row ∷ rows) zero h = no_mark row.place h.0
+inner_marks (row ∷ rows) (suc n) h = inner_marks rows n h.1
+
+unmarked : (rows : List Row) (place : Place) (n : ℕ) → IsTopped rows place → mark_of rows (suc n) ≡ None
+unmarked rows place n top = rw top.parts (inner_marks top.tail n top.rest)
+
 no_links : (count n : ℕ) (place : Place) → above place ≡ None → IsPlaceLinked count n place
 no_links count n (OfNobody unit token) e = tt
 no_links count n (OfFunction unit token f) e = tt
@@ -203,6 +219,8 @@ grown rows t n place owner mark held n_is few no_above owner_is mark_is =
       };
       skel = subst (λ k. skel_of all k ≡ numbered t k) n_is (read (seen_in all) t n place shown).tree;
       mark = subst (λ k. mark_of all k ≡ Some mark) n_is (ap (λ (r : Option Row). Rattle.std.specs.Prelude.option_and_then (λ (row : Row). mark_set row.place) r) (get_behind rows added n 0 (omega (arith, n_is))) ∙ marked added place mark top mark_is);
+      inner = λ j lt. ap (λ (r : Option Row). Rattle.std.specs.Prelude.option_and_then (λ (row : Row). mark_set row.place) r)
+          (get_behind rows added j (suc (j - suc n)) (omega (arith, n_is, lt))) ∙ unmarked added place (j - suc n) top;
       count = count_is;
       owners = own_is;
       kept = record {

@@ -126,6 +126,7 @@ pub record Grown (old new : List Row) (t : CType) (owner : Owner) (named : ℕ �
   pub held : IsHeld new
   pub skel : skel_of new (length old) ≡ numbered t (length old)
   pub mark : mark_of new (length old) ≡ Some named
+  pub inner : (n : ℕ) → length old < n → mark_of new n ≡ None
   pub count : length new ≡ length old + size t
   pub owners : owners_of new ≡ owners_of old ++ replicate (size t) owner
   pub kept : Keeps old new

@@ -81,6 +81,8 @@ impl VarTable {
         ensures skel { IfOk result (λ at. skel_of self.new at
             ≡ numbered (within outer (type_of types.now ty)) (length self.old)) }
         ensures mark { IfOk result (λ at. mark_of self.new at ≡ Some (unit, token)) }
+        ensures inner { OnOk result
+            ((n : ℕ) → length self.old < n → mark_of self.new n ≡ None) }
         ensures count { OnOk result (length self.new
             ≡ length self.old + size (within outer (type_of types.now ty))) }
         ensures owners { OnOk result (owners_of self.new
