@@ -59,7 +59,7 @@ some_weaker P Q (Some x) more is = more x is
 
 -- what is found on the tape of a source, with what is read from its tokens
 module _ (law : NamesOfTapes) (it : Source) (sound : IsSound it) (u : Spelling) (ops : List Op)
-  (read : u ≡ it.spelling) (taped : ops ≡ tape_of it.items) where
+    (read : u ≡ it.spelling) (taped : ops ≡ tape_of it.items) where
   found_is : faults_on u ops ≡ all_found (it ∷ [])
   found_is = ap (λ (u : Spelling). faults_on u ops) read ∙ ap (faults_on it.spelling) taped ∙ faults_are law it sound
 
