@@ -14,8 +14,8 @@ use_or_missing None = rules.missing
 use_or_missing (Some found) = use_of found
 
 pub record AreFound (s : Inside) : Type 0 where
-  pub uses : (t : ℕ → CType) (at : Place) → use_or_missing (value_at s.uses at) ≡ use_at (names_of t s.names).uses at
+  pub uses : (t : ℕ → CType) (at : Place) → use_or_missing (value_at s.uses at) ≡ use_at (names_of t s.names.now).uses at
   pub types : (t : ℕ → CType) (at : Place) → option_map t (value_at s.types at)
-      ≡ type_named_at (names_of t s.names).type_names at
+      ≡ type_named_at (names_of t s.names.now).type_names at
   pub declared : (t : ℕ → CType) (at : Place) → option_map (declared_of t) (value_at s.declared at)
-      ≡ rules.declared_at (names_of t s.names).declared at
+      ≡ rules.declared_at (names_of t s.names.now).declared at

@@ -56,28 +56,28 @@ fn first_declared(alloc: Global, all: &[Declared]) -> Result<PlaceMap<Declared>,
 /// The names of a unit, each found at once by its place. Clauses see the names. Memory is linear in
 /// them.
 #[derive(Drop)]
-pub struct FoundNames {
-    names: Names,
+pub struct FoundNames<'a> {
+    names: &'a Names,
     uses: PlaceMap<Use>,
     types: PlaceMap<TypeId>,
     declared: PlaceMap<Declared>,
 }
 
-impl Model for FoundNames {
+impl<'a> Model for FoundNames<'a> {
     ghost use Rattle.unit_names.specs.declared.names.Names as known;
     ghost use Rattle.found_names.specs.Held.{AreFound};
 
     ghost Value = { known.Names };
 
-    ghost view = { λ s. s.names };
+    ghost view = { λ s. s.names.now };
 
     ghost invariant = { AreFound };
 }
 
-impl FoundNames {
+impl<'a> FoundNames<'a> {
     /// Finds names by their places. Linear in them.
-    pub fn new(alloc: Global, names: Names) -> Result<Self, NoMemory>
-        ensures { IfOk result (λ it. it ≡ names) }
+    pub fn new(alloc: Global, names: &'a Names) -> Result<Self, NoMemory>
+        ensures { IfOk result (λ it. it ≡ names.now) }
     {
         let uses = first_uses(alloc, names.uses())?;
         let types = first_types(alloc, names.type_names())?;
@@ -91,10 +91,10 @@ impl FoundNames {
     }
 
     /// The names.
-    pub fn names(&self) -> &Names
+    pub fn names(&self) -> &'a Names
         ensures { result.now ≡ self.now }
     {
-        &self.names
+        self.names
     }
 
     /// What the name at a place stands for. Constant time.

@@ -25,7 +25,7 @@ fn known_first(known: &[Known], name: NameId) -> Option<Known>
     None
 }
 
-impl FoundNames {
+impl<'a> FoundNames<'a> {
     /// A struct, union or enum by its number. Constant time.
     #[tactic(auto, using(crate::proofs::Knowing::there_at, crate::proofs::Knowing::none_at, crate::proofs::Knowing::map_get))]
     pub fn aggregate(&self, number: StructId) -> Option<&Aggregate>
