@@ -1,5 +1,5 @@
 -- Skeletons that are found by their places.
-use Rattle.std.proofs.Common.{◌≡◌, ℕ, zero, suc, ◌+◌, ◌≤◌, arith, Bool, true, false, List, [], ◌∷◌, ◌++◌, length, drop, replicate, Option, Some, None, refl, sym, ◌∙◌, ap, subst, append_assoc, if◌then◌else◌}
+use Rattle.std.proofs.Common.{◌≡◌, ℕ, zero, suc, ◌+◌, ◌<◌, ◌≤◌, arith, Bool, true, false, List, [], ◌∷◌, ◌++◌, length, drop, map, slice_index_or, replicate, Option, Some, None, refl, sym, ◌∙◌, ap, subst, append_assoc, if◌then◌else◌}
 use Rattle.qual_base.specs.declared.places.Owner.{Owner}
 use Rattle.type_table.specs.Types.{CType, base, void, struct, pointer, function, size}
 use Rattle.qual_types.specs.declared.row.Row.{Row}
@@ -10,11 +10,11 @@ use Rattle.name_rules.specs.Spellings.{Place}
 use Rattle.name_rules.specs.Scopes.{is_place}
 use Rattle.name_records.specs.Held.{PlaceMap, value_at}
 use Rattle.row_rules.specs.Starting.{Start}
-use Rattle.row_rules.specs.Worlds.{numbered_from, skeleton_among}
+use Rattle.row_rules.specs.Worlds.{Numbered, numbered_from, skeleton_among}
 use Rattle.row_rules.specs.Sites.{owner_by, owners_among}
 use Rattle.unit_shapes.specs.First.{or_else, there}
 use Rattle.unit_starts.specs.declared.start.Start as code
-use Rattle.unit_skeletons.specs.Found.{IsBelow, AreBelow, found_with, skel_or, number_or_none, IsNumbering}
+use Rattle.unit_skeletons.specs.Found.{IsBelow, AreBelow, AreMarked, found_with, skel_or, number_or_none, IsNumbering}
 
 count_seen : (n : ℕ) (rows : List Row) → length (all_seen n rows) ≡ length rows
 count_seen n [] = refl
@@ -86,14 +86,26 @@ pub numbering_on : (rows new : List Row) (map after : PlaceMap ℕ) (fs : List P
     → owners_of new ≡ owners_of rows ++ replicate (size x.type) (owner_by fs x.owner)
     → ((r : List Start) (p : Place) → found_with new after (numbered_from (length new) r) p
     ≡ found_with rows map (numbered_from (length rows) (x ∷ r)) p)
+    → ((before : List Numbered) → AreMarked rows before → AreMarked new (before ++ numbered_from (length rows) (x ∷ [])))
     → IsNumbering new after fs rest all
-numbering_on rows new map after fs x rest all it below count owners found = record {
+numbering_on rows new map after fs x rest all it below count owners found marked = record {
   below = below;
   count = let c = it.count in omega arith;
   owners = ap (λ (os : List Owner). os ++ owners_among fs rest) owners
       ∙ append_assoc (owners_of rows) (replicate (size x.type) (owner_by fs x.owner)) (owners_among fs rest) ∙ it.owners;
   found = λ p. found rest p ∙ it.found p;
+  before = it.before ++ numbered_from (length rows) (x ∷ []);
+  split = it.split ∙ (ap (λ (n : ℕ). it.before ++ (record { start = x; first = length rows } ∷ numbered_from n rest)) (sym count)
+      ∙ sym (append_assoc it.before (numbered_from (length rows) (x ∷ [])) (numbered_from (length new) rest)));
+  marked = marked it.before it.marked;
 }
+
+-- the first of those that are left
+pub one_left : {A B : Type 0} (f : A → B) (xs : List A) (i : ℕ) (x : A) → i < length xs → x ≡ slice_index_or xs i x
+    → map f (drop i xs) ≡ f x ∷ map f (drop (i + 1) xs)
+one_left f [] i x lt is = absurd (omega arith)
+one_left f (y ∷ xs) zero x lt is = ap (λ z. f z ∷ map f xs) (sym is)
+one_left f (y ∷ xs) (suc i) x lt is = let e : suc i + 1 ≡ suc (i + 1) = omega arith in rw e (one_left f xs i x (omega arith) is)
 
 pub none_left : (starts : List code.Start) (i : ℕ) → length starts ≤ i → drop i starts ≡ []
 none_left [] zero le = refl

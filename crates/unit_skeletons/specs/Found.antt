@@ -5,6 +5,8 @@ use Rattle.flow_graph.specs.declared.constraint.Site.{Site}
 use Rattle.qual_types.specs.declared.row.Row.{Row}
 use Rattle.qual_types.specs.Skel.{Skel}
 use Rattle.qual_types.specs.Rows.{skel_of, owners_of}
+use Rattle.qual_types.specs.Table.{mark_of}
+use Rattle.position_laws.specs.Positions.{IsOneOf}
 use Rattle.name_rules.specs.Spellings.{Place}
 use Rattle.name_records.specs.Held.{PlaceMap, value_at}
 use Rattle.row_rules.specs.Starting.{Start}
@@ -33,6 +35,10 @@ abbrev pub number_or_none : Option ℕ → ℕ
 number_or_none None = 4294967295
 number_or_none (Some n) = n
 
+-- each skeleton of a table is one of these
+abbrev pub AreMarked : List Row → List Numbered → Type 0
+AreMarked rows all = (n : ℕ) (mark : ℕ × ℕ) → mark_of rows n ≡ Some mark → IsOneOf rows all n mark
+
 -- of all skeletons these are not numbered yet
 pub record IsNumbering (rows : List Row) (map : PlaceMap ℕ) (functions : List Place) (rest all : List Start) : Type 0 where
   pub below : AreBelow rows map
@@ -40,6 +46,9 @@ pub record IsNumbering (rows : List Row) (map : PlaceMap ℕ) (functions : List 
   pub owners : owners_of rows ++ owners_among functions rest ≡ owners_among functions all
   pub found : (p : Place) → found_with rows map (numbered_from (length rows) rest) p
       ≡ skeleton_among (numbered_from 0 all) p
+  pub before : List Numbered
+  pub split : numbered_from 0 all ≡ before ++ numbered_from (length rows) rest
+  pub marked : AreMarked rows before
 
 abbrev pub site_at : Place → ℕ → Owner → Site
 site_at at target owner = record { unit = at.0; token = at.1; target = target; owner = owner }

@@ -9,10 +9,11 @@ ghost use Rattle.qual_types.specs.Rows.{skel_of, owners_of};
 ghost use Rattle.name_rules.specs.Spellings.{Place};
 ghost use Rattle.name_records.specs.Held.{value_at};
 ghost use Rattle.row_rules.specs.Starting as rules;
-ghost use Rattle.row_rules.specs.Worlds.{numbered_from, skeleton_among};
+ghost use Rattle.row_rules.specs.Worlds.{Numbered, numbered_from, skeleton_among};
+ghost use Rattle.position_laws.specs.Positions.{AreThose};
 ghost use Rattle.row_rules.specs.Sites.{variables_among, owner_by, owners_among};
 ghost use Rattle.unit_starts.specs.Views.{start_in};
-ghost use Rattle.unit_skeletons.specs.Found.{AreBelow, found_with, number_or_none};
+ghost use Rattle.unit_skeletons.specs.Found.{AreBelow, AreMarked, found_with, number_or_none};
 
 use crate::first_map::FirstMap;
 use crate::place_numbers::PlaceNumbers;
@@ -35,6 +36,7 @@ impl Skeletons {
     fn new(alloc: Global) -> Self
         ensures vars { result.vars ≡ [] }
         ensures below { AreBelow result.vars result.starts.map }
+        ensures marked { AreMarked result.vars [] }
         ensures found { (rest : List rules.Start) (p : Place) →
             found_with result.vars result.starts.map (numbered_from 0 rest) p
             ≡ skeleton_among (numbered_from 0 rest) p }
@@ -65,6 +67,9 @@ impl Skeletons {
             (numbered_from (length self.new.vars) rest) p
             ≡ found_with self.old.vars self.old.starts.map
             (numbered_from (length self.old.vars) (start_in types.now start.now ∷ rest)) p) }
+        ensures marked { OnOk result ((before : List Numbered) →
+            AreMarked self.old.vars before → AreMarked self.new.vars
+            (before ++ numbered_from (length self.old.vars) (start_in types.now start.now ∷ []))) }
         ensures too_many { IsErrOf result QualFault.TooMany
             → 16777216 < length self.old.vars + size (start_in types.now start.now).type }
     {
@@ -112,6 +117,8 @@ pub fn number_skeletons(
     ensures found { IfOk result (λ it. (p : Place) →
         skel_of it.vars (number_or_none (value_at it.starts.map p))
         ≡ skeleton_among (numbered_from 0 (map (start_in types.now) starts.now)) p) }
+    ensures marked { IfOk result (λ it.
+        AreThose it.vars (map (start_in types.now) starts.now)) }
     ensures few { OnOk result
         (variables_among (map (start_in types.now) starts.now) ≤ 16777216) }
     ensures too_many { IsErrOf result QualFault.TooMany

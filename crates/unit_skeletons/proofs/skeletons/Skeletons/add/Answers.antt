@@ -1,0 +1,9 @@
+use Rattle.unit_starts.specs.Views.{start_in}
+use Rattle.unit_skeletons.proofs.Marking.{marked_on}
+use Rattle.unit_skeletons.proofs.skeletons.Skeletons.add.Goals as goal
+
+pub returns-in-Ok-clause-marked : goal.returns-in-Ok-clause-marked
+returns-in-Ok-clause-marked c =
+    let it = c.in_ok-at.ensures in
+    marked_on c.args.self.now.vars c.fresh.new.self (start_in c.args.types.now c.args.start.now) it.kept c.in_ok-at.at
+    it.number it.skel it.mark it.inner
