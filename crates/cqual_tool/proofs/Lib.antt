@@ -1,9 +1,3 @@
 mod Pieces
-mod Appended
-mod TokenLemmas
-mod VarLemmas
-mod LatticeLemmas
-mod SceneFacts
-mod ReportLemmas
 mod Outcomes
-mod SubsLemmas
+mod Judging

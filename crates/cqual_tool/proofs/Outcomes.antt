@@ -12,15 +12,13 @@ use Rattle.cqual_tool.specs.Words.{FileNames, meaning_of}
 use Rattle.cqual_tool.specs.Texts.{malformed_line, usage_line}
 use Rattle.cqual_tool.specs.Sending.{AppendsFront, Sends}
 use Rattle.std.specs.Option.{option_map}
-use Rattle.cqual_tool.specs.Reports.{JudgedAccepted, JudgedRejected}
 use Rattle.std.proofs.Common.{◌≢◌, Ok, Err, IfOk}
 use Rattle.std.specs.declared.result.Result.{Result}
 use Rattle.lattice_file.specs.Faults.{Reads, IsFileFault}
 use Rattle.lattice_file.specs.declared.reading.LatticeFileFault.{LatticeFileFault}
 use Rattle.lattice_file.specs.declared.reading.LatticeFileFault.TheVariants.{NoMemory as OutOfMemory}
 use Rattle.cqual_tool.specs.Faults.{lattice_line}
-use Rattle.cqual_tool.specs.Programs.{Program}
-use Rattle.cqual_tool.specs.Outcome.{OfProgram, ManyVariables, ManyConstraints, Judged, WithoutMeaning, IsDecided, LatticesRead, LatticesFail, OfFiles, LatticeTooLarge, LatticeRefused, Outcome, WithMeaning, IsAnswer, RecordsAll, lattice_limit}
+use Rattle.cqual_tool.specs.Outcome.{WithoutMeaning, IsDecided, LatticesRead, LatticesFail, OfFiles, LatticeTooLarge, LatticeRefused, Outcome, WithMeaning, IsAnswer, RecordsAll, lattice_limit}
 
 -- an outcome at equal statuses and texts
 pub at_equal : (Is : Status → List ℕ → Type 0) (one other : Status) (text same : List ℕ) → one ≡ other → text ≡ same → Is other same → Is one text
@@ -55,13 +53,6 @@ when_told (Some all) p f = f all p
 -- what was taken, where it was too large or was all there
 pub none_found : (size : ℕ) (content : List ℕ) (limit : ℕ) (found : Option (Vec ℕ Global)) → MatchOption found (limit < size) (λ bytes. bytes.items ≡ content) → found ≡ None → limit < size
 none_found size content limit found is none = let Found : Option (Vec ℕ Global) → Type 0 = λ o. MatchOption o (limit < size) (λ bytes. bytes.items ≡ content) in subst Found none is
-
--- what is judged is decided
-pub decided_program : (file : List ℕ) (program : Program) (status : Status) (text : List ℕ) → OfProgram file program status text → IsDecided status
-decided_program file program _ _ (ManyVariables many) = tt
-decided_program file program _ _ (ManyConstraints variables many) = tt
-decided_program file program _ _ (Judged _ _ variables few (JudgedAccepted _ report)) = tt
-decided_program file program _ _ (Judged _ _ variables few (JudgedRejected _ report)) = tt
 
 pub decided_as : (one other : Status) → one ≡ other → IsDecided other → IsDecided one
 decided_as one other same is = subst IsDecided (sym same) is

@@ -7,7 +7,8 @@ use Rattle.lattice_file.specs.declared.reading.LatticeFileFault.{LatticeFileFaul
 use Rattle.lattice_file.specs.declared.reading.LatticeFileFault.TheVariants.{Block, Grammar, TooManyLattices, SharedName, NoMemory as OutOfMemory}
 use Rattle.c_lexer.specs.declared.lexing.LexFault.{LexFault}
 use Rattle.c_lexer.specs.declared.lexing.LexFault.TheVariants.{BadByte, Unended, UnknownQualifier, NoMemory as NoRoom}
-use Rattle.cqual_tool.specs.Texts.{line, malformed_line, at_text, spot_text}
+use Rattle.annotate.specs.Texts.{line, at_text, spot_text}
+use Rattle.cqual_tool.specs.Texts.{malformed_line}
 
 -- a fault at a place that is written already
 abbrev pub placed_line : List ℕ → List ℕ → List ℕ

@@ -1,10 +1,9 @@
 pub mod Statuses
 pub mod Syntax
+pub mod Shapes
 pub mod Words
 pub mod Sending
 pub mod Texts
-pub mod Scenes
 pub mod Faults
 pub mod Programs
-pub mod Reports
 pub mod Outcome

@@ -1,5 +1,5 @@
 -- What the tool answers and writes, for the words and the contents of the files.
-use Rattle.std.specs.Prelude.{◌≡◌, ◌≢◌, ℕ, ◌<◌, ◌≤◌, List, [], ◌∷◌, ◌++◌, length, Some, None, codes, IfSome, Option}
+use Rattle.std.specs.Prelude.{◌≡◌, ◌≢◌, ℕ, true, false, ◌<◌, ◌≤◌, List, [], ◌∷◌, ◌++◌, length, slice_get, Some, None, codes, IfSome, Option}
 use Rattle.qual_base.specs.Outside.{content_of}
 use Rattle.lattice_core.specs.Names.{words_of}
 use Rattle.lattice_core.specs.View.{LatticeView}
@@ -17,15 +17,22 @@ use Rattle.c_units.specs.Units.{IsWellFormed}
 use Rattle.c_parser.specs.Parsing.{lexemes_of}
 use Rattle.c_parser.specs.declared.parsing.ParseFault.{ParseFault}
 use Rattle.c_parser.specs.declared.parsing.ParseFault.TheVariants.{NoMemory as OutOfRoom}
-use Rattle.flow_graph.specs.System.{most_constraints, most_variables}
+use Rattle.type_rules.specs.Program.{faults_of, HasNoFault}
+use Rattle.unit_types.specs.declared.fault.ShapeFault.{ShapeFault}
+use Rattle.unit_types.specs.declared.fault.ShapeFault.TheVariants.{NoMemory as OutOfNames}
+use Rattle.unit_types.specs.Faults.{IsFirstUnlessMemory}
+use Rattle.flow_graph.specs.System.{System, IsWellOwned, most_constraints, most_variables}
 use Rattle.cqual_tool.specs.declared.status.Status.{Status}
 use Rattle.cqual_tool.specs.declared.status.Status.TheVariants.{Accepted, Rejected, NotYet, Malformed, BadWords, ReadFault, WriteFault, NoMemory}
 use Rattle.cqual_tool.specs.Words.{FileNames, meaning_of}
 use Rattle.cqual_tool.specs.Texts.{usage_line, not_yet_line, malformed_line}
 use Rattle.cqual_tool.specs.Faults.{lattice_line, lex_line}
-use Rattle.cqual_tool.specs.Programs.{Program, IsProgram}
-use Rattle.cqual_tool.specs.Reports.{IsJudged}
+use Rattle.cqual_tool.specs.Programs.{Judging, judging_of}
+use Rattle.flow_graph.specs.Unfolding.{NamesElementsIn}
+use Rattle.annotate.specs.Texts.{Scene}
+use Rattle.annotate.specs.Reports.{IsJudged}
 use Rattle.cqual_tool.specs.Syntax.{syntax_line}
+use Rattle.cqual_tool.specs.Shapes.{source_in, shape_line}
 
 -- the most bytes that a lattice file and a source may have
 abbrev pub lattice_limit : ℕ
@@ -60,19 +67,32 @@ pub record SourceFails (lattices : List LatticeView) (bytes : List ℕ) (fault :
   pub refused : IsRefusal 1 words bytes fault
   pub reason : fault ≢ NoRoom
 
--- The status and the whole text for a program: first its variables are counted, then its constraints.
-pub data OfProgram (file : List ℕ) (program : Program) : Status → List ℕ → Type 0 where
-  ManyVariables : most_variables < length program.scene.positions → OfProgram file program Malformed (malformed_line file (codes "Q1"))
-  ManyConstraints : length program.scene.positions ≤ most_variables → most_constraints < length program.system.constraints →
-      OfProgram file program Malformed (malformed_line file (codes "G1"))
-  Judged : (status : Status) (text : List ℕ) → length program.scene.positions ≤ most_variables → length program.system.constraints ≤ most_constraints →
-      IsJudged program.scene program.system status text → OfProgram file program status text
+-- each constant and bound of a lattice names an element of it
+abbrev pub AreNamed : List LatticeView → System → Type 0
+AreNamed lattices sys = (n : ℕ) (view : LatticeView) → slice_get lattices n ≡ Some view → NamesElementsIn sys n view.order
 
--- The status and the whole text for lattices that were read and the tokens of a well-formed unit.
-pub data OfUnit (file : List ℕ) (lattices : List LatticeView) (lexed : Lexed) : Status → List ℕ → Type 0 where
-  SourceNotYet : ((program : Program) → IsProgram file lattices lexed program → ⊥) → OfUnit file lattices lexed NotYet (not_yet_line file)
-  SourceRead : (program : Program) (status : Status) (text : List ℕ) → IsProgram file lattices lexed program → OfProgram file program status text →
-      OfUnit file lattices lexed status text
+-- The status and the whole text for the constraints of a program. Constraints whose flows leave their functions, or that name
+-- elements which there are not, are not judged.
+pub data IsReport (file : List ℕ) (scene : Scene) (sys : System) : Status → List ℕ → Type 0 where
+  NotOwned : (IsWellOwned sys → AreNamed scene.lattices sys → ⊥) → IsReport file scene sys NotYet (not_yet_line file)
+  IsRight : (text : List ℕ) → IsJudged scene sys true text → IsReport file scene sys Accepted text
+  IsWrong : (text : List ℕ) → IsJudged scene sys false text → IsReport file scene sys Rejected text
+
+-- The status and the whole text for a program: first its variables are counted, then its constraints.
+pub data OfProgram (file : List ℕ) (it : Judging) : Status → List ℕ → Type 0 where
+  ManyVariables : most_variables < length it.scene.positions → OfProgram file it Malformed (malformed_line file (codes "Q1"))
+  ManyConstraints : length it.scene.positions ≤ most_variables → most_constraints < length it.system.constraints →
+      OfProgram file it Malformed (malformed_line file (codes "G1"))
+  Reported : (status : Status) (text : List ℕ) → length it.scene.positions ≤ most_variables → length it.system.constraints ≤ most_constraints →
+      IsReport file it.scene it.system status text → OfProgram file it status text
+
+-- The status and the whole text for lattices that were read and a well-formed unit with its tokens: a line that names the first
+-- fault of its names and types, where there is one.
+pub data OfUnit (file : List ℕ) (lattices : List LatticeView) (lexed : Lexed) (items : List Item) : Status → List ℕ → Type 0 where
+  SourceFaulty : (fault : ShapeFault) → fault ≢ OutOfNames → IsFirstUnlessMemory fault (faults_of (source_in lexed items ∷ [])) →
+      OfUnit file lattices lexed items Malformed (shape_line file lexed fault)
+  SourceShaped : (status : Status) (text : List ℕ) → HasNoFault (source_in lexed items ∷ []) →
+      OfProgram file (judging_of file lattices lexed items) status text → OfUnit file lattices lexed items status text
 
 -- The status and the whole text for lattices that were read and the tokens of a source: a line that names one of them where
 -- they are those of no well-formed unit.
@@ -80,7 +100,7 @@ pub data OfTokens (file : List ℕ) (lattices : List LatticeView) (lexed : Lexed
   SourceUnparsed : (fault : ParseFault) → fault ≢ OutOfRoom → ((items : List Item) → IsWellFormed (lexemes_of lexed) items → ⊥) →
       OfTokens file lattices lexed Malformed (syntax_line file lexed fault)
   SourceParsed : (items : List Item) (status : Status) (text : List ℕ) → IsWellFormed (lexemes_of lexed) items →
-      OfUnit file lattices lexed status text → OfTokens file lattices lexed status text
+      OfUnit file lattices lexed items status text → OfTokens file lattices lexed status text
 
 -- The status and the whole text for lattices that were read and the bytes of a source.
 pub data OfSource (file : List ℕ) (lattices : List LatticeView) (bytes : List ℕ) : Status → List ℕ → Type 0 where

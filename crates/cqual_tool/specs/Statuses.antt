@@ -1,5 +1,5 @@
 -- What the program answers, and the number with which it exits.
-use Rattle.std.specs.Prelude.{◌≡◌, ℕ, List}
+use Rattle.std.specs.Prelude.{◌≡◌, ℕ, Bool, true, false, List}
 use Rattle.cqual_tool.specs.declared.answer.Answer.{Answer}
 use Rattle.cqual_tool.specs.declared.status.Status.{Status}
 use Rattle.cqual_tool.specs.declared.status.Status.TheVariants.{Accepted, Rejected, NotYet, Malformed, BadWords, ReadFault, WriteFault, NoMemory}
@@ -17,3 +17,8 @@ exit_of NotYet = 7
 -- an answer of this status and this text
 abbrev pub Says : Status → List ℕ → Answer → Type 0
 Says status text answer = (answer.status ≡ status) × (answer.text.items ≡ text)
+
+-- of a program that was judged
+abbrev pub status_of : Bool → Status
+status_of true = Accepted
+status_of false = Rejected

@@ -4,7 +4,8 @@ use Rattle.c_lexer.specs.Tokens.{Lexed, token_spot}
 use Rattle.c_parser.specs.declared.parsing.ParseFault.{ParseFault}
 use Rattle.c_parser.specs.declared.parsing.ParseFault.TheVariants.{Syntax, TooDeep, Redeclared, BadMix, BadTarget, NoMemory}
 use Rattle.cqual_tool.specs.Faults.{placed_line}
-use Rattle.cqual_tool.specs.Texts.{malformed_line, spot_text}
+use Rattle.annotate.specs.Texts.{spot_text}
+use Rattle.cqual_tool.specs.Texts.{malformed_line}
 
 -- a fault at a token, or of the whole file where there is no such token
 abbrev pub token_line : List ℕ → Lexed → ℕ → List ℕ → List ℕ

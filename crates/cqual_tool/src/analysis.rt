@@ -1,100 +1,114 @@
-//! From lattices and the items of a source to a status and a report.
+//! From a source whose names and types have no fault to a status and a report.
 
-ghost use Rattle.std.specs.Prelude.{◌≡◌, ◌≤◌, ◌<◌, ◌*◌, ◌^◌, ℕ, IfOk, length, slice_get, Some};
-ghost use Rattle.std.specs.Prelude.{IsTrue};
-ghost use Rattle.std.specs.Bool.{OnTrue, OnFalse};
-ghost use Rattle.flow_graph.specs.System.{IsWellOwned};
-ghost use Rattle.flow_graph.specs.Unfolding.{IsExceeded};
-ghost use Rattle.lattice_solver.specs.Solution.{IsKept};
-ghost use Rattle.second_form.specs.Source.{IsSource};
-ghost use Rattle.second_form.specs.View.{items_of};
-ghost use Rattle.cqual_tool.specs.Programs.{program_of};
-ghost use Rattle.cqual_tool.specs.Scenes.{scene_of, IsShown, AreSolutions, AreKept, HasObjects};
-ghost use Rattle.cqual_tool.specs.Reports.{IsJudged, IsOver};
-ghost use Rattle.cqual_tool.specs.Outcome.{OfProgram, SourceLexes};
+ghost use Rattle.std.specs.Prelude.{◌≡◌, ◌∷◌, [], IfOk};
+ghost use Rattle.c_tree.specs.Unit.{items_of};
+ghost use Rattle.name_laws.specs.NameLaws.{tape_of_source};
+ghost use Rattle.type_rules.specs.Program.{names_of};
+ghost use Rattle.unit_shapes.specs.Views.{names_in};
+ghost use Rattle.c_types.specs.Sources.{source_of, tape_in};
+ghost use Rattle.annotate.specs.Reports.{IsJudged};
+ghost use Rattle.annotate.specs.Scenes.{Shows};
+ghost use Rattle.constraint_gen.specs.Programs.{program_in};
+ghost use Rattle.constraint_gen.specs.Generating.{IsGenerated};
+ghost use Rattle.cqual_tool.specs.Statuses.{status_of};
+ghost use Rattle.cqual_tool.specs.Programs.{judging_of};
+ghost use Rattle.cqual_tool.specs.Outcome.{IsReport, OfProgram, IsDecided};
 
-use crate::answer::{Answer, malformed};
-use crate::reports::{accepted, rejected};
-use crate::solving::{Solved, solve_all, solved_of};
+use crate::answer::{Answer, malformed, not_yet};
 use crate::status::Status;
-use crate::texts::Scene;
-use c_lexer::Tokens;
-use flow_graph::{FlowGraph, GraphFault};
+use annotate::{Judged, Scene, UnitText, are_named, judge};
+use c_types::{Program, Source};
+use constraint_gen::{GenerateFault, Generated, generate};
+use flow_graph::{FlowGraph, is_well_owned};
 use lattice_core::Lattices;
-use qual_base::{LatticeNo, NoMemory};
-use second_form::{Item, generate};
+use qual_base::NoMemory;
 use std::alloc::Global;
 
-/// Whether a bound of some lattice is exceeded. Linear in the constraints and the lattices.
-fn is_exceeded(scene: &Scene<'_>, graph: &FlowGraph, solutions: &[Solved]) -> bool
-    requires shown { IsShown scene.now graph.now }
-    requires owned { IsWellOwned graph.now }
-    requires solutions { AreSolutions graph.now scene.now.lattices.now solutions.now }
-    ensures over { OnTrue result ((n : ℕ) × IsOver (scene_of scene.now) graph.now n) }
-    ensures kept { OnFalse result (AreKept graph.now scene.now.lattices.now solutions.now) }
+/// The answer for a program that was judged.
+fn reported(judged: Judged) -> Answer
+    ensures text { result.text ≡ judged.text }
+    ensures status { result.status ≡ status_of judged.accepted }
 {
-    for n in 0..scene.lattices.len() {
-        let number = LatticeNo::new(n);
-        let solved = solved_of(solutions, number);
-        if solved
-            .solver
-            .first_exceeded(graph, scene.lattices.get(number))
-            .is_some()
-        {
-            return true;
-        }
+    let status = if judged.accepted {
+        Status::Accepted
+    } else {
+        Status::Rejected
+    };
+    Answer {
+        status,
+        text: judged.text,
     }
-    false
 }
 
-/// What is written of a program whose constraints are there.
-fn judge(alloc: Global, scene: &Scene<'_>, graph: &FlowGraph) -> Result<Answer, NoMemory>
-    requires few { 2 * length scene.now.objects.now ≤ 2 ^ 24 }
-    requires objects { HasObjects scene.now }
-    requires shown { IsShown scene.now graph.now }
-    requires owned { IsWellOwned graph.now }
-    ensures { IfOk result
-        (λ answer. IsJudged (scene_of scene.now) graph.now answer.status answer.text.items) }
+/// The answer for constraints and what the reports name of them. Each lattice is solved once.
+fn report(
+    alloc: Global,
+    file: &str,
+    scene: &Scene<'_>,
+    graph: &FlowGraph,
+) -> Result<Answer, NoMemory>
+    ensures report { IfOk result (λ answer. (s : _) → Shows scene.now s →
+        IsReport file.now s graph.now answer.status answer.text.items) }
+    ensures decided { IfOk result (λ answer. IsDecided answer.status) }
 {
-    let solutions = solve_all(alloc, graph, scene.lattices)?;
-    if is_exceeded(scene, graph, &solutions) {
-        let text = rejected(alloc, scene, graph, &solutions)?;
-        return Ok(Answer {
-            status: Status::Rejected,
-            text,
-        });
+    if !is_well_owned(graph) {
+        return Ok(not_yet(alloc, file)?);
     }
-    let text = accepted(alloc, scene, graph, &solutions)?;
-    Ok(Answer {
-        status: Status::Accepted,
-        text,
-    })
+    if !are_named(scene.lattices, graph) {
+        return Ok(not_yet(alloc, file)?);
+    }
+    let judged = judge(alloc, scene, graph)?;
+    Ok(reported(judged))
 }
 
-/// The answer for lattices and a source that were read.
+/// The answer for the constraints of a source.
+fn of_constraints(
+    alloc: Global,
+    file: &str,
+    lattices: &Lattices,
+    source: &Source<'_>,
+    made: &Generated,
+) -> Result<Answer, NoMemory>
+    requires { IsGenerated source.now.tokens
+        (program_in lattices.now source.now.tokens (items_of source.now.unit)) made.now }
+    ensures report { IfOk result (λ answer. let it = judging_of file.now lattices.now
+        source.now.tokens (items_of source.now.unit) in
+        IsReport file.now it.scene it.system answer.status answer.text.items) }
+    ensures decided { IfOk result (λ answer. IsDecided answer.status) }
+{
+    let units = [UnitText {
+        file,
+        tokens: &source.tokens,
+    }];
+    let scene = Scene {
+        units: &units,
+        lattices,
+        vars: made.skeletons.vars(),
+        listed: &made.listed,
+    };
+    report(alloc, file, &scene, &made.graph)
+}
+
+/// The answer for a source whose names and types have no fault: its variables are counted, then its constraints, and then
+/// they are solved.
 pub fn analyse(
     alloc: Global,
     file: &str,
     lattices: &Lattices,
-    tokens: &Tokens,
-    items: &[Item],
+    source: &Source<'_>,
+    program: &Program,
 ) -> Result<Answer, NoMemory>
-    requires source { IsSource tokens.now.tokens (items_of items.now) }
-    requires lexes { (bytes : _) × SourceLexes lattices.now bytes tokens.now }
-    ensures { IfOk result (λ answer. OfProgram file.now (program_of file.now lattices.now tokens.now
-        (items_of items.now)) answer.status answer.text.items) }
+    requires names { names_in program.now.rows program.now.names
+        ≡ names_of (source_of source.now ∷ []) }
+    requires tape { tape_in program.now ≡ tape_of_source (source_of source.now) }
+    ensures outcome { IfOk result (λ answer. OfProgram file.now (judging_of file.now lattices.now
+        source.now.tokens (items_of source.now.unit)) answer.status answer.text.items) }
+    ensures decided { IfOk result (λ answer. IsDecided answer.status) }
 {
-    let made = match generate(alloc, lattices, tokens, items) {
-        Ok(made) => made,
-        Err(GraphFault::TooMany) => return Ok(malformed(alloc, file, b"G1")?),
-        Err(GraphFault::NoMemory) => return Err(NoMemory),
-    };
-    made.graph.law();
-    let scene = Scene {
-        file,
-        tokens,
-        lattices,
-        objects: &made.objects,
-    };
-    judge(alloc, &scene, &made.graph)
+    match generate(alloc, source, program, lattices) {
+        Ok(made) => of_constraints(alloc, file, lattices, source, &made),
+        Err(GenerateFault::TooManyVariables) => Ok(malformed(alloc, file, b"Q1")?),
+        Err(GenerateFault::TooManyConstraints) => Ok(malformed(alloc, file, b"G1")?),
+        Err(GenerateFault::NoMemory) => Err(NoMemory),
+    }
 }

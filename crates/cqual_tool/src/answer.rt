@@ -5,8 +5,8 @@ ghost use Rattle.cqual_tool.specs.Texts.{not_yet_line, malformed_line};
 ghost use Rattle.cqual_tool.specs.Faults.{placed_line};
 ghost use Rattle.cqual_tool.specs.Statuses.{Says};
 
-use crate::places::put;
 use crate::status::Status;
+use annotate::put;
 use std::alloc::{AllocError, Global};
 
 /// A status and its text.

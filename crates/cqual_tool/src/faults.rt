@@ -4,13 +4,13 @@ ghost use Rattle.std.specs.Prelude.{◌≡◌, ◌≢◌, ◌++◌, OnOk, IfOk, 
 ghost use Rattle.lattice_file.specs.declared.reading.LatticeFileFault.TheVariants as Faults;
 ghost use Rattle.c_lexer.specs.declared.lexing.LexFault.TheVariants as Stops;
 ghost use Rattle.cqual_tool.specs.declared.status.Status.TheVariants as Statuses;
-ghost use Rattle.cqual_tool.specs.Texts.{spot_text, at_text};
+ghost use Rattle.annotate.specs.Texts.{spot_text, at_text};
 ghost use Rattle.cqual_tool.specs.Faults.{block_code, named_code, block_text, lattice_line};
 ghost use Rattle.cqual_tool.specs.Faults.{lex_line, placed_line};
 ghost use Rattle.cqual_tool.specs.Statuses.{Says};
 
 use crate::answer::{Answer, malformed, placed};
-use crate::places::{put, put_at, put_decimal, put_spot};
+use annotate::{put, put_at, put_decimal, put_spot};
 use c_lexer::LexFault;
 use lattice_core::{LatticeFault, Name};
 use lattice_file::LatticeFileFault;

@@ -4,18 +4,14 @@
 mod analysis;
 mod answer;
 mod faults;
-mod paths;
-mod places;
 mod reading;
-mod reports;
 mod running;
 mod sending;
-mod solving;
+mod shapes;
 mod status;
 mod syntax;
 #[cfg(test)]
 mod tests;
-mod texts;
 mod words;
 
 use qual_base::{HostFiles, HostSink};

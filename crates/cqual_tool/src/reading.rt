@@ -5,25 +5,29 @@ ghost use Rattle.std.specs.Prelude.{length, map, codes};
 ghost use Rattle.qual_base.specs.Counts.{GoesOn, Rose};
 ghost use Rattle.qual_base.specs.Outside.{content_of, Records};
 ghost use Rattle.lattice_core.specs.View.{LatticeView};
+ghost use Rattle.c_tree.specs.Unit.{items_of};
+ghost use Rattle.c_units.specs.Units.{IsWellFormed};
+ghost use Rattle.c_parser.specs.Parsing.{lexemes_of};
 ghost use Rattle.cqual_tool.specs.declared.status.Status.TheVariants as Statuses;
 ghost use Rattle.cqual_tool.specs.Statuses.{Says};
-ghost use Rattle.cqual_tool.specs.Texts.{not_yet_line, malformed_line};
+ghost use Rattle.cqual_tool.specs.Texts.{malformed_line};
 ghost use Rattle.cqual_tool.specs.Words.{names_in};
-ghost use Rattle.cqual_tool.specs.Outcome.{SourceLexes, OfUnit, OfTokens, OfSource, OfFiles, IsDecided};
+ghost use Rattle.cqual_tool.specs.Outcome.{SourceLexes, OfUnit, OfSource, OfFiles, IsDecided};
 ghost use Rattle.cqual_tool.specs.Outcome.{RecordsAll, Starts, LatticesRead, lattice_limit};
 ghost use Rattle.cqual_tool.specs.Outcome.{source_limit};
 
 use crate::analysis::analyse;
-use crate::answer::{Answer, malformed, not_yet};
+use crate::answer::{Answer, malformed};
 use crate::faults::{lattice_refused, source_refused};
+use crate::shapes::names_refused;
 use crate::syntax::unit_refused;
 use crate::words::Named;
-use c_lexer::{Tokens, lex};
+use c_lexer::lex;
 use c_parser::parse;
+use c_types::{Source, resolve_source};
 use lattice_core::Lattices;
 use lattice_file::read_lattices;
 use qual_base::{Files, NoMemory, Numbered, TakeFault, UnitNo, take_all};
-use second_form::read_items;
 use std::alloc::Global;
 
 /// The most bytes that a lattice file may have.
@@ -76,13 +80,6 @@ fn taken<F: Files>(
     }
 }
 
-/// The answer for a file of another form.
-fn other_form(alloc: Global, file: &str) -> Result<Answer, NoMemory>
-    ensures { IfOk result (Says Statuses.NotYet (not_yet_line file.now)) }
-{
-    Ok(not_yet(alloc, file)?)
-}
-
 /// The answer for a file that has more bytes than its limit.
 fn too_large(alloc: Global, file: &str) -> Result<Answer, NoMemory>
     ensures { IfOk result (Says Statuses.Malformed (malformed_line file.now (codes "F2"))) }
@@ -90,39 +87,22 @@ fn too_large(alloc: Global, file: &str) -> Result<Answer, NoMemory>
     Ok(malformed(alloc, file, b"F2")?)
 }
 
-/// The answer for the tokens of a well-formed unit.
+/// The answer for a well-formed unit with its tokens.
 fn of_unit(
     alloc: Global,
     file: &str,
     lattices: &Lattices,
-    tokens: &Tokens,
+    source: &Source<'_>,
 ) -> Result<Answer, NoMemory>
-    requires { (bytes : List ℕ) × SourceLexes lattices.now bytes tokens.now }
-    ensures outcome { IfOk result
-        (λ answer. OfUnit file.now lattices.now tokens.now answer.status answer.text.items) }
+    requires lexes { (bytes : List ℕ) × SourceLexes lattices.now bytes source.now.tokens }
+    requires formed { IsWellFormed (lexemes_of source.now.tokens) (items_of source.now.unit) }
+    ensures outcome { IfOk result (λ answer. OfUnit file.now lattices.now source.now.tokens
+        (items_of source.now.unit) answer.status answer.text.items) }
     ensures decided { IfOk result (λ answer. IsDecided answer.status) }
 {
-    match read_items(alloc, tokens)? {
-        Some(items) => analyse(alloc, file, lattices, tokens, &items),
-        None => other_form(alloc, file),
-    }
-}
-
-/// The answer for the tokens of a source.
-fn of_tokens(
-    alloc: Global,
-    file: &str,
-    lattices: &Lattices,
-    tokens: &Tokens,
-) -> Result<Answer, NoMemory>
-    requires { (bytes : List ℕ) × SourceLexes lattices.now bytes tokens.now }
-    ensures outcome { IfOk result (λ answer.
-        OfTokens file.now lattices.now tokens.now answer.status answer.text.items) }
-    ensures decided { IfOk result (λ answer. IsDecided answer.status) }
-{
-    match parse(alloc, tokens) {
-        Ok(_unit) => of_unit(alloc, file, lattices, tokens),
-        Err(fault) => unit_refused(alloc, file, tokens, fault),
+    match resolve_source(alloc, source) {
+        Ok(program) => analyse(alloc, file, lattices, source, &program),
+        Err(fault) => names_refused(alloc, file, &source.tokens, fault),
     }
 }
 
@@ -140,7 +120,10 @@ fn of_source(
 {
     let words = lattices.words(alloc)?;
     match lex(alloc, UnitNo::new(1), bytes, &words) {
-        Ok(tokens) => of_tokens(alloc, file, lattices, &tokens),
+        Ok(tokens) => match parse(alloc, &tokens) {
+            Ok(unit) => of_unit(alloc, file, lattices, &Source { unit, tokens }),
+            Err(fault) => unit_refused(alloc, file, &tokens, fault),
+        },
         Err(fault) => source_refused(alloc, file, bytes, &fault),
     }
 }

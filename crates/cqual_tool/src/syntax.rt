@@ -7,14 +7,14 @@ ghost use Rattle.cqual_tool.specs.Statuses.{Says};
 ghost use Rattle.cqual_tool.specs.Syntax.{syntax_line, token_line};
 
 use crate::answer::{Answer, malformed, placed};
-use crate::places::put_spot;
+use annotate::put_spot;
 use c_lexer::Tokens;
 use c_parser::ParseFault;
 use qual_base::{NoMemory, Numbered, TokenId};
 use std::alloc::Global;
 
 /// The answer for a token that is refused; for the whole file where there is no such token.
-fn token_refused(
+pub(crate) fn token_refused(
     alloc: Global,
     file: &str,
     tokens: &Tokens,

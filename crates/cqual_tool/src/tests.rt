@@ -106,7 +106,7 @@ fn reports_and_lines_are_those_worked_out(rt: HostRuntime) -> Result<(), Fail> {
             Status::Accepted,
             b"accepted\na@s.c:1:9.in $lo\nb@s.c:1:20.in $lo\n",
         ),
-        (LATTICE, b"long a;", Status::NotYet, b"not yet s.c\n"),
+        (LATTICE, b"long a;", Status::Accepted, b"accepted\n"),
         (b"", b"int a;", Status::Accepted, b"accepted\n"),
         (
             LATTICE,
@@ -233,11 +233,11 @@ fn a_source_that_is_no_unit_names_the_first_bad_token(rt: HostRuntime) -> Result
     let cases: [(&[u8], &[u8]); 14] = [
         (
             b"typedef int T1; void f(void) { int T1; T1 = 1; }",
-            b"not yet s.c\n",
+            b"accepted\n",
         ),
         (
             b"typedef int T1; int *x; int z; void f(void) { z = (T1)*x; } void h(void) { int T1; z = (T1)*z; }",
-            b"not yet s.c\n",
+            b"accepted\n",
         ),
         (b"int f(", b"malformed s.c:1:7: S1\n"),
         (b"typedef int A; int A;", b"malformed s.c:1:20: N1\n"),
@@ -267,10 +267,215 @@ fn a_source_that_is_no_unit_names_the_first_bad_token(rt: HostRuntime) -> Result
     }
     let low = nested(rt.alloc(), 495)?;
     let found = answer(rt.alloc(), &plain(LATTICE, low.as_slice()))?;
-    assert_eq!(rt; found.1.as_slice(), b"not yet s.c\n".as_slice());
+    assert_eq!(rt; found.1.as_slice(), b"accepted\n".as_slice());
     let high = nested(rt.alloc(), 496)?;
     let found = answer(rt.alloc(), &plain(LATTICE, high.as_slice()))?;
     assert_eq!(rt; found.1.as_slice(), b"malformed s.c:1:518: S2\n".as_slice());
+    Ok(())
+}
+
+/// A source whose flow needs a call that exchanges two parameters.
+static EXCHANGE: &[u8] =
+    b"int r(int x, int y) { if (x) return r(y, x); return x; }\n$tainted int a;\n$untainted int b;\nvoid f(void) { b = r(b, a); }";
+
+/// Where its tokens end.
+static ENDS: [usize; 50] = [
+    3, 5, 6, 9, 11, 12, 16, 18, 19, 21, 24, 26, 27, 28, 35, 37, 38, 39, 40, 42, 43, 44, 51, 53, 54,
+    56, 65, 69, 71, 72, 83, 87, 89, 90, 95, 97, 98, 102, 103, 105, 107, 109, 111, 112, 113, 114,
+    116, 117, 118, 120,
+];
+
+/// The ends of its items.
+static WHOLE: [usize; 4] = [56, 72, 90, 120];
+
+/// The line for a unit that goes on behind the last byte of a text without linemarkers.
+fn refused_behind(alloc: Global, text: &[u8]) -> Result<Vec<u8>, AllocError> {
+    let mut line = 1_u64;
+    let mut column = 1_u64;
+    for byte in text {
+        if *byte == b'\n' {
+            line = line.saturating_add(1);
+            column = 1;
+        } else {
+            column = column.saturating_add(1);
+        }
+    }
+    let found = format!(in alloc; "malformed s.c:{line}:{column}: S1\n")?;
+    found.as_bytes().to_vec(alloc)
+}
+
+#[test]
+fn a_source_that_is_cut_is_refused_behind_its_last_token(rt: HostRuntime) -> Result<(), Fail> {
+    for end in ENDS {
+        let cut = EXCHANGE.get(..end).unwrap_or(EXCHANGE);
+        let found = answer(rt.alloc(), &plain(LATTICE, cut))?;
+        if WHOLE.contains(&end) {
+            assert!(rt; found.0 != Status::Malformed);
+        } else {
+            let text = refused_behind(rt.alloc(), cut)?;
+            assert_eq!(rt; found.1.as_slice(), text.as_slice());
+        }
+    }
+    let found = answer(rt.alloc(), &plain(LATTICE, b""))?;
+    assert_eq!(rt; found.0, Status::Accepted);
+    Ok(())
+}
+
+/// Types of functions that grow twofold from line to line: the first names a function of an `int`, each further one a
+/// function of the one before that gives the one before.
+fn doubling(alloc: Global, count: u32) -> Result<Vec<u8>, AllocError> {
+    let mut source = b"typedef int (*F0)(int);\n".to_vec(alloc)?;
+    for k in 1..=count {
+        let j = k.saturating_sub(1);
+        let line = format!(in alloc; "typedef F{j} (*F{k})(F{j});\n")?;
+        source.extend_from_slice(line.as_bytes())?;
+    }
+    Ok(source)
+}
+
+#[test]
+fn a_source_whose_names_or_types_are_at_fault_gives_the_first(rt: HostRuntime) -> Result<(), Fail> {
+    let cases: [(&[u8], &[u8]); 16] = [
+        (b"void f(void) { x = 1; }", b"malformed s.c:1:16: H1\n"),
+        (b"int x; void f(void) { *x; }", b"malformed s.c:1:23: H2\n"),
+        (
+            b"int x; void f(void) { x(1); }",
+            b"malformed s.c:1:24: H3\n",
+        ),
+        (
+            b"struct s { int a; } v; void f(void) { v.b = 1; }",
+            b"malformed s.c:1:41: H4\n",
+        ),
+        (
+            b"int g(int); void f(void) { g(1, 2); }",
+            b"malformed s.c:1:29: H5\n",
+        ),
+        (b"void f(void) { 1 = 2; }", b"malformed s.c:1:18: H6\n"),
+        (
+            b"void f(void) {} void f(void) {}",
+            b"malformed s.c:1:22: H7\n",
+        ),
+        (
+            b"int *p; void f(void) { *u = *!p; }",
+            b"malformed s.c:1:25: H1\n",
+        ),
+        (
+            b"int g(int); void f(void) { g(a, b); }",
+            b"malformed s.c:1:29: H5\n",
+        ),
+        (b"void f(void) { (g)(1); }", b"malformed s.c:1:17: H1\n"),
+        (b"void f(void) { g(1); }", b"accepted\n"),
+        (
+            b"struct s *p; void f(void) { p->a; } struct s { int a; };",
+            b"accepted\n",
+        ),
+        (
+            b"struct s { struct s { int a; } b; };",
+            b"malformed s.c:1:19: H7\n",
+        ),
+        (
+            b"# 9 \"a.h\"\nint x;\nvoid f(void) { y; }",
+            b"malformed a.h:10:16: H1\n",
+        ),
+        (
+            b"int x; void f(void) { sizeof(*x); }",
+            b"malformed s.c:1:30: H2\n",
+        ),
+        (
+            b"struct s { int a; }; int n = __builtin_offsetof(struct s, b);",
+            b"malformed s.c:1:59: H4\n",
+        ),
+    ];
+    for (source, text) in cases {
+        let found = answer(rt.alloc(), &plain(LATTICE, source))?;
+        assert_eq!(rt; found.1.as_slice(), text);
+    }
+    let low = doubling(rt.alloc(), 9)?;
+    let found = answer(rt.alloc(), &plain(LATTICE, low.as_slice()))?;
+    assert_eq!(rt; found.1.as_slice(), b"accepted\n".as_slice());
+    let high = doubling(rt.alloc(), 12)?;
+    let found = answer(rt.alloc(), &plain(LATTICE, high.as_slice()))?;
+    assert_eq!(rt; found.1.as_slice(), b"malformed s.c:11:14: H8\n".as_slice());
+    Ok(())
+}
+
+static KERNEL: &[u8] =
+    b"partial order { $kernel [level = value, sign = neg, deref = yes] $user [level = value, sign = pos] $kernel < $user }";
+
+#[test]
+fn calls_have_their_own_copies(rt: HostRuntime) -> Result<(), Fail> {
+    let cases: [(&[u8], &[u8]); 4] = [
+        (
+            b"int id(int x) { return x; }\n$tainted int a;\n$untainted int b;\nint c, d;\nvoid f(void) { c = id(a); b = id(d); }\n",
+            b"accepted\nid@s.c:1:5.in.1 $tainted\nid@s.c:1:5.in.res $tainted\nx@s.c:1:12.in $tainted\na@s.c:2:14.in $tainted\nc@s.c:4:5.in $tainted\n",
+        ),
+        (
+            b"$tainted int a;\n$untainted int b;\nvoid f(void) { b = ($untainted int) a; }\n",
+            b"accepted\na@s.c:1:14.in $tainted\n",
+        ),
+        (
+            b"struct s { $tainted int a; struct { int b; }; } v; int c; void f(void) { c = v.a; v.b = 0; }",
+            b"accepted\na@s.c:1:25.in $tainted\nc@s.c:1:56.in $tainted\n",
+        ),
+        (
+            b"int x; void f(void) { int *p = &x; static int y; if (x) { y = *p; } else return; while (y--) ; }",
+            b"accepted\n",
+        ),
+    ];
+    for (source, text) in cases {
+        let found = answer(rt.alloc(), &plain(LATTICE, source))?;
+        assert_eq!(rt; found.1.as_slice(), text);
+    }
+    Ok(())
+}
+
+#[test]
+fn flows_through_calls_and_pointers_have_paths(rt: HostRuntime) -> Result<(), Fail> {
+    let cases: [(&[u8], &[u8], &[u8]); 4] = [
+        (
+            LATTICE,
+            b"int r(int x, int y) { if (x) return r(y, x); return x; }\n$tainted int a;\n$untainted int b;\nvoid f(void) { b = r(b, a); }\n",
+            b"rejected\nerror $tainted exceeds $untainted at s.c:3:1\nsub 1\n  0 s.c:1:11 flow r@s.c:1:5.in.1 to x@s.c:1:11.in\n  10 s.c:1:46 flow x@s.c:1:11.in to r@s.c:1:5.in.res\nsub 2\n  1 s.c:1:18 flow r@s.c:1:5.in.2 to y@s.c:1:18.in\n  7 s.c:1:39 flow y@s.c:1:18.in to r@s.c:1:37.in.1\n  4 s.c:1:37 enter r@s.c:1:37.in.1 to r@s.c:1:5.in.1\n  sub 1\n  6 s.c:1:37 leave r@s.c:1:5.in.res to r@s.c:1:37.in.res\n  9 s.c:1:30 flow r@s.c:1:37.in.res to r@s.c:1:5.in.res\npath\n  11 s.c:2:1 const $tainted in a@s.c:2:14.in\n  19 s.c:4:25 flow a@s.c:2:14.in to r@s.c:4:20.in.2\n  16 s.c:4:20 enter r@s.c:4:20.in.2 to r@s.c:1:5.in.2\n  sub 2\n  17 s.c:4:20 leave r@s.c:1:5.in.res to r@s.c:4:20.in.res\n  20 s.c:4:16 flow r@s.c:4:20.in.res to b@s.c:3:16.in\n  12 s.c:3:1 bound b@s.c:3:16.in by $untainted\n",
+        ),
+        (
+            LATTICE,
+            b"$tainted char a;\n$untainted char b;\nchar *p;\nvoid f(void) { p = &b; *p = a; }\n",
+            b"rejected\nerror $tainted exceeds $untainted at s.c:2:1\npath\n  0 s.c:1:1 const $tainted in a@s.c:1:15.in\n  5 s.c:4:24 flow a@s.c:1:15.in to p@s.c:3:7.in.in\n  4 s.c:4:16 flow p@s.c:3:7.in.in to b@s.c:2:17.in\n  1 s.c:2:1 bound b@s.c:2:17.in by $untainted\n",
+        ),
+        (
+            REFERENCES,
+            b"const int *p; int x;\nvoid f(void) { p = &x; *p = 1; }\n",
+            b"rejected\nerror const exceeds $nonconst at s.c:2:24\npath\n  0 s.c:1:1 const const in p@s.c:1:12.in\n  5 s.c:2:24 bound p@s.c:1:12.in by $nonconst\n",
+        ),
+        (
+            KERNEL,
+            b"char c; char * $user u; void f(void) { c = *u; }",
+            b"rejected\nerror $user exceeds $kernel at s.c:1:44\npath\n  0 s.c:1:16 const $user in u@s.c:1:22.in\n  1 s.c:1:44 bound u@s.c:1:22.in by $kernel\n",
+        ),
+    ];
+    for (lattice, source, text) in cases {
+        let found = answer(rt.alloc(), &plain(lattice, source))?;
+        assert_eq!(rt; found.0, Status::Rejected);
+        assert_eq!(rt; found.1.as_slice(), text);
+    }
+    Ok(())
+}
+
+/// The first ten types of those that grow twofold, and so many names of the last.
+fn many_names(alloc: Global, count: u32) -> Result<Vec<u8>, AllocError> {
+    let mut source = doubling(alloc, 9)?;
+    for k in 0..count {
+        let line = format!(in alloc; "F9 g{k};\n")?;
+        source.extend_from_slice(line.as_bytes())?;
+    }
+    Ok(source)
+}
+
+#[test]
+fn variables_are_counted_before_constraints(rt: HostRuntime) -> Result<(), Fail> {
+    let source = many_names(rt.alloc(), 5464)?;
+    let found = answer(rt.alloc(), &plain(LATTICE, source.as_slice()))?;
+    assert_eq!(rt; found.1.as_slice(), b"malformed s.c: Q1\n".as_slice());
     Ok(())
 }
 

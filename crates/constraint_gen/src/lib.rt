@@ -1,0 +1,8 @@
+//! The system of constraints of a source (Foster et al. 2006; Rehof and Fähndrich 2001): its qualifier variables, its call sites
+//! with the owner of each variable, and its constraints.
+#![tactic(auto)]
+
+mod generating;
+
+pub use generating::generate;
+pub use unit_system::{GenerateFault, Generated};

@@ -1,5 +1,0 @@
-use Rattle.cqual_tool.proofs.SceneFacts.{AreFirst}
-use Rattle.cqual_tool.proofs.solving.solve_all.Given as goal
-
-abbrev pub invariant-loop-n : goal.invariant-loop-n
-invariant-loop-n l = AreFirst l.graph l.n l.solutions.items

@@ -1,0 +1,13 @@
+mod Bytes
+mod Numerals
+mod ReadBack
+mod Cutting
+mod LineKinds
+mod OneLine
+mod Known
+mod Unlined
+mod Undecided
+mod Texts
+mod Whole
+mod Tokens
+mod Spelled

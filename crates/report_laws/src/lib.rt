@@ -1,0 +1,6 @@
+//! Laws of the texts of reports: what they read as.
+#![tactic(auto)]
+
+mod laws;
+
+pub use laws::{errors_read_back, holds_without_lines, rejected_reads_back, tokens_have_no_feed};

@@ -1,5 +1,0 @@
-pub mod ScopeLemmas
-pub mod ReadingLemmas
-pub mod Growing
-pub mod SystemFacts
-mod Halves

@@ -1,0 +1,25 @@
+use Rattle.std.proofs.Common.{◌∷◌, List, ◌∙◌, ap}
+use Rattle.std.proofs.lemmas.Result.{on_ok_weaker}
+use Rattle.row_steps.specs.State as states
+use Rattle.skel_stacks.specs.declared.stacks.Operand.{Operand}
+use Rattle.skel_stacks.specs.Stacked.{Stacked}
+use Rattle.skel_stacks.specs.Views.{state_in, operand_in}
+use Rattle.skel_stacks.proofs.Lists.{put_viewed}
+use Rattle.skel_stacks.proofs.stacks.Stacks.put_operand.Goals as goal
+
+pub returns : goal.returns
+returns c =
+    on_ok_weaker c.push.result (λ pushed t. put_viewed t c.args.count
+    (record {
+      operands = c.self.inside.operands;
+      bases = c.self.inside.bases;
+      braces = c.self.inside.braces;
+      leaves = c.self.inside.leaves;
+      literal = c.self.inside.literal;
+      declarations = c.self.inside.declarations;
+      rounds = c.self.inside.rounds;
+      passed = c.self.inside.passed;
+    }) c.args.it.now c.push.new.self
+    (pushed ∙ ap (λ (os : List Operand). c.args.it.now ∷ os) c.take_off.ensures)
+    ∙ ap (λ (st : Stacked). states.operand_put c.args.count (operand_in t c.args.it.now) (state_in t st))
+    c.self.view_is) c.push.ensures.pushed

@@ -1,0 +1,78 @@
+use Rattle.std.proofs.Common.{◌≡◌, ◌∷◌, ◌+◌, ℕ, Bool, true, false, List, [], Option, option_map, suc, refl, sym, ◌∙◌, ap, add-one}
+use Rattle.std.proofs.lemmas.Result.{on_ok_weaker}
+use Rattle.type_table.specs.Types.{CType}
+use Rattle.qual_types.specs.Skel.{Skel}
+use Rattle.name_rules.specs.Spellings.{Spelling, Place}
+use Rattle.row_rules.specs.Worlds.{World}
+use Rattle.row_rules.specs.Vals as vals
+use Rattle.row_steps.specs.State as states
+use Rattle.row_steps.specs.Steps as steps
+use Rattle.row_world.specs.Shown.{Shows, skel}
+use Rattle.skel_steps.specs.Stepping.{tables_of, state_of}
+use Rattle.skel_steps.proofs.declarators.step_declarator.Goals as goal
+
+pub returns-in-DeclName : goal.returns-in-DeclName
+returns-in-DeclName c =
+    let k = c.args.known.now in
+    let st = state_of k c.args.stacks.now in
+    on_ok_weaker c.name.result (λ done w shows. done (tables_of k) ∙ ap (steps.declr_step w st) (sym c.in-DeclName.is)) c.name.ensures
+
+pub returns-in-ParamsBegin : goal.returns-in-ParamsBegin
+returns-in-ParamsBegin c =
+    let k = c.args.known.now in
+    let st = state_of k c.args.stacks.now in
+    λ w shows. ap (steps.declr_step w st) (sym c.in-ParamsBegin.is)
+
+pub returns-in-Param : goal.returns-in-Param
+returns-in-Param c =
+    let k = c.args.known.now in
+    let st = state_of k c.args.stacks.now in
+    λ w shows. c.close.ensures (tables_of k) ∙ ap (steps.declr_step w st) (sym c.in-Param.is)
+
+pub returns-in-ParamsEnd : goal.returns-in-ParamsEnd
+returns-in-ParamsEnd c =
+    let k = c.args.known.now in
+    let st = state_of k c.args.stacks.now in
+    λ w shows. ap (steps.declr_step w st) (sym c.in-ParamsEnd.is)
+
+pub returns-in-Pointer : goal.returns-in-Pointer
+returns-in-Pointer c =
+    let k = c.args.known.now in
+    let st = state_of k c.args.stacks.now in
+    λ w shows. ap (steps.declr_step w st) (sym c.in-Pointer.is)
+
+pub returns-in-Array : goal.returns-in-Array
+returns-in-Array c =
+    let k = c.args.known.now in
+    let st = state_of k c.args.stacks.now in
+    λ w shows. ap (steps.declr_step w st) (sym c.in-Array.is)
+
+pub returns-in-Function : goal.returns-in-Function
+returns-in-Function c =
+    let k = c.args.known.now in
+    let st = state_of k c.args.stacks.now in
+    λ w shows. ap (steps.declr_step w st) (sym c.in-Function.is)
+
+pub returns-in-Declare : goal.returns-in-Declare
+returns-in-Declare c =
+    let k = c.args.known.now in
+    let st = state_of k c.args.stacks.now in
+    on_ok_weaker c.declare.result (λ done w shows. done (tables_of k) ∙ ap (steps.declr_step w st) (sym c.in-Declare.is)) c.declare.ensures
+
+pub returns-in-Member : goal.returns-in-Member
+returns-in-Member c =
+    let k = c.args.known.now in
+    let st = state_of k c.args.stacks.now in
+    on_ok_weaker c.leave_name.result (λ done w shows. done (tables_of k) ∙ ap (steps.declr_step w st) (sym c.in-Member.is)) c.leave_name.ensures
+
+pub returns-in-TypeName : goal.returns-in-TypeName
+returns-in-TypeName c =
+    let k = c.args.known.now in
+    let st = state_of k c.args.stacks.now in
+    on_ok_weaker c.type_name.result (λ done w shows. done w shows ∙ ap (steps.declr_step w st) (sym c.in-TypeName.is)) c.type_name.ensures
+
+pub returns-in-DeclarationEnd : goal.returns-in-DeclarationEnd
+returns-in-DeclarationEnd c =
+    let k = c.args.known.now in
+    let st = state_of k c.args.stacks.now in
+    λ w shows. c.close-in-DeclarationEnd.ensures (tables_of k) ∙ ap (steps.declr_step w st) (sym c.in-DeclarationEnd.is)

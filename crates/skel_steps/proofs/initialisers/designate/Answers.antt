@@ -1,0 +1,19 @@
+use Rattle.std.proofs.Common.{◌≡◌, ◌∷◌, ◌+◌, ℕ, Bool, true, false, List, [], Option, option_map, suc, refl, sym, ◌∙◌, ap, add-one}
+use Rattle.std.proofs.lemmas.Result.{on_ok_weaker}
+use Rattle.type_table.specs.Types.{CType}
+use Rattle.qual_types.specs.Skel.{Skel}
+use Rattle.name_rules.specs.Spellings.{Spelling, Place}
+use Rattle.row_rules.specs.Worlds.{World}
+use Rattle.row_rules.specs.Vals as vals
+use Rattle.row_steps.specs.State as states
+use Rattle.row_steps.specs.Steps as steps
+use Rattle.row_world.specs.Shown.{Shows, skel}
+use Rattle.skel_steps.specs.Stepping.{tables_of, state_of}
+use Rattle.skel_steps.proofs.initialisers.designate.Goals as goal
+
+pub returns : goal.returns
+returns c =
+    let k = c.args.known.now in
+    let st = state_of k c.args.stacks.now in
+    on_ok_weaker c.replace_braces.result (λ done token w shows. done (tables_of k) (steps.with_member w c.args.name)
+    (c.in_ok-next.ensures w shows ∙ ap (steps.with_member w c.args.name) (c.braces-it.ensures (tables_of k)))) c.replace_braces.ensures

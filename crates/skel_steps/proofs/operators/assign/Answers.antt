@@ -1,0 +1,20 @@
+use Rattle.std.proofs.Common.{◌≡◌, ◌∷◌, ◌+◌, ℕ, Bool, true, false, List, [], Option, option_map, suc, refl, sym, ◌∙◌, ap, add-one}
+use Rattle.std.proofs.lemmas.Result.{on_ok_weaker}
+use Rattle.type_table.specs.Types.{CType}
+use Rattle.qual_types.specs.Skel.{Skel}
+use Rattle.name_rules.specs.Spellings.{Spelling, Place}
+use Rattle.row_rules.specs.Worlds.{World}
+use Rattle.row_rules.specs.Vals as vals
+use Rattle.row_steps.specs.State as states
+use Rattle.row_steps.specs.Steps as steps
+use Rattle.row_world.specs.Shown.{Shows, skel}
+use Rattle.skel_steps.specs.Stepping.{tables_of, state_of}
+use Rattle.skel_steps.proofs.operators.assign.Goals as goal
+
+pub returns : goal.returns
+returns c =
+    let k = c.args.known.now in
+    let st = state_of k c.args.stacks.now in
+    on_ok_weaker c.put_value.result (λ put sign token first last w shows. put (tables_of k) ∙
+    ap (λ (s : Skel). states.operand_put 2 (states.expression (vals.a_value s) false) st)
+    (c.contents-held.ensures ∙ ap (λ (v : vals.Val). vals.contents v.skel) (c.val_at-place.ensures k.types.now))) c.put_value.ensures

@@ -1,0 +1,48 @@
+use Rattle.std.proofs.Common.{◌≡◌, ◌∷◌, ◌+◌, ℕ, Bool, true, false, List, [], Option, option_map, suc, refl, sym, ◌∙◌, ap, add-one}
+use Rattle.std.proofs.lemmas.Result.{on_ok_weaker}
+use Rattle.type_table.specs.Types.{CType}
+use Rattle.qual_types.specs.Skel.{Skel}
+use Rattle.name_rules.specs.Spellings.{Spelling, Place}
+use Rattle.row_rules.specs.Worlds.{World}
+use Rattle.row_rules.specs.Vals as vals
+use Rattle.row_steps.specs.State as states
+use Rattle.row_steps.specs.Steps as steps
+use Rattle.row_world.specs.Shown.{Shows, skel}
+use Rattle.skel_steps.specs.Stepping.{tables_of, state_of}
+use Rattle.skel_steps.proofs.steps.step_stacks.Goals as goal
+
+pub returns-in-Expr : goal.returns-in-Expr
+returns-in-Expr c =
+    let k = c.args.known.now in
+    let st = state_of k c.args.stacks.now in
+    on_ok_weaker c.step_expression.result (λ done w shows. done w shows ∙ ap (steps.stack_step w st) (sym c.in-Expr.is)) c.step_expression.ensures
+
+pub returns-in-Form : goal.returns-in-Form
+returns-in-Form c =
+    let k = c.args.known.now in
+    let st = state_of k c.args.stacks.now in
+    on_ok_weaker c.step_form.result (λ done w shows. done w shows ∙ ap (steps.stack_step w st) (sym c.in-Form.is)) c.step_form.ensures
+
+pub returns-in-Init : goal.returns-in-Init
+returns-in-Init c =
+    let k = c.args.known.now in
+    let st = state_of k c.args.stacks.now in
+    on_ok_weaker c.step_initialiser.result (λ done w shows. done w shows ∙ ap (steps.stack_step w st) (sym c.in-Init.is)) c.step_initialiser.ensures
+
+pub returns-in-Spec : goal.returns-in-Spec
+returns-in-Spec c =
+    let k = c.args.known.now in
+    let st = state_of k c.args.stacks.now in
+    on_ok_weaker c.step_specifier.result (λ done w shows. done (tables_of k) ∙ ap (steps.stack_step w st) (sym c.in-Spec.is)) c.step_specifier.ensures
+
+pub returns-in-Declr : goal.returns-in-Declr
+returns-in-Declr c =
+    let k = c.args.known.now in
+    let st = state_of k c.args.stacks.now in
+    on_ok_weaker c.step_declarator.result (λ done w shows. done w shows ∙ ap (steps.stack_step w st) (sym c.in-Declr.is)) c.step_declarator.ensures
+
+pub returns-in-Stmt : goal.returns-in-Stmt
+returns-in-Stmt c =
+    let k = c.args.known.now in
+    let st = state_of k c.args.stacks.now in
+    λ w shows. c.step_statement.ensures (tables_of k) ∙ ap (steps.stack_step w st) (sym c.in-Stmt.is)

@@ -1,0 +1,37 @@
+use Rattle.std.proofs.Common.{◌≡◌, ◌∷◌, ◌+◌, ℕ, Bool, true, false, List, [], Option, option_map, suc, refl, sym, ◌∙◌, ap, add-one}
+use Rattle.std.proofs.lemmas.Result.{on_ok_weaker}
+use Rattle.type_table.specs.Types.{CType}
+use Rattle.qual_types.specs.Skel.{Skel, flat}
+use Rattle.name_rules.specs.Spellings.{Spelling, Place}
+use Rattle.row_rules.specs.Worlds.{World}
+use Rattle.row_rules.specs.Vals as vals
+use Rattle.row_steps.specs.State as states
+use Rattle.row_steps.specs.Steps as steps
+use Rattle.row_world.specs.Shown.{Shows, skel}
+use Rattle.skel_steps.specs.Stepping.{tables_of, state_of}
+use Rattle.row_rules.specs.Rows as rows
+use Rattle.qual_types.specs.declared.look.Kind.{Kind}
+use Rattle.skel_steps.proofs.targets.flat_target.Goals as goal
+
+pub returns-in-Base : goal.returns-in-Base
+returns-in-Base c =
+    let k = c.args.known.now in
+    let named = option_map (skel k) c.args.named.now in
+    λ w v shows is. c.first_alone.ensures (skel k)
+    ∙ (ap (rows.first_alone c.args.is_first) (is ∙ ap (flat v) c.in-Base.is)
+    ∙ ap (λ (kind : Kind). steps.item_target w (flat v kind) c.args.is_first c.args.next named) (sym c.in-Base.is))
+
+pub returns-in-Void : goal.returns-in-Void
+returns-in-Void c =
+    let k = c.args.known.now in
+    let named = option_map (skel k) c.args.named.now in
+    λ w v shows is. c.first_alone-in-Void.ensures (skel k)
+    ∙ (ap (rows.first_alone c.args.is_first) (is ∙ ap (flat v) c.in-Void.is)
+    ∙ ap (λ (kind : Kind). steps.item_target w (flat v kind) c.args.is_first c.args.next named) (sym c.in-Void.is))
+
+pub returns-in-Struct : goal.returns-in-Struct
+returns-in-Struct c =
+    let k = c.args.known.now in
+    let named = option_map (skel k) c.args.named.now in
+    λ w v shows is. c.member_target.ensures w v c.args.is_first shows
+    ∙ ap (λ (kind : Kind). steps.item_target w (flat v kind) c.args.is_first c.args.next named) (sym c.in-Struct.is)

@@ -1,0 +1,6 @@
+//! What the annotation words of a unit name: a lattice and an element for each.
+#![tactic(auto)]
+
+mod reading;
+
+pub use reading::marks;

@@ -1,0 +1,27 @@
+use Rattle.std.proofs.Common.{◌≡◌, ◌∙◌, if◌then◌else◌}
+use Rattle.row_rules.specs.Worlds.{span}
+use Rattle.row_rules.specs.Vals as vals
+use Rattle.row_rules.specs.Rows as rows
+use Rattle.row_steps.specs.State as states
+use Rattle.row_world.specs.Shown.{skel}
+use Rattle.skel_steps.specs.Stepping.{tables_of, state_of}
+use Rattle.unit_rows.proofs.RowLists.{Same, row_added, row_halted}
+use Rattle.unit_rows.proofs.operators.index_row.Goals as goal
+
+pub returns : goal.returns
+returns c =
+    let k = c.args.known.now in
+    let t = tables_of k in
+    let st = state_of k c.args.stacks.now in
+    let chosen : (if vals.is_ref (skel k c.value_at-one.result) then skel k c.value_at-one.result else skel k c.value_at-other.result)
+    ≡ (if vals.is_ref (states.value_at 1 st) then states.value_at 1 st else states.value_at 0 st) =
+    λ j. if vals.is_ref (c.value_at-one.ensures j) then c.value_at-one.ensures j else c.value_at-other.ensures j in
+    let at_is : skel k c.indexed-at.result ≡ (if vals.is_ref (states.value_at 1 st) then states.value_at 1 st else states.value_at 0 st) =
+    c.indexed-at.ensures ∙ chosen in
+    let same : Same k (λ w. rows.dereferenced w (skel k c.indexed-at.result) c.span-span.result)
+    (λ w. rows.dereferenced w (if vals.is_ref (states.value_at 1 st) then states.value_at 1 st else states.value_at 0 st) (span w c.args.first c.args.last)) =
+    λ w shows. λ i. rows.dereferenced w (at_is i) (c.span-span.ensures w shows i) in
+    record {
+      ok = row_added c.dereferenced.result k c.args.graph.now c.dereferenced.new.graph _ _ same c.dereferenced.ensures.ok;
+      err = row_halted c.dereferenced.result k c.args.graph.now c.dereferenced.new.graph _ _ same c.dereferenced.ensures.err;
+    }

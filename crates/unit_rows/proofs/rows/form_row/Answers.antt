@@ -1,0 +1,86 @@
+use Rattle.std.proofs.Common.{sym, ap}
+use Rattle.row_steps.specs.OpRows as op_rows
+use Rattle.skel_steps.specs.Stepping.{state_of}
+use Rattle.unit_rows.proofs.RowLists.{row_added, row_halted, none_added}
+use Rattle.unit_rows.proofs.rows.form_row.Goals as goal
+
+pub returns-in-Cast : goal.returns-in-Cast
+returns-in-Cast c =
+    let k = c.args.known.now in
+    let st = state_of k c.args.stacks.now in
+    record {
+      ok = row_added c.cast_row.result k c.args.graph.now c.cast_row.new.graph _ _ (λ w shows. ap (op_rows.form_row w st) (sym c.in-Cast.is)) c.cast_row.ensures.ok;
+      err = row_halted c.cast_row.result k c.args.graph.now c.cast_row.new.graph _ _ (λ w shows. ap (op_rows.form_row w st) (sym c.in-Cast.is)) c.cast_row.ensures.err;
+    }
+
+pub returns-in-Sizeof : goal.returns-in-Sizeof
+returns-in-Sizeof c =
+    let k = c.args.known.now in
+    let st = state_of k c.args.stacks.now in
+    record {
+      ok = none_added k c.args.graph.now _ (λ w shows. ap (op_rows.form_row w st) c.in-Sizeof.is);
+      err = tt;
+    }
+
+pub returns-in-StmtExpr : goal.returns-in-StmtExpr
+returns-in-StmtExpr c =
+    let k = c.args.known.now in
+    let st = state_of k c.args.stacks.now in
+    record {
+      ok = none_added k c.args.graph.now _ (λ w shows. ap (op_rows.form_row w st) c.in-StmtExpr.is);
+      err = tt;
+    }
+
+pub returns-in-VaArg : goal.returns-in-VaArg
+returns-in-VaArg c =
+    let k = c.args.known.now in
+    let st = state_of k c.args.stacks.now in
+    record {
+      ok = row_added c.va_arg_row.result k c.args.graph.now c.va_arg_row.new.graph _ _ (λ w shows. ap (op_rows.form_row w st) (sym c.in-VaArg.is)) c.va_arg_row.ensures.ok;
+      err = row_halted c.va_arg_row.result k c.args.graph.now c.va_arg_row.new.graph _ _ (λ w shows. ap (op_rows.form_row w st) (sym c.in-VaArg.is)) c.va_arg_row.ensures.err;
+    }
+
+pub returns-in-VaStart : goal.returns-in-VaStart
+returns-in-VaStart c =
+    let k = c.args.known.now in
+    let st = state_of k c.args.stacks.now in
+    record {
+      ok = row_added c.va_start_row.result k c.args.graph.now c.va_start_row.new.graph _ _ (λ w shows. ap (op_rows.form_row w st) (sym c.in-VaStart.is)) c.va_start_row.ensures.ok;
+      err = row_halted c.va_start_row.result k c.args.graph.now c.va_start_row.new.graph _ _ (λ w shows. ap (op_rows.form_row w st) (sym c.in-VaStart.is)) c.va_start_row.ensures.err;
+    }
+
+pub returns-in-VaCopy : goal.returns-in-VaCopy
+returns-in-VaCopy c =
+    let k = c.args.known.now in
+    let st = state_of k c.args.stacks.now in
+    record {
+      ok = row_added c.va_copy_row.result k c.args.graph.now c.va_copy_row.new.graph _ _ (λ w shows. ap (op_rows.form_row w st) (sym c.in-VaCopy.is)) c.va_copy_row.ensures.ok;
+      err = row_halted c.va_copy_row.result k c.args.graph.now c.va_copy_row.new.graph _ _ (λ w shows. ap (op_rows.form_row w st) (sym c.in-VaCopy.is)) c.va_copy_row.ensures.err;
+    }
+
+pub returns-in-OffsetMember : goal.returns-in-OffsetMember
+returns-in-OffsetMember c =
+    let k = c.args.known.now in
+    let st = state_of k c.args.stacks.now in
+    record {
+      ok = none_added k c.args.graph.now _ (λ w shows. ap (op_rows.form_row w st) c.in-OffsetMember.is);
+      err = tt;
+    }
+
+pub returns-in-OffsetIndex : goal.returns-in-OffsetIndex
+returns-in-OffsetIndex c =
+    let k = c.args.known.now in
+    let st = state_of k c.args.stacks.now in
+    record {
+      ok = none_added k c.args.graph.now _ (λ w shows. ap (op_rows.form_row w st) c.in-OffsetIndex.is);
+      err = tt;
+    }
+
+pub returns-in-Offset : goal.returns-in-Offset
+returns-in-Offset c =
+    let k = c.args.known.now in
+    let st = state_of k c.args.stacks.now in
+    record {
+      ok = none_added k c.args.graph.now _ (λ w shows. ap (op_rows.form_row w st) c.in-Offset.is);
+      err = tt;
+    }

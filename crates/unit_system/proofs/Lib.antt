@@ -1,0 +1,4 @@
+pub mod Finding
+pub mod Numbering
+pub mod Owning
+pub mod Showing
