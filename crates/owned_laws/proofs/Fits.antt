@@ -119,31 +119,33 @@ module _ (k : Scene) where
         ∙ ap (λ (b : Bool). if b then Some here else None) (place_itself (place a.spelling token))
 
   role_fits : (token : ℕ) (r : Rounds) (p : Place) (d : Declared) (role : Role) →
-      declared_at s.declared p ≡ Some d → d.role ≡ role → RoleIsOwn f d role → BeginsIn k.starts f (at w token) →
+      declared_at s.declared p ≡ Some d → d.role ≡ role → (role ≡ function_role → d.owner ≡ Some d.at) →
+      RoleIsOwn f d role → BeginsIn k.starts f (at w token) →
       start_at k.starts (place u token) ≡ start_at (use_by_role (around u s r) token d role) (place u token) →
       MeantFits w k.starts f (is_quiet r) token d role
-  role_fits token r p d function_role e role own here exact =
-      (here, λ loud. instance_fits token (around u s r) p d refl loud e role own exact)
-  role_fits token r p d enumerator_role e role own here exact = here
-  role_fits token r p d typedef_role e role own here exact = at_own f d.at d (itself p d e) own
-  role_fits token r p d object_role e role own here exact = at_own f d.at d (itself p d e) own
-  role_fits token r p d (parameter_role i) e role own here exact = at_own f d.at d (itself p d e) own
-  role_fits token r p d (field_role n i) e role own here exact = at_own f d.at d (itself p d e) own
+  role_fits token r p d function_role e role its own here exact =
+      (here, λ loud. instance_fits token (around u s r) p d refl loud e role (its refl) exact)
+  role_fits token r p d enumerator_role e role its own here exact = here
+  role_fits token r p d typedef_role e role its own here exact = at_own f d.at d (itself p d e) own
+  role_fits token r p d object_role e role its own here exact = at_own f d.at d (itself p d e) own
+  role_fits token r p d (parameter_role i) e role its own here exact = at_own f d.at d (itself p d e) own
+  role_fits token r p d (field_role n i) e role its own here exact = at_own f d.at d (itself p d e) own
 
   some_meant_fits : (token : ℕ) (r : Rounds) (p : Place) (d : Option Declared) → declared_at s.declared p ≡ d →
-      SomeIsOwn f d → BeginsIn k.starts f (at w token) →
+      use_at s.uses (place u token) ≡ means p → SomeIsOwn f d → BeginsIn k.starts f (at w token) →
       start_at k.starts (place u token) ≡ start_at (some_use_start (around u s r) token d) (place u token) →
       SomeMeantFits w k.starts f (is_quiet r) token d
-  some_meant_fits token r p None e own here exact = tt
-  some_meant_fits token r p (Some d) e own here exact = role_fits token r p d d.role e refl own here exact
+  some_meant_fits token r p None e used own here exact = tt
+  some_meant_fits token r p (Some d) e used own here exact =
+      role_fits token r p d d.role e refl (k.owned.uses (place u token) p used d e) own here exact
 
-  use_fits : (token : ℕ) (r : Rounds) (it : Use) → UseIsOwn s f it → BeginsIn k.starts f (at w token) →
+  use_fits : (token : ℕ) (r : Rounds) (it : Use) → use_at s.uses (place u token) ≡ it → UseIsOwn s f it → BeginsIn k.starts f (at w token) →
       start_at k.starts (place u token) ≡ start_at (use_start (around u s r) token it) (place u token) →
       UseFits w k.starts f (is_quiet r) token it
-  use_fits token r (means p) own here exact =
-      some_meant_fits token r p (declared_at s.declared p) refl own here exact
-  use_fits token r called own here exact = here
-  use_fits token r missing own here exact = tt
+  use_fits token r (means p) used own here exact =
+      some_meant_fits token r p (declared_at s.declared p) refl used own here exact
+  use_fits token r called used own here exact = here
+  use_fits token r missing used own here exact = tt
 
   -- declared names
 
@@ -204,7 +206,7 @@ module _ (k : Scene) where
   expr_fits : (sst : shapes.State) (st : State) (op : ExprOp) → BodyOwn st.rounds → ExprNames w f op →
       IsExact u s k.starts (expr_key op) (expr_op_starts u s sst st.rounds op) → ExprFits w k.starts f st op
   expr_fits sst st (exprs.Name is_called token name) body own e =
-      use_fits token st.rounds (use_at s.uses (place u token)) own
+      use_fits token st.rounds (use_at s.uses (place u token)) refl own
       (fresh_fits token st.rounds _ body (expr_is u s sst st.rounds (exprs.Name is_called token name)) e) e
   expr_fits sst st (exprs.Number token) body own e =
       fresh_fits token st.rounds _ body (expr_is u s sst st.rounds (exprs.Number token)) e

@@ -1,6 +1,7 @@
 mod Begin
 mod Fits
 mod Found
+mod Functions
 mod Places
 mod Stacks
 mod Steps

@@ -1,12 +1,12 @@
 -- The constraints of all units of a program.
-use Rattle.std.proofs.Common.{◌≡◌, inl, inr, List, [], ◌∷◌, ◌++◌, Option, None, Some, refl, sym, ◌∙◌, ap, subst, append_assoc, append-nil}
+use Rattle.std.proofs.Common.{◌≡◌, inl, inr, All, map, List, [], ◌∷◌, ◌++◌, Option, None, Some, refl, sym, ◌∙◌, ap, subst, append_assoc, append-nil}
 use Rattle.flow_graph.specs.declared.constraint.Constraint.{Constraint}
 use Rattle.flow_graph.specs.System.{System, IsWellOwned}
 use Rattle.tape_ops.specs.declared.op.Op.{Op}
 use Rattle.c_tree.specs.Unit.{Item}
 use Rattle.c_tape.specs.Tape.{item_tape, tape_of}
 use Rattle.name_rules.specs.Spellings.{Spelling, Place}
-use Rattle.name_rules.specs.Scopes.{Names}
+use Rattle.name_rules.specs.Scopes.{function_role, Declared, declared_at, Names}
 use Rattle.type_rules.specs.Program.{Source, names_of}
 use Rattle.shape_steps.specs.State as shapes
 use Rattle.row_rules.specs.Starting.{Start}
@@ -21,16 +21,20 @@ use Rattle.constraint_rules.specs.Starts.{item_starts, items_starts}
 use Rattle.constraint_rules.specs.Systems.{Program, starts_among, starts_of, world_of, demands_among, system_of}
 use Rattle.row_laws.specs.Laws.{RowsAreFound}
 use Rattle.start_laws.specs.Laws.{StartsAreFound}
+use Rattle.meaning_laws.specs.Meanings.{Differ, IsFirst, IsNobodys, NamesAreFirst, MeaningsAreFirst}
+use Rattle.name_laws.specs.NameLaws.{tape_of_source, IsSound, NamesOfTapes}
 use Rattle.owner_laws.specs.Fitting.{AllFit, FittingIsWellOwned, ListsFit}
+use Rattle.tape_laws.specs.Marks.{UnitsAreBracketed}
 use Rattle.owner_laws.specs.Laws.{AreDifferent}
 use Rattle.owned_laws.specs.Around.{Settled}
 use Rattle.owned_laws.specs.Keys.{key_place, op_key, key_places, KeysAreApart}
-use Rattle.owned_laws.specs.Names.{NamesAlong}
+use Rattle.owned_laws.specs.Names.{NamesAlong, IsDeclaredOwn, NamesAreOwned}
 use Rattle.owned_laws.specs.Tapes.{TapesFit}
-use Rattle.owned_laws.specs.Programs.{keys_among, AllApart, PlacesDiffer, NamesOfItems, NamesOfSources, NamesFit, NothingIsNobodys, OwnedWhereNamesFit}
-use Rattle.owned_laws.proofs.Places.{Kept, none_kept, joined_kept}
+use Rattle.owned_laws.specs.Programs.{keys_among, AllApart, PlacesDiffer, NamesOfItems, NamesOfSources, NothingIsNobodys, OwnedWherePlacesDiffer}
+use Rattle.owned_laws.proofs.Places.{declared_place, Kept, none_kept, joined_kept}
 use Rattle.owned_laws.proofs.Begin.{AllRight, right_joined, tape_kept, tape_right, ExactAlong, exact, regroup}
 use Rattle.owned_laws.proofs.Fits.{Scene, members, along}
+use Rattle.owned_laws.proofs.Functions.{functions_begin}
 
 pub record Laws : Type 0 where
   pub tapes : TapesFit
@@ -38,6 +42,9 @@ pub record Laws : Type 0 where
   pub begins : StartsAreFound
   pub lists : ListsFit
   pub whole : FittingIsWellOwned
+  pub names : NamesOfTapes
+  pub meanings : MeaningsAreFirst
+  pub bracketed : UnitsAreBracketed
 
 pub keys_joined : (u : Spelling) (xs ys : List Op) → key_places u (xs ++ ys) ≡ key_places u xs ++ key_places u ys
 keys_joined u [] ys = refl
@@ -81,7 +88,8 @@ module _ (law : Laws) where
       (tape_right it.spelling s (tape_of it.items) shapes.nothing file h.0))
       (sources_right s sources h.1)
 
-  module _ (p : Program) (differ : PlacesDiffer p.sources) (nobodys : NothingIsNobodys p) (fit : NamesFit p) where
+  module _ (p : Program) (sound : All IsSound p.sources) (differ : PlacesDiffer p.sources)
+      (nobodys : NothingIsNobodys p) (fit : NamesOfSources p p.sources) where
     abbrev s : Names
     s = names_of p.sources
 
@@ -94,13 +102,43 @@ module _ (law : Laws) where
     right : AllRight s starts
     right = sources_right s p.sources differ.names_apart
 
+    first : NamesAreFirst s
+    first =
+        subst NamesAreFirst (law.names p.sources sound)
+        (law.meanings (map tape_of_source p.sources)
+        (subst (λ (names : Names). Differ names.declared) (sym (law.names p.sources sound)) differ.declared_differ))
+
+    is_function_own : (q : Place) → IsFirst s.declared q → (d : Declared) → declared_at s.declared q ≡ Some d →
+        d.role ≡ function_role → d.owner ≡ Some d.at
+    is_function_own q h d e role =
+        let same : h.it ≡ d = found h.it d (sym h.there ∙ e) in
+        subst (λ (it : Declared). it.owner ≡ Some it.at) same
+        (h.is_itself (ap (λ (it : Declared). it.role) same ∙ role)
+        ∙ ap (λ (x : Place). Some x) (sym (declared_place s.declared q h.it h.there)))
+      where
+        found : (x y : Declared) → Some x ≡ Some y → x ≡ y
+        found x y is = cc
+
+    nobodys_own : (q : Place) → IsNobodys s.declared q → IsDeclaredOwn s None q
+    nobodys_own q h = record { it = h.it; there = h.there; is_own = inl h.none }
+
+    names_owned : NamesAreOwned starts s
+    names_owned = record {
+      firsts = λ q d e. let it = first.firsts q d e in
+          record { first = it.first; there = it.there; same_owner = it.same_owner };
+      uses = λ q r e. is_function_own r (first.uses q r e);
+      known = λ n name it e. nobodys_own it.at (first.known n name it e);
+      own = λ n i it e. nobodys_own it.at (first.own n i it e);
+      functions = functions_begin s starts law.bracketed law.begins p.sources (law.names p.sources sound) refl;
+    }
+
     abbrev scene : (it : Source) → Option Place → Scene
     scene it f = record {
       world = world_of p it;
       starts = starts;
       function = f;
       right = right;
-      owned = fit.all;
+      owned = names_owned;
     }
 
     settled : (it : Source) → Settled functions starts (world_of p it)
@@ -175,7 +213,7 @@ module _ (law : Laws) where
         (sym (append_assoc ps (key_places it.spelling (tape_of it.items)) (keys_among sources))) d) names.1)
 
     owned : IsWellOwned (system_of p)
-    owned = law.whole (system_of p) (sources_fit p.sources [] [] none_kept refl differ.keys_differ fit.along)
+    owned = law.whole (system_of p) (sources_fit p.sources [] [] none_kept refl differ.keys_differ fit)
 
-  pub owned_where_names_fit : OwnedWhereNamesFit
-  owned_where_names_fit p differ nobodys fit = owned p differ nobodys fit
+  pub owned_where_places_differ : OwnedWherePlacesDiffer
+  owned_where_places_differ p sound differ nobodys fit = owned p sound differ nobodys fit

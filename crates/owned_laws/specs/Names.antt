@@ -23,9 +23,9 @@ use Rattle.row_steps.specs.Steps.{step}
 use Rattle.owner_laws.specs.Belonging.{IsOwn}
 use Rattle.owner_laws.specs.Fitting.{start_at}
 
--- a function is its own, another thing that of the function around or of nobody
+-- what is no function is of the function around or of nobody
 abbrev pub RoleIsOwn : Option Place → Declared → Role → Type 0
-RoleIsOwn f d function_role = d.owner ≡ Some d.at
+RoleIsOwn f d function_role = Unit {0}
 RoleIsOwn f d enumerator_role = Unit {0}
 RoleIsOwn f d typedef_role = IsOwn f d.owner
 RoleIsOwn f d object_role = IsOwn f d.owner
@@ -129,12 +129,19 @@ pub record HasFirst (s : Names) (d : Declared) : Type 0 where
   pub there : declared_at s.declared d.first ≡ Some first
   pub same_owner : first.owner ≡ d.owner
 
--- What is known of all names of a program: further declarations belong where the first does, members of structs belong to nobody,
--- and each function that is its own has a skeleton.
+-- each function that belongs to itself has a skeleton
+abbrev pub FunctionsBegin : List Start → Names → Type 0
+FunctionsBegin starts s =
+    (p : Place) (d : Declared) → declared_at s.declared p ≡ Some d → d.role ≡ function_role → d.owner ≡ Some d.at
+    → start_at starts d.at ≡ None → ⊥
+
+-- What is known of all names of a program: further declarations belong where the first does, a function that is named in an
+-- expression belongs to itself, members of structs belong to nobody, and each function that is its own has a skeleton.
 pub record NamesAreOwned (starts : List Start) (s : Names) : Type 0 where
   pub firsts : (p : Place) (d : Declared) → declared_at s.declared p ≡ Some d → HasFirst s d
+  pub uses : (p q : Place) → use_at s.uses p ≡ means q → (d : Declared) → declared_at s.declared q ≡ Some d →
+      d.role ≡ function_role → d.owner ≡ Some d.at
   pub known : (n name : ℕ) (it : Known) → member_in (body_of s.aggregates n) name ≡ Some it →
       IsDeclaredOwn s None it.at
   pub own : (n i : ℕ) (it : Own) → slice_get (own_of s.aggregates n) i ≡ Some it → IsDeclaredOwn s None it.at
-  pub functions : (p : Place) (d : Declared) → declared_at s.declared p ≡ Some d → d.role ≡ function_role →
-      d.owner ≡ Some d.at → start_at starts d.at ≡ None → ⊥
+  pub functions : FunctionsBegin starts s

@@ -1,6 +1,6 @@
 -- The system of a program is well owned, where the places at which skeletons may begin differ and names mean what is of the
 -- function around them.
-use Rattle.std.specs.Prelude.{◌≡◌, List, [], ◌∷◌, ◌++◌, Option}
+use Rattle.std.specs.Prelude.{◌≡◌, All, List, [], ◌∷◌, ◌++◌, Option}
 use Rattle.qual_base.specs.declared.places.Owner.TheVariants.{Nobody}
 use Rattle.flow_graph.specs.System.{owner_of, IsWellOwned}
 use Rattle.c_tree.specs.Unit.{Item}
@@ -11,9 +11,11 @@ use Rattle.type_rules.specs.Program.{Source, names_of}
 use Rattle.row_rules.specs.Worlds.{World}
 use Rattle.row_steps.specs.State.{nothing}
 use Rattle.constraint_rules.specs.Systems.{Program, starts_of, world_of, system_of}
+use Rattle.meaning_laws.specs.Meanings.{Differ}
+use Rattle.name_laws.specs.NameLaws.{IsSound}
 use Rattle.owner_laws.specs.Laws.{AreDifferent}
 use Rattle.owned_laws.specs.Keys.{key_places, KeysAreApart}
-use Rattle.owned_laws.specs.Names.{NamesAlong, NamesAreOwned}
+use Rattle.owned_laws.specs.Names.{NamesAlong}
 
 -- the places at which skeletons may begin along the tapes of units
 abbrev pub keys_among : List Source → List Place
@@ -24,12 +26,15 @@ abbrev pub AllApart : Names → List Source → Type 0
 AllApart s [] = Unit {0}
 AllApart s (it ∷ sources) = KeysAreApart it.spelling s (tape_of it.items) × AllApart s sources
 
--- no two of these places are one, and no name is declared where an expression may have a skeleton of its own
+-- No two of these places are one, no name is declared where an expression may have a skeleton of its own, and no two declarations
+-- are at one place.
 pub record PlacesDiffer (sources : List Source) : Type 0 where
   pub keys_differ : AreDifferent (keys_among sources)
   pub names_apart : AllApart (names_of sources) sources
+  pub declared_differ : Differ (names_of sources).declared
 
--- of each item of a unit, in the function whose body or own parameters it has
+-- Objects that names mean along the tape of each item of a unit are of one function, whose body or own parameters it has, or of
+-- nobody.
 abbrev pub NamesOfItems : World → List Item → Type 0
 NamesOfItems w [] = Unit {0}
 NamesOfItems w (item ∷ items) = ((f : Option Place) × NamesAlong w f nothing (item_tape item)) × NamesOfItems w items
@@ -38,15 +43,11 @@ abbrev pub NamesOfSources : Program → List Source → Type 0
 NamesOfSources p [] = Unit {0}
 NamesOfSources p (it ∷ sources) = NamesOfItems (world_of p it) it.items × NamesOfSources p sources
 
--- names mean what is of the function around them, or of nobody
-pub record NamesFit (p : Program) : Type 0 where
-  pub all : NamesAreOwned (starts_of p.sources) (names_of p.sources)
-  pub along : NamesOfSources p p.sources
-
 -- Variable 0 stands also for what has no skeleton, as for a member that no struct has: so it is to be nobody's.
 abbrev pub NothingIsNobodys : Program → Type 0
 NothingIsNobodys p = owner_of (system_of p) 0 ≡ Nobody
 
-abbrev pub OwnedWhereNamesFit : Type 0
-OwnedWhereNamesFit =
-    (p : Program) → PlacesDiffer p.sources → NothingIsNobodys p → NamesFit p → IsWellOwned (system_of p)
+abbrev pub OwnedWherePlacesDiffer : Type 0
+OwnedWherePlacesDiffer =
+    (p : Program) → All IsSound p.sources → PlacesDiffer p.sources → NothingIsNobodys p → NamesOfSources p p.sources
+    → IsWellOwned (system_of p)
