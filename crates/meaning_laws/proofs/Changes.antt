@@ -1,18 +1,18 @@
 -- Each change of names keeps what names mean, where a declaration is at a new place.
-use Rattle.std.proofs.Common.{◌≡◌, ◌⊎◌, inl, inr, ℕ, Bool, true, false, List, [], ◌∷◌, ◌++◌, length, Option, None, Some, refl, sym, ◌∙◌, ap, subst}
+use Rattle.std.proofs.Common.{◌≡◌, ℕ, Bool, true, false, List, [], ◌∷◌, ◌++◌, length, Option, None, Some, refl, sym, ◌∙◌, ap, subst}
 use Rattle.std.specs.Prelude.{◌||◌, if◌then◌else◌}
 use Rattle.c_words.specs.declared.kinds.Keyword.{Keyword}
 use Rattle.c_words.specs.declared.kinds.Keyword.TheVariants as keywords
 use Rattle.tape_ops.specs.declared.specifier.TagKind.{TagKind}
-use Rattle.type_table.specs.Types.{CType, base}
+use Rattle.type_table.specs.Types.{CType}
 use Rattle.name_rules.specs.Spellings.{Spelling, Place, place, Named}
-use Rattle.name_rules.specs.Scopes.{Meaning, means_type, means_thing, Scope, no_scope, Role, typedef_role, object_role, function_role, parameter_role, field_role, enumerator_role, Declared, declared_at, Use, means, called, missing, Names, Body, Aggregate, is_place, thing_named, meaning, innermost, outer_scopes, inner_meaning, is_at_file, owner_of_some, owner_at, enter, leave, bound, tag_bound, with_faults, with_declared, sized, with_aggregate, or_no_body, body_of, has_body, with_body, with_member, with_unnamed, tag_in, tag_through}
+use Rattle.name_rules.specs.Scopes.{Meaning, means_type, means_thing, Scope, no_scope, Role, typedef_role, object_role, function_role, parameter_role, field_role, Declared, declared_at, Names, Aggregate, is_place, thing_named, meaning, innermost, outer_scopes, inner_meaning, is_at_file, owner_of_some, owner_at, enter, leave, bound, tag_bound, with_faults, with_declared, sized, with_aggregate, or_no_body, body_of, has_body, with_body, with_member, with_unnamed, tag_in, tag_through}
 use Rattle.name_rules.specs.Faults.{Fault}
 use Rattle.name_rules.specs.Pieces.{is_function}
-use Rattle.name_rules.specs.Declaring.{use_by, used_as, used, type_named, new_tag, Numbered, found_or_new, tag_used, untagged, Begun, opened, begun_in, begun_body, tag_begun, untagged_begun, the_thing, or_at, owner_where, declaring, declared_here, linked, declared_thing, has_word, declared_typedef, declared_by, declared_some, declared_param, declared_member, struct_number, unnamed_member, keep, scope_kept, body_entered, body_left}
+use Rattle.name_rules.specs.Declaring.{use_by, used, type_named, Numbered, found_or_new, tag_used, untagged, opened, begun_in, tag_begun, untagged_begun, the_thing, or_at, owner_where, declaring, declared_here, declared_thing, has_word, declared_typedef, declared_by, declared_some, declared_param, declared_member, struct_number, unnamed_member, keep, scope_kept, body_entered, body_left}
 use Rattle.name_rules.specs.Units.{no_names, is_shared, shared_name, shared, unit_begun}
-use Rattle.meaning_laws.specs.Meanings.{Differ, IsFirst, HasFirst, IsNobodys, MeaningIs, NamesAre, ScopesAre, ThingsAre, KeptIs, UseIs, UsesAre, AllFirst, OwnAre, KnownAre, SomeBodyIs, AggregatesAre, AreFirst}
-use Rattle.meaning_laws.proofs.Lists.{place_itself, place_is, at_more, at_new, last_is_new, names_map, scopes_map, things_map, kept_map, uses_map, aggregates_map, some_thing_is, through_is, innermost_is, outer_are, inner_is, uses_more, own_more, known_joined, lying_are, or_no_body_is, body_of_is, aggregates_more, changed_are}
+use Rattle.meaning_laws.specs.Meanings.{Differ, IsFirst, HasFirst, IsNobodys, MeaningIs, NamesAre, ScopesAre, ThingsAre, KeptIs, UseIs, AllFirst, AggregatesAre, AreFirst}
+use Rattle.meaning_laws.proofs.Lists.{place_itself, place_is, at_more, at_new, last_is_new, scopes_map, things_map, kept_map, uses_map, aggregates_map, some_thing_is, through_is, innermost_is, outer_are, inner_is, uses_more, own_more, known_joined, lying_are, or_no_body_is, body_of_is, aggregates_more, changed_are}
 
 -- one more declaration
 
@@ -30,12 +30,14 @@ nobodys_more ds d p h = record { it = h.it; there = at_more ds (d ∷ []) p h.it
 all_first_more : (ds : List Declared) (d : Declared) (xs : List Declared) → AllFirst ds xs → HasFirst (ds ++ d ∷ []) d →
     AllFirst (ds ++ d ∷ []) (xs ++ d ∷ [])
 all_first_more ds d [] h k = (k, tt)
-all_first_more ds d (x ∷ xs) h k =
-    (record {
-      first = h.0.first;
-      there = at_more ds (d ∷ []) x.first h.0.first h.0.there;
-      same_owner = h.0.same_owner;
-    }, all_first_more ds d xs h.1 k)
+all_first_more ds d (x ∷ xs) h k = (
+  record {
+    first = h.0.first;
+    there = at_more ds (d ∷ []) x.first h.0.first h.0.there;
+    same_owner = h.0.same_owner;
+  },
+  all_first_more ds d xs h.1 k,
+)
 
 more : (s : Names) (d : Declared) → AreFirst s → HasFirst (s.declared ++ d ∷ []) d → AreFirst (with_declared d s)
 more s d h k = record {
@@ -165,7 +167,7 @@ other_owner s at p own none h = by (is_place p at) (place_is p at)
     by : (b : Bool) → (b ≡ true → p ≡ at) → (if b then own else owner_at s p) ≡ h.it.owner
     by true same =
         let there : declared_at s.declared at ≡ Some h.it =
-            subst (λ (q : Place). declared_at s.declared q ≡ Some h.it) (same refl) h.there in
+        subst (λ (q : Place). declared_at s.declared q ≡ Some h.it) (same refl) h.there in
         absurd cc
     by false same = ap owner_of_some h.there
 
@@ -283,9 +285,11 @@ member_at : (s : Names) (at : Place) (name n : ℕ) (role : Role) (t : CType) �
 member_at s at name n role t differ h =
     with_aggregates (declaring at role at t None s) _ next
     (changed_are (IsNobodys (s.declared ++ made at role at t None s ∷ [])) (with_member name at t)
-    (λ body k. (own_more (IsNobodys _) body.own (record { at = at; type = t }) k.0 nobodys,
-    known_joined (IsNobodys _) body.known (record { name = name; at = at; type = t; own = length body.own } ∷ []) k.1
-    (nobodys, tt)))
+    (λ body k. (
+      own_more (IsNobodys _) body.own (record { at = at; type = t }) k.0 nobodys,
+      known_joined (IsNobodys _) body.known (record { name = name; at = at; type = t; own = length body.own } ∷ []) k.1
+          (nobodys, tt),
+    ))
     s.aggregates n next.members)
   where
     next : AreFirst (declaring at role at t None s)
@@ -307,11 +311,13 @@ is_unnamed_member at n t s differ h =
     with_aggregates (declaring at role at t None s) _ next
     (changed_are (IsNobodys (s.declared ++ made at role at t None s ∷ []))
     (with_unnamed at t (or_no_body (body_of s.aggregates (struct_number t))).known)
-    (λ body k. (own_more (IsNobodys _) body.own (record { at = at; type = t }) k.0 nobodys,
-    known_joined (IsNobodys _) body.known _ k.1
-    (lying_are (IsNobodys _) (length body.own) (or_no_body (body_of s.aggregates (struct_number t))).known
-    (or_no_body_is (IsNobodys _) (body_of s.aggregates (struct_number t))
-    (body_of_is (IsNobodys _) s.aggregates (struct_number t) next.members)).1)))
+    (λ body k. (
+      own_more (IsNobodys _) body.own (record { at = at; type = t }) k.0 nobodys,
+      known_joined (IsNobodys _) body.known _ k.1
+          (lying_are (IsNobodys _) (length body.own) (or_no_body (body_of s.aggregates (struct_number t))).known
+          (or_no_body_is (IsNobodys _) (body_of s.aggregates (struct_number t))
+          (body_of_is (IsNobodys _) s.aggregates (struct_number t) next.members)).1),
+    ))
     s.aggregates n next.members)
   where
     role : Role
@@ -332,8 +338,10 @@ with_one_more kind at s h =
 
 with_tag_bound : (kind : TagKind) (tag n : ℕ) (s : Names) → AreFirst s → AreFirst (tag_bound kind tag n s)
 with_tag_bound kind tag n s h =
-    with_scopes s _ h (innermost_is (IsFirst s.declared) s.scopes h.scopes,
-    outer_are (IsFirst s.declared) s.scopes h.scopes)
+    with_scopes s _ h (
+      innermost_is (IsFirst s.declared) s.scopes h.scopes,
+      outer_are (IsFirst s.declared) s.scopes h.scopes,
+    )
 
 found_tag : (found : Option ℕ) (u : Spelling) (kind : TagKind) (token tag : ℕ) (s : Names) → AreFirst s →
     AreFirst (found_or_new found u kind token tag s).names

@@ -3,10 +3,10 @@ use Rattle.std.proofs.Common.{◌≡◌, ℕ, zero, suc, Bool, true, false, List
 use Rattle.std.specs.Prelude.{◌&&◌, if◌then◌else◌}
 use Rattle.std.proofs.lemmas.Bool.{eq-eqb, eqb-true}
 use Rattle.name_rules.specs.Spellings.{Place}
-use Rattle.name_rules.specs.Scopes.{Meaning, means_type, means_thing, Scope, Declared, declared_at, Use, means, called, missing, NameUse, Own, Known, Body, Aggregate, Names, is_place, thing_named, meaning_in, some_thing, or_outer, meaning_through, meaning, innermost, outer_scopes, inner_meaning, changed_at, or_no_body, body_of, body_of_some, lying_in}
+use Rattle.name_rules.specs.Scopes.{Meaning, means_type, means_thing, Scope, Declared, declared_at, Use, means, called, missing, NameUse, Own, Known, Body, Aggregate, is_place, thing_named, meaning_in, some_thing, or_outer, meaning_through, innermost, outer_scopes, changed_at, or_no_body, body_of, body_of_some, lying_in}
 use Rattle.name_rules.specs.Uses.{use_at}
 use Rattle.name_rules.specs.Values.{known_named, member_in, own_of}
-use Rattle.meaning_laws.specs.Meanings.{Differ, IsFirst, HasFirst, IsNobodys, MeaningIs, NamesAre, ScopesAre, ThingsAre, KeptIs, UseIs, UsesAre, AllFirst, OwnAre, KnownAre, SomeBodyIs, AggregatesAre}
+use Rattle.meaning_laws.specs.Meanings.{Differ, MeaningIs, NamesAre, ScopesAre, ThingsAre, KeptIs, UseIs, UsesAre, OwnAre, KnownAre, SomeBodyIs, AggregatesAre}
 
 left : (a b : Bool) → (a && b) ≡ true → a ≡ true
 left true b e = refl

@@ -17,15 +17,15 @@ use Rattle.tape_ops.specs.declared.statement.StmtOp.{StmtOp}
 use Rattle.tape_ops.specs.declared.statement.StmtOp.TheVariants as stmts
 use Rattle.type_table.specs.Types.{CType, base}
 use Rattle.name_rules.specs.Spellings.{Spelling, Place, place, Named}
-use Rattle.name_rules.specs.Scopes.{Role, object_role, function_role, parameter_role, enumerator_role, Declared, declared_at, Names, is_place, is_at_file, innermost, tag_in, tag_through, body_of, has_body, with_aggregate, sized, inner_meaning, or_no_body}
+use Rattle.name_rules.specs.Scopes.{object_role, enumerator_role, Declared, declared_at, Names, is_place, is_at_file, innermost, tag_in, tag_through, body_of, has_body, sized}
 use Rattle.name_rules.specs.Pieces.{is_function, decayed}
-use Rattle.name_rules.specs.Declaring.{Numbered, found_or_new, tag_used, untagged, begun_in, begun_body, tag_begun, untagged_begun, declared_here, declared_thing, declared_typedef, declared_by, declared_some, declared_param, declared_member, unnamed_member, has_word, keep}
+use Rattle.name_rules.specs.Declaring.{Numbered, found_or_new, tag_used, untagged, begun_in, declared_here, declared_thing, declared_typedef, declared_by, declared_some, declared_param, declared_member, has_word, keep}
 use Rattle.name_rules.specs.Units.{no_names, unit_begun}
 use Rattle.name_steps.specs.State.{State, with_names}
 use Rattle.name_steps.specs.Steps.{declaration, body, parameters, expression_step, specifier_step, declarator_step, body_entered_by, statement_step, step, run}
 use Rattle.name_steps.specs.Units.{Tape, tape_named, tapes_named}
 use Rattle.meaning_laws.specs.Meanings.{Differ, IsFirst, HasFirst, AllFirst, AreFirst, NamesAreFirst, MeaningsAreFirst}
-use Rattle.meaning_laws.proofs.Lists.{place_is, differ_before, use_found, member_found, body_of_is, own_of_found}
+use Rattle.meaning_laws.proofs.Lists.{differ_before, use_found, member_found, body_of_is, own_of_found}
 use Rattle.meaning_laws.proofs.Changes.{is_type_named, is_declared_here, is_declared_some, is_declared_param, is_declared_member, is_unnamed_member, is_tag_used, is_tag_begun, is_untagged_begun, is_used, is_entered, is_left, is_kept, is_body_entered, is_body_left, is_unit_begun, no_names_are}
 
 -- declarations are added behind those that are there

@@ -257,7 +257,7 @@ module _ (u : Spelling) (s : Names) (st : State) (r : Rounds) where
   spec_is (specs.TagBody kind token name) = refl
   spec_is (specs.Untagged kind token) = refl
   spec_is specs.BodyEnd = refl
-  spec_is (specs.Enumerator token name) = refl
+  spec_is (specs.Enumerator token name) = tt
   spec_is (specs.UnnamedMember token) = name_is (around u s r) token
   spec_is specs.SpecsEnd = refl
 

@@ -211,11 +211,11 @@ has_right (x ∷ xs) ys p h none = by (is_place x.at p) none (has_right xs ys p 
     by false e next = next e
 
 -- the names of the declarators that are read
-abbrev names : List OpenDeclaration → List (Option Named)
+abbrev pub names : List OpenDeclaration → List (Option Named)
 names [] = []
 names (d ∷ ds) = d.name ∷ names ds
 
-names_kept : (ds : List OpenDeclaration) (t : CType) →
+pub names_kept : (ds : List OpenDeclaration) (t : CType) →
     names (with_innermost (record (innermost_or no_declaration ds) { declared = t }) ds) ≡ names ds
 names_kept [] t = refl
 names_kept (d ∷ ds) t = refl
@@ -227,24 +227,64 @@ tag_same : (found : Option ℕ) (u : Spelling) (kind : TagKind) (token tag : ℕ
 tag_same (Some n) u kind token tag s = refl
 tag_same None u kind token tag s = refl
 
-used_same : (u : Spelling) (alone : Bool) (kind : TagKind) (token tag : ℕ) (s : Names) →
+pub used_same : (u : Spelling) (alone : Bool) (kind : TagKind) (token tag : ℕ) (s : Names) →
     (tag_used u alone kind token tag s).names.declared ≡ s.declared
 used_same u alone kind token tag s =
     tag_same (if alone then tag_in (innermost s.scopes).tags kind (u.key tag) else tag_through s.scopes kind (u.key tag))
     u kind token tag s
 
-begun_same : (b : Bool) (at : Place) (kind : TagKind) (it : Numbered) →
+pub begun_same : (b : Bool) (at : Place) (kind : TagKind) (it : Numbered) →
     (begun_in b at kind it).names.declared ≡ it.names.declared
 begun_same true at kind it = refl
 begun_same false at kind it = refl
 
-keep_same : (own : Option Place) (s : Names) → (keep own s).declared ≡ s.declared
+pub keep_same : (own : Option Place) (s : Names) → (keep own s).declared ≡ s.declared
 keep_same None s = refl
 keep_same (Some own) s = refl
 
-entered_same : (d : Option Declared) (s : Names) → (body_entered_by d s).declared ≡ s.declared
+pub entered_same : (d : Option Declared) (s : Names) → (body_entered_by d s).declared ≡ s.declared
 entered_same None s = refl
 entered_same (Some d) s = refl
+
+pub expr_declarations : (u : Spelling) (st : State) (op : ExprOp) →
+    (expression_step u st op).declarations ≡ st.declarations
+expr_declarations u st (exprs.Name is_called token name) = refl
+expr_declarations u st (exprs.Number token) = refl
+expr_declarations u st (exprs.Char token) = refl
+expr_declarations u st (exprs.Text token) = refl
+expr_declarations u st (exprs.Paren token) = refl
+expr_declarations u st (exprs.Ext token) = refl
+expr_declarations u st (exprs.Comma token) = refl
+expr_declarations u st (exprs.Assign sign token first last) = refl
+expr_declarations u st (exprs.Cond has_middle token first last) = refl
+expr_declarations u st (exprs.Binary sign token first last) = refl
+expr_declarations u st (exprs.Prefix sign token last) = refl
+expr_declarations u st (exprs.Post sign token first) = refl
+expr_declarations u st (exprs.Index token first last) = refl
+expr_declarations u st (exprs.Arg behind first last) = refl
+expr_declarations u st (exprs.Call token count) = refl
+expr_declarations u st (exprs.Arrow token first last) = refl
+expr_declarations u st (exprs.Dot token member name) = refl
+
+pub expr_names : (u : Spelling) (st : State) (op : ExprOp) →
+    (expression_step u st op).names.declared ≡ st.names.declared
+expr_names u st (exprs.Name is_called token name) = refl
+expr_names u st (exprs.Number token) = refl
+expr_names u st (exprs.Char token) = refl
+expr_names u st (exprs.Text token) = refl
+expr_names u st (exprs.Paren token) = refl
+expr_names u st (exprs.Ext token) = refl
+expr_names u st (exprs.Comma token) = refl
+expr_names u st (exprs.Assign sign token first last) = refl
+expr_names u st (exprs.Cond has_middle token first last) = refl
+expr_names u st (exprs.Binary sign token first last) = refl
+expr_names u st (exprs.Prefix sign token last) = refl
+expr_names u st (exprs.Post sign token first) = refl
+expr_names u st (exprs.Index token first last) = refl
+expr_names u st (exprs.Arg behind first last) = refl
+expr_names u st (exprs.Call token count) = refl
+expr_names u st (exprs.Arrow token first last) = refl
+expr_names u st (exprs.Dot token member name) = refl
 
 module _ (s : Names) (starts : List Start) where
   -- a function that is declared there has a skeleton there
@@ -370,46 +410,6 @@ module _ (s : Names) (starts : List Start) where
       Aligned u m (names ds) rs →
       Aligned u m (names (with_innermost (record (innermost_or no_declaration ds) { declared = t }) ds)) rs
   kept_name u m ds rs t h = subst (λ (it : List (Option Named)). Aligned u m it rs) (sym (names_kept ds t)) h
-
-  expr_declarations : (u : Spelling) (st : State) (op : ExprOp) →
-      (expression_step u st op).declarations ≡ st.declarations
-  expr_declarations u st (exprs.Name is_called token name) = refl
-  expr_declarations u st (exprs.Number token) = refl
-  expr_declarations u st (exprs.Char token) = refl
-  expr_declarations u st (exprs.Text token) = refl
-  expr_declarations u st (exprs.Paren token) = refl
-  expr_declarations u st (exprs.Ext token) = refl
-  expr_declarations u st (exprs.Comma token) = refl
-  expr_declarations u st (exprs.Assign sign token first last) = refl
-  expr_declarations u st (exprs.Cond has_middle token first last) = refl
-  expr_declarations u st (exprs.Binary sign token first last) = refl
-  expr_declarations u st (exprs.Prefix sign token last) = refl
-  expr_declarations u st (exprs.Post sign token first) = refl
-  expr_declarations u st (exprs.Index token first last) = refl
-  expr_declarations u st (exprs.Arg behind first last) = refl
-  expr_declarations u st (exprs.Call token count) = refl
-  expr_declarations u st (exprs.Arrow token first last) = refl
-  expr_declarations u st (exprs.Dot token member name) = refl
-
-  expr_names : (u : Spelling) (st : State) (op : ExprOp) →
-      (expression_step u st op).names.declared ≡ st.names.declared
-  expr_names u st (exprs.Name is_called token name) = refl
-  expr_names u st (exprs.Number token) = refl
-  expr_names u st (exprs.Char token) = refl
-  expr_names u st (exprs.Text token) = refl
-  expr_names u st (exprs.Paren token) = refl
-  expr_names u st (exprs.Ext token) = refl
-  expr_names u st (exprs.Comma token) = refl
-  expr_names u st (exprs.Assign sign token first last) = refl
-  expr_names u st (exprs.Cond has_middle token first last) = refl
-  expr_names u st (exprs.Binary sign token first last) = refl
-  expr_names u st (exprs.Prefix sign token last) = refl
-  expr_names u st (exprs.Post sign token first) = refl
-  expr_names u st (exprs.Index token first last) = refl
-  expr_names u st (exprs.Arg behind first last) = refl
-  expr_names u st (exprs.Call token count) = refl
-  expr_names u st (exprs.Arrow token first last) = refl
-  expr_names u st (exprs.Dot token member name) = refl
 
   module _ (u : Spelling) (m n : List Mark) (st : State) (r : Rounds) (ods : List shapes.OpenDeclaration)
       (h : Aligned u m (names st.declarations) r.around) where

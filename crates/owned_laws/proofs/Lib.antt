@@ -1,3 +1,4 @@
+mod Apart
 mod Begin
 mod Fits
 mod Found

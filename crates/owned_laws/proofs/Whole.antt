@@ -32,6 +32,7 @@ use Rattle.owned_laws.specs.Names.{NamesAlong, IsDeclaredOwn, NamesAreOwned}
 use Rattle.owned_laws.specs.Tapes.{TapesFit}
 use Rattle.owned_laws.specs.Programs.{keys_among, AllApart, PlacesDiffer, NamesOfItems, NamesOfSources, NothingIsNobodys, OwnedWherePlacesDiffer}
 use Rattle.owned_laws.proofs.Places.{declared_place, Kept, none_kept, joined_kept}
+use Rattle.owned_laws.proofs.Apart.{declared_differ, names_apart}
 use Rattle.owned_laws.proofs.Begin.{AllRight, right_joined, tape_kept, tape_right, ExactAlong, exact, regroup}
 use Rattle.owned_laws.proofs.Fits.{Scene, members, along}
 use Rattle.owned_laws.proofs.Functions.{functions_begin}
@@ -100,13 +101,14 @@ module _ (law : Laws) where
     functions = functions_of s
 
     right : AllRight s starts
-    right = sources_right s p.sources differ.names_apart
+    right = sources_right s p.sources (names_apart p.sources s differ (law.names p.sources sound))
 
     first : NamesAreFirst s
     first =
         subst NamesAreFirst (law.names p.sources sound)
         (law.meanings (map tape_of_source p.sources)
-        (subst (λ (names : Names). Differ names.declared) (sym (law.names p.sources sound)) differ.declared_differ))
+        (subst (λ (names : Names). Differ names.declared) (sym (law.names p.sources sound))
+        (declared_differ p.sources s differ (law.names p.sources sound))))
 
     is_function_own : (q : Place) → IsFirst s.declared q → (d : Declared) → declared_at s.declared q ≡ Some d →
         d.role ≡ function_role → d.owner ≡ Some d.at
@@ -144,7 +146,7 @@ module _ (law : Laws) where
     settled : (it : Source) → Settled functions starts (world_of p it)
     settled it = record {
       knows = record { skeletons_are = refl; sites_are = refl };
-      sites_differ = (sources_kept s p.sources).differ differ.keys_differ;
+      sites_differ = (sources_kept s p.sources).differ differ;
       nothing_is_nobodys = nobodys;
       members = members (scene it None);
     }
@@ -213,7 +215,7 @@ module _ (law : Laws) where
         (sym (append_assoc ps (key_places it.spelling (tape_of it.items)) (keys_among sources))) d) names.1)
 
     owned : IsWellOwned (system_of p)
-    owned = law.whole (system_of p) (sources_fit p.sources [] [] none_kept refl differ.keys_differ fit)
+    owned = law.whole (system_of p) (sources_fit p.sources [] [] none_kept refl differ fit)
 
   pub owned_where_places_differ : OwnedWherePlacesDiffer
   owned_where_places_differ p sound differ nobodys fit = owned p sound differ nobodys fit

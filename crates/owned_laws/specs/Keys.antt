@@ -1,4 +1,4 @@
--- The tokens at which skeletons may begin along a tape: one an op.
+-- The tokens at which skeletons may begin and names are declared along a tape: one an op.
 use Rattle.std.specs.Prelude.{◌≡◌, ℕ, List, [], ◌∷◌, ◌++◌, Option, None, Some}
 use Rattle.tape_ops.specs.declared.op.Op.{Op}
 use Rattle.tape_ops.specs.declared.op.Op.TheVariants as ops
@@ -77,7 +77,7 @@ spec_key (specs.TagAlone kind token name) = None
 spec_key (specs.TagBody kind token name) = None
 spec_key (specs.Untagged kind token) = None
 spec_key specs.BodyEnd = None
-spec_key (specs.Enumerator token name) = None
+spec_key (specs.Enumerator token name) = Some token
 spec_key (specs.UnnamedMember token) = Some token
 spec_key specs.SpecsEnd = None
 
@@ -107,7 +107,7 @@ abbrev pub key_place : Spelling → Option ℕ → List Place
 key_place u None = []
 key_place u (Some token) = place u token ∷ []
 
--- the places at which skeletons may begin along a tape
+-- the places at which skeletons may begin and names are declared along a tape
 abbrev pub key_places : Spelling → List Op → List Place
 key_places u [] = []
 key_places u (op ∷ tape) = key_place u (op_key op) ++ key_places u tape

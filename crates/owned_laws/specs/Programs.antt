@@ -11,13 +11,12 @@ use Rattle.type_rules.specs.Program.{Source, names_of}
 use Rattle.row_rules.specs.Worlds.{World}
 use Rattle.row_steps.specs.State.{nothing}
 use Rattle.constraint_rules.specs.Systems.{Program, starts_of, world_of, system_of}
-use Rattle.meaning_laws.specs.Meanings.{Differ}
 use Rattle.name_laws.specs.NameLaws.{IsSound}
 use Rattle.owner_laws.specs.Laws.{AreDifferent}
 use Rattle.owned_laws.specs.Keys.{key_places, KeysAreApart}
 use Rattle.owned_laws.specs.Names.{NamesAlong}
 
--- the places at which skeletons may begin along the tapes of units
+-- the places at which skeletons may begin and names are declared along the tapes of units, each op's once
 abbrev pub keys_among : List Source → List Place
 keys_among [] = []
 keys_among (it ∷ sources) = key_places it.spelling (tape_of it.items) ++ keys_among sources
@@ -26,12 +25,9 @@ abbrev pub AllApart : Names → List Source → Type 0
 AllApart s [] = Unit {0}
 AllApart s (it ∷ sources) = KeysAreApart it.spelling s (tape_of it.items) × AllApart s sources
 
--- No two of these places are one, no name is declared where an expression may have a skeleton of its own, and no two declarations
--- are at one place.
-pub record PlacesDiffer (sources : List Source) : Type 0 where
-  pub keys_differ : AreDifferent (keys_among sources)
-  pub names_apart : AllApart (names_of sources) sources
-  pub declared_differ : Differ (names_of sources).declared
+-- no two of these places are one
+abbrev pub PlacesDiffer : List Source → Type 0
+PlacesDiffer sources = AreDifferent (keys_among sources)
 
 -- Objects that names mean along the tape of each item of a unit are of one function, whose body or own parameters it has, or of
 -- nobody.

@@ -1,7 +1,7 @@
 -- Parts of tapes, from marks to marks.
-use Rattle.std.proofs.Common.{◌≡◌, ℕ, Bool, true, false, List, [], ◌∷◌, ◌++◌, Option, None, Some, refl, sym, ◌∙◌, ap, subst}
-use Rattle.std.specs.Prelude.{◌&&◌, if◌then◌else◌}
-use Rattle.c_tree.specs.Tree.{Expr, Exprs, no_exprs, more_exprs, SpecWords, no_words, more_words, SpecWord, storage, thread, inline_word, noreturn, qualifier, basic, struct_type, enum_type, typedef_name, attribute, Declr, pointer, declr_name, declr_paren, array, params, abs_pointer, abs_paren, abs_array, abs_params, SomeDeclr, no_declr, some_declr, Init, init_value, init_braced, InitList, init_list, InitItems, no_init_items, more_init_items, Desigs, no_desigs, more_desigs, Desig, member_desig, index_desig, Operator, comma, assign, cond, binary, Dots}
+use Rattle.std.proofs.Common.{◌≡◌, ℕ, Bool, true, false, List, [], ◌∷◌, ◌++◌, Option, None, Some, refl, sym, ap, subst}
+use Rattle.std.specs.Prelude.{if◌then◌else◌}
+use Rattle.c_tree.specs.Tree.{Exprs, no_exprs, more_exprs, SpecWords, no_words, more_words, SpecWord, storage, thread, inline_word, noreturn, qualifier, basic, struct_type, enum_type, typedef_name, attribute, Declr, pointer, declr_name, declr_paren, array, params, abs_pointer, abs_paren, abs_array, abs_params, SomeDeclr, no_declr, some_declr, Init, init_value, init_braced, InitList, init_list, InitItems, no_init_items, more_init_items, Desigs, no_desigs, more_desigs, Desig, member_desig, index_desig, Operator, comma, assign, cond, binary, Dots}
 use Rattle.c_syntax.specs.declared.parts.Identifier.{Identifier}
 use Rattle.c_syntax.specs.declared.parts.Qual.{Qual}
 use Rattle.c_syntax.specs.declared.parts.PointerWord.{PointerWord}
@@ -13,9 +13,7 @@ use Rattle.tape_ops.specs.declared.op.Op.TheVariants as ops
 use Rattle.tape_ops.specs.declared.specifier.SpecOp.TheVariants as specs
 use Rattle.tape_ops.specs.declared.specifier.TagKind.{TagKind}
 use Rattle.tape_ops.specs.declared.declarator.DeclrOp.TheVariants as declrs
-use Rattle.tape_ops.specs.declared.statement.StmtOp.TheVariants as stmts
 use Rattle.c_tape.specs.Tape.{quals_tape, pointer_word_tape, pointer_words_tape, array_word_tape, array_words_tape, dots_tape, pieces, some_pieces, desig_tape, desigs_tape, rule, rule_of_list, rule_of_items, arguments, operator_tape, tag_tape, body_tape, unnamed_word_tape, unnamed_tape, quietly, in_scope, specs_with, type_name_with, params_with}
-use Rattle.c_tape.specs.Tape as tapes
 use Rattle.tape_laws.specs.Marks.{Mark, in_declaration, in_params, in_tag, in_quiet, in_body, is_open, turn, IsBracketed}
 use Rattle.tape_laws.specs.Marks as marks
 
