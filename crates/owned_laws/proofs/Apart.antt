@@ -12,11 +12,11 @@ use Rattle.tape_ops.specs.declared.declarator.DeclrOp.{DeclrOp}
 use Rattle.tape_ops.specs.declared.declarator.DeclrOp.TheVariants as declrs
 use Rattle.tape_ops.specs.declared.statement.StmtOp.{StmtOp}
 use Rattle.tape_ops.specs.declared.statement.StmtOp.TheVariants as stmts
-use Rattle.type_table.specs.Types.{CType, base}
+use Rattle.type_table.specs.Types.{CType}
 use Rattle.name_rules.specs.Spellings.{Spelling, Place, place, Named}
-use Rattle.name_rules.specs.Scopes.{Role, object_role, enumerator_role, Declared, declared_at, Names, is_place, is_at_file, body_of, has_body, sized}
+use Rattle.name_rules.specs.Scopes.{object_role, Declared, declared_at, Names, is_place, is_at_file, body_of, has_body, sized}
 use Rattle.name_rules.specs.Pieces.{is_function, decayed}
-use Rattle.name_rules.specs.Declaring.{tag_used, untagged, declared_here, declared_thing, declared_typedef, declared_by, declared_some, declared_param, declared_member, has_word}
+use Rattle.name_rules.specs.Declaring.{tag_used, untagged, declared_here, declared_thing, declared_typedef, declared_some, declared_param, declared_member, has_word}
 use Rattle.name_rules.specs.Units.{no_names, unit_begun}
 use Rattle.name_steps.specs.State.{OpenDeclaration, State, no_declaration, innermost_or, with_innermost, without_innermost, with_names}
 use Rattle.name_steps.specs.Steps.{declaration, body, parameters, expression_step, specifier_step, declarator_step, statement_step, step, run}
@@ -29,7 +29,7 @@ use Rattle.meaning_laws.specs.Meanings.{Differ}
 use Rattle.owner_laws.specs.Laws.{AreDifferent}
 use Rattle.owned_laws.specs.Keys.{fresh_key, op_key, spec_key, declr_key, key_place, key_places, KeyIsApart, KeysAreApart}
 use Rattle.owned_laws.specs.Programs.{keys_among, AllApart}
-use Rattle.owned_laws.proofs.Places.{place_itself, place_is, has_not, has_not_left, has_not_right, has_left, has_right, has_itself, differ_right, differ_before}
+use Rattle.owned_laws.proofs.Places.{place_itself, place_is, has_not, has_not_left, has_not_right, has_left, has_right, has_itself, differ_before}
 use Rattle.owned_laws.proofs.Functions.{names, names_kept, used_same, begun_same, keep_same, entered_same, expr_declarations, expr_names}
 
 -- places
@@ -447,9 +447,10 @@ module _ (u : Spelling) where
   apart_along : (s : Names) (tape : List Op) →
       ((p : Place) → has_place (fresh_places tape) p ≡ true → declared_at s.declared p ≡ None) → KeysAreApart u s tape
   apart_along s [] h = tt
-  apart_along s (op ∷ tape) h =
-      (by (fresh_key op) (λ p e. h p (has_left (key_place u (fresh_key op)) (fresh_places tape) p e)),
-      apart_along s tape (λ p e. h p (has_right (key_place u (fresh_key op)) (fresh_places tape) p e)))
+  apart_along s (op ∷ tape) h = (
+    by (fresh_key op) (λ p e. h p (has_left (key_place u (fresh_key op)) (fresh_places tape) p e)),
+    apart_along s tape (λ p e. h p (has_right (key_place u (fresh_key op)) (fresh_places tape) p e)),
+  )
     where
       by : (key : Option ℕ) →
           ((p : Place) → has_place (key_place u key) p ≡ true → declared_at s.declared p ≡ None) → KeyIsApart u s key
@@ -501,11 +502,12 @@ nothing_kept = record {
 all_apart : (s : Names) (sources : List Source) →
     ((p : Place) → has_place (fresh_among sources) p ≡ true → declared_at s.declared p ≡ None) → AllApart s sources
 all_apart s [] h = tt
-all_apart s (it ∷ sources) h =
-    (apart_along it.spelling s (tape_of it.items)
-    (λ p e. h p (has_left (fresh_places it.spelling (tape_of it.items)) (fresh_among sources) p e)),
-    all_apart s sources
-    (λ p e. h p (has_right (fresh_places it.spelling (tape_of it.items)) (fresh_among sources) p e)))
+all_apart s (it ∷ sources) h = (
+  apart_along it.spelling s (tape_of it.items)
+      (λ p e. h p (has_left (fresh_places it.spelling (tape_of it.items)) (fresh_among sources) p e)),
+  all_apart s sources
+      (λ p e. h p (has_right (fresh_places it.spelling (tape_of it.items)) (fresh_among sources) p e)),
+)
 
 -- behind all units
 module _ (sources : List Source) (s : Names) (differ : AreDifferent (keys_among sources))

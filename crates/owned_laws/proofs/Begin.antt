@@ -1,5 +1,5 @@
 -- Where the skeletons of an op begin, and to whom they belong.
-use Rattle.std.proofs.Common.{◌≡◌, ℕ, Bool, true, false, List, [], ◌∷◌, ◌++◌, Option, None, Some, refl, sym, ◌∙◌, ap, subst, append_assoc, append-nil}
+use Rattle.std.proofs.Common.{◌≡◌, ℕ, Bool, true, false, List, [], ◌∷◌, ◌++◌, Option, None, Some, refl, sym, ◌∙◌, ap, subst, append_assoc}
 use Rattle.std.specs.Prelude.{not, ◌&&◌, if◌then◌else◌}
 use Rattle.tape_ops.specs.declared.op.Op.{Op}
 use Rattle.tape_ops.specs.declared.op.Op.TheVariants as ops
@@ -13,7 +13,6 @@ use Rattle.tape_ops.specs.declared.specifier.SpecOp.{SpecOp}
 use Rattle.tape_ops.specs.declared.specifier.SpecOp.TheVariants as specs
 use Rattle.tape_ops.specs.declared.declarator.DeclrOp.{DeclrOp}
 use Rattle.tape_ops.specs.declared.declarator.DeclrOp.TheVariants as declrs
-use Rattle.tape_ops.specs.declared.statement.StmtOp.{StmtOp}
 use Rattle.type_table.specs.Types.{CType, base, void, pointer}
 use Rattle.name_rules.specs.Spellings.{Spelling, Place, place}
 use Rattle.name_rules.specs.Scopes.{Role, typedef_role, object_role, function_role, parameter_role, field_role, enumerator_role, Declared, declared_at, Use, means, called, missing, Names, is_place}
@@ -23,14 +22,14 @@ use Rattle.shape_steps.specs.State.{State, value_at, is_zero_at, type_at, shape_
 use Rattle.shape_steps.specs.Steps.{step, expr_step}
 use Rattle.row_rules.specs.Starting.{Start, Around, fresh, some_fresh, named_start, declared_start, some_declared_start, name_start, instance, use_by_role, some_use_start, use_start, some_place, is_some_pointer, is_fresh_binary, is_fresh_prefix, fresh_where, Having, with_skeleton, without_skeleton, had_name}
 use Rattle.row_rules.specs.Sites.{has_place}
-use Rattle.row_steps.specs.Rounds.{Rounds, is_quiet, naming, left, round_step}
+use Rattle.row_steps.specs.Rounds.{Rounds, naming, left, round_step}
 use Rattle.row_steps.specs.Starting.{function_at, around, naming_has, expr_op_starts, form_op_starts, init_op_starts, spec_op_starts, declr_op_starts, op_starts, starts_found}
 use Rattle.owner_laws.specs.Belonging.{IsOwn}
 use Rattle.owner_laws.specs.Fitting.{start_at}
 use Rattle.owner_laws.specs.Laws.{AreDifferent}
 use Rattle.owned_laws.specs.Around.{BeginsIn}
 use Rattle.owned_laws.specs.Keys.{expr_key, form_key, init_key, fresh_key, spec_key, declr_key, op_key, key_place, key_places, KeyIsApart, KeysAreApart}
-use Rattle.owned_laws.proofs.Places.{place_itself, place_is, declared_place, begins_at, none_before, none_behind, has_not_right, has_not_left, has_left, has_right, has_itself, differ_left, differ_right, differ_apart, differ_before, Kept, none_kept, joined_kept, OneAt, one_kept}
+use Rattle.owned_laws.proofs.Places.{place_is, declared_place, none_before, none_behind, has_not_right, has_not_left, has_left, has_itself, differ_right, differ_before, Kept, none_kept, joined_kept, OneAt, one_kept}
 
 -- at most one, at the place and of the owner
 abbrev pub FreshAt : Place → Option Place → List Start → Type 0
@@ -81,9 +80,11 @@ right_joined s (x ∷ xs) ys h k = (h.0, right_joined s xs ys h.1 k)
 fresh_right : (s : Names) (p : Place) (e : Option Place) (xs : List Start) → declared_at s.declared p ≡ None →
     FreshAt p e xs → AllRight s xs
 fresh_right s p e [] none h = tt
-fresh_right s p e (x ∷ []) none h =
-    (λ d is. let at_p : declared_at s.declared p ≡ Some d = subst (λ (q : Place). declared_at s.declared q ≡ Some d) h.0 is in
-    absurd cc, tt)
+fresh_right s p e (x ∷ []) none h = (
+  λ d is. let at_p : declared_at s.declared p ≡ Some d = subst (λ (q : Place). declared_at s.declared q ≡ Some d) h.0 is in
+      absurd cc,
+  tt,
+)
 fresh_right s p e (x ∷ (y ∷ xs)) none h = absurd h
 
 named_right : (s : Names) (p : Place) (xs : List Start) → NamedAt s p xs → AllRight s xs
@@ -159,9 +160,10 @@ module _ (a : Around) (token : ℕ) where
   -- names that are declared
 
   named : (d : Declared) → declared_at a.names.declared here ≡ Some d → NamedAt a.names here (named_start d)
-  named d e =
-      (declared_place a.names.declared here d e,
-      λ other is. let same : d ≡ other = cc in ap (λ (it : Declared). it.owner) same)
+  named d e = (
+    declared_place a.names.declared here d e,
+    λ other is. let same : d ≡ other = cc in ap (λ (it : Declared). it.owner) same,
+  )
 
   declared_is : (d : Declared) → declared_at a.names.declared here ≡ Some d → (role : Role) →
       NamedAt a.names here (declared_start d role)
@@ -359,11 +361,12 @@ module _ (u : Spelling) (s : Names) where
       Kept rs zs → AreDifferent (ps ++ (key_places u tape ++ rs)) →
       ExactAlong (xs ++ (starts_found u s st r tape ++ zs)) st r tape
   exact [] st r xs zs ps rs h l d = tt
-  exact (op ∷ tape) st r xs zs ps rs h l d =
-      (exact_one (op_key op) xs o rest zs ps (key_places u tape) rs h (tape_kept tape next around_) l d,
-      subst (λ (starts : List Start). ExactAlong starts next around_ tape) (regroup xs o rest zs)
-      (exact tape next around_ (xs ++ o) zs (ps ++ key) rs (joined_kept ps key xs o h (op_kept u s st r op)) l
-      (subst AreDifferent (sym (regroup ps key (key_places u tape) rs)) d)))
+  exact (op ∷ tape) st r xs zs ps rs h l d = (
+    exact_one (op_key op) xs o rest zs ps (key_places u tape) rs h (tape_kept tape next around_) l d,
+    subst (λ (starts : List Start). ExactAlong starts next around_ tape) (regroup xs o rest zs)
+        (exact tape next around_ (xs ++ o) zs (ps ++ key) rs (joined_kept ps key xs o h (op_kept u s st r op)) l
+        (subst AreDifferent (sym (regroup ps key (key_places u tape) rs)) d)),
+  )
     where
       o : List Start
       o = op_starts u s st r op
@@ -379,4 +382,3 @@ module _ (u : Spelling) (s : Names) where
 
       key : List Place
       key = key_place u (op_key op)
-

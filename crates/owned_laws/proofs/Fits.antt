@@ -1,5 +1,5 @@
 -- The skeletons that each op looks up are of the function around, where names mean what is.
-use Rattle.std.proofs.Common.{◌≡◌, inl, inr, ℕ, Bool, true, false, List, [], ◌∷◌, ◌++◌, Option, None, Some, refl, sym, ◌∙◌, ap, subst}
+use Rattle.std.proofs.Common.{◌≡◌, inl, inr, ℕ, Bool, true, false, List, [], ◌∷◌, Option, None, Some, refl, sym, ◌∙◌, ap, subst}
 use Rattle.std.specs.Prelude.{if◌then◌else◌}
 use Rattle.tape_ops.specs.declared.op.Op.{Op}
 use Rattle.tape_ops.specs.declared.op.Op.TheVariants as ops
@@ -17,7 +17,7 @@ use Rattle.tape_ops.specs.declared.statement.StmtOp.{StmtOp}
 use Rattle.tape_ops.specs.declared.statement.StmtOp.TheVariants as stmts
 use Rattle.type_table.specs.Types.{pointer}
 use Rattle.name_rules.specs.Spellings.{Spelling, Place, place}
-use Rattle.name_rules.specs.Scopes.{Role, typedef_role, object_role, function_role, parameter_role, field_role, enumerator_role, Declared, declared_at, Use, means, called, missing, Own, Known, Names, is_place}
+use Rattle.name_rules.specs.Scopes.{Role, typedef_role, object_role, function_role, parameter_role, field_role, enumerator_role, Declared, declared_at, Use, means, called, missing, Names, is_place}
 use Rattle.name_rules.specs.Uses.{use_at}
 use Rattle.shape_steps.specs.State as shapes
 use Rattle.shape_steps.specs.Steps as shape_steps
@@ -26,17 +26,17 @@ use Rattle.row_rules.specs.Starting.{Start, Around, instance, use_by_role, some_
 use Rattle.row_rules.specs.Worlds.{World, at}
 use Rattle.row_steps.specs.Rounds.{Naming, a_name, own_param, other_param, naming, is_quiet, Rounds, round_step, stmt_round, spec_round, declr_round, form_round}
 use Rattle.row_steps.specs.State.{State}
-use Rattle.row_steps.specs.Steps.{step, stack_step, expr_step, form_step, init_step, spec_step, declr_step, stmt_step}
-use Rattle.row_steps.specs.Starting.{function_at, around, expr_op_starts, form_op_starts, init_op_starts, op_starts, starts_found}
+use Rattle.row_steps.specs.Steps.{step}
+use Rattle.row_steps.specs.Starting.{function_at, around, expr_op_starts, form_op_starts, init_op_starts, op_starts}
 use Rattle.owner_laws.specs.Belonging.{IsOwn}
 use Rattle.owner_laws.specs.Fitting.{start_at}
 use Rattle.owner_laws.specs.Rows.{IsInstance}
 use Rattle.owned_laws.specs.Around.{BeginsIn, MeantFits, SomeMeantFits, UseFits, DeclaredFits, ParamFits, FunctionFits, NamingFits, InitFits, FirstInitFits, SomeInitFits, InitialisedFits, ExprFits, FormFits, InitOpFits, DeclrFits, StmtFits, OpFits, MembersFit}
 use Rattle.owned_laws.specs.Keys.{expr_key, form_key, init_key, op_key}
-use Rattle.owned_laws.specs.Names.{RoleIsOwn, SomeIsOwn, UseIsOwn, IsDeclaredOwn, ParamIsOwn, FunctionIsOwn, NamingIsOwn, InitIsOwn, FirstInitIsOwn, SomeInitIsOwn, InitialisedIsOwn, IsBodyOf, BodyIsOwn, ExprNames, InitNames, DeclrNames, StmtNames, OpNames, NamesAlong, HasFirst, NamesAreOwned}
+use Rattle.owned_laws.specs.Names.{RoleIsOwn, SomeIsOwn, UseIsOwn, IsDeclaredOwn, ParamIsOwn, FunctionIsOwn, NamingIsOwn, InitIsOwn, FirstInitIsOwn, SomeInitIsOwn, InitialisedIsOwn, BodyIsOwn, ExprNames, InitNames, DeclrNames, StmtNames, OpNames, NamesAlong, NamesAreOwned}
 use Rattle.owned_laws.specs.Tapes.{OpsFit}
 use Rattle.owned_laws.proofs.Places.{place_itself, declared_place}
-use Rattle.owned_laws.proofs.Begin.{FreshAt, fresh_begins, AllRight, right_at, use_is, FreshOf, expr_is, form_is, init_is, IsExact, ExactAlong}
+use Rattle.owned_laws.proofs.Begin.{FreshAt, fresh_begins, AllRight, right_at, expr_is, form_is, init_is, IsExact, ExactAlong}
 
 -- what is known of a program, and the function around
 pub record Scene : Type 0 where
@@ -152,9 +152,11 @@ module _ (k : Scene) where
   declared_fits : (p : Place) (d : Option Declared) → declared_at s.declared p ≡ d → DeclaredFits k.starts d
   declared_fits p None e = tt
   declared_fits p (Some d) e =
-      let first = k.owned.firsts p d e in
-      (d.owner, at_own d.owner d.first first.first first.there (inr first.same_owner),
-      at_own d.owner d.at d (itself p d e) (inr refl))
+      let first = k.owned.firsts p d e in (
+        d.owner,
+        at_own d.owner d.first first.first first.there (inr first.same_owner),
+        at_own d.owner d.at d (itself p d e) (inr refl),
+      )
 
   param_fits : (p : Place) (d : Option Declared) → declared_at s.declared p ≡ d → ParamIsOwn f d →
       ParamFits k.starts f d
@@ -449,8 +451,9 @@ module _ (k : Scene) where
   pub along : (tape : List Op) (sst : shapes.State) (st : State) → Alike sst st → BodyOwn st.rounds →
       NamesAlong w f st tape → ExactAlong u s k.starts sst st.rounds tape → OpsFit w k.starts f st tape
   along [] sst st same body own e = tt
-  along (op ∷ tape) sst st same body own e =
-      (op_fits sst st op body own.0 e.0,
-      along tape (shape_steps.step u s sst op) (step w st op) (alike sst st op same) (step_body st op body own.0) own.1
-      (subst (λ (ds : List OpenDeclaration).
-      ExactAlong u s k.starts (shape_steps.step u s sst op) (round_step ds st.rounds op) tape) same e.1))
+  along (op ∷ tape) sst st same body own e = (
+    op_fits sst st op body own.0 e.0,
+    along tape (shape_steps.step u s sst op) (step w st op) (alike sst st op same) (step_body st op body own.0) own.1
+        (subst (λ (ds : List OpenDeclaration).
+        ExactAlong u s k.starts (shape_steps.step u s sst op) (round_step ds st.rounds op) tape) same e.1),
+  )

@@ -17,11 +17,11 @@ use Rattle.tape_ops.specs.declared.declarator.DeclrOp.TheVariants as declrs
 use Rattle.tape_ops.specs.declared.statement.StmtOp.{StmtOp}
 use Rattle.tape_ops.specs.declared.statement.StmtOp.TheVariants as stmts
 use Rattle.tape_laws.specs.Marks.{Mark, in_declaration, in_params, in_tag, in_scope, in_quiet, in_body, is_open, quiet_ended, tag_ended, scope_ended, params_ended, body_ended, declaration_ended, declaring, params_begun, param_ended, declared, member_declared, body_begun, turn, IsBracketed}
-use Rattle.type_table.specs.Types.{CType, base, pointer}
+use Rattle.type_table.specs.Types.{CType, pointer}
 use Rattle.name_rules.specs.Spellings.{Spelling, Place, place, Named}
-use Rattle.name_rules.specs.Scopes.{Role, typedef_role, object_role, function_role, parameter_role, field_role, enumerator_role, Declared, declared_at, Names, is_place, is_at_file, innermost, tag_in, tag_through, body_of, has_body, sized, inner_meaning}
+use Rattle.name_rules.specs.Scopes.{object_role, function_role, Declared, declared_at, Names, is_place, is_at_file, innermost, tag_in, tag_through, body_of, has_body, sized}
 use Rattle.name_rules.specs.Pieces.{is_function, decayed}
-use Rattle.name_rules.specs.Declaring.{Numbered, found_or_new, tag_used, untagged, begun_in, declared_here, declared_thing, declared_typedef, declared_by, declared_some, declared_param, declared_member, unnamed_member, has_word, keep}
+use Rattle.name_rules.specs.Declaring.{Numbered, found_or_new, tag_used, untagged, begun_in, declared_here, declared_thing, declared_typedef, declared_some, declared_param, declared_member, has_word, keep}
 use Rattle.name_rules.specs.Units.{no_names, unit_begun}
 use Rattle.name_steps.specs.State.{OpenDeclaration, State, no_declaration, innermost_or, with_innermost, without_innermost, with_names}
 use Rattle.name_steps.specs.Steps.{declaration, body, parameters, body_entered_by, expression_step, specifier_step, declarator_step, statement_step, step, run}
@@ -33,7 +33,7 @@ use Rattle.shape_steps.specs.Steps as shape_steps
 use Rattle.row_rules.specs.Starting.{Start, named_start, declared_start, some_declared_start, had_name}
 use Rattle.row_steps.specs.Rounds.{Naming, a_name, Round, Rounds, file, naming, round_step}
 use Rattle.row_steps.specs.Rounds as rounds
-use Rattle.row_steps.specs.Starting.{around, naming_has, op_starts, starts_found, unit_starts}
+use Rattle.row_steps.specs.Starting.{around, naming_has, op_starts, starts_found}
 use Rattle.c_tape.specs.Tape.{tape_of}
 use Rattle.type_rules.specs.Program.{Source}
 use Rattle.constraint_rules.specs.Starts.{items_starts}
@@ -42,7 +42,7 @@ use Rattle.start_laws.specs.Laws.{StartsAreFound}
 use Rattle.tape_laws.specs.Marks.{UnitsAreBracketed}
 use Rattle.owner_laws.specs.Fitting.{start_at}
 use Rattle.owned_laws.specs.Names.{FunctionsBegin}
-use Rattle.owned_laws.proofs.Places.{place_itself, place_is, declared_place, none_behind}
+use Rattle.owned_laws.proofs.Places.{place_itself, declared_place}
 
 -- what each turn of marks says of those before it
 

@@ -1,5 +1,5 @@
 -- Lists of places, and of skeletons that begin at some of them.
-use Rattle.std.proofs.Common.{◌≡◌, ◌⊎◌, inl, inr, ℕ, Bool, true, false, List, [], ◌∷◌, ◌++◌, Option, None, Some, nat_eq, refl, sym, ◌∙◌, ap, subst, append_assoc}
+use Rattle.std.proofs.Common.{◌≡◌, ℕ, Bool, true, false, List, [], ◌∷◌, ◌++◌, Option, None, Some, nat_eq, refl, sym, ◌∙◌, ap, subst, append_assoc}
 use Rattle.std.specs.Prelude.{◌&&◌, if◌then◌else◌}
 use Rattle.std.proofs.lemmas.Bool.{eq-eqb, eqb-true}
 use Rattle.name_rules.specs.Spellings.{Place}
@@ -145,9 +145,10 @@ has_left xs ys p e = by (has_place (xs ++ ys) p) refl
 differ_joined : (xs ys : List Place) → AreDifferent xs → AreDifferent ys →
     ((p : Place) → has_place xs p ≡ true → has_place ys p ≡ false) → AreDifferent (xs ++ ys)
 differ_joined [] ys h k apart = k
-differ_joined (x ∷ xs) ys h k apart =
-    (has_not xs ys x h.0 (apart x (has_itself x xs)),
-    differ_joined xs ys h.1 k (λ p e. apart p (more p (is_place x p) e)))
+differ_joined (x ∷ xs) ys h k apart = (
+  has_not xs ys x h.0 (apart x (has_itself x xs)),
+  differ_joined xs ys h.1 k (λ p e. apart p (more p (is_place x p) e)),
+)
   where
     more : (p : Place) (b : Bool) → has_place xs p ≡ true → (if b then true else has_place xs p) ≡ true
     more p true e = refl

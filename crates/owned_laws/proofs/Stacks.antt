@@ -1,6 +1,6 @@
 -- The skeletons on the stacks of a tape belong to the function around, or to nobody.
-use Rattle.std.proofs.Common.{◌≡◌, inl, inr, ℕ, zero, suc, ◌+◌, Bool, true, false, List, [], ◌∷◌, ◌++◌, drop, take, reverse, slice_get, Option, None, Some, refl, sym, ◌∙◌, ap, subst}
-use Rattle.std.specs.Prelude.{◌&&◌, if◌then◌else◌}
+use Rattle.std.proofs.Common.{◌≡◌, ℕ, zero, suc, Bool, true, false, List, [], ◌∷◌, ◌++◌, drop, take, reverse, slice_get, Option, None, Some, refl, sym, subst}
+use Rattle.std.specs.Prelude.{if◌then◌else◌}
 use Rattle.std.proofs.lemmas.List.{reverse-append}
 use Rattle.c_words.specs.declared.kinds.Punct.{Punct}
 use Rattle.c_words.specs.declared.kinds.Punct.TheVariants as signs
@@ -8,18 +8,17 @@ use Rattle.flow_graph.specs.System.{owner_of}
 use Rattle.qual_types.specs.declared.look.Kind.TheVariants as kinds
 use Rattle.qual_types.specs.Skel.{Skel, flat, ref, fun, root, nodes, all_nodes, of_some}
 use Rattle.flow_rules.specs.Owners.{IsIn, AllIn}
-use Rattle.name_rules.specs.Spellings.{Place}
 use Rattle.name_rules.specs.Scopes.{Role, typedef_role, object_role, function_role, parameter_role, field_role, enumerator_role, Declared, declared_at, Use, means, called, missing, Own, Known, body_of}
 use Rattle.name_rules.specs.Values.{is_additive, member_in, own_of, own_number}
-use Rattle.row_rules.specs.Worlds.{World, at, skeleton}
+use Rattle.row_rules.specs.Worlds.{at, skeleton}
 use Rattle.row_rules.specs.Annotations.{further}
-use Rattle.row_rules.specs.Vals.{Val, a_value, a_place, contents, read, value, is_ref, result, struct_of, member_of, known_skeleton, member_skel, sum_of, binary_of, prefix_of, used_by_role, used_some, used, own, branch}
+use Rattle.row_rules.specs.Vals.{Val, contents, read, value, is_ref, result, struct_of, member_of, known_skeleton, member_skel, sum_of, binary_of, prefix_of, used_by_role, used_some, used, own, branch}
 use Rattle.row_rules.specs.Rows.{own_skel, next_of_struct, first_alone, by_role, by_first, initialised_at}
-use Rattle.row_steps.specs.State.{Operand, expression, named_type, Braces, whole, untargeted, listed, State, first_operand, val_of_operand, operand_at, val_at, value_at, first_braces}
+use Rattle.row_steps.specs.State.{Operand, expression, named_type, Braces, whole, untargeted, listed, first_operand, val_of_operand, first_braces}
 use Rattle.row_steps.specs.Steps.{item_target, target_in, list_of, with_member, with_index, with_item, initialised_by}
 use Rattle.row_steps.specs.OpRows.{function_skeleton}
 use Rattle.shape_steps.specs.State.{changed, without_innermost}
-use Rattle.owner_laws.specs.Rows.{Inside, SomeInside, SomeIn}
+use Rattle.owner_laws.specs.Rows.{SomeInside, SomeIn}
 use Rattle.owned_laws.specs.Around.{MeantFits, SomeMeantFits, UseFits, FunctionFits, InitFits, FirstInitFits, SomeInitFits, InitialisedFits}
 use Rattle.owned_laws.proofs.Found.{Setting, sys, owner, In, Begins, base_in, skeleton_in, nobodys_in}
 

@@ -1,8 +1,7 @@
 -- Each op of a tape whose look-ups stay in the function around keeps its stacks in it, and its constraints fit.
-use Rattle.std.proofs.Common.{◌≡◌, ℕ, suc, ◌+◌, Bool, true, false, List, [], ◌∷◌, ◌++◌, drop, Option, None, Some, refl, sym, ap, subst}
-use Rattle.std.specs.Prelude.{◌&&◌, take, length, if◌then◌else◌}
+use Rattle.std.proofs.Common.{◌≡◌, ℕ, suc, ◌+◌, Bool, true, false, List, [], ◌∷◌, drop, Option, None, Some, refl, subst}
+use Rattle.std.specs.Prelude.{take, if◌then◌else◌}
 use Rattle.qual_base.specs.declared.places.Span.{Span}
-use Rattle.flow_graph.specs.declared.constraint.Constraint.{Constraint}
 use Rattle.flow_graph.specs.System.{owner_of}
 use Rattle.tape_ops.specs.declared.op.Op.{Op}
 use Rattle.tape_ops.specs.declared.op.Op.TheVariants as ops
@@ -22,26 +21,25 @@ use Rattle.type_table.specs.Types.{CType, pointer}
 use Rattle.qual_types.specs.Skel.{Skel, root, param_at}
 use Rattle.flow_rules.specs.Lists.{unsmash}
 use Rattle.name_rules.specs.Spellings.{Place}
-use Rattle.name_rules.specs.Values.{is_plain_void_pointer}
 use Rattle.name_rules.specs.Scopes.{Role, typedef_role, object_role, function_role, parameter_role, field_role, enumerator_role, Declared, declared_at, Use, means, called, missing}
-use Rattle.name_rules.specs.Uses.{use_at, type_named_at}
-use Rattle.shape_steps.specs.State.{OpenDeclaration, declared_last, changed, without_innermost}
-use Rattle.row_rules.specs.Worlds.{World, at, all_lattices, span, skeleton}
+use Rattle.name_rules.specs.Uses.{use_at}
+use Rattle.shape_steps.specs.State.{OpenDeclaration, declared_last, without_innermost}
+use Rattle.row_rules.specs.Worlds.{World, at, all_lattices, span}
 use Rattle.row_rules.specs.Annotations.{parameters, further}
 use Rattle.row_rules.specs.Vals.{Val, a_value, a_place, contents, is_ref, result, member_skel, own, binary_of, branch, prefix_of, used}
 use Rattle.row_rules.specs.Vals as vals
-use Rattle.row_rules.specs.Rows.{flowing, instance, some_instance, use_demand, annotating_some, annotating_place, name_row, declared_row, some_declared_row, param_row, row_of_name, row_of_param, no_row, row_at}
+use Rattle.row_rules.specs.Rows.{instance, some_instance, use_demand, annotating_some, annotating_place, name_row, declared_row, some_declared_row, param_row, row_at}
 use Rattle.row_steps.specs.Rounds.{Naming, a_name, own_param, other_param, naming, is_quiet, Rounds, round_step, stmt_round, spec_round, declr_round, form_round}
-use Rattle.row_steps.specs.State.{Operand, expression, named_type, Braces, whole, State, nothing, first_operand, val_of_operand, is_zero_operand, type_of_operand, val_at, value_at, is_zero_at, type_at, operand_put, put, dropped, depth_below, operands_below, operands_within, first_braces}
-use Rattle.row_steps.specs.Steps.{target_in, list_of, with_member, with_index, with_item, initialised_by, literal_put, expr_step, form_step, init_step, spec_step, declr_step, stmt_step, stack_step, step}
+use Rattle.row_steps.specs.State.{Operand, State, nothing, first_operand, val_of_operand, is_zero_operand, type_of_operand, val_at, value_at, is_zero_at, type_at, operand_put, dropped, depth_below, operands_below, operands_within, first_braces}
+use Rattle.row_steps.specs.Steps.{target_in, with_member, with_index, with_item, initialised_by, expr_step, form_step, init_step, spec_step, declr_step, stmt_step, stack_step, step}
 use Rattle.row_steps.specs.OpRows.{function_skeleton, some_param_row, naming_row, into_target, called_at, expr_row, form_row, init_row, declr_row, stmt_row, loud_row, op_row}
 use Rattle.row_steps.specs.Found.{rows_found}
 use Rattle.owner_laws.specs.Fitting.{AllFit}
-use Rattle.owner_laws.specs.Rows.{Inside, SomeInside, RowsOf}
+use Rattle.owner_laws.specs.Rows.{RowsOf}
 use Rattle.owned_laws.specs.Around.{MeantFits, SomeMeantFits, UseFits, DeclaredFits, ParamFits, FunctionFits, NamingFits, ExprFits, FormFits, InitOpFits, DeclrFits, StmtFits, OpFits}
 use Rattle.owned_laws.specs.Tapes.{OpsFit}
 use Rattle.owned_laws.proofs.Found.{Setting, sys, owner, In, Begins, base_in, skeleton_in}
-use Rattle.owned_laws.proofs.Stacks.{SomeSkelIn, contents_in, result_in, value_in, root_in, further_in, own_in, either_in, branch_in, binary_in, prefix_in, used_in, member_skel_in, initialised_in, function_in, OperandIn, OperandsIn, drop_in, take_in, reverse_in, first_val_in, first_value_in, BracesIn, AllBracesIn, first_braces_in, others_in, changed_in, target_in_in, list_of_in, with_member_in, with_index_in, with_item_in}
+use Rattle.owned_laws.proofs.Stacks.{SomeSkelIn, contents_in, result_in, value_in, root_in, further_in, own_in, either_in, branch_in, binary_in, prefix_in, used_in, member_skel_in, initialised_in, function_in, OperandIn, OperandsIn, drop_in, take_in, reverse_in, first_val_in, first_value_in, AllBracesIn, first_braces_in, others_in, changed_in, target_in_in, list_of_in, with_member_in, with_index_in, with_item_in}
 
 -- all skeletons that are kept
 pub record StacksIn (k : Setting) (st : State) : Type 0 where
@@ -160,8 +158,11 @@ module _ (k : Setting) where
   init_in st inits.ListBegin h fit = record {
     operands = h.operands;
     leaves = h.leaves;
-    braces = (list_of_in k (target_in w (first_braces st.braces)) (target_in_in k (first_braces st.braces)
-        (first_braces_in k st.braces h.braces)), h.braces);
+    braces = (
+      list_of_in k (target_in w (first_braces st.braces)) (target_in_in k (first_braces st.braces)
+          (first_braces_in k st.braces h.braces)),
+      h.braces,
+    );
     literal = h.literal;
   }
   init_in st (inits.Member token name) h fit = record {

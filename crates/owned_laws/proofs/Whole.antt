@@ -1,7 +1,6 @@
 -- The constraints of all units of a program.
-use Rattle.std.proofs.Common.{◌≡◌, inl, inr, All, map, List, [], ◌∷◌, ◌++◌, Option, None, Some, refl, sym, ◌∙◌, ap, subst, append_assoc, append-nil}
-use Rattle.flow_graph.specs.declared.constraint.Constraint.{Constraint}
-use Rattle.flow_graph.specs.System.{System, IsWellOwned}
+use Rattle.std.proofs.Common.{◌≡◌, inl, All, map, List, [], ◌∷◌, ◌++◌, Option, None, Some, refl, sym, ◌∙◌, ap, subst, append_assoc, append-nil}
+use Rattle.flow_graph.specs.System.{IsWellOwned}
 use Rattle.tape_ops.specs.declared.op.Op.{Op}
 use Rattle.c_tree.specs.Unit.{Item}
 use Rattle.c_tape.specs.Tape.{item_tape, tape_of}
@@ -27,7 +26,7 @@ use Rattle.owner_laws.specs.Fitting.{AllFit, FittingIsWellOwned, ListsFit}
 use Rattle.tape_laws.specs.Marks.{UnitsAreBracketed}
 use Rattle.owner_laws.specs.Laws.{AreDifferent}
 use Rattle.owned_laws.specs.Around.{Settled}
-use Rattle.owned_laws.specs.Keys.{key_place, op_key, key_places, KeysAreApart}
+use Rattle.owned_laws.specs.Keys.{key_place, op_key, key_places}
 use Rattle.owned_laws.specs.Names.{NamesAlong, IsDeclaredOwn, NamesAreOwned}
 use Rattle.owned_laws.specs.Tapes.{TapesFit}
 use Rattle.owned_laws.specs.Programs.{keys_among, AllApart, PlacesDiffer, NamesOfItems, NamesOfSources, NothingIsNobodys, OwnedWherePlacesDiffer}

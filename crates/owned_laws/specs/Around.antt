@@ -1,6 +1,6 @@
 -- What must hold at each op of a tape, that its constraints stay in the function around it: that the skeletons which it looks up
 -- belong to that function or to nobody.
-use Rattle.std.specs.Prelude.{◌≡◌, ℕ, Bool, false, List, [], ◌∷◌, slice_get, Option, None, Some}
+use Rattle.std.specs.Prelude.{◌≡◌, ℕ, Bool, false, List, slice_get, Option, None, Some}
 use Rattle.qual_base.specs.declared.places.Owner.TheVariants.{Nobody}
 use Rattle.tape_ops.specs.declared.op.Op.{Op}
 use Rattle.tape_ops.specs.declared.op.Op.TheVariants as ops

@@ -7,10 +7,10 @@ use Rattle.c_tree.specs.Unit.{Item}
 use Rattle.c_tape.specs.Tape.{item_tape, tape_of}
 use Rattle.name_rules.specs.Spellings.{Place}
 use Rattle.name_rules.specs.Scopes.{Names}
-use Rattle.type_rules.specs.Program.{Source, names_of}
+use Rattle.type_rules.specs.Program.{Source}
 use Rattle.row_rules.specs.Worlds.{World}
 use Rattle.row_steps.specs.State.{nothing}
-use Rattle.constraint_rules.specs.Systems.{Program, starts_of, world_of, system_of}
+use Rattle.constraint_rules.specs.Systems.{Program, world_of, system_of}
 use Rattle.name_laws.specs.NameLaws.{IsSound}
 use Rattle.owner_laws.specs.Laws.{AreDifferent}
 use Rattle.owned_laws.specs.Keys.{key_places, KeysAreApart}
