@@ -57,7 +57,7 @@ last_or_before (x ∷ xs) p q e = by (is_place x q) e (last_or_before xs p q)
     by true e next = inl refl
     by false e next = next e
 
-other_way : (p q : Place) → is_place p q ≡ false → is_place q p ≡ false
+pub other_way : (p q : Place) → is_place p q ≡ false → is_place q p ≡ false
 other_way p q e = by (is_place q p) (place_is q p)
   where
     by : (b : Bool) → (b ≡ true → q ≡ p) → b ≡ false
@@ -86,7 +86,7 @@ head_has_not p q xs e k = ap (λ (b : Bool). if b then true else has_place xs q)
 
 -- declarations
 
-none_more : (ds : List Declared) (d : Declared) (q : Place) → declared_at ds q ≡ None → is_place d.at q ≡ false →
+pub none_more : (ds : List Declared) (d : Declared) (q : Place) → declared_at ds q ≡ None → is_place d.at q ≡ false →
     declared_at (ds ++ d ∷ []) q ≡ None
 none_more [] d q e k = ap (λ (b : Bool). if b then Some d else None) k
 none_more (x ∷ ds) d q e k = by (is_place x.at q) e (λ h. none_more ds d q h k)
@@ -97,14 +97,14 @@ none_more (x ∷ ds) d q e k = by (is_place x.at q) e (λ h. none_more ds d q h 
     by true e next = absurd cc
     by false e next = next e
 
-not_head : (x : Declared) (ds : List Declared) (q : Place) → declared_at (x ∷ ds) q ≡ None → is_place x.at q ≡ false
+pub not_head : (x : Declared) (ds : List Declared) (q : Place) → declared_at (x ∷ ds) q ≡ None → is_place x.at q ≡ false
 not_head x ds q e = by (is_place x.at q) e
   where
     by : (b : Bool) → (if b then Some x else declared_at ds q) ≡ None → b ≡ false
     by true e = absurd cc
     by false e = refl
 
-not_tail : (x : Declared) (ds : List Declared) (q : Place) → declared_at (x ∷ ds) q ≡ None → declared_at ds q ≡ None
+pub not_tail : (x : Declared) (ds : List Declared) (q : Place) → declared_at (x ∷ ds) q ≡ None → declared_at ds q ≡ None
 not_tail x ds q e = by (is_place x.at q) e
   where
     by : (b : Bool) → (if b then Some x else declared_at ds q) ≡ None → declared_at ds q ≡ None

@@ -1,5 +1,6 @@
 mod Apart
 mod Begin
+mod Belonging
 mod Fits
 mod Found
 mod Functions

@@ -1,4 +1,5 @@
 pub mod Around
+pub mod Belonging
 pub mod Keys
 pub mod Names
 pub mod Programs

@@ -1,12 +1,15 @@
 //! Laws of the constraints along tapes.
 
+ghost use Rattle.owned_laws.specs.Belonging.{StepsKeep};
 ghost use Rattle.owned_laws.specs.Programs.{OwnedWherePlacesDiffer};
 ghost use Rattle.owned_laws.specs.Tapes.{TapesFit};
 
 use flow_rules::flows_stay;
 use meaning_laws::meanings_are_first;
 use name_laws::names_of_tapes;
-use owner_laws::{fitting_is_well_owned, instances_fit, parts_stay, rows_fit, skeletons_are_owned};
+use owner_laws::{
+    changes_keep, fitting_is_well_owned, instances_fit, parts_stay, rows_fit, skeletons_are_owned,
+};
 use row_laws::rows_are_found;
 use start_laws::starts_are_found;
 use tape_laws::units_are_bracketed;
@@ -37,4 +40,12 @@ pub fn owned_where_places_differ()
     names_of_tapes();
     meanings_are_first();
     units_are_bracketed();
+}
+
+/// Each op of a tape keeps that names mean functions, and objects of the function around or of
+/// nobody, where declarations are at new places.
+pub fn steps_keep()
+    ensures { StepsKeep }
+{
+    changes_keep();
 }
