@@ -5,7 +5,6 @@ use Rattle.std.specs.List.{last_or}
 use Rattle.std.proofs.lemmas.Bool.{ltb-true}
 use Rattle.c_words.specs.declared.kinds.Keyword.{Keyword}
 use Rattle.c_words.specs.declared.kinds.Keyword.TheVariants as keywords
-use Rattle.tape_ops.specs.declared.op.Op.{Op}
 use Rattle.tape_ops.specs.declared.op.Op.TheVariants as ops
 use Rattle.tape_ops.specs.declared.expression.ExprOp.{ExprOp}
 use Rattle.tape_ops.specs.declared.expression.ExprOp.TheVariants as exprs
@@ -18,16 +17,16 @@ use Rattle.tape_ops.specs.declared.statement.StmtOp.{StmtOp}
 use Rattle.tape_ops.specs.declared.statement.StmtOp.TheVariants as stmts
 use Rattle.type_table.specs.Types.{CType, base}
 use Rattle.name_rules.specs.Spellings.{Spelling, Place, place, Named}
-use Rattle.name_rules.specs.Scopes.{Meaning, means_type, means_thing, Scope, Tagged, Role, object_role, parameter_role, enumerator_role, field_role, Declared, declared_at, Names, is_place, meaning, meaning_in, innermost, outer_scopes, inner_meaning, is_at_file, owner_at, bound, with_declared, sized, with_aggregate, or_no_body, body_of, has_body, tag_in, tag_through}
+use Rattle.name_rules.specs.Scopes.{Meaning, means_type, means_thing, Scope, Tagged, Role, object_role, parameter_role, enumerator_role, field_role, Declared, declared_at, Names, is_place, meaning, meaning_in, innermost, outer_scopes, inner_meaning, is_at_file, owner_at, with_declared, sized, or_no_body, body_of, has_body, tag_in, tag_through}
 use Rattle.name_rules.specs.Pieces.{is_function, decayed}
-use Rattle.name_rules.specs.Declaring.{use_by, Numbered, found_or_new, tag_used, untagged, begun_in, begun_body, tag_begun, untagged_begun, the_thing, owner_where, declaring, declared_here, declared_thing, declared_typedef, declared_by, declared_some, declared_param, declared_member, unnamed_member, has_word, keep}
+use Rattle.name_rules.specs.Declaring.{use_by, Numbered, found_or_new, tag_used, untagged, begun_in, the_thing, owner_where, declared_here, declared_thing, declared_typedef, declared_by, declared_some, declared_param, declared_member, unnamed_member, has_word}
 use Rattle.name_steps.specs.State.{State}
-use Rattle.name_steps.specs.Steps.{declaration, body, parameters, body_entered_by, expression_step, specifier_step, declarator_step, statement_step, step}
+use Rattle.name_steps.specs.Steps.{declaration, body, parameters, body_entered_by, expression_step, specifier_step, declarator_step, statement_step}
 use Rattle.meaning_laws.specs.Meanings.{Differ}
-use Rattle.owner_laws.specs.Belonging.{Belongs, MeaningBelongs, NamesBelong, ScopesBelong, ThingsBelong, KeptBelongs, Belong, IsNew, IsOwn, MayDeclareHere, ChangesKeep}
-use Rattle.owned_laws.specs.Belonging.{MayDeclr, MayStmt, MayStep, StepsKeep}
-use Rattle.owned_laws.proofs.Places.{place_itself, place_is}
-use Rattle.owned_laws.proofs.Apart.{other_way, not_head, not_tail, none_more}
+use Rattle.owner_laws.specs.Belonging.{Belongs, MeaningBelongs, NamesBelong, ScopesBelong, ThingsBelong, KeptBelongs, Belong, IsOwn, ChangesKeep}
+use Rattle.owned_laws.specs.Belonging.{MayDeclr, MayStmt, StepsKeep}
+use Rattle.owned_laws.proofs.Places.{place_itself}
+use Rattle.owned_laws.proofs.Apart.{other_way, not_head, not_tail}
 
 -- the last declaration is at a new place
 
@@ -244,7 +243,7 @@ module _ (law : ChangesKeep) (f : Option Place) where
   member_kept u None n t s h = h
   member_kept u (Some it) n t s h =
       let next = with_more f s (made (place u it.token)
-          (field_role n (length (or_no_body (body_of s.aggregates n)).own)) (place u it.token) t None s) h in
+      (field_role n (length (or_no_body (body_of s.aggregates n)).own)) (place u it.token) t None s) h in
       record { scopes = next.scopes; things = next.things; round = next.round; kept = next.kept }
 
   unnamed_kept : (at : Place) (n : ℕ) (t : CType) (s : Names) → Belong f s → Belong f (unnamed_member at n t s)
