@@ -1,0 +1,102 @@
+-- What names mean, and what is known of declarations, where no two are at one place.
+use Rattle.std.specs.Prelude.{◌≡◌, ℕ, List, [], ◌∷◌, slice_get, Option, None, Some}
+use Rattle.name_rules.specs.Spellings.{Place}
+use Rattle.name_rules.specs.Scopes.{Meaning, means_type, means_thing, Scope, function_role, Declared, declared_at, Use, means, called, missing, NameUse, Own, Known, Body, Aggregate, Names, body_of}
+use Rattle.name_rules.specs.Values.{member_in, own_of}
+use Rattle.name_rules.specs.Uses.{use_at}
+use Rattle.name_rules.specs.Units.{no_names}
+use Rattle.name_steps.specs.Units.{Tape, tapes_named}
+
+-- no two declarations are at one place
+abbrev pub Differ : List Declared → Type 0
+Differ [] = Unit {0}
+Differ (d ∷ ds) = (declared_at ds d.at ≡ None) × Differ ds
+
+-- at the place a thing is declared for the first time; a function belongs to itself
+pub record IsFirst (ds : List Declared) (p : Place) : Type 0 where
+  pub it : Declared
+  pub there : declared_at ds p ≡ Some it
+  pub is_first : it.first ≡ p
+  pub is_itself : it.role ≡ function_role → it.owner ≡ Some p
+
+-- the first declaration of the thing belongs where this one does
+pub record HasFirst (ds : List Declared) (d : Declared) : Type 0 where
+  pub first : Declared
+  pub there : declared_at ds d.first ≡ Some first
+  pub same_owner : first.owner ≡ d.owner
+
+-- at the place something is declared that belongs to nobody
+pub record IsNobodys (ds : List Declared) (p : Place) : Type 0 where
+  pub it : Declared
+  pub there : declared_at ds p ≡ Some it
+  pub none : it.owner ≡ None
+
+abbrev pub MeaningIs : (Place → Type 0) → Meaning → Type 0
+MeaningIs P (means_type t) = Unit {0}
+MeaningIs P (means_thing at) = P at
+
+abbrev pub NamesAre : (Place → Type 0) → List (ℕ × Meaning) → Type 0
+NamesAre P [] = Unit {0}
+NamesAre P (it ∷ names) = MeaningIs P it.1 × NamesAre P names
+
+abbrev pub ScopesAre : (Place → Type 0) → List Scope → Type 0
+ScopesAre P [] = Unit {0}
+ScopesAre P (scope ∷ scopes) = NamesAre P scope.names × ScopesAre P scopes
+
+abbrev pub ThingsAre : (Place → Type 0) → List (ℕ × Place) → Type 0
+ThingsAre P [] = Unit {0}
+ThingsAre P (it ∷ things) = P it.1 × ThingsAre P things
+
+abbrev pub KeptIs : (Place → Type 0) → Option Scope → Type 0
+KeptIs P None = Unit {0}
+KeptIs P (Some scope) = NamesAre P scope.names
+
+abbrev pub UseIs : (Place → Type 0) → Use → Type 0
+UseIs P (means at) = P at
+UseIs P called = Unit {0}
+UseIs P missing = Unit {0}
+
+abbrev pub UsesAre : (Place → Type 0) → List NameUse → Type 0
+UsesAre P [] = Unit {0}
+UsesAre P (it ∷ uses) = UseIs P it.use_of × UsesAre P uses
+
+abbrev pub AllFirst : List Declared → List Declared → Type 0
+AllFirst all [] = Unit {0}
+AllFirst all (d ∷ ds) = HasFirst all d × AllFirst all ds
+
+abbrev pub OwnAre : (Place → Type 0) → List Own → Type 0
+OwnAre Q [] = Unit {0}
+OwnAre Q (it ∷ others) = Q it.at × OwnAre Q others
+
+abbrev pub KnownAre : (Place → Type 0) → List Known → Type 0
+KnownAre Q [] = Unit {0}
+KnownAre Q (it ∷ others) = Q it.at × KnownAre Q others
+
+abbrev pub SomeBodyIs : (Place → Type 0) → Option Body → Type 0
+SomeBodyIs Q None = Unit {0}
+SomeBodyIs Q (Some body) = OwnAre Q body.own × KnownAre Q body.known
+
+abbrev pub AggregatesAre : (Place → Type 0) → List Aggregate → Type 0
+AggregatesAre Q [] = Unit {0}
+AggregatesAre Q (it ∷ others) = SomeBodyIs Q it.body × AggregatesAre Q others
+
+-- all that names may mean, and have meant, is declared there for the first time
+pub record AreFirst (s : Names) : Type 0 where
+  pub scopes : ScopesAre (IsFirst s.declared) s.scopes
+  pub things : ThingsAre (IsFirst s.declared) s.things
+  pub round : ThingsAre (IsFirst s.declared) s.round
+  pub kept : KeptIs (IsFirst s.declared) s.kept
+  pub uses : UsesAre (IsFirst s.declared) s.uses
+  pub firsts : AllFirst s.declared s.declared
+  pub members : AggregatesAre (IsNobodys s.declared) s.aggregates
+
+-- of the names of tapes, one after another
+pub record NamesAreFirst (s : Names) : Type 0 where
+  pub uses : (p q : Place) → use_at s.uses p ≡ means q → IsFirst s.declared q
+  pub firsts : (p : Place) (d : Declared) → declared_at s.declared p ≡ Some d → HasFirst s.declared d
+  pub known : (n name : ℕ) (it : Known) → member_in (body_of s.aggregates n) name ≡ Some it → IsNobodys s.declared it.at
+  pub own : (n i : ℕ) (it : Own) → slice_get (own_of s.aggregates n) i ≡ Some it → IsNobodys s.declared it.at
+
+abbrev pub MeaningsAreFirst : Type 0
+MeaningsAreFirst =
+    (tapes : List Tape) → Differ (tapes_named tapes no_names).declared → NamesAreFirst (tapes_named tapes no_names)

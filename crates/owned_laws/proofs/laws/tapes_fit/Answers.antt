@@ -1,0 +1,29 @@
+use Rattle.row_steps.specs.State.{nothing}
+use Rattle.owned_laws.proofs.Found.{Laws, Setting}
+use Rattle.owned_laws.proofs.Steps.{tape_fits, nothing_in}
+use Rattle.owned_laws.proofs.laws.tapes_fit.Goals as goal
+
+pub returns : goal.returns
+returns c functions starts cs w f tape settled fits = tape_fits k tape nothing (nothing_in k) tt fits
+  where
+    law : Laws
+    law = record {
+      rows = c.rows_fit.ensures;
+      instances = c.instances_fit.ensures;
+      lists = c.fitting_is_well_owned.ensures.lists;
+      flows = c.fitting_is_well_owned.ensures.flows;
+      parts = c.parts_stay.ensures;
+      found = c.skeletons_are_owned.ensures.found;
+      unsmashed = c.flows_stay.ensures.unsmash;
+    }
+
+    k : Setting
+    k = record {
+      law = law;
+      functions = functions;
+      starts = starts;
+      constraints = cs;
+      world = w;
+      function = f;
+      settled = settled;
+    }

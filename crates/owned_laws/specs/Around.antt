@@ -1,0 +1,185 @@
+-- What must hold at each op of a tape, that its constraints stay in the function around it: that the skeletons which it looks up
+-- belong to that function or to nobody.
+use Rattle.std.specs.Prelude.{◌≡◌, ℕ, Bool, false, List, slice_get, Option, None, Some}
+use Rattle.qual_base.specs.declared.places.Owner.TheVariants.{Nobody}
+use Rattle.tape_ops.specs.declared.op.Op.{Op}
+use Rattle.tape_ops.specs.declared.op.Op.TheVariants as ops
+use Rattle.tape_ops.specs.declared.expression.ExprOp.{ExprOp}
+use Rattle.tape_ops.specs.declared.expression.ExprOp.TheVariants as exprs
+use Rattle.tape_ops.specs.declared.form.FormOp.{FormOp}
+use Rattle.tape_ops.specs.declared.form.FormOp.TheVariants as forms
+use Rattle.tape_ops.specs.declared.initialiser.InitOp.{InitOp}
+use Rattle.tape_ops.specs.declared.initialiser.InitOp.TheVariants as inits
+use Rattle.tape_ops.specs.declared.declarator.DeclrOp.{DeclrOp}
+use Rattle.tape_ops.specs.declared.declarator.DeclrOp.TheVariants as declrs
+use Rattle.tape_ops.specs.declared.statement.StmtOp.{StmtOp}
+use Rattle.tape_ops.specs.declared.statement.StmtOp.TheVariants as stmts
+use Rattle.name_rules.specs.Spellings.{Place}
+use Rattle.name_rules.specs.Scopes.{Role, typedef_role, object_role, function_role, parameter_role, field_role, enumerator_role, Declared, declared_at, Use, means, called, missing, Own, Known, Names, body_of}
+use Rattle.name_rules.specs.Uses.{use_at}
+use Rattle.name_rules.specs.Values.{member_in, own_of}
+use Rattle.shape_steps.specs.State.{declared_last}
+use Rattle.row_rules.specs.Starting.{Start}
+use Rattle.row_rules.specs.Worlds.{World, at}
+use Rattle.row_rules.specs.Sites.{site_places}
+use Rattle.row_steps.specs.Rounds.{Naming, a_name, own_param, other_param, naming, is_quiet}
+use Rattle.row_steps.specs.State.{State}
+use Rattle.owner_laws.specs.Belonging.{IsOwn}
+use Rattle.owner_laws.specs.Fitting.{start_at}
+use Rattle.owner_laws.specs.Laws.{owner_among, AreDifferent}
+use Rattle.owner_laws.specs.Rows.{KnowsStarts, IsInstance}
+
+-- no skeleton begins at the place, or one of the function or of nobody
+abbrev pub BeginsIn : List Start → Option Place → Place → Type 0
+BeginsIn starts f p = (it : Start) → start_at starts p ≡ Some it → IsOwn f it.owner
+
+-- Names of a function are an instance of it, of which more is asked where it has constraints; other names are the
+-- skeleton of what they mean, or one of their own.
+abbrev pub MeantFits : World → List Start → Option Place → Bool → ℕ → Declared → Role → Type 0
+MeantFits w starts f quiet token d function_role =
+    BeginsIn starts f (at w token) × (quiet ≡ false → IsInstance w starts token d.at)
+MeantFits w starts f quiet token d enumerator_role = BeginsIn starts f (at w token)
+MeantFits w starts f quiet token d typedef_role = BeginsIn starts f d.at
+MeantFits w starts f quiet token d object_role = BeginsIn starts f d.at
+MeantFits w starts f quiet token d (parameter_role i) = BeginsIn starts f d.at
+MeantFits w starts f quiet token d (field_role n i) = BeginsIn starts f d.at
+
+abbrev pub SomeMeantFits : World → List Start → Option Place → Bool → ℕ → Option Declared → Type 0
+SomeMeantFits w starts f quiet token None = Unit {0}
+SomeMeantFits w starts f quiet token (Some d) = MeantFits w starts f quiet token d d.role
+
+abbrev pub UseFits : World → List Start → Option Place → Bool → ℕ → Use → Type 0
+UseFits w starts f quiet token (means p) = SomeMeantFits w starts f quiet token (declared_at w.names.declared p)
+UseFits w starts f quiet token called = BeginsIn starts f (at w token)
+UseFits w starts f quiet token missing = Unit {0}
+
+-- a declared name and the first declaration of what it names are of one function, or of nobody
+abbrev pub DeclaredFits : List Start → Option Declared → Type 0
+DeclaredFits starts None = Unit {0}
+DeclaredFits starts (Some d) = (g : Option Place) × BeginsIn starts g d.first × BeginsIn starts g d.at
+
+abbrev pub ParamFits : List Start → Option Place → Option Declared → Type 0
+ParamFits starts f None = Unit {0}
+ParamFits starts f (Some d) = BeginsIn starts f d.at
+
+-- the function whose name is at a token
+abbrev pub FunctionFits : World → List Start → Option Place → Option ℕ → Type 0
+FunctionFits w starts f None = Unit {0}
+FunctionFits w starts f (Some token) = BeginsIn starts f (at w token)
+
+abbrev pub NamingFits : World → List Start → Option Place → ℕ → Naming → Type 0
+NamingFits w starts f token a_name = DeclaredFits starts (declared_at w.names.declared (at w token))
+NamingFits w starts f token (own_param g n) =
+    FunctionFits w starts f g × ParamFits starts f (declared_at w.names.declared (at w token))
+NamingFits w starts f token other_param = Unit {0}
+
+-- what an initialiser initialises, by what was declared first of it
+abbrev pub InitFits : List Start → Option Place → Declared → Role → Type 0
+InitFits starts f d typedef_role = Unit {0}
+InitFits starts f d function_role = Unit {0}
+InitFits starts f d object_role = BeginsIn starts f d.at
+InitFits starts f d (parameter_role i) = BeginsIn starts f d.at
+InitFits starts f d (field_role n i) = BeginsIn starts f d.at
+InitFits starts f d enumerator_role = Unit {0}
+
+abbrev pub FirstInitFits : List Start → Option Place → Declared → Option Declared → Type 0
+FirstInitFits starts f d None = Unit {0}
+FirstInitFits starts f d (Some first) = InitFits starts f d first.role
+
+abbrev pub SomeInitFits : World → List Start → Option Place → Option Declared → Type 0
+SomeInitFits w starts f None = Unit {0}
+SomeInitFits w starts f (Some d) = FirstInitFits starts f d (declared_at w.names.declared d.first)
+
+abbrev pub InitialisedFits : World → List Start → Option Place → Option ℕ → Type 0
+InitialisedFits w starts f None = Unit {0}
+InitialisedFits w starts f (Some token) = SomeInitFits w starts f (declared_at w.names.declared (at w token))
+
+abbrev pub ExprFits : World → List Start → Option Place → State → ExprOp → Type 0
+ExprFits w starts f st (exprs.Name is_called token name) =
+    UseFits w starts f (is_quiet st.rounds) token (use_at w.names.uses (at w token))
+ExprFits w starts f st (exprs.Number token) = BeginsIn starts f (at w token)
+ExprFits w starts f st (exprs.Char token) = BeginsIn starts f (at w token)
+ExprFits w starts f st (exprs.Text token) = BeginsIn starts f (at w token)
+ExprFits w starts f st (exprs.Paren token) = Unit {0}
+ExprFits w starts f st (exprs.Ext token) = Unit {0}
+ExprFits w starts f st (exprs.Comma token) = Unit {0}
+ExprFits w starts f st (exprs.Assign sign token first last) = Unit {0}
+ExprFits w starts f st (exprs.Cond has_middle token first last) = BeginsIn starts f (at w token)
+ExprFits w starts f st (exprs.Binary sign token first last) = BeginsIn starts f (at w token)
+ExprFits w starts f st (exprs.Prefix sign token last) = BeginsIn starts f (at w token)
+ExprFits w starts f st (exprs.Post sign token first) = Unit {0}
+ExprFits w starts f st (exprs.Index token first last) = Unit {0}
+ExprFits w starts f st (exprs.Arg behind first last) = Unit {0}
+ExprFits w starts f st (exprs.Call token count) = Unit {0}
+ExprFits w starts f st (exprs.Arrow token first last) = Unit {0}
+ExprFits w starts f st (exprs.Dot token member name) = Unit {0}
+
+abbrev pub FormFits : World → List Start → Option Place → FormOp → Type 0
+FormFits w starts f (forms.Cast token last) = BeginsIn starts f (at w token)
+FormFits w starts f (forms.Sizeof token) = BeginsIn starts f (at w token)
+FormFits w starts f (forms.StmtExpr has_value token) = BeginsIn starts f (at w token)
+FormFits w starts f (forms.VaArg token last) = BeginsIn starts f (at w token)
+FormFits w starts f (forms.VaStart token last) = BeginsIn starts f (at w token)
+FormFits w starts f (forms.VaCopy token last) = BeginsIn starts f (at w token)
+FormFits w starts f (forms.OffsetMember token name) = Unit {0}
+FormFits w starts f (forms.OffsetIndex token) = Unit {0}
+FormFits w starts f (forms.Offset token) = BeginsIn starts f (at w token)
+
+abbrev pub InitOpFits : World → List Start → Option Place → State → InitOp → Type 0
+InitOpFits w starts f st (inits.Value first last) = InitialisedFits w starts f (declared_last st.declarations)
+InitOpFits w starts f st inits.Begin = Unit {0}
+InitOpFits w starts f st inits.Rule = InitialisedFits w starts f (declared_last st.declarations)
+InitOpFits w starts f st (inits.Literal token) = BeginsIn starts f (at w token)
+InitOpFits w starts f st inits.ListBegin = Unit {0}
+InitOpFits w starts f st (inits.Member token name) = Unit {0}
+InitOpFits w starts f st (inits.Index token) = Unit {0}
+InitOpFits w starts f st (inits.Leaf first last) = Unit {0}
+InitOpFits w starts f st inits.ListEnd = Unit {0}
+InitOpFits w starts f st inits.End = Unit {0}
+InitOpFits w starts f st inits.LiteralEnd = Unit {0}
+
+abbrev pub DeclrFits : World → List Start → Option Place → State → DeclrOp → Type 0
+DeclrFits w starts f st (declrs.DeclName token name) = NamingFits w starts f token (naming st.rounds)
+DeclrFits w starts f st (declrs.ParamsBegin is_own) = Unit {0}
+DeclrFits w starts f st declrs.Param = Unit {0}
+DeclrFits w starts f st declrs.ParamsEnd = Unit {0}
+DeclrFits w starts f st declrs.Pointer = Unit {0}
+DeclrFits w starts f st declrs.Array = Unit {0}
+DeclrFits w starts f st (declrs.Function has_ellipsis) = Unit {0}
+DeclrFits w starts f st declrs.Declare = Unit {0}
+DeclrFits w starts f st declrs.Member = Unit {0}
+DeclrFits w starts f st (declrs.TypeName first) = Unit {0}
+DeclrFits w starts f st declrs.DeclarationEnd = Unit {0}
+
+abbrev pub StmtFits : World → List Start → Option Place → State → StmtOp → Type 0
+StmtFits w starts f st stmts.Quiet = Unit {0}
+StmtFits w starts f st stmts.Loud = Unit {0}
+StmtFits w starts f st stmts.Pop = Unit {0}
+StmtFits w starts f st (stmts.Return token last) = Unit {0}
+StmtFits w starts f st stmts.Enter = Unit {0}
+StmtFits w starts f st stmts.Leave = Unit {0}
+StmtFits w starts f st stmts.FunctionBody = FunctionFits w starts f (declared_last st.declarations)
+StmtFits w starts f st stmts.FunctionEnd = Unit {0}
+
+-- at an op, by what is known before it, in the function
+abbrev pub OpFits : World → List Start → Option Place → State → Op → Type 0
+OpFits w starts f st (ops.Expr op) = ExprFits w starts f st op
+OpFits w starts f st (ops.Form op) = FormFits w starts f op
+OpFits w starts f st (ops.Init op) = InitOpFits w starts f st op
+OpFits w starts f st (ops.Spec op) = Unit {0}
+OpFits w starts f st (ops.Declr op) = DeclrFits w starts f st op
+OpFits w starts f st (ops.Stmt op) = StmtFits w starts f st op
+
+-- the members of structs belong to nobody
+pub record MembersFit (starts : List Start) (s : Names) : Type 0 where
+  pub known : (n name : ℕ) (it : Known) → member_in (body_of s.aggregates n) name ≡ Some it →
+      BeginsIn starts None it.at
+  pub own : (n i : ℕ) (it : Own) → slice_get (own_of s.aggregates n) i ≡ Some it → BeginsIn starts None it.at
+
+-- Of the skeletons of a world: no two instances of functions are at one place, and variable 0, which stands for what has no
+-- skeleton, is nobody's.
+pub record Settled (functions : List Place) (starts : List Start) (w : World) : Type 0 where
+  pub knows : KnowsStarts w starts
+  pub sites_differ : AreDifferent (site_places starts)
+  pub nothing_is_nobodys : owner_among functions starts 0 ≡ Nobody
+  pub members : MembersFit starts w.names

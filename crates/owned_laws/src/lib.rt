@@ -1,0 +1,6 @@
+//! That the system of a program is well owned, by what is at each op of its tapes.
+#![tactic(auto)]
+
+mod laws;
+
+pub use laws::{owned_where_places_differ, steps_keep, tapes_fit};
