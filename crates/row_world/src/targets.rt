@@ -51,7 +51,8 @@ impl<'a> Known<'a> {
     /// of the struct.
     pub fn behind_member(&self, of: SkelId, name: NameId, next: usize) -> Result<usize, NoMemory>
         ensures { IfOk result (λ n. (w : World) → Shows self.now w →
-            n ≡ rows.behind_known (vals.member_of w (vals.struct_of (skel self.now of)) name) next) }
+            n ≡ rows.behind_known (vals.member_of w (vals.struct_of (skel self.now of)) name)
+            next) }
     {
         let found = self.member_of(&struct_of(self.vars, of), name);
         behind(&found, next)

@@ -17,7 +17,8 @@ impl Stacks {
     /// The operands of an initialiser in braces begin. Constant time but for growth.
     #[tactic(auto, using(crate::proofs::Lists::length_viewed))]
     pub fn begin(&mut self) -> Result<(), NoMemory>
-        ensures { OnOk result ((t : Tables) → state_in t self.new ≡ steps.begun (state_in t self.old)) }
+        ensures { OnOk result ((t : Tables) → state_in t self.new
+            ≡ steps.begun (state_in t self.old)) }
     {
         let count = self.operands.len();
         self.bases.push(count)
@@ -27,7 +28,8 @@ impl Stacks {
     pub fn begin_list(&mut self, target: &Option<SkelId>) -> Result<(), NoMemory>
         ensures { OnOk result ((t : Tables) → state_in t self.new
             ≡ record (state_in t self.old)
-            { braces = steps.list_of (option_map (skel_in t) target.now) ∷ (state_in t self.old).braces }) }
+            { braces = steps.list_of (option_map (skel_in t) target.now)
+            ∷ (state_in t self.old).braces }) }
     {
         self.braces.push(list_of(target))
     }
@@ -75,7 +77,8 @@ impl Stacks {
 
     /// An item takes the next operand. Constant time.
     pub fn take_leaf(&mut self) -> Result<(), NoMemory>
-        ensures { OnOk result ((t : Tables) → state_in t self.new ≡ steps.leaf_taken (state_in t self.old)) }
+        ensures { OnOk result ((t : Tables) → state_in t self.new
+            ≡ steps.leaf_taken (state_in t self.old)) }
     {
         self.drop_leaf();
         self.pass_item()
@@ -91,7 +94,8 @@ impl Stacks {
 
     /// The innermost list ends, and is an item itself. Constant time.
     pub fn leave_list(&mut self) -> Result<(), NoMemory>
-        ensures { OnOk result ((t : Tables) → state_in t self.new ≡ steps.list_left (state_in t self.old)) }
+        ensures { OnOk result ((t : Tables) → state_in t self.new
+            ≡ steps.list_left (state_in t self.old)) }
     {
         self.drop_list();
         self.pass_item()
@@ -110,7 +114,8 @@ impl Stacks {
 
 /// A list of a skeleton, if there is one.
 fn list_of(target: &Option<SkelId>) -> Braces
-    ensures { (t : Tables) → braces_in t result ≡ steps.list_of (option_map (skel_in t) target.now) }
+    ensures { (t : Tables) → braces_in t result
+        ≡ steps.list_of (option_map (skel_in t) target.now) }
 {
     match target {
         None => Braces::Untargeted,

@@ -14,7 +14,8 @@ use shape_stacks::OpenDeclaration;
 impl Stacks {
     /// A declaration begins, behind its specifiers. Constant time but for growth.
     pub fn open(&mut self) -> Result<(), NoMemory>
-        ensures { OnOk result ((t : Tables) → state_in t self.new ≡ steps.opened (state_in t self.old)) }
+        ensures { OnOk result ((t : Tables) → state_in t self.new
+            ≡ steps.opened (state_in t self.old)) }
     {
         self.declarations.push(OpenDeclaration {
             name: None,

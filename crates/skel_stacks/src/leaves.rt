@@ -41,7 +41,8 @@ impl Stacks {
     pub fn go_through_literal(&mut self, vars: &VarTable, skel: SkelId) -> Result<(), NoMemory>
         ensures { OnOk result ((types : List row.Row) → state_in (tables vars.now types) self.new
             ≡ steps.gone_through (Some (vals.contents (skel_of vars.now skel)))
-            (record (state_in (tables vars.now types) self.old) { literal = skel_of vars.now skel })) }
+            (record (state_in (tables vars.now types) self.old)
+            { literal = skel_of vars.now skel })) }
     {
         self.literal = Some(skel);
         self.go_through(&Some(contents(vars, skel)))
@@ -86,7 +87,8 @@ impl Stacks {
     /// An initialiser in braces ends, with its operands. Constant time for each of these.
     pub fn leave(&mut self)
         ensures { (t : Tables) → state_in t self.new
-            ≡ steps.braces_left (states.operands_below (state_in t self.old)) (state_in t self.old) }
+            ≡ steps.braces_left (states.operands_below (state_in t self.old))
+            (state_in t self.old) }
     {
         let base = self.bases.at(0, 0);
         self.operands.keep(base);
@@ -98,7 +100,8 @@ impl Stacks {
     /// A compound literal ends, with its operands and its type, and is an operand itself. Constant time for each operand.
     pub fn leave_literal(&mut self, vars: &VarTable) -> Result<(), NoMemory>
         ensures { OnOk result ((types : List row.Row) → state_in (tables vars.now types) self.new
-            ≡ steps.braces_left (steps.literal_put (state_in (tables vars.now types) self.old).literal
+            ≡ steps.braces_left
+            (steps.literal_put (state_in (tables vars.now types) self.old).literal
             (states.operands_below (state_in (tables vars.now types) self.old)))
             (state_in (tables vars.now types) self.old)) }
     {

@@ -52,7 +52,8 @@ impl Stacks {
     /// The operand with so many above it; past the bottom there are types that are not known. Constant time.
     #[tactic(auto, using(crate::proofs::Lists::operand_found))]
     fn operand_at(&self, depth: usize) -> Operand
-        ensures { (t : Tables) → operand_in t result ≡ states.operand_at depth (state_in t self.now) }
+        ensures { (t : Tables) → operand_in t result
+            ≡ states.operand_at depth (state_in t self.now) }
     {
         self.operands.at(depth, Operand::NamedType(None))
     }

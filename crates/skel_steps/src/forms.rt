@@ -21,7 +21,8 @@ use type_table::TypeTable;
 
 /// The value of a type that was named.
 fn value_of(ty: &Option<TypeId>) -> Option<ValueType>
-    ensures { (rows : List row.Row) → some_value_type rows result ≡ option_map (type_of rows) ty.now }
+    ensures { (rows : List row.Row) → some_value_type rows result
+        ≡ option_map (type_of rows) ty.now }
 {
     match ty {
         Some(ty) => Some(ValueType::Of(*ty)),
