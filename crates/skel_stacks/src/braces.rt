@@ -27,9 +27,10 @@ impl Stacks {
     /// A list in braces begins, which initialises this skeleton. Constant time but for growth.
     pub fn begin_list(&mut self, target: &Option<SkelId>) -> Result<(), NoMemory>
         ensures { OnOk result ((t : Tables) → state_in t self.new
-            ≡ record (state_in t self.old)
-            { braces = steps.list_of (option_map (skel_in t) target.now)
-            ∷ (state_in t self.old).braces }) }
+            ≡ record (state_in t self.old) {
+              braces = steps.list_of (option_map (skel_in t) target.now)
+                  ∷ (state_in t self.old).braces;
+            }) }
     {
         self.braces.push(list_of(target))
     }
