@@ -11,4 +11,4 @@ mod texts;
 
 pub use judging::{Judged, are_named, judge};
 pub use places::{put, put_at, put_decimal, put_spot};
-pub use scene::{Scene, UnitText};
+pub use scene::{Scene, UnitText, find_unit};

@@ -3,7 +3,7 @@
 ghost use Rattle.std.specs.Prelude.{◌≡◌, ℕ, OnOk, IfOk};
 ghost use Rattle.type_table.specs.Types.{CType};
 ghost use Rattle.name_types.specs.Known.{Knows, Grows};
-ghost use Rattle.name_rules.specs.Units.{no_names};
+ghost use Rattle.name_rules.specs.Units.{no_names, unit_begun};
 ghost use Rattle.name_rules.specs.Spellings as spellings;
 ghost use Rattle.name_steps.specs.State.{with_names};
 ghost use Rattle.name_steps.specs.Steps.{expression_step, statement_step, step, run};
@@ -128,21 +128,24 @@ impl State {
     }
 }
 
-/// The names of a unit and their types, from the tape of the unit and what is known before it. Linear in the tape, but for looking
-/// names up in the scopes that are open and for the words and parameters of the types that are made.
+/// The names of a unit and their types, from the tape of the unit and what is known behind the units before it. Linear in the
+/// tape and in the names of those units, but for looking names up in the scopes that are open and for the words and parameters
+/// of the types that are made.
 pub fn name_unit(
     alloc: Global,
-    names: Names,
+    mut names: Names,
     spelling: &Spelling,
     types: &mut Types,
     tape: &[Op],
 ) -> Result<Names, NoMemory>
     requires { AreShown types.old names }
     ensures named { IfOk result (λ after. (t : ℕ → CType) → Knows t types.new → names_of t after
-        ≡ (run (spelling_of spelling.now) tape.now (with_names (names_of t names))).names) }
+        ≡ (run (spelling_of spelling.now) tape.now
+        (with_names (unit_begun (names_of t names)))).names) }
     ensures shown { IfOk result (λ after. AreShown types.new after) }
     ensures grown { OnOk result (Grows types.old types.new) }
 {
+    names.begin_unit()?;
     let mut state = State::new(alloc, names);
     state.run(spelling, types, tape)?;
     Ok(state.names)

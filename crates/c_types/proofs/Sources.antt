@@ -1,24 +1,21 @@
--- What is found on the tape of a source is what the rules say of it.
-use Rattle.std.proofs.Common.{arith, ◌≡◌, ℕ, zero, suc, ◌+◌, ◌<◌, List, [], ◌∷◌, ◌++◌, length, map, drop, slice_index_or, Option, Some, None, refl, sym, ◌∙◌, ap, subst, append_assoc, append-nil}
-use Rattle.std.specs.Prelude.{All, IfSome, IfOk, Result, Ok, Err}
-use Rattle.std.proofs.lemmas.List.Elements.{All-cons, All-nil}
-use Rattle.c_tape.specs.Tape.{tape_of}
-use Rattle.tape_ops.specs.declared.op.Op.{Op}
-use Rattle.name_rules.specs.Spellings.{Spelling}
+-- What is found on the tapes of sources is what the rules say of them.
+use Rattle.std.proofs.Common.{arith, ◌≡◌, ℕ, zero, suc, ◌+◌, ◌<◌, List, [], ◌∷◌, ◌++◌, length, map, drop, slice_index_or, Option, Some, None, refl, sym, ◌∙◌, ap, subst, append_assoc}
+use Rattle.std.specs.Prelude.{All, IfSome}
 use Rattle.name_rules.specs.Faults.{Fault, IsFirst}
 use Rattle.name_rules.specs.Scopes.{Names}
-use Rattle.name_laws.specs.NameLaws.{NamesOfTapes, IsSound}
-use Rattle.shape_laws.specs.Laws.{all_found, FirstFaultIsFound, NoneIsFound}
+use Rattle.name_laws.specs.NameLaws.{NamesOfTapes, IsSound, tape_of_source}
+use Rattle.name_steps.specs.Units.{Tape}
+use Rattle.shape_laws.specs.Laws.{found_on, all_found, FirstFaultIsFound, NoneIsFound}
 use Rattle.shape_steps.specs.State.{nothing}
 use Rattle.shape_steps.specs.Found.{faults_found}
 use Rattle.type_rules.specs.Program.{Source, names_of, HasNoFault, IsFirstFault}
 use Rattle.unit_types.specs.declared.fault.ShapeFault.{ShapeFault}
+use Rattle.unit_types.specs.declared.program.UnitTape.{UnitTape}
 use Rattle.unit_types.specs.Faults.{fault_in, IsFirstUnlessMemory}
-use Rattle.unit_types.specs.Resolved.{Resolved, names_on, faults_on}
-use Rattle.unit_spelling.specs.declared.spelling.Spelling.{Spelling as Spelled}
-use Rattle.unit_spelling.specs.Spelled.{spelling_of}
-use Rattle.name_steps.specs.Units.{Tape}
-use Rattle.c_types.specs.Sources.{tape_in, IsFirstFaultUnlessMemory}
+use Rattle.unit_types.specs.Resolved.{tape_of, tapes_of, names_on, faults_among, faults_on}
+use Rattle.c_lexer.specs.Tokens.{Lexed}
+use Rattle.c_types.specs.declared.source.Source.{Source as Read}
+use Rattle.c_types.specs.Sources.{unit_of, units_of, source_behind, sources_behind, IsFirstFaultUnlessMemory}
 
 module _ {A B : Type 0} (f : A → B) where
   dropped : (xs : List A) (i : ℕ) (x : A) → i < length xs → x ≡ slice_index_or xs i x
@@ -34,52 +31,64 @@ module _ {A B : Type 0} (f : A → B) where
   mapped_on xs i x ys lt is =
       append_assoc ys (f x ∷ []) (map f (drop (i + 1) xs)) ∙ ap (λ (zs : List B). ys ++ zs) (dropped xs i x lt is)
 
-all_one : (it : Source) → IsSound it → All IsSound (it ∷ [])
-all_one it sound = All-cons IsSound it [] sound (All-nil IsSound)
+pub map_more : {A B : Type 0} (f : A → B) (xs ys : List A) → map f (xs ++ ys) ≡ map f xs ++ map f ys
+map_more f [] ys = refl
+map_more f (x ∷ xs) ys = ap (λ zs. f x ∷ zs) (map_more f xs ys)
 
-pub names_are : (law : NamesOfTapes) (it : Source) → IsSound it
-    → names_on it.spelling (tape_of it.items) ≡ names_of (it ∷ [])
-names_are law it sound = law (it ∷ []) (all_one it sound)
+-- the tapes of the sources from one on, behind others
+abbrev pub tapes_from : List Lexed → List Read → List Tape
+tapes_from before sources = map tape_of_source (sources_behind before (units_of sources))
 
-pub faults_are : (law : NamesOfTapes) (it : Source) → IsSound it
-    → faults_on it.spelling (tape_of it.items) ≡ all_found (it ∷ [])
-faults_are law it sound =
-    ap (λ (s : Names). s.faults ++ faults_found it.spelling s nothing (tape_of it.items)) (names_are law it sound)
-    ∙ ap (λ (fs : List Fault). (names_of (it ∷ [])).faults ++ fs)
-    (sym (append-nil (faults_found it.spelling (names_of (it ∷ [])) nothing (tape_of it.items))))
+next_tape : (sources : List Read) (i : ℕ) (it : Read) (before : List Lexed) → it ≡ slice_index_or sources i it
+    → i < length sources
+    → tape_of_source (source_behind before (unit_of it)) ∷ tapes_from (before ++ it.tokens ∷ []) (drop (i + 1) sources)
+    ≡ tapes_from before (drop i sources)
+next_tape [] i it before is lt = absurd (omega arith)
+next_tape (x ∷ sources) zero it before is lt =
+    ap (λ (r : Read). tape_of_source (source_behind before (unit_of r)) ∷ tapes_from (before ++ r.tokens ∷ []) sources) is
+next_tape (x ∷ sources) (suc i) it before is lt =
+    let e : suc i + 1 ≡ suc (i + 1) = omega arith in rw e (next_tape sources i it before is (omega arith))
 
-pub only : {A : Type 0} (xs : List A) (x : A) → length xs ≡ 1 → x ≡ slice_index_or xs 0 x → x ∷ [] ≡ xs
-only [] x one is = absurd (omega arith)
-only (y ∷ []) x one is = ap (λ z. z ∷ []) is
-only (y ∷ z ∷ xs) x one is = absurd (omega arith)
+-- one tape more
+pub tapes_on : (sources : List Read) (i : ℕ) (it : Read) (before : List Lexed) (units : List UnitTape) (unit : UnitTape)
+    → it ≡ slice_index_or sources i it → i < length sources
+    → tape_of unit ≡ tape_of_source (source_behind before (unit_of it))
+    → tapes_of (units ++ unit ∷ []) ++ tapes_from (before ++ it.tokens ∷ []) (drop (i + 1) sources)
+    ≡ tapes_of units ++ tapes_from before (drop i sources)
+tapes_on sources i it before units unit is lt made =
+    let rest = tapes_from (before ++ it.tokens ∷ []) (drop (i + 1) sources) in
+    ap (λ (ts : List Tape). ts ++ rest) (map_more tape_of units (unit ∷ []))
+    ∙ append_assoc (tapes_of units) (tape_of unit ∷ []) rest
+    ∙ ap (λ (t : Tape). tapes_of units ++ (t ∷ rest)) made
+    ∙ ap (λ (ts : List Tape). tapes_of units ++ ts) (next_tape sources i it before is lt)
+
+-- what is found on tapes
+
+found_is : (sources : List Source) (s : Names) → faults_among s (map tape_of_source sources) ≡ found_on sources s
+found_is [] s = refl
+found_is (it ∷ sources) s =
+    ap (λ (fs : List Fault). faults_found it.spelling s nothing (tape_of_source it).ops ++ fs) (found_is sources s)
 
 some_weaker : {A : Type 0} (P Q : A → Type 0) (o : Option A) → ((x : A) → P x → Q x) → IfSome o P → IfSome o Q
 some_weaker P Q None more is = tt
 some_weaker P Q (Some x) more is = more x is
 
--- what is found on the tape of a source, with what is read from its tokens
-module _ (law : NamesOfTapes) (it : Source) (sound : IsSound it) (u : Spelling) (ops : List Op)
-    (read : u ≡ it.spelling) (taped : ops ≡ tape_of it.items) where
-  found_is : faults_on u ops ≡ all_found (it ∷ [])
-  found_is = ap (λ (u : Spelling). faults_on u ops) read ∙ ap (faults_on it.spelling) taped ∙ faults_are law it sound
+module _ (law : NamesOfTapes) (sources : List Source) (sound : All IsSound sources) (tapes : List Tape)
+    (taped : tapes ≡ map tape_of_source sources) where
+  pub named_is : (s : Names) → s ≡ names_on tapes → s ≡ names_of sources
+  named_is s is = is ∙ ap names_on taped ∙ law sources sound
 
-  pub named_is : (s : Names) → s ≡ names_on u ops → s ≡ names_of (it ∷ [])
-  named_is s is = is ∙ ap (λ (u : Spelling). names_on u ops) read ∙ ap (names_on it.spelling) taped ∙ names_are law it sound
+  faults_are : faults_on tapes ≡ all_found sources
+  faults_are =
+      ap faults_on taped
+      ∙ ap (λ (s : Names). s.faults ++ faults_among s (map tape_of_source sources)) (law sources sound)
+      ∙ ap (λ (fs : List Fault). (names_of sources).faults ++ fs) (found_is sources (names_of sources))
 
-  pub none_is : NoneIsFound → faults_on u ops ≡ [] → HasNoFault (it ∷ [])
-  none_is none is = (none (it ∷ [])).0 (sym found_is ∙ is)
+  pub none_is : NoneIsFound → faults_on tapes ≡ [] → HasNoFault sources
+  none_is none is = (none sources).0 (sym faults_are ∙ is)
 
-  pub first_is : FirstFaultIsFound → (fault : ShapeFault) → IsFirstUnlessMemory fault (faults_on u ops)
-      → IsFirstFaultUnlessMemory fault (it ∷ [])
+  pub first_is : FirstFaultIsFound → (fault : ShapeFault) → IsFirstUnlessMemory fault (faults_on tapes)
+      → IsFirstFaultUnlessMemory fault sources
   first_is first fault is =
-      some_weaker (λ f. IsFirst f (faults_on u ops)) (λ f. IsFirstFault (it ∷ []) f) (fault_in fault)
-      (λ f here. (first (it ∷ []) f).0 (subst (IsFirst f) found_is here)) is
-
-pub taped_is : (r : Result Resolved ShapeFault) (said : Spelled) (u : Spelling) (ops tape : List Op)
-    → IfOk r (λ it. it.spelling ≡ said) → IfOk r (λ it. it.ops ≡ ops) → spelling_of said ≡ u → ops ≡ tape
-    → IfOk r (λ it. tape_in it ≡ record { spelling = u; ops = tape })
-taped_is (Ok it) said u ops tape has is read taped =
-    ap (λ (s : Spelled). let t : Tape = record { spelling = spelling_of s; ops = it.ops } in t) has
-    ∙ ap (λ (v : Spelling). let t : Tape = record { spelling = v; ops = it.ops } in t) read
-    ∙ ap (λ (os : List Op). let t : Tape = record { spelling = u; ops = os } in t) (is ∙ taped)
-taped_is (Err fault) said u ops tape has is read taped = tt
+      some_weaker (λ f. IsFirst f (faults_on tapes)) (λ f. IsFirstFault sources f) (fault_in fault)
+      (λ f here. (first sources f).0 (subst (IsFirst f) faults_are here)) is

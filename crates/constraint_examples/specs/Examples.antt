@@ -38,6 +38,7 @@ program marks zeros lattices items = record {
   sources = record { spelling = record { unit = 1; annotates = λ token. is_some (mark_among marks token); is_naught = among zeros; key = λ name. name }; items = items } ∷ [];
   lattices = lattices;
   mark = λ at. mark_among marks at.1;
+  index = λ at. [];
 }
 
 -- a constraint: what it says, in which lattices, and from which token

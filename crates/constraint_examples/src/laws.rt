@@ -1,8 +1,14 @@
 //! What the definitions of constraints say of the examples.
 
 ghost use Rattle.constraint_examples.specs.Examples.{ExamplesHold};
+ghost use Rattle.constraint_examples.specs.IndexWords.{IndexWordsHold};
 
 /// The system of each example has the constraints, in their order, the call sites and the owners that were worked out for it.
 pub fn examples_hold()
     ensures { ExamplesHold }
+{}
+
+/// So has that of each example with index words.
+pub fn index_words_hold()
+    ensures { IndexWordsHold }
 {}

@@ -1,17 +1,12 @@
--- What is found on the tape of a source is what the rules say of it.
-use Rattle.std.proofs.Common.{◌≡◌, ℕ, List, [], ◌∷◌, ◌++◌, Option, refl, sym, ◌∙◌, ap, append-nil, length, subst}
+-- What is found on the tapes of sources is what the rules say of them.
+use Rattle.std.proofs.Common.{◌≡◌, ℕ, List, [], ◌∷◌, ◌++◌, Option, refl, sym, ◌∙◌, ap, length, map, subst}
 use Rattle.std.proofs.Math.Path.{fun_ext}
 use Rattle.std.specs.Prelude.{IfOk, Result, Ok, Err}
 use Rattle.lattice_core.specs.View.{LatticeView}
-use Rattle.c_lexer.specs.Tokens.{Lexed}
-use Rattle.c_tree.specs.Unit.{Item}
-use Rattle.source_spelling.specs.Tokens.{spelling_in}
-use Rattle.source_marks.specs.Marks.{mark_in}
 use Rattle.flow_graph.specs.declared.constraint.Constraint.{Constraint}
 use Rattle.flow_graph.specs.System.{System}
-use Rattle.tape_ops.specs.declared.op.Op.{Op}
 use Rattle.c_tape.specs.Tape.{tape_of}
-use Rattle.name_rules.specs.Spellings.{Place, Spelling}
+use Rattle.name_rules.specs.Spellings.{Place}
 use Rattle.name_rules.specs.Scopes.{Names}
 use Rattle.name_steps.specs.Units.{Tape}
 use Rattle.name_laws.specs.NameLaws.{tape_of_source}
@@ -23,86 +18,93 @@ use Rattle.row_rules.specs.Starting.{Start}
 use Rattle.row_rules.specs.Sites.{functions_of, owners_among, sites_among, variables_among}
 use Rattle.row_steps.specs.Found.{unit_rows}
 use Rattle.row_steps.specs.Starting.{unit_starts}
-use Rattle.constraint_rules.specs.Systems.{Program, starts_of, system_of}
+use Rattle.constraint_rules.specs.Systems.{Program, world_of, starts_of, system_of}
+use Rattle.row_laws.specs.Laws as row_laws
 use Rattle.row_laws.specs.Laws.{ConstraintsAreFound}
-use Rattle.start_laws.specs.Laws.{StartsOfProgramAreFound}
-use Rattle.unit_types.specs.Resolved.{Resolved}
-use Rattle.c_types.specs.Sources.{tape_in}
-use Rattle.unit_system.specs.declared.system.Generated.{Generated}
+use Rattle.start_laws.specs.Laws.{StartsOfProgramAreFound, found_on}
+use Rattle.index_words.specs.Marks.{IndexMark, index_in}
+use Rattle.unit_types.specs.Resolved.{Resolved, tapes_of}
+use Rattle.c_types.specs.Sources.{UnitRead, lexed_of, sources_in}
+use Rattle.source_marks.specs.Marks.{mark_among}
+use Rattle.unit_system.specs.declared.system.UnitSystem.{UnitSystem}
 use Rattle.unit_system.specs.declared.fault.GenerateFault.{GenerateFault}
-use Rattle.unit_system.specs.Listing.{is_listed, listed_at}
-use Rattle.unit_system.specs.Systems.{AreNumbered, names_on, starts_on, system_by, system_on, world_by}
+use Rattle.unit_system.specs.Sharing.{meant_by}
+use Rattle.unit_system.specs.Systems.{AreNumbered, Meant, names_on, starts_on, starts_among, rows_among, system_by, system_on}
 use Rattle.constraint_gen.specs.Programs.{program_in}
-use Rattle.constraint_gen.specs.Generating.{IsGenerated}
+use Rattle.constraint_gen.specs.Generating.{IsMade}
 
-module _ (it : Resolved) (source : Source) (named : names_on it ≡ names_of (source ∷ []))
-    (taped : tape_in it ≡ tape_of_source source) where
-  by_tape : {A : Type 0} (f : Spelling → Names → List Op → A) → f (tape_in it).spelling (names_on it) (tape_in it).ops
-      ≡ f source.spelling (names_of (source ∷ [])) (tape_of source.items)
-  by_tape f =
-      ap (λ (t : Tape). f t.spelling (names_on it) t.ops) taped
-      ∙ ap (λ (s : Names). f source.spelling s (tape_of source.items)) named
+-- along tapes, source by source
 
+starts_by : (s : Names) (sources : List Source) → starts_among s (map tape_of_source sources) ≡ found_on s sources
+starts_by s [] = refl
+starts_by s (it ∷ sources) =
+    ap (λ (found : List Start). unit_starts it.spelling s (tape_of it.items) ++ found) (starts_by s sources)
+
+-- what a program says of words
+abbrev meant_of : Program → Meant
+meant_of p = record { lattices = p.lattices; mark = p.mark; index = p.index }
+
+rows_by : (p : Program) (sources : List Source)
+    → rows_among (meant_of p) (names_of p.sources) (starts_of p.sources) (map tape_of_source sources)
+    ≡ row_laws.rows_among p sources
+rows_by p [] = refl
+rows_by p (it ∷ sources) =
+    ap (λ (found : List Constraint). unit_rows (world_of p it) (tape_of it.items) ++ found) (rows_by p sources)
+
+module _ (it : Resolved) (sources : List Source) (named : names_on it ≡ names_of sources)
+    (taped : tapes_of it.units ≡ map tape_of_source sources) where
   -- where skeletons begin
-  pub starts_are : StartsOfProgramAreFound → starts_on it ≡ starts_of (source ∷ [])
+  pub starts_are : StartsOfProgramAreFound → starts_on it ≡ starts_of sources
   starts_are law =
-      by_tape unit_starts
-      ∙ sym (append-nil (unit_starts source.spelling (names_of (source ∷ [])) (tape_of source.items)))
-      ∙ law (source ∷ [])
-
-  module _ (lattices : List LatticeView) (mark : Place → Option (ℕ × ℕ)) where
-    abbrev one : Program
-    one = record { sources = source ∷ []; lattices = lattices; mark = mark }
-
-    pub system_is : StartsOfProgramAreFound → ConstraintsAreFound → system_on it lattices mark ≡ system_of one
-    system_is starts rows =
-        ap (λ (all : List Start). system_by (tape_in it).spelling (names_on it) (tape_in it).ops all lattices mark)
-        (starts_are starts)
-        ∙ by_tape (λ u s ops. system_by u s ops (starts_of (source ∷ [])) lattices mark)
-        ∙ ap (λ (cs : List Constraint). let r : System = record {
-          constraints = cs;
-          sites = sites_among (functions_of (names_of (source ∷ []))) (starts_of (source ∷ []));
-          owners = owners_among (functions_of (names_of (source ∷ []))) (starts_of (source ∷ []));
-        } in r)
-        (sym (append-nil (unit_rows
-        (world_by source.spelling (names_of (source ∷ [])) (starts_of (source ∷ [])) lattices mark)
-        (tape_of source.items)))
-        ∙ rows one)
-
-  -- the same, where the elements that words name are found by their places
-  pub system_found : StartsOfProgramAreFound → ConstraintsAreFound → (lattices : List LatticeView)
-      → (marks : PlaceMap (ℕ × ℕ)) (mark : Place → Option (ℕ × ℕ)) → ((p : Place) → value_at marks p ≡ mark p)
-      → system_on it lattices (value_at marks) ≡ system_of (one lattices mark)
-  system_found starts rows lattices marks mark same =
-      ap (λ (m : Place → Option (ℕ × ℕ)). system_on it lattices m) (fun_ext same)
-      ∙ system_is lattices mark starts rows
+      ap (λ (s : Names). starts_among s (tapes_of it.units)) named
+      ∙ ap (λ (tapes : List Tape). starts_among (names_of sources) tapes) taped
+      ∙ starts_by (names_of sources) sources
+      ∙ law sources
 
   -- the variables are as many as their positions
   pub counted : StartsOfProgramAreFound → PositionsAreCounted
-      → variables_among (starts_on it) ≡ length (positions_of (starts_of (source ∷ [])))
-  counted starts law = ap variables_among (starts_are starts) ∙ sym (law (starts_of (source ∷ [])))
+      → variables_among (starts_on it) ≡ length (positions_of (starts_of sources))
+  counted starts law = ap variables_among (starts_are starts) ∙ sym (law (starts_of sources))
 
--- all that is said of what was made
-pub made : (tokens : Lexed) (items : List Item) (lattices : List LatticeView) (it : Resolved) (marks : PlaceMap (ℕ × ℕ))
-    → (named : names_on it ≡ names_of (record { spelling = spelling_in tokens; items = items } ∷ []))
-    → (taped : tape_in it ≡ tape_of_source (record { spelling = spelling_in tokens; items = items }))
-    → StartsOfProgramAreFound → ConstraintsAreFound → PositionsAreCounted → PositionsStand
-    → ((p : Place) → value_at marks p ≡ mark_in tokens p)
-    → (r : Result Generated GenerateFault)
-    → IfOk r (λ g. g.graph ≡ system_on it lattices (value_at marks))
-    → IfOk r (λ g. AreNumbered (starts_on it) g.skeletons)
-    → IfOk r (λ g. g.listed.items ≡ listed_at (is_listed tokens (names_on it)) 0 (positions_of (starts_on it)))
-    → IfOk r (λ g. IsGenerated tokens (program_in lattices tokens items) g)
-made tokens items lattices it marks named taped starts rows count stand mark (Err fault) system numbered listed = tt
-made tokens items lattices it marks named taped starts rows count stand mark (Ok g) system numbered listed =
-    let source : Source = record { spelling = spelling_in tokens; items = items } in
-    let begin = starts_are it source named taped starts in
-    let are = subst (λ all. AreNumbered all g.skeletons) begin numbered in record {
-      system = system ∙ system_found it source named taped starts rows lattices marks (mark_in tokens) mark;
-      count = are.count ∙ sym (count (starts_of (source ∷ [])));
-      stand = λ q v stands. stand g.skeletons.vars (starts_of (source ∷ [])) are.marked q v stands;
-      skeletons = are;
-      listed = listed
-          ∙ ap (λ (s : Names). listed_at (is_listed tokens s) 0 (positions_of (starts_on it))) named
-          ∙ ap (λ (all : List Start). listed_at (is_listed tokens (names_of (source ∷ []))) 0 (positions_of all)) begin;
-    }
+  module _ (lattices : List LatticeView) (mark : Place → Option (ℕ × ℕ)) (index : Place → List ℕ) where
+    abbrev whole : Program
+    whole = record { sources = sources; lattices = lattices; mark = mark; index = index }
+
+    system_is : StartsOfProgramAreFound → ConstraintsAreFound → system_on (meant_of whole) it ≡ system_of whole
+    system_is starts rows =
+        ap (λ (s : Names). system_by (meant_of whole) s (starts_on it) (tapes_of it.units)) named
+        ∙ ap (λ (all : List Start). system_by (meant_of whole) (names_of sources) all (tapes_of it.units)) (starts_are starts)
+        ∙ ap (λ (tapes : List Tape). system_by (meant_of whole) (names_of sources) (starts_of sources) tapes) taped
+        ∙ ap (λ (cs : List Constraint). let r : System = record {
+          constraints = cs;
+          sites = sites_among (functions_of (names_of sources)) (starts_of sources);
+          owners = owners_among (functions_of (names_of sources)) (starts_of sources);
+        } in r)
+        (rows_by whole sources ∙ rows whole)
+
+-- of units as they were read, where the elements that words name are found by their places
+module _ (it : Resolved) (units : List UnitRead) (named : names_on it ≡ names_of (sources_in units))
+    (taped : tapes_of it.units ≡ map tape_of_source (sources_in units)) (lattices : List LatticeView)
+    (marks : PlaceMap (ℕ × ℕ)) (prelude : List IndexMark)
+    (marked : (p : Place) → value_at marks p ≡ mark_among (lexed_of units) p) where
+  pub system_found : StartsOfProgramAreFound → ConstraintsAreFound
+      → system_on (meant_by lattices marks prelude) it ≡ system_of (program_in lattices prelude units)
+  system_found starts rows =
+      ap (λ (m : Place → Option (ℕ × ℕ)). let meant : Meant = record { lattices = lattices; mark = m; index = index_in prelude } in
+      system_on meant it) (fun_ext marked)
+      ∙ system_is it (sources_in units) named taped lattices (mark_among (lexed_of units)) (index_in prelude) starts rows
+
+  -- all that is said of what was made
+  pub made : StartsOfProgramAreFound → ConstraintsAreFound → PositionsAreCounted → PositionsStand
+      → (r : Result UnitSystem GenerateFault)
+      → IfOk r (λ g. g.graph ≡ system_on (meant_by lattices marks prelude) it)
+      → IfOk r (λ g. AreNumbered (starts_on it) g.skeletons)
+      → IfOk r (IsMade (program_in lattices prelude units))
+  made starts rows count stand (Err fault) system numbered = tt
+  made starts rows count stand (Ok g) system numbered =
+      let are = subst (λ all. AreNumbered all g.skeletons) (starts_are it (sources_in units) named taped starts) numbered in record {
+        system = system ∙ system_found starts rows;
+        count = are.count ∙ sym (count (starts_of (sources_in units)));
+        stand = λ q v stands. stand g.skeletons.vars (starts_of (sources_in units)) are.marked q v stands;
+        skeletons = are;
+      }

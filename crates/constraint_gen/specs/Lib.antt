@@ -1,2 +1,4 @@
+pub mod Marking
+pub mod Listing
 pub mod Programs
 pub mod Generating

@@ -1,65 +1,131 @@
-//! The system of a source.
+//! The system of a prelude and a source.
 
-ghost use Rattle.std.specs.Prelude.{◌≡◌, ◌<◌, ◌≤◌, [], ◌∷◌, length, IfOk, OnOk, IsErrOf};
+ghost use Rattle.std.specs.Prelude.{◌≡◌, ◌<◌, ◌≤◌, length, map, IfOk, OnOk, IsErrOf};
 ghost use Rattle.flow_graph.specs.System.{most_constraints, most_variables};
-ghost use Rattle.c_tree.specs.Unit.{items_of};
 ghost use Rattle.name_laws.specs.NameLaws.{tape_of_source};
 ghost use Rattle.type_rules.specs.Program.{names_of};
 ghost use Rattle.unit_shapes.specs.Views.{names_in};
-ghost use Rattle.c_types.specs.Sources.{source_of, tape_in};
-ghost use Rattle.constraint_rules.specs.Systems.{system_of};
+ghost use Rattle.unit_starts.specs.Views.{start_in};
+ghost use Rattle.unit_types.specs.Resolved.{tapes_of};
+ghost use Rattle.c_types.specs.Sources.{sources_of, units_of};
+ghost use Rattle.constraint_rules.specs.Systems.{starts_of, system_of};
 ghost use Rattle.constraint_gen.specs.Programs.{positions_in, program_in};
-ghost use Rattle.constraint_gen.specs.Generating.{IsGenerated};
+ghost use Rattle.constraint_gen.specs.Generating.{IsGenerated, IsMade};
 
+use crate::listing::listed;
+use crate::marking::marks;
 use c_types::{Program, Source};
+use flow_graph::FlowGraph;
+use index_words::Prelude;
 use lattice_core::Lattices;
 use position_laws::{positions_are_counted, positions_stand};
+use qual_base::VarId;
 use row_laws::constraints_are_found;
-use source_marks::marks;
 use start_laws::starts_of_program_are_found;
 use std::alloc::Global;
-use unit_system::{GenerateFault, Generated, unit_system};
+use unit_skeletons::Skeletons;
+use unit_system::{GenerateFault, UnitSystem, unit_system};
 
-/// The system of constraints of a source, whose names and types are known: its qualifier variables, its call sites with the owner
-/// of each variable, its constraints, and which variables a report lists.
-///
-/// More than 16,777,216 variables are answered before any constraint is made; more than 67,108,864 constraints only where the
-/// variables are not too many. Time is linear in the tokens and the unit, in the variables and their depth, and in the constraints,
-/// but for growth and for what is looked for among the members of structs. Memory is linear in the tokens, the unit, the variables
-/// and the constraints.
-pub fn generate(
+/// The skeletons of a program, its constraints with its call sites and the owners of its variables, and which variables a report
+/// lists: those of names where a source declares them, ascending. Memory is linear in the variables, the call sites and the
+/// constraints.
+#[derive(Drop)]
+pub struct Generated {
+    pub skeletons: Skeletons,
+    pub graph: FlowGraph,
+    pub listed: Vec<VarId>,
+}
+
+/// The system of constraints of sources.
+fn system(
     alloc: Global,
-    source: &Source,
+    sources: &[Source],
     program: &Program,
+    prelude: &Prelude,
     lattices: &Lattices,
-) -> Result<Generated, GenerateFault>
+) -> Result<UnitSystem, GenerateFault>
     requires names { names_in program.now.rows program.now.names
-        ≡ names_of (source_of source.now ∷ []) }
-    requires tape { tape_in program.now ≡ tape_of_source (source_of source.now) }
-    ensures made { IfOk result (IsGenerated source.now.tokens
-        (program_in lattices.now source.now.tokens (items_of source.now.unit))) }
+        ≡ names_of (sources_of sources.now) }
+    requires tapes { tapes_of program.now.units ≡ map tape_of_source (sources_of sources.now) }
+    ensures made { IfOk result
+        (IsMade (program_in lattices.now prelude.now (units_of sources.now))) }
+    ensures starts { IfOk result
+        (λ it. map (start_in program.now.rows) it.starts ≡ starts_of (sources_of sources.now)) }
     ensures few_variables { OnOk result (length (positions_in
-        (program_in lattices.now source.now.tokens (items_of source.now.unit))) ≤ most_variables) }
+        (program_in lattices.now prelude.now (units_of sources.now))) ≤ most_variables) }
     ensures few_constraints { OnOk result (length (system_of
-        (program_in lattices.now source.now.tokens (items_of source.now.unit))).constraints
+        (program_in lattices.now prelude.now (units_of sources.now))).constraints
         ≤ most_constraints) }
     ensures too_many_variables { IsErrOf result GenerateFault.TooManyVariables
         → most_variables < length (positions_in
-        (program_in lattices.now source.now.tokens (items_of source.now.unit))) }
+        (program_in lattices.now prelude.now (units_of sources.now))) }
     ensures fit_variables { IsErrOf result GenerateFault.TooManyConstraints
-        → length (positions_in
-        (program_in lattices.now source.now.tokens (items_of source.now.unit)))
+        → length (positions_in (program_in lattices.now prelude.now (units_of sources.now)))
         ≤ most_variables }
     ensures too_many_constraints { IsErrOf result GenerateFault.TooManyConstraints
         → most_constraints < length (system_of
-        (program_in lattices.now source.now.tokens (items_of source.now.unit))).constraints }
+        (program_in lattices.now prelude.now (units_of sources.now))).constraints }
 {
     starts_of_program_are_found();
     constraints_are_found();
     positions_are_counted();
     positions_stand();
-    let Ok(marks) = marks(alloc, &source.tokens) else {
+    let Ok(marks) = marks(alloc, sources) else {
         return Err(GenerateFault::NoMemory);
     };
-    unit_system(alloc, &source.tokens, program, lattices, &marks)
+    unit_system(alloc, program, prelude, lattices, &marks)
+}
+
+/// The system of constraints of sources in their order, whose names and types are known: their qualifier variables, their call
+/// sites with the owner of each variable, their constraints, and which variables a report lists. A prelude is unit 0; its index
+/// words are those of `prelude`, and its names are not listed.
+///
+/// More than 16,777,216 variables are answered before any constraint is made; more than 67,108,864 constraints only where the
+/// variables are not too many. Time is linear in the tokens and the units, in the variables and in the constraints, but for growth,
+/// for what is looked for among the members of structs, and for the number of sources at each skeleton. Memory is linear in the
+/// tokens, the units, the variables and the constraints.
+pub fn generate(
+    alloc: Global,
+    sources: &[Source],
+    program: &Program,
+    prelude: &Prelude,
+    lattices: &Lattices,
+) -> Result<Generated, GenerateFault>
+    requires names { names_in program.now.rows program.now.names
+        ≡ names_of (sources_of sources.now) }
+    requires tapes { tapes_of program.now.units ≡ map tape_of_source (sources_of sources.now) }
+    ensures made { IfOk result (IsGenerated (units_of sources.now)
+        (program_in lattices.now prelude.now (units_of sources.now))) }
+    ensures few_variables { OnOk result (length (positions_in
+        (program_in lattices.now prelude.now (units_of sources.now))) ≤ most_variables) }
+    ensures few_constraints { OnOk result (length (system_of
+        (program_in lattices.now prelude.now (units_of sources.now))).constraints
+        ≤ most_constraints) }
+    ensures too_many_variables { IsErrOf result GenerateFault.TooManyVariables
+        → most_variables < length (positions_in
+        (program_in lattices.now prelude.now (units_of sources.now))) }
+    ensures fit_variables { IsErrOf result GenerateFault.TooManyConstraints
+        → length (positions_in (program_in lattices.now prelude.now (units_of sources.now)))
+        ≤ most_variables }
+    ensures too_many_constraints { IsErrOf result GenerateFault.TooManyConstraints
+        → most_constraints < length (system_of
+        (program_in lattices.now prelude.now (units_of sources.now))).constraints }
+{
+    positions_are_counted();
+    let UnitSystem {
+        starts,
+        skeletons,
+        graph,
+    } = match system(alloc, sources, program, prelude, lattices) {
+        Ok(it) => it,
+        Err(fault) => return Err(fault),
+    };
+    match listed(alloc, sources, program, starts.as_slice()) {
+        Ok(listed) => Ok(Generated {
+            skeletons,
+            graph,
+            listed,
+        }),
+        Err(_) => Err(GenerateFault::NoMemory),
+    }
 }

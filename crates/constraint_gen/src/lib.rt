@@ -1,8 +1,10 @@
-//! The system of constraints of a source (Foster et al. 2006; Rehof and Fähndrich 2001): its qualifier variables, its call sites
-//! with the owner of each variable, and its constraints.
+//! The system of constraints of a prelude and a source (Foster et al. 2006; Rehof and Fähndrich 2001): its qualifier variables,
+//! its call sites with the owner of each variable, and its constraints.
 #![tactic(auto)]
 
 mod generating;
+mod listing;
+mod marking;
 
-pub use generating::generate;
-pub use unit_system::{GenerateFault, Generated};
+pub use generating::{Generated, generate};
+pub use unit_system::GenerateFault;

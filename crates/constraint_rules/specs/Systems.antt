@@ -12,11 +12,12 @@ use Rattle.row_rules.specs.Sites.{functions_of, owners_among, site_places, sites
 use Rattle.row_rules.specs.Starting.{Start}
 use Rattle.row_rules.specs.Worlds.{World, numbered_from}
 
--- a program: its units, the lattices, and the lattice and element that each annotation word names
+-- a program: its units, the lattices, the lattice and element that each annotation word names, and the numbers of each index word
 pub record Program : Type 0 where
   pub sources : List Source
   pub lattices : List LatticeView
   pub mark : Place → Option (ℕ × ℕ)
+  pub index : Place → List ℕ
 
 abbrev pub starts_among : Names → List Source → List Start
 starts_among s [] = []
@@ -37,6 +38,7 @@ world_of p it = record {
   sites = site_places (starts_of p.sources);
   lattices = p.lattices;
   mark = p.mark;
+  index = p.index;
   own = None;
 }
 

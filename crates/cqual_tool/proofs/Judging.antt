@@ -1,23 +1,50 @@
--- Programs that are judged.
-use Rattle.std.proofs.Common.{◌≡◌, ℕ, Bool, true, false, List, sym, ap, subst}
+-- Programs that are judged, and reports that are checked.
+use Rattle.std.proofs.Common.{◌≡◌, ℕ, Bool, true, false, List, refl, sym, ap, subst}
+use Rattle.lattice_core.specs.View.{LatticeView, orders_of}
 use Rattle.flow_graph.specs.System.{System}
-use Rattle.annotate.specs.Texts.{Scene}
 use Rattle.annotate.specs.Reports.{IsJudged}
+use Rattle.report_checks.specs.declared.judging.Checked.{Checked}
+use Rattle.report_checks.specs.declared.judging.Checked.TheVariants.{Hold, Bad}
+use Rattle.report_checks.specs.Checks.{ComesTo, Refutes}
+use Rattle.report_checks.specs.Texts.{checked_text}
 use Rattle.cqual_tool.specs.declared.status.Status.{Status}
-use Rattle.cqual_tool.specs.Statuses.{status_of}
-use Rattle.cqual_tool.specs.Outcome.{IsReport, IsRight, IsWrong, IsDecided}
+use Rattle.cqual_tool.specs.declared.status.Status.TheVariants.{PathsHold, PathBad}
+use Rattle.cqual_tool.specs.Statuses.{status_of, checked_status}
+use Rattle.cqual_tool.specs.Programs.{Judging}
+use Rattle.cqual_tool.specs.Outcome.{IsReport, IsRight, IsWrong, IsChecked, Holding, Failing, IsDecided}
 use Rattle.cqual_tool.proofs.Outcomes.{at_equal}
 
-judged : (file : List ℕ) (scene : Scene) (sys : System) (accepted : Bool) (text : List ℕ) → IsJudged scene sys accepted text
-    → IsReport file scene sys (status_of accepted) text
-judged file scene sys true text is = IsRight text is
-judged file scene sys false text is = IsWrong text is
+judged : (file : List ℕ) (it : Judging) (accepted : Bool) (text : List ℕ) → IsJudged it.scene it.system accepted text
+    → IsReport file it (status_of accepted) text
+judged file it true text is = IsRight text is
+judged file it false text is = IsWrong text is
 
-pub judged_as : (file : List ℕ) (scene : Scene) (sys : System) (accepted : Bool) (status : Status) (text words : List ℕ)
-    → status ≡ status_of accepted → text ≡ words → IsJudged scene sys accepted words → IsReport file scene sys status text
-judged_as file scene sys accepted status text words same spelled is =
-    at_equal (IsReport file scene sys) status (status_of accepted) text words same spelled (judged file scene sys accepted words is)
+pub judged_as : (file : List ℕ) (it : Judging) (sys : System) (accepted : Bool) (status : Status) (text words : List ℕ)
+    → it.system ≡ sys → status ≡ status_of accepted → text ≡ words → IsJudged it.scene sys accepted words → IsReport file it status text
+judged_as file it sys accepted status text words system same spelled is =
+    at_equal (IsReport file it) status (status_of accepted) text words same spelled
+    (judged file it accepted words (subst (λ (s : System). IsJudged it.scene s accepted words) (sym system) is))
 
 pub decided : (accepted : Bool) → IsDecided (status_of accepted)
 decided true = tt
 decided false = tt
+
+pub checked_decided : (found : Checked) → IsDecided (checked_status found)
+checked_decided Hold = tt
+checked_decided (Bad line code) = tt
+
+checked : (it : Judging) (bytes : List ℕ) (found : Checked) → ComesTo it.system (orders_of it.scene.lattices) bytes found
+    → (found ≡ Hold → Refutes it.system (orders_of it.scene.lattices)) → IsChecked it bytes (checked_status found) (checked_text found)
+checked it bytes Hold comes refutes = Holding comes (refutes refl)
+checked it bytes (Bad line code) comes refutes = Failing line code comes
+
+pub checked_as : (it : Judging) (lattices : List LatticeView) (sys : System) (bytes : List ℕ) (found : Checked) (status : Status) (text : List ℕ)
+    → it.scene.lattices ≡ lattices → it.system ≡ sys → status ≡ checked_status found → text ≡ checked_text found
+    → ComesTo sys (orders_of lattices) bytes found → (found ≡ Hold → Refutes sys (orders_of lattices)) → IsChecked it bytes status text
+checked_as it lattices sys bytes found status text same system says spelled comes refutes =
+    at_equal (IsChecked it bytes) status (checked_status found) text (checked_text found) says spelled
+    (checked it bytes found
+    (subst (λ (s : System). ComesTo s (orders_of it.scene.lattices) bytes found) (sym system)
+    (subst (λ (ls : List LatticeView). ComesTo sys (orders_of ls) bytes found) (sym same) comes))
+    (λ holds. subst (λ (s : System). Refutes s (orders_of it.scene.lattices)) (sym system)
+    (subst (λ (ls : List LatticeView). Refutes sys (orders_of ls)) (sym same) (refutes holds))))

@@ -1,3 +1,5 @@
-mod Pieces
-mod Outcomes
-mod Judging
+pub mod Joining
+pub mod Judging
+pub mod Outcomes
+pub mod Pieces
+pub mod Starting

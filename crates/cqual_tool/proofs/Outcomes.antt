@@ -61,16 +61,17 @@ pub records_none : (told : Option (List (List ℕ))) → RecordsAll told told []
 records_none None = tt
 records_none (Some names) = sym (append-nil names)
 
--- the outcome for two files, by what was read of each
+-- the outcome for files, by what was read of the lattice file
 module _ (named : FileNames) (all : List (List ℕ × List ℕ)) where
-  pub lattice_too_large : (status : Status) (text : List ℕ) → status ≡ Malformed → text ≡ malformed_line named.lattice (codes "F2") → lattice_limit < length (content_of all named.lattice) →
-      OfFiles named (content_of all named.lattice) (content_of all named.source) status text
-  lattice_too_large status text is words large = at_equal (OfFiles named (content_of all named.lattice) (content_of all named.source)) status Malformed text _ is words (LatticeTooLarge large)
+  pub lattice_too_large : (status : Status) (text : List ℕ) → status ≡ Malformed → text ≡ malformed_line named.lattice (codes "F2") →
+      lattice_limit < length (content_of all named.lattice) → OfFiles named (content_of all) status text
+  lattice_too_large status text is words large =
+      at_equal (OfFiles named (content_of all)) status Malformed text _ is words (LatticeTooLarge large)
 
-  pub lattice_refused : (status : Status) (text : List ℕ) (fault : LatticeFileFault) → status ≡ Malformed → text ≡ lattice_line named.lattice fault → LatticesFail (content_of all named.lattice) fault →
-      OfFiles named (content_of all named.lattice) (content_of all named.source) status text
+  pub lattice_refused : (status : Status) (text : List ℕ) (fault : LatticeFileFault) → status ≡ Malformed →
+      text ≡ lattice_line named.lattice fault → LatticesFail (content_of all named.lattice) fault → OfFiles named (content_of all) status text
   lattice_refused status text fault is words fails =
-      at_equal (OfFiles named (content_of all named.lattice) (content_of all named.source)) status Malformed text _ is words (LatticeRefused fault fails)
+      at_equal (OfFiles named (content_of all)) status Malformed text _ is words (LatticeRefused fault fails)
 
 -- what is sent of a decided answer
 module _ (words : List (List ℕ)) (old new : Option (List ℕ)) (status given : Status) (text : List ℕ) (sends : Sends old new status text given) (decided : IsDecided status) where
@@ -81,7 +82,7 @@ module _ (words : List (List ℕ)) (old new : Option (List ℕ)) (status given :
   ]
 
   module _ (told : Option (List (List ℕ × List ℕ))) (named : FileNames) (meaning : meaning_of words ≡ Some named)
-      (outcome : IfSome told (λ all. OfFiles named (content_of all named.lattice) (content_of all named.source) status text)) where
+      (outcome : IfSome told (λ all. OfFiles named (content_of all) status text)) where
     pub sent_all : IsAnswer given → IfSome told (λ all. (written : List ℕ) × Outcome words all given written × Appends old new written)
     sent_all is = elim sends [
       | inl whole ↦ when_told told outcome (λ all of.
@@ -131,6 +132,11 @@ pub some_found : (size : ℕ) (content : List ℕ) (limit : ℕ) (found : Option
     bytes.items ≡ content
 some_found size content limit found bytes is some = let Found : Option (Vec ℕ Global) → Type 0 = λ o. MatchOption o (limit < size) (λ b. b.items ≡ content) in subst Found some is
 
+-- what holds whatever the files are
+pub always_told : {P : List (List ℕ × List ℕ) → Type 0} (told : Option (List (List ℕ × List ℕ))) → ((all : List (List ℕ × List ℕ)) → P all) → IfSome told P
+always_told None f = tt
+always_told (Some all) f = f all
+
 -- two things that are told of the files
 pub both_told : {P Q R : List (List ℕ × List ℕ) → Type 0} (told : Option (List (List ℕ × List ℕ))) → IfSome told P → IfSome told Q →
     ((all : List (List ℕ × List ℕ)) → P all → Q all → R all) → IfSome told R
@@ -142,18 +148,27 @@ pub both_ok : {T E : Type 0} {P Q R : T → Type 0} (r : Result T E) → IfOk r 
 both_ok (Ok x) p q f = f x p q
 both_ok (Err e) p q f = tt
 
--- what was taken of the lattice file is within its limit
-module _ (found : Option (Vec ℕ Global)) (bytes : Vec ℕ Global) (taken content : List ℕ) (some : found ≡ Some bytes) (limit : IfSome found (λ b. length b.items ≤ lattice_limit))
-    (lent : taken ≡ bytes.items) (whole : bytes.items ≡ content) where
-  short : length content ≤ lattice_limit
+-- what was taken of a file is within its limit
+module _ (limit : ℕ) (found : Option (Vec ℕ Global)) (bytes : Vec ℕ Global) (taken content : List ℕ) (some : found ≡ Some bytes)
+    (within : IfSome found (λ b. length b.items ≤ limit)) (lent : taken ≡ bytes.items) (whole : bytes.items ≡ content) where
+  pub taken_is : taken ≡ content
+  taken_is = lent ∙ whole
+
+  pub short : length content ≤ limit
   short =
-      let Within : Option (Vec ℕ Global) → Type 0 = λ o. IfSome o (λ b. length b.items ≤ lattice_limit) in
-      let Short : List ℕ → Type 0 = λ b. length b ≤ lattice_limit in
-      let own : length bytes.items ≤ lattice_limit = subst Within some limit in
+      let Within : Option (Vec ℕ Global) → Type 0 = λ o. IfSome o (λ b. length b.items ≤ limit) in
+      let Short : List ℕ → Type 0 = λ b. length b ≤ limit in
+      let own : length bytes.items ≤ limit = subst Within some within in
       subst Short whole own
 
-  pub lattices_read : (lattices : List LatticeView) → Reads taken lattices → LatticesRead content lattices
-  lattices_read lattices read = let Read : List ℕ → Type 0 = λ b. Reads b lattices in record { within = short; read = subst Read (lent ∙ whole) read }
+-- lattices, or why there are none, of what was taken
+pub lattices_read : (taken content : List ℕ) → taken ≡ content → length content ≤ lattice_limit → (lattices : List LatticeView) → Reads taken lattices →
+    LatticesRead content lattices
+lattices_read taken content same short lattices read =
+    let Read : List ℕ → Type 0 = λ b. Reads b lattices in record { within = short; read = subst Read same read }
 
-  pub lattices_fail : (fault : LatticeFileFault) → IsFileFault taken fault → fault ≢ OutOfMemory → LatticesFail content fault
-  lattices_fail fault refused reason = let Refused : List ℕ → Type 0 = λ b. IsFileFault b fault in record { within = short; refused = subst Refused (lent ∙ whole) refused; reason = reason }
+pub lattices_fail : (taken content : List ℕ) → taken ≡ content → length content ≤ lattice_limit → (fault : LatticeFileFault) → IsFileFault taken fault →
+    fault ≢ OutOfMemory → LatticesFail content fault
+lattices_fail taken content same short fault refused reason =
+    let Refused : List ℕ → Type 0 = λ b. IsFileFault b fault in
+    record { within = short; refused = subst Refused same refused; reason = reason }

@@ -1,4 +1,4 @@
--- The lines of faults of lattice files and of the tokens of sources.
+-- The lines of faults of lattice files and of the tokens of units.
 use Rattle.std.specs.Prelude.{ℕ, List, [], ◌++◌, codes}
 use Rattle.std.specs.Fmt.{decimal}
 use Rattle.lattice_core.specs.declared.LatticeFault.{LatticeFault}
@@ -39,7 +39,7 @@ lattice_line file TooManyLattices = malformed_line file (codes "L8")
 lattice_line file (SharedName name) = malformed_line file (codes "L9 " ++ name)
 lattice_line file OutOfMemory = []
 
--- the line of a source whose bytes spell no tokens
+-- the line of a file whose bytes spell no tokens
 abbrev pub lex_line : List ℕ → List ℕ → LexFault → List ℕ
 lex_line file bytes (BadByte spot) = placed_line (spot_text file bytes spot) (codes "X1")
 lex_line file bytes (Unended spot) = placed_line (spot_text file bytes spot) (codes "X2")

@@ -5,5 +5,7 @@ pub mod Words
 pub mod Sending
 pub mod Texts
 pub mod Faults
+pub mod Preludes
 pub mod Programs
 pub mod Outcome
+pub mod Preparing

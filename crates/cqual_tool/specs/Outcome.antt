@@ -1,12 +1,12 @@
 -- What the tool answers and writes, for the words and the contents of the files.
 use Rattle.std.specs.Prelude.{◌≡◌, ◌≢◌, ℕ, true, false, ◌<◌, ◌≤◌, List, [], ◌∷◌, ◌++◌, length, slice_get, Some, None, codes, IfSome, Option}
 use Rattle.qual_base.specs.Outside.{content_of}
+use Rattle.qual_base.specs.Words.{MeansTheSame}
 use Rattle.lattice_core.specs.Names.{words_of}
-use Rattle.lattice_core.specs.View.{LatticeView}
+use Rattle.lattice_core.specs.View.{LatticeView, orders_of}
 use Rattle.lattice_file.specs.Faults.{Reads, IsFileFault}
 use Rattle.lattice_file.specs.declared.reading.LatticeFileFault.{LatticeFileFault}
 use Rattle.lattice_file.specs.declared.reading.LatticeFileFault.TheVariants.{NoMemory as OutOfMemory}
-use Rattle.qual_base.specs.Words.{MeansTheSame}
 use Rattle.c_lexer.specs.Reading.{Meanings}
 use Rattle.c_lexer.specs.Tokens.{Lexed, IsMarkedBy}
 use Rattle.c_lexer.specs.Refusals.{IsRefusal}
@@ -21,25 +21,42 @@ use Rattle.type_rules.specs.Program.{faults_of, HasNoFault}
 use Rattle.unit_types.specs.declared.fault.ShapeFault.{ShapeFault}
 use Rattle.unit_types.specs.declared.fault.ShapeFault.TheVariants.{NoMemory as OutOfNames}
 use Rattle.unit_types.specs.Faults.{IsFirstUnlessMemory}
+use Rattle.c_types.specs.Sources.{UnitRead, sources_in}
+use Rattle.index_words.specs.Marks.{IndexMark}
+use Rattle.cq_prelude.specs.Preludes.{IsPrelude, IsFaultOf}
+use Rattle.cq_prelude.specs.declared.fault.PreludeFault.{PreludeFault}
+use Rattle.cq_prelude.specs.declared.fault.PreludeFault.TheVariants.{NoMemory as OutOfSpace}
 use Rattle.flow_graph.specs.System.{System, IsWellOwned, most_constraints, most_variables}
-use Rattle.cqual_tool.specs.declared.status.Status.{Status}
-use Rattle.cqual_tool.specs.declared.status.Status.TheVariants.{Accepted, Rejected, NotYet, Malformed, BadWords, ReadFault, WriteFault, NoMemory}
-use Rattle.cqual_tool.specs.Words.{FileNames, meaning_of}
-use Rattle.cqual_tool.specs.Texts.{usage_line, not_yet_line, malformed_line}
-use Rattle.cqual_tool.specs.Faults.{lattice_line, lex_line}
-use Rattle.cqual_tool.specs.Programs.{Judging, judging_of}
 use Rattle.flow_graph.specs.Unfolding.{NamesElementsIn}
 use Rattle.annotate.specs.Texts.{Scene}
 use Rattle.annotate.specs.Reports.{IsJudged}
+use Rattle.report_checks.specs.declared.judging.Checked.TheVariants.{Hold, Bad}
+use Rattle.report_checks.specs.declared.judging.Code.{Code}
+use Rattle.report_checks.specs.Checks.{ComesTo, Refutes}
+use Rattle.report_checks.specs.Texts.{checked_text}
+use Rattle.cqual_tool.specs.declared.status.Status.{Status}
+use Rattle.cqual_tool.specs.declared.status.Status.TheVariants.{Accepted, Rejected, PathsHold, PathBad, NotYet, Malformed, BadWords, ReadFault, WriteFault, NoMemory}
+use Rattle.cqual_tool.specs.Words.{FileNames, meaning_of}
+use Rattle.cqual_tool.specs.Texts.{usage_line, not_yet_line, malformed_line}
+use Rattle.cqual_tool.specs.Faults.{lattice_line, lex_line}
 use Rattle.cqual_tool.specs.Syntax.{syntax_line}
-use Rattle.cqual_tool.specs.Shapes.{source_in, shape_line}
+use Rattle.cqual_tool.specs.Shapes.{shape_line}
+use Rattle.cqual_tool.specs.Preludes.{prelude_line}
+use Rattle.cqual_tool.specs.Programs.{Judging, judging_of, texts_of}
 
--- the most bytes that a lattice file and a source may have
+-- the most bytes that a lattice file, a prelude or a source, and a report may have
 abbrev pub lattice_limit : ℕ
 lattice_limit = 1048576
 
 abbrev pub source_limit : ℕ
 source_limit = 16777216
+
+abbrev pub report_limit : ℕ
+report_limit = 268435456
+
+-- the bytes of each file, by its name
+abbrev pub Contents : Type 0
+Contents = List ℕ → List ℕ
 
 -- the bytes are within the limit and read as these lattices
 pub record LatticesRead (bytes : List ℕ) (lattices : List LatticeView) : Type 0 where
@@ -51,6 +68,27 @@ pub record LatticesFail (bytes : List ℕ) (fault : LatticeFileFault) : Type 0 w
   pub within : length bytes ≤ lattice_limit
   pub refused : IsFileFault bytes fault
   pub reason : fault ≢ OutOfMemory
+
+-- the bytes are within the limit, and are this prelude where words mean what the names of the lattices do
+pub record PreludeReads (lattices : List LatticeView) (bytes : List ℕ) (unit : UnitRead) (marks : List IndexMark) : Type 0 where
+  pub within : length bytes ≤ source_limit
+  pub words : Meanings
+  pub mean : MeansTheSame words (words_of lattices)
+  pub is : IsPrelude words bytes unit marks
+
+-- the bytes are within the limit, and are no prelude for this reason
+pub record PreludeFails (lattices : List LatticeView) (bytes : List ℕ) (fault : PreludeFault) : Type 0 where
+  pub within : length bytes ≤ source_limit
+  pub words : Meanings
+  pub mean : MeansTheSame words (words_of lattices)
+  pub refused : IsFaultOf words bytes fault
+  pub reason : fault ≢ OutOfSpace
+
+-- the units before the source, and what their index words say: those of the prelude that is named, if one is
+pub data AreBefore (named : FileNames) (contents : Contents) (lattices : List LatticeView) : List UnitRead → List IndexMark → Type 0 where
+  NoPrelude : named.prelude ≡ None → AreBefore named contents lattices [] []
+  OnePrelude : (file : List ℕ) (unit : UnitRead) (marks : List IndexMark) → named.prelude ≡ Some file →
+      PreludeReads lattices (contents file) unit marks → AreBefore named contents lattices (unit ∷ []) marks
 
 -- the bytes are within the limit, and spell these tokens where words mean what the names of the lattices do
 pub record SourceLexes (lattices : List LatticeView) (bytes : List ℕ) (lexed : Lexed) : Type 0 where
@@ -67,60 +105,98 @@ pub record SourceFails (lattices : List LatticeView) (bytes : List ℕ) (fault :
   pub refused : IsRefusal 1 words bytes fault
   pub reason : fault ≢ NoRoom
 
+-- the tokens are those of this well-formed unit
+pub record SourceParses (lattices : List LatticeView) (bytes : List ℕ) (it : UnitRead) : Type 0 where
+  pub lexes : SourceLexes lattices bytes it.lexed
+  pub formed : IsWellFormed (lexemes_of it.lexed) it.items
+
+-- the names and types of the units before it and of the source have no fault
+pub record SourceReads (lattices : List LatticeView) (before : List UnitRead) (bytes : List ℕ) (it : UnitRead) : Type 0 where
+  pub parses : SourceParses lattices bytes it
+  pub shaped : HasNoFault (sources_in (before ++ it ∷ []))
+
+-- The whole line for a source that does not read, or whose variables, counted first, or constraints are too many.
+pub data IsRefused (named : FileNames) (lattices : List LatticeView) (before : List UnitRead) (marks : List IndexMark) (bytes : List ℕ) : List ℕ → Type 0 where
+  Unspelled : (fault : LexFault) → SourceFails lattices bytes fault →
+      IsRefused named lattices before marks bytes (lex_line named.source bytes fault)
+  Unparsed : (lexed : Lexed) (fault : ParseFault) → SourceLexes lattices bytes lexed → fault ≢ OutOfRoom →
+      ((items : List Item) → IsWellFormed (lexemes_of lexed) items → ⊥) →
+      IsRefused named lattices before marks bytes (syntax_line named.source lexed fault)
+  Faulty : (it : UnitRead) (fault : ShapeFault) → SourceParses lattices bytes it → fault ≢ OutOfNames →
+      IsFirstUnlessMemory fault (faults_of (sources_in (before ++ it ∷ []))) →
+      IsRefused named lattices before marks bytes (shape_line named.source (texts_of named (before ++ it ∷ [])) fault)
+  ManyVariables : (it : UnitRead) → SourceReads lattices before bytes it →
+      most_variables < length (judging_of named lattices marks (before ++ it ∷ [])).scene.positions →
+      IsRefused named lattices before marks bytes (malformed_line named.source (codes "Q1"))
+  ManyConstraints : (it : UnitRead) → SourceReads lattices before bytes it →
+      length (judging_of named lattices marks (before ++ it ∷ [])).scene.positions ≤ most_variables →
+      most_constraints < length (judging_of named lattices marks (before ++ it ∷ [])).system.constraints →
+      IsRefused named lattices before marks bytes (malformed_line named.source (codes "G1"))
+
+-- the source reads, and the counts are within their limits
+pub record IsCounted (named : FileNames) (lattices : List LatticeView) (before : List UnitRead) (marks : List IndexMark) (bytes : List ℕ) (it : UnitRead) : Type 0 where
+  pub reads : SourceReads lattices before bytes it
+  pub few_variables : length (judging_of named lattices marks (before ++ it ∷ [])).scene.positions ≤ most_variables
+  pub few_constraints : length (judging_of named lattices marks (before ++ it ∷ [])).system.constraints ≤ most_constraints
+
 -- each constant and bound of a lattice names an element of it
 abbrev pub AreNamed : List LatticeView → System → Type 0
 AreNamed lattices sys = (n : ℕ) (view : LatticeView) → slice_get lattices n ≡ Some view → NamesElementsIn sys n view.order
 
 -- The status and the whole text for the constraints of a program. Constraints whose flows leave their functions, or that name
 -- elements which there are not, are not judged.
-pub data IsReport (file : List ℕ) (scene : Scene) (sys : System) : Status → List ℕ → Type 0 where
-  NotOwned : (IsWellOwned sys → AreNamed scene.lattices sys → ⊥) → IsReport file scene sys NotYet (not_yet_line file)
-  IsRight : (text : List ℕ) → IsJudged scene sys true text → IsReport file scene sys Accepted text
-  IsWrong : (text : List ℕ) → IsJudged scene sys false text → IsReport file scene sys Rejected text
+pub data IsReport (file : List ℕ) (it : Judging) : Status → List ℕ → Type 0 where
+  NotJudged : (IsWellOwned it.system → AreNamed it.scene.lattices it.system → ⊥) → IsReport file it NotYet (not_yet_line file)
+  IsRight : (text : List ℕ) → IsJudged it.scene it.system true text → IsReport file it Accepted text
+  IsWrong : (text : List ℕ) → IsJudged it.scene it.system false text → IsReport file it Rejected text
 
--- The status and the whole text for a program: first its variables are counted, then its constraints.
-pub data OfProgram (file : List ℕ) (it : Judging) : Status → List ℕ → Type 0 where
-  ManyVariables : most_variables < length it.scene.positions → OfProgram file it Malformed (malformed_line file (codes "Q1"))
-  ManyConstraints : length it.scene.positions ≤ most_variables → most_constraints < length it.system.constraints →
-      OfProgram file it Malformed (malformed_line file (codes "G1"))
-  Reported : (status : Status) (text : List ℕ) → length it.scene.positions ≤ most_variables → length it.system.constraints ≤ most_constraints →
-      IsReport file it.scene it.system status text → OfProgram file it status text
+-- The status and the whole text for a report that is checked over the constraints of a program. Where its paths hold, the program
+-- is not accepted.
+pub data IsChecked (it : Judging) (bytes : List ℕ) : Status → List ℕ → Type 0 where
+  Holding : ComesTo it.system (orders_of it.scene.lattices) bytes Hold → Refutes it.system (orders_of it.scene.lattices) →
+      IsChecked it bytes PathsHold (checked_text Hold)
+  Failing : (line : ℕ) (code : Code) → ComesTo it.system (orders_of it.scene.lattices) bytes (Bad line code) →
+      IsChecked it bytes PathBad (checked_text (Bad line code))
 
--- The status and the whole text for lattices that were read and a well-formed unit with its tokens: a line that names the first
--- fault of its names and types, where there is one.
-pub data OfUnit (file : List ℕ) (lattices : List LatticeView) (lexed : Lexed) (items : List Item) : Status → List ℕ → Type 0 where
-  SourceFaulty : (fault : ShapeFault) → fault ≢ OutOfNames → IsFirstUnlessMemory fault (faults_of (source_in lexed items ∷ [])) →
-      OfUnit file lattices lexed items Malformed (shape_line file lexed fault)
-  SourceShaped : (status : Status) (text : List ℕ) → HasNoFault (source_in lexed items ∷ []) →
-      OfProgram file (judging_of file lattices lexed items) status text → OfUnit file lattices lexed items status text
+-- The status and the whole text for a program within the limits, by what is asked of it.
+pub data IsEnd (named : FileNames) (contents : Contents) (it : Judging) : Status → List ℕ → Type 0 where
+  Inferred : (status : Status) (text : List ℕ) → named.report ≡ None → IsReport named.source it status text → IsEnd named contents it status text
+  ReportTooLarge : (file : List ℕ) → named.report ≡ Some file → report_limit < length (contents file) →
+      IsEnd named contents it Malformed (malformed_line file (codes "F2"))
+  ReportChecked : (file : List ℕ) (status : Status) (text : List ℕ) → named.report ≡ Some file → length (contents file) ≤ report_limit →
+      IsChecked it (contents file) status text → IsEnd named contents it status text
 
--- The status and the whole text for lattices that were read and the tokens of a source: a line that names one of them where
--- they are those of no well-formed unit.
-pub data OfTokens (file : List ℕ) (lattices : List LatticeView) (lexed : Lexed) : Status → List ℕ → Type 0 where
-  SourceUnparsed : (fault : ParseFault) → fault ≢ OutOfRoom → ((items : List Item) → IsWellFormed (lexemes_of lexed) items → ⊥) →
-      OfTokens file lattices lexed Malformed (syntax_line file lexed fault)
-  SourceParsed : (items : List Item) (status : Status) (text : List ℕ) → IsWellFormed (lexemes_of lexed) items →
-      OfUnit file lattices lexed items status text → OfTokens file lattices lexed status text
+-- The status and the whole text for the source, behind lattices and units that were read.
+pub data OfSource (named : FileNames) (contents : Contents) (lattices : List LatticeView) (before : List UnitRead) (marks : List IndexMark) : Status → List ℕ → Type 0 where
+  SourceTooLarge : source_limit < length (contents named.source) →
+      OfSource named contents lattices before marks Malformed (malformed_line named.source (codes "F2"))
+  SourceRefused : (text : List ℕ) → IsRefused named lattices before marks (contents named.source) text →
+      OfSource named contents lattices before marks Malformed text
+  SourceRead : (it : UnitRead) (status : Status) (text : List ℕ) → IsCounted named lattices before marks (contents named.source) it →
+      IsEnd named contents (judging_of named lattices marks (before ++ it ∷ [])) status text →
+      OfSource named contents lattices before marks status text
 
--- The status and the whole text for lattices that were read and the bytes of a source.
-pub data OfSource (file : List ℕ) (lattices : List LatticeView) (bytes : List ℕ) : Status → List ℕ → Type 0 where
-  SourceTooLarge : source_limit < length bytes → OfSource file lattices bytes Malformed (malformed_line file (codes "F2"))
-  SourceUnspelled : (fault : LexFault) → SourceFails lattices bytes fault → OfSource file lattices bytes Malformed (lex_line file bytes fault)
-  SourceSpelled : (lexed : Lexed) (status : Status) (text : List ℕ) → SourceLexes lattices bytes lexed → OfTokens file lattices lexed status text →
-      OfSource file lattices bytes status text
+-- The status and the whole text behind lattices that were read: first for the prelude, where one is named.
+pub data OfUnits (named : FileNames) (contents : Contents) (lattices : List LatticeView) : Status → List ℕ → Type 0 where
+  PreludeTooLarge : (file : List ℕ) → named.prelude ≡ Some file → source_limit < length (contents file) →
+      OfUnits named contents lattices Malformed (malformed_line file (codes "F2"))
+  PreludeRefused : (file : List ℕ) (fault : PreludeFault) → named.prelude ≡ Some file → PreludeFails lattices (contents file) fault →
+      OfUnits named contents lattices Malformed (prelude_line file (contents file) fault)
+  PreludeRead : (before : List UnitRead) (marks : List IndexMark) (status : Status) (text : List ℕ) → AreBefore named contents lattices before marks →
+      OfSource named contents lattices before marks status text → OfUnits named contents lattices status text
 
--- The status and the whole text for two files that are named, by the bytes of each.
-pub data OfFiles (named : FileNames) (lattice_bytes source_bytes : List ℕ) : Status → List ℕ → Type 0 where
-  LatticeTooLarge : lattice_limit < length lattice_bytes → OfFiles named lattice_bytes source_bytes Malformed (malformed_line named.lattice (codes "F2"))
-  LatticeRefused : (fault : LatticeFileFault) → LatticesFail lattice_bytes fault → OfFiles named lattice_bytes source_bytes Malformed (lattice_line named.lattice fault)
-  LatticeRead : (lattices : List LatticeView) (status : Status) (text : List ℕ) → LatticesRead lattice_bytes lattices → OfSource named.source lattices source_bytes status text →
-      OfFiles named lattice_bytes source_bytes status text
+-- The status and the whole text for files that are named, by the bytes of each.
+pub data OfFiles (named : FileNames) (contents : Contents) : Status → List ℕ → Type 0 where
+  LatticeTooLarge : lattice_limit < length (contents named.lattice) → OfFiles named contents Malformed (malformed_line named.lattice (codes "F2"))
+  LatticeRefused : (fault : LatticeFileFault) → LatticesFail (contents named.lattice) fault → OfFiles named contents Malformed (lattice_line named.lattice fault)
+  LatticeRead : (lattices : List LatticeView) (status : Status) (text : List ℕ) → LatticesRead (contents named.lattice) lattices →
+      OfUnits named contents lattices status text → OfFiles named contents status text
 
 -- The status and the whole text for the words and the files, of which each is a name and its bytes.
 pub data Outcome (words : List (List ℕ)) (files : List (List ℕ × List ℕ)) : Status → List ℕ → Type 0 where
   WithoutMeaning : meaning_of words ≡ None → Outcome words files BadWords usage_line
   WithMeaning : (named : FileNames) (status : Status) (text : List ℕ) → meaning_of words ≡ Some named →
-      OfFiles named (content_of files named.lattice) (content_of files named.source) status text → Outcome words files status text
+      OfFiles named (content_of files) status text → Outcome words files status text
 
 -- the answer is that of the words and the files: no read failed, no write did, and memory was found
 abbrev pub IsAnswer : Status → Type 0
@@ -133,6 +209,8 @@ IsAnswer _ = Unit {0}
 abbrev pub IsDecided : Status → Type 0
 IsDecided Accepted = Unit {0}
 IsDecided Rejected = Unit {0}
+IsDecided PathsHold = Unit {0}
+IsDecided PathBad = Unit {0}
 IsDecided NotYet = Unit {0}
 IsDecided Malformed = Unit {0}
 IsDecided _ = ⊥
@@ -143,10 +221,41 @@ RecordsAll old None names = Unit {0}
 RecordsAll None (Some new) names = ⊥
 RecordsAll (Some old) (Some new) names = new ≡ old ++ names
 
--- The files that are started, in order: the lattice file, and the source only where the lattice file has read.
+abbrev pub named_one : Option (List ℕ) → List (List ℕ)
+named_one None = []
+named_one (Some name) = name ∷ []
+
+-- what was read before the prelude, before the source, and before the report
+
+pub record LatticesAreRead (named : FileNames) (contents : Contents) : Type 0 where
+  pub lattices : List LatticeView
+  pub read : LatticesRead (contents named.lattice) lattices
+
+pub record UnitsAreRead (named : FileNames) (contents : Contents) : Type 0 where
+  pub lattices : List LatticeView
+  pub read : LatticesRead (contents named.lattice) lattices
+  pub before : List UnitRead
+  pub marks : List IndexMark
+  pub are : AreBefore named contents lattices before marks
+
+pub record ProgramIsRead (named : FileNames) (contents : Contents) : Type 0 where
+  pub lattices : List LatticeView
+  pub read : LatticesRead (contents named.lattice) lattices
+  pub before : List UnitRead
+  pub marks : List IndexMark
+  pub are : AreBefore named contents lattices before marks
+  pub unit : UnitRead
+  pub counted : IsCounted named lattices before marks (contents named.source) unit
+
+-- The files that are started, in order: the lattice file, the prelude, the source and the report, each only where those before it have read.
 pub data Starts (named : FileNames) (files : Option (List (List ℕ × List ℕ))) : List (List ℕ) → Type 0 where
   LatticeAlone : Starts named files (named.lattice ∷ [])
-  ThenSource : IfSome files (λ all. (lattices : List LatticeView) × LatticesRead (content_of all named.lattice) lattices) → Starts named files (named.lattice ∷ named.source ∷ [])
+  ThenPrelude : (file : List ℕ) → named.prelude ≡ Some file → IfSome files (λ all. LatticesAreRead named (content_of all)) →
+      Starts named files (named.lattice ∷ file ∷ [])
+  ThenSource : IfSome files (λ all. UnitsAreRead named (content_of all)) →
+      Starts named files (named.lattice ∷ named_one named.prelude ++ named.source ∷ [])
+  ThenReport : (file : List ℕ) → named.report ≡ Some file → IfSome files (λ all. ProgramIsRead named (content_of all)) →
+      Starts named files (named.lattice ∷ named_one named.prelude ++ named.source ∷ file ∷ [])
 
 -- words without a meaning start no file
 pub data StartsFor (words : List (List ℕ)) (files : Option (List (List ℕ × List ℕ))) : List (List ℕ) → Type 0 where

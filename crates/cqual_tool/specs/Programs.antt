@@ -1,27 +1,42 @@
--- What is judged of a well-formed unit: its system of constraints, and what the reports name.
-use Rattle.std.specs.Prelude.{ℕ, List, [], ◌∷◌}
+-- What is judged of well-formed units: their system of constraints, and what the reports name.
+use Rattle.std.specs.Prelude.{ℕ, nat_eq, List, [], map, Option, None, Some, if◌then◌else◌}
 use Rattle.lattice_core.specs.View.{LatticeView}
 use Rattle.flow_graph.specs.System.{System}
-use Rattle.c_lexer.specs.Tokens.{Lexed}
-use Rattle.c_tree.specs.Unit.{Item}
-use Rattle.annotate.specs.Texts.{Scene}
+use Rattle.annotate.specs.Texts.{Scene, UnitText}
+use Rattle.index_words.specs.Marks.{IndexMark}
+use Rattle.c_types.specs.Sources.{UnitRead}
 use Rattle.constraint_rules.specs.Systems.{system_of}
 use Rattle.constraint_gen.specs.Programs.{program_in, positions_in, listed_in}
+use Rattle.cqual_tool.specs.Words.{FileNames}
+
+-- the file of a unit: unit 0 is the prelude
+abbrev pub or_no_name : Option (List ℕ) → List ℕ
+or_no_name None = []
+or_no_name (Some name) = name
+
+abbrev pub file_of : FileNames → ℕ → List ℕ
+file_of named unit = if nat_eq unit 0 then or_no_name named.prelude else named.source
+
+abbrev pub text_of : FileNames → UnitRead → UnitText
+text_of named it = record { file = file_of named it.lexed.unit; lexed = it.lexed }
+
+abbrev pub texts_of : FileNames → List UnitRead → List UnitText
+texts_of named units = map (text_of named) units
 
 -- what the reports name, and the constraints
 pub record Judging : Type 0 where
   pub scene : Scene
   pub system : System
 
--- of a unit with its tokens, over the lattices
-abbrev pub judging_of : List ℕ → List LatticeView → Lexed → List Item → Judging
-judging_of file lattices lexed items =
-    let p = program_in lattices lexed items in record {
+-- of units in their order, with what the index words of the prelude say, over the lattices
+abbrev pub judging_of : FileNames → List LatticeView → List IndexMark → List UnitRead → Judging
+judging_of named lattices marks units =
+    let p = program_in lattices marks units in record {
       scene = record {
-        units = record { file = file; lexed = lexed } ∷ [];
+        units = texts_of named units;
         lattices = lattices;
         positions = positions_in p;
-        listed = listed_in lexed p;
+        listed = listed_in units p;
       };
       system = system_of p;
     }

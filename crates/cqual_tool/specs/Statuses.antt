@@ -1,12 +1,16 @@
 -- What the program answers, and the number with which it exits.
 use Rattle.std.specs.Prelude.{◌≡◌, ℕ, Bool, true, false, List}
+use Rattle.report_checks.specs.declared.judging.Checked.{Checked}
+use Rattle.report_checks.specs.declared.judging.Checked.TheVariants.{Hold, Bad}
 use Rattle.cqual_tool.specs.declared.answer.Answer.{Answer}
 use Rattle.cqual_tool.specs.declared.status.Status.{Status}
-use Rattle.cqual_tool.specs.declared.status.Status.TheVariants.{Accepted, Rejected, NotYet, Malformed, BadWords, ReadFault, WriteFault, NoMemory}
+use Rattle.cqual_tool.specs.declared.status.Status.TheVariants.{Accepted, Rejected, PathsHold, PathBad, NotYet, Malformed, BadWords, ReadFault, WriteFault, NoMemory}
 
 abbrev pub exit_of : Status → ℕ
 exit_of Accepted = 0
 exit_of Rejected = 1
+exit_of PathsHold = 0
+exit_of PathBad = 1
 exit_of Malformed = 2
 exit_of BadWords = 3
 exit_of ReadFault = 4
@@ -22,3 +26,8 @@ Says status text answer = (answer.status ≡ status) × (answer.text.items ≡ t
 abbrev pub status_of : Bool → Status
 status_of true = Accepted
 status_of false = Rejected
+
+-- of what a report comes to
+abbrev pub checked_status : Checked → Status
+checked_status Hold = PathsHold
+checked_status (Bad line code) = PathBad

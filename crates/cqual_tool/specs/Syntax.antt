@@ -1,4 +1,4 @@
--- The lines of sources whose tokens are those of no well-formed unit.
+-- The lines of files whose tokens are those of no well-formed unit.
 use Rattle.std.specs.Prelude.{ℕ, List, [], codes, length, nat_lt, if◌then◌else◌}
 use Rattle.c_lexer.specs.Tokens.{Lexed, token_spot}
 use Rattle.c_parser.specs.declared.parsing.ParseFault.{ParseFault}
@@ -12,6 +12,15 @@ abbrev pub token_line : List ℕ → Lexed → ℕ → List ℕ → List ℕ
 token_line file lexed token code =
     if nat_lt token (length lexed.tokens) then placed_line (spot_text file lexed.bytes (token_spot lexed token)) code
     else malformed_line file code
+
+-- want of memory has no code
+abbrev pub syntax_code : ParseFault → List ℕ
+syntax_code (Syntax token) = codes "S1"
+syntax_code (TooDeep token) = codes "S2"
+syntax_code (Redeclared token) = codes "N1"
+syntax_code (BadMix token) = codes "C1"
+syntax_code (BadTarget token) = codes "O1"
+syntax_code NoMemory = []
 
 -- the line of the token that is refused; want of memory has none
 abbrev pub syntax_line : List ℕ → Lexed → ParseFault → List ℕ

@@ -16,7 +16,7 @@ pub struct Answer {
     pub text: Vec<u8>,
 }
 
-/// The line of a source whose form is not built yet.
+/// The line of a source whose program is not judged.
 pub fn not_yet(alloc: Global, file: &str) -> Result<Answer, AllocError>
     ensures { IfOk result (Says Status.NotYet (not_yet_line file.now)) }
 {

@@ -127,8 +127,8 @@ pub fn lattice_refused(
     }
 }
 
-/// The answer for a fault at a spot of a source.
-fn spot_refused(
+/// The answer for a fault at a spot of a file.
+pub(crate) fn spot_refused(
     alloc: Global,
     file: &str,
     bytes: &[u8],
@@ -143,7 +143,7 @@ fn spot_refused(
     Ok(placed(alloc, &place, code)?)
 }
 
-/// The answer for a source whose bytes spell no tokens.
+/// The answer for a file whose bytes spell no tokens.
 pub fn source_refused(
     alloc: Global,
     file: &str,

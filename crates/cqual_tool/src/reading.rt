@@ -1,169 +1,150 @@
 //! Taking the files in order, and what is answered of their bytes.
 
-ghost use Rattle.std.specs.Prelude.{◌≡◌, ◌<◌, ◌≤◌, ℕ, List, IfOk, IfSome, IsErrOf, MatchOption};
-ghost use Rattle.std.specs.Prelude.{length, map, codes};
+ghost use Rattle.std.specs.Prelude.{◌≡◌, ◌∷◌, [], ℕ, List, All, Some, IfOk, IfSome, IsErrOf};
 ghost use Rattle.qual_base.specs.Counts.{GoesOn, Rose};
-ghost use Rattle.qual_base.specs.Outside.{content_of, Records};
-ghost use Rattle.lattice_core.specs.View.{LatticeView};
-ghost use Rattle.c_tree.specs.Unit.{items_of};
-ghost use Rattle.c_units.specs.Units.{IsWellFormed};
-ghost use Rattle.c_parser.specs.Parsing.{lexemes_of};
-ghost use Rattle.cqual_tool.specs.declared.status.Status.TheVariants as Statuses;
-ghost use Rattle.cqual_tool.specs.Statuses.{Says};
-ghost use Rattle.cqual_tool.specs.Texts.{malformed_line};
-ghost use Rattle.cqual_tool.specs.Words.{names_in};
-ghost use Rattle.cqual_tool.specs.Outcome.{SourceLexes, OfUnit, OfSource, OfFiles, IsDecided};
-ghost use Rattle.cqual_tool.specs.Outcome.{RecordsAll, Starts, LatticesRead, lattice_limit};
-ghost use Rattle.cqual_tool.specs.Outcome.{source_limit};
+ghost use Rattle.qual_base.specs.Outside.{content_of};
+ghost use Rattle.c_types.specs.Sources.{unit_of, units_of};
+ghost use Rattle.cqual_tool.specs.Words.{names_in as files_in};
+ghost use Rattle.cqual_tool.specs.Outcome.{IsDecided, OfFiles, OfSource, OfUnits, RecordsAll, Starts};
+ghost use Rattle.cqual_tool.specs.Preparing.{IsFormed, SourceStarts, UnitsStart};
 
-use crate::analysis::analyse;
-use crate::answer::{Answer, malformed};
-use crate::faults::{lattice_refused, source_refused};
-use crate::shapes::names_refused;
-use crate::syntax::unit_refused;
+use crate::answer::Answer;
+use crate::ending::end;
+use crate::faults::lattice_refused;
+use crate::preludes::prelude_refused;
+use crate::preparing::{Earlier, Prepared, prepare};
+use crate::taking::{LATTICE_LIMIT, SOURCE_LIMIT, Stop, taken, too_large};
 use crate::words::Named;
-use c_lexer::lex;
-use c_parser::parse;
-use c_types::{Source, resolve_source};
+use cq_prelude::{PreludeRead, read_prelude};
+use index_words::Prelude;
 use lattice_core::Lattices;
 use lattice_file::read_lattices;
-use qual_base::{Files, NoMemory, Numbered, TakeFault, UnitNo, take_all};
+use qual_base::{Files, NoMemory};
 use std::alloc::Global;
 
-/// The most bytes that a lattice file may have.
-const LATTICE_LIMIT: usize = 1_048_576;
-
-/// The most bytes that a source may have.
-const SOURCE_LIMIT: usize = 16_777_216;
-
-/// Why nothing is written.
-#[derive(Clone, Copy, PartialEq, Eq, Debug)]
-pub enum Stop {
-    ReadFault,
-    NoMemory,
-}
-
-impl From<NoMemory> for Stop {
-    ghost use Rattle.std.specs.Prelude.{◌≡◌};
-    ghost use Rattle.cqual_tool.specs.declared.reading.Stop.TheVariants as stops;
-
-    ghost from_gives = { λ _ stop. stop ≡ stops.NoMemory };
-
-    fn from(_: NoMemory) -> Stop {
-        Stop::NoMemory
+/// No unit stands before the source. Takes no memory.
+fn nothing_before<'a>(alloc: Global) -> Earlier<'a>
+    ensures sources { result.sources.items ≡ [] }
+    ensures prelude { result.prelude ≡ [] }
+{
+    Earlier {
+        sources: Vec::new(alloc),
+        prelude: Prelude::new(alloc),
     }
 }
 
-/// The bytes of a file; none where it has more than the limit.
-fn taken<F: Files>(
-    alloc: Global,
-    files: &mut F,
-    name: &str,
-    limit: usize,
-) -> Result<Option<Vec<u8>>, Stop>
-    requires { limit < usize.MAX }
-    ensures whole { IfOk result
-        (λ found. IfSome (F.contents files.old) (λ all. MatchOption found (limit
-        < length (content_of all name.now)) (λ bytes. bytes.items ≡ content_of all name.now))) }
-    ensures within { IfOk result (λ found. IfSome found (λ bytes. length bytes.items ≤ limit)) }
-    ensures read_fault { IsErrOf result Stop.ReadFault →
-        Rose (F.faults files.old) (F.faults files.new) }
-    ensures count { GoesOn (F.faults files.old) (F.faults files.new) }
-    ensures started { Records (F.started files.old) (F.started files.new) name.now }
-    ensures contents { F.contents files.new ≡ F.contents files.old }
+/// A prelude stands before the source.
+fn prelude_before<'a>(alloc: Global, read: PreludeRead<'a>) -> Result<Earlier<'a>, NoMemory>
+    ensures sources { IfOk result (λ it. it.sources.items ≡ read.entry.source ∷ []) }
+    ensures prelude { IfOk result (λ it. it.prelude ≡ read.entry.prelude) }
 {
-    match take_all(alloc, files, name, limit) {
-        Ok(bytes) => Ok(Some(bytes)),
-        Err(TakeFault::TooLarge) => Ok(None),
-        Err(TakeFault::ReadFault) => Err(Stop::ReadFault),
-        Err(TakeFault::NoMemory) => Err(Stop::NoMemory),
-    }
+    let PreludeRead { source, prelude } = read;
+    let mut sources = Vec::new(alloc);
+    sources.push(source)?;
+    Ok(Earlier { sources, prelude })
 }
 
-/// The answer for a file that has more bytes than its limit.
-fn too_large(alloc: Global, file: &str) -> Result<Answer, NoMemory>
-    ensures { IfOk result (Says Statuses.Malformed (malformed_line file.now (codes "F2"))) }
-{
-    Ok(malformed(alloc, file, b"F2")?)
-}
-
-/// The answer for a well-formed unit with its tokens.
-fn of_unit(
-    alloc: Global,
-    file: &str,
-    lattices: &Lattices,
-    source: &Source<'_>,
-) -> Result<Answer, NoMemory>
-    requires lexes { (bytes : List ℕ) × SourceLexes lattices.now bytes source.now.tokens }
-    requires formed { IsWellFormed (lexemes_of source.now.tokens) (items_of source.now.unit) }
-    ensures outcome { IfOk result (λ answer. OfUnit file.now lattices.now source.now.tokens
-        (items_of source.now.unit) answer.status answer.text.items) }
-    ensures decided { IfOk result (λ answer. IsDecided answer.status) }
-{
-    match resolve_source(alloc, source) {
-        Ok(program) => analyse(alloc, file, lattices, source, &program),
-        Err(fault) => names_refused(alloc, file, &source.tokens, fault),
-    }
-}
-
-/// The answer for the bytes of a source.
-fn of_source(
-    alloc: Global,
-    file: &str,
-    lattices: &Lattices,
-    bytes: &[u8],
-) -> Result<Answer, NoMemory>
-    requires { length bytes.now ≤ source_limit }
-    ensures outcome { IfOk result
-        (λ answer. OfSource file.now lattices.now bytes.now answer.status answer.text.items) }
-    ensures decided { IfOk result (λ answer. IsDecided answer.status) }
-{
-    let words = lattices.words(alloc)?;
-    match lex(alloc, UnitNo::new(1), bytes, &words) {
-        Ok(tokens) => match parse(alloc, &tokens) {
-            Ok(unit) => of_unit(alloc, file, lattices, &Source { unit, tokens }),
-            Err(fault) => unit_refused(alloc, file, &tokens, fault),
-        },
-        Err(fault) => source_refused(alloc, file, bytes, &fault),
-    }
-}
-
-/// Takes the source, where the lattice file has read, and answers.
+/// Takes the source, and what is asked of the program.
 fn take_source<F: Files>(
     alloc: Global,
-    file: &str,
+    named: &Named<'_>,
     lattices: &Lattices,
+    earlier: Earlier<'_>,
     files: &mut F,
 ) -> Result<Answer, Stop>
+    requires { All IsFormed (units_of earlier.sources.items) }
     ensures outcome { IfOk result (λ answer. IfSome (F.contents files.old) (λ all.
-        OfSource file.now lattices.now (content_of all file.now) answer.status answer.text.items)) }
-    ensures decided { IfOk result (λ answer. IsDecided answer.status) }
-    ensures read_fault { IsErrOf result Stop.ReadFault →
-        Rose (F.faults files.old) (F.faults files.new) }
-    ensures count { GoesOn (F.faults files.old) (F.faults files.new) }
-    ensures started { Records (F.started files.old) (F.started files.new) file.now }
-{
-    match taken(alloc, files, file, SOURCE_LIMIT)? {
-        Some(bytes) => Ok(of_source(alloc, file, lattices, &bytes)?),
-        None => Ok(too_large(alloc, file)?),
-    }
-}
-
-/// The answer for two files that are named, in the order in which they are read.
-pub fn answer<F: Files>(alloc: Global, named: Named<'_>, files: &mut F) -> Result<Answer, Stop>
-    ensures outcome { IfOk result (λ answer. IfSome (F.contents files.old)
-        (λ all. OfFiles (names_in named.entry) (content_of all named.entry.lattice.now)
-        (content_of all named.entry.source.now) answer.status answer.text.items)) }
+        OfSource (files_in named.now) (content_of all) lattices.now
+        (units_of earlier.entry.sources.items) earlier.entry.prelude answer.status answer.text.items)) }
     ensures decided { IfOk result (λ answer. IsDecided answer.status) }
     ensures read_fault { IsErrOf result Stop.ReadFault →
         Rose (F.faults files.old) (F.faults files.new) }
     ensures count { GoesOn (F.faults files.old) (F.faults files.new) }
     ensures started { (names : List (List ℕ)) × RecordsAll (F.started files.old)
-        (F.started files.new) names × Starts (names_in named.entry) (F.contents files.old) names }
+        (F.started files.new) names × SourceStarts (files_in named.now) (F.contents files.old)
+        lattices.now (units_of earlier.entry.sources.items) earlier.entry.prelude names }
+{
+    match taken(alloc, files, named.source, SOURCE_LIMIT)? {
+        Some(bytes) => match prepare(alloc, named, lattices, earlier, &bytes)? {
+            Prepared::Refused(answer) => Ok(answer),
+            Prepared::Program(ready) => end(alloc, named, lattices, &ready, files),
+        },
+        None => Ok(too_large(alloc, named.source)?),
+    }
+}
+
+/// Takes a prelude, and then the source.
+fn take_prelude<F: Files>(
+    alloc: Global,
+    named: &Named<'_>,
+    lattices: &Lattices,
+    file: &str,
+    files: &mut F,
+) -> Result<Answer, Stop>
+    requires { (files_in named.now).prelude ≡ Some file.now }
+    ensures outcome { IfOk result (λ answer. IfSome (F.contents files.old) (λ all.
+        OfUnits (files_in named.now) (content_of all) lattices.now
+        answer.status answer.text.items)) }
+    ensures decided { IfOk result (λ answer. IsDecided answer.status) }
+    ensures read_fault { IsErrOf result Stop.ReadFault →
+        Rose (F.faults files.old) (F.faults files.new) }
+    ensures count { GoesOn (F.faults files.old) (F.faults files.new) }
+    ensures started { (names : List (List ℕ)) × RecordsAll (F.started files.old)
+        (F.started files.new) names
+        × UnitsStart (files_in named.now) (F.contents files.old) lattices.now names }
+{
+    let Some(bytes) = taken(alloc, files, file, SOURCE_LIMIT)? else {
+        return Ok(too_large(alloc, file)?);
+    };
+    let words = lattices.words(alloc)?;
+    match read_prelude(alloc, &bytes, &words) {
+        Ok(read) => {
+            let earlier = prelude_before(alloc, read)?;
+            take_source(alloc, named, lattices, earlier, files)
+        }
+        Err(fault) => Ok(prelude_refused(alloc, file, &bytes, &fault)?),
+    }
+}
+
+/// Takes the prelude where one is named, and then the source.
+fn take_units<F: Files>(
+    alloc: Global,
+    named: &Named<'_>,
+    lattices: &Lattices,
+    files: &mut F,
+) -> Result<Answer, Stop>
+    ensures outcome { IfOk result (λ answer. IfSome (F.contents files.old) (λ all.
+        OfUnits (files_in named.now) (content_of all) lattices.now
+        answer.status answer.text.items)) }
+    ensures decided { IfOk result (λ answer. IsDecided answer.status) }
+    ensures read_fault { IsErrOf result Stop.ReadFault →
+        Rose (F.faults files.old) (F.faults files.new) }
+    ensures count { GoesOn (F.faults files.old) (F.faults files.new) }
+    ensures started { (names : List (List ℕ)) × RecordsAll (F.started files.old)
+        (F.started files.new) names
+        × UnitsStart (files_in named.now) (F.contents files.old) lattices.now names }
+{
+    match named.prelude {
+        Some(file) => take_prelude(alloc, named, lattices, file, files),
+        None => take_source(alloc, named, lattices, nothing_before(alloc), files),
+    }
+}
+
+/// The answer for files that are named, in the order in which they are read.
+pub fn answer<F: Files>(alloc: Global, named: &Named<'_>, files: &mut F) -> Result<Answer, Stop>
+    ensures outcome { IfOk result (λ answer. IfSome (F.contents files.old) (λ all.
+        OfFiles (files_in named.now) (content_of all) answer.status answer.text.items)) }
+    ensures decided { IfOk result (λ answer. IsDecided answer.status) }
+    ensures read_fault { IsErrOf result Stop.ReadFault →
+        Rose (F.faults files.old) (F.faults files.new) }
+    ensures count { GoesOn (F.faults files.old) (F.faults files.new) }
+    ensures started { (names : List (List ℕ)) × RecordsAll (F.started files.old)
+        (F.started files.new) names
+        × Starts (files_in named.now) (F.contents files.old) names }
 {
     match taken(alloc, files, named.lattice, LATTICE_LIMIT)? {
         Some(bytes) => match read_lattices(alloc, &bytes) {
-            Ok(lattices) => take_source(alloc, named.source, &lattices, files),
+            Ok(lattices) => take_units(alloc, named, &lattices, files),
             Err(fault) => Ok(lattice_refused(alloc, named.lattice, &fault)?),
         },
         None => Ok(too_large(alloc, named.lattice)?),

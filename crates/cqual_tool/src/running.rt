@@ -10,9 +10,10 @@ ghost use Rattle.cqual_tool.specs.Texts.{usage_line};
 ghost use Rattle.cqual_tool.specs.Sending.{AppendsFront, Sends};
 ghost use Rattle.cqual_tool.specs.Outcome.{Outcome, IsAnswer, RecordsAll, StartsFor};
 
-use crate::reading::{Stop, answer};
+use crate::reading::answer;
 use crate::sending::send;
 use crate::status::Status;
+use crate::taking::Stop;
 use crate::words::meaning;
 use qual_base::{Files, Sink};
 use std::alloc::Global;
@@ -36,8 +37,8 @@ fn finish<O: Sink>(out: &mut O, status: Status, text: &[u8]) -> Status
 
 /// Reads the files that the words name, decides, and writes the whole text of the answer.
 ///
-/// The words are those after the program's name: `--lattice FILE SOURCE`. Nothing is written before everything is
-/// decided.
+/// The words are those after the program's name: `--lattice FILE [--prelude FILE] [--check REPORT] SOURCE`. Nothing is written
+/// before everything is decided.
 pub fn run<F: Files, O: Sink>(alloc: Global, words: &[String], files: &mut F, out: &mut O) -> Status
     // Where no read and no write failed and memory was found, the status and the bytes that were written are those of the
     // words and of the whole contents of the files.
@@ -69,7 +70,7 @@ pub fn run<F: Files, O: Sink>(alloc: Global, words: &[String], files: &mut F, ou
     ensures writes { GoesOn (O.faults out.old) (O.faults out.new) }
 {
     match meaning(words) {
-        Some(named) => match answer(alloc, named, files) {
+        Some(named) => match answer(alloc, &named, files) {
             Ok(answer) => finish(out, answer.status, &answer.text),
             Err(Stop::ReadFault) => Status::ReadFault,
             Err(Stop::NoMemory) => Status::NoMemory,

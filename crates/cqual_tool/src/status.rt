@@ -10,9 +10,13 @@ pub enum Status {
     Accepted,
     /// It has none at some depth; the rejected report was written.
     Rejected,
-    /// The source has a form that is not built yet.
+    /// The report reads, and all its path proofs hold.
+    PathsHold,
+    /// The report does not read, or a path proof of it fails.
+    PathBad,
+    /// The flows of the program leave their functions, so that it is not judged.
     NotYet,
-    /// A file is past its limit or does not read, or the program has too many constraints.
+    /// A file is past its limit or does not read, or the program has too many variables or constraints.
     Malformed,
     /// The words have no meaning.
     BadWords,
@@ -32,6 +36,8 @@ impl Status {
         match self {
             Status::Accepted => 0,
             Status::Rejected => 1,
+            Status::PathsHold => 0,
+            Status::PathBad => 1,
             Status::Malformed => 2,
             Status::BadWords => 3,
             Status::ReadFault => 4,

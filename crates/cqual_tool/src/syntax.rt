@@ -1,10 +1,10 @@
-//! The answers for sources that are no well-formed unit.
+//! The answers for files that are no well-formed unit.
 
-ghost use Rattle.std.specs.Prelude.{◌≢◌, IfOk};
+ghost use Rattle.std.specs.Prelude.{◌≡◌, ◌≢◌, IfOk};
 ghost use Rattle.c_parser.specs.declared.parsing.ParseFault.TheVariants as Stops;
 ghost use Rattle.cqual_tool.specs.declared.status.Status.TheVariants as Statuses;
 ghost use Rattle.cqual_tool.specs.Statuses.{Says};
-ghost use Rattle.cqual_tool.specs.Syntax.{syntax_line, token_line};
+ghost use Rattle.cqual_tool.specs.Syntax.{syntax_code, syntax_line, token_line};
 
 use crate::answer::{Answer, malformed, placed};
 use annotate::put_spot;
@@ -31,6 +31,20 @@ pub(crate) fn token_refused(
     let spot = tokens.place_of(token);
     put_spot(&mut place, file, tokens.unit_bytes(), &spot)?;
     Ok(placed(alloc, &place, code)?)
+}
+
+/// The code of a fault; none for want of memory.
+pub fn code_of(fault: &ParseFault) -> &'static [u8]
+    ensures { result.now ≡ syntax_code fault.now }
+{
+    match fault {
+        ParseFault::Syntax(_) => b"S1",
+        ParseFault::TooDeep(_) => b"S2",
+        ParseFault::Redeclared(_) => b"N1",
+        ParseFault::BadMix(_) => b"C1",
+        ParseFault::BadTarget(_) => b"O1",
+        ParseFault::NoMemory => b"",
+    }
 }
 
 /// The answer for tokens that are those of no well-formed unit.

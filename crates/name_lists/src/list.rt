@@ -1,6 +1,6 @@
 //! A list of names, each with something that it stands for.
 
-ghost use Rattle.std.specs.Prelude.{◌≡◌, ◌∷◌, [], OnOk, OnErr};
+ghost use Rattle.std.specs.Prelude.{◌≡◌, ◌∷◌, [], OnOk, OnErr, reverse};
 ghost use Rattle.name_lists.specs.Newest.{newest};
 
 use qual_base::{NameId, NoMemory};
@@ -44,6 +44,13 @@ impl<V: Copy + Drop> NameList<V> {
         ensures { result ≡ newest self.now name }
     {
         self.newest.get(&name).copied()
+    }
+
+    /// The entries, the oldest first. Constant time.
+    pub fn as_slice(&self) -> &[(NameId, V)]
+        ensures { reverse result.now ≡ self.now }
+    {
+        self.entries.as_slice()
     }
 
     /// Adds an entry. For want of memory the list stays as it was. Constant time but for growth.

@@ -1,6 +1,6 @@
 //! One scope.
 
-ghost use Rattle.std.specs.Prelude.{◌≡◌, ◌∷◌, OnOk, OnErr};
+ghost use Rattle.std.specs.Prelude.{◌≡◌, ◌∷◌, OnOk, OnErr, reverse};
 ghost use Rattle.name_lists.specs.Newest.{newest};
 ghost use Rattle.name_scopes.specs.Meanings.{tag_found, no_scope, with_name, with_tag};
 
@@ -36,6 +36,13 @@ impl Scope {
             names: NameList::new(alloc),
             tags: Tags::new(alloc),
         }
+    }
+
+    /// The names with what they stand for, the oldest first. Constant time.
+    pub fn names(&self) -> &[(NameId, Meant)]
+        ensures { reverse result.now ≡ self.now.names }
+    {
+        self.names.as_slice()
     }
 
     /// What the scope says of a name. Takes no memory, and constant time.

@@ -123,7 +123,7 @@ skeletons_at_are_owned functions starts p start e =
 -- parts of skeletons
 
 module _ (own : ℕ → Owner) (owner : Owner) where
-  front : (xs ys : List ℕ) → AllIn own owner (xs ++ ys) → AllIn own owner xs
+  pub front : (xs ys : List ℕ) → AllIn own owner (xs ++ ys) → AllIn own owner xs
   front [] ys h = tt
   front (x ∷ xs) ys h = (h.0, front xs ys h.1)
 

@@ -1,5 +1,6 @@
 mod Belonging
 mod Fitting
+mod Indexing
 mod Instances
 mod Intervals
 mod Rows

@@ -20,12 +20,14 @@ use Rattle.flow_rules.specs.Owners.{IsIn, AllIn, AllStay}
 use Rattle.row_rules.specs.Worlds.{World, all_lattices, constraint, word_span, skeleton}
 use Rattle.row_rules.specs.Annotations.{Annotation, entry_at, signed, links_of_entry, alone, marked, annotation_constraints, annotated, annotating, bounds_of, bounds_from, write_bounds, deref_bounds, uncut, parameters}
 use Rattle.row_rules.specs.Vals.{Val, contents, is_fun, is_ref, is_void, result, value, read}
-use Rattle.row_rules.specs.Rows.{flowing, dereferenced, is_plus_or_minus, assigned, is_logical, prefixed, passed, cast_demand, returned, annotating_name, name_row, into_param, param_row, started}
+use Rattle.row_rules.specs.Rows.{flowing, dereferenced, is_plus_or_minus, assigned, is_logical, prefixed, passed, cast_demand, returned, annotating_name, name_row, into_param, param_row, started, tied_to_first}
+use Rattle.row_rules.specs.Indexing.{indexing}
 use Rattle.name_rules.specs.Values.{is_additive}
 use Rattle.name_rules.specs.Scopes.{Declared, is_place}
 use Rattle.owner_laws.specs.Fitting.{AllFit}
 use Rattle.owner_laws.specs.Rows.{Inside, SomeInside, SomeIn, RowsFit}
 use Rattle.owner_laws.proofs.Fitting.{lists_fit, staying_fits, parts_stay, back}
+use Rattle.owner_laws.proofs.Indexing.{indexing_fits, root_in}
 
 -- the laws of flow lists that rows stand on
 pub record Flows : Type 0 where
@@ -162,10 +164,12 @@ module _ (law : Flows) (sys : System) (owner : Owner) (w : World) where
       AllFit sys (name_row w d)
   name_fits d h k =
       lists_fit sys (annotating_name w d) _ (annotations_fit sys w (annotated w (pointer [] d.type) (skeleton w d.at)))
+      (lists_fit sys (indexing w (pointer [] d.type) (skeleton w d.at)) (tied_to_first w d)
+      (indexing_fits sys owner w (pointer [] d.type) (skeleton w d.at) k)
       (none_where sys (is_place d.first d.at) _
       (staying_fits sys owner (all_lattices w) (word_span d.at)
       (equal Flow true (skeleton w d.first) (skeleton w d.at))
-      (law.made_equal (owner_of sys) owner (skeleton w d.first) (skeleton w d.at) h k)))
+      (law.made_equal (owner_of sys) owner (skeleton w d.first) (skeleton w d.at) h k))))
 
   into_param_fits : (t : Option Skel) (d : Declared) → ((s : Skel) → t ≡ Some s → Inside sys owner s) →
       Inside sys owner (skeleton w d.at) → AllFit sys (into_param w t d)
@@ -185,11 +189,6 @@ module _ (law : Flows) (sys : System) (owner : Owner) (w : World) where
 
   -- further arguments
 
-  root_in : (s : Skel) → Inside sys owner s → IsIn (owner_of sys) owner (root s)
-  root_in (flat v k) h = h.0
-  root_in (ref v s) h = h.0
-  root_in (fun v ps r e) h = h.0
-
   started_fits : (f : Option Skel) (list : Skel) (where_ : Span) → SomeInside sys owner f →
       Inside sys owner list → AllFit sys (started w f list where_)
   started_fits None list where_ h k = tt
@@ -199,7 +198,7 @@ module _ (law : Flows) (sys : System) (owner : Owner) (w : World) where
   started_fits (Some (fun v ps r (Some e))) list where_ h k =
       let all : AllIn (owner_of sys) owner (nodes r ++ e ∷ []) =
       back (owner_of sys) owner (all_nodes ps) (nodes r ++ e ∷ []) h.1 in
-      (record { owner = owner; from = (back (owner_of sys) owner (nodes r) (e ∷ []) all).0; to = root_in list k }, tt)
+      (record { owner = owner; from = (back (owner_of sys) owner (nodes r) (e ∷ []) all).0; to = root_in (owner_of sys) owner list k }, tt)
 
 pub rows_fit : Flows → RowsFit
 rows_fit law sys owner w = record {

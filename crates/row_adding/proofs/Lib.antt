@@ -1,7 +1,10 @@
 mod Bounding
+mod Comparing
 mod Crossing
 mod Cutting
+mod Gathering
 mod Lists
 mod Noding
+mod Rowing
 mod Sorting
 mod Wording

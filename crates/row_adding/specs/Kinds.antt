@@ -1,12 +1,12 @@
 -- Rows of declared names.
-use Rattle.std.specs.Prelude.{ℕ, true, List, [], if◌then◌else◌}
+use Rattle.std.specs.Prelude.{ℕ, List, []}
 use Rattle.flow_graph.specs.declared.constraint.Constraint.{Constraint}
-use Rattle.flow_rules.specs.declared.arrow.Arrow.TheVariants.{Flow}
-use Rattle.flow_rules.specs.Lists.{equal}
-use Rattle.name_rules.specs.Scopes.{Declared, is_place}
+use Rattle.type_table.specs.Types.{pointer}
+use Rattle.name_rules.specs.Scopes.{Declared}
 use Rattle.qual_types.specs.Skel.{Skel}
+use Rattle.row_rules.specs.Indexing.{indexing}
 use Rattle.row_rules.specs.Rows as rows
-use Rattle.row_rules.specs.Worlds.{World, in_all, skeleton, word_span}
+use Rattle.row_rules.specs.Worlds.{World, skeleton}
 use Rattle.row_adding.specs.declared.naming.RowKind.{RowKind}
 use Rattle.row_adding.specs.declared.naming.RowKind.TheVariants as kinds
 
@@ -16,6 +16,6 @@ kind_of t kinds.Nothing = rows.no_row
 kind_of t kinds.Name = rows.row_of_name
 kind_of t (kinds.Parameter own i) = rows.row_of_param (t own) i
 
--- a further declaration is as the first
-abbrev pub further_row : World → Declared → List Constraint
-further_row w d = if is_place d.first d.at then [] else in_all w (word_span d.at) (equal Flow true (skeleton w d.first) (skeleton w d.at))
+-- what the index words of a declared name say
+abbrev pub index_row : World → Declared → List Constraint
+index_row w d = indexing w (pointer [] d.type) (skeleton w d.at)

@@ -197,7 +197,7 @@ fn annotate_both(
 }
 
 /// The first of some types, and the others.
-fn parted(types: &[TypeId]) -> Option<(TypeId, &[TypeId])>
+pub(crate) fn parted(types: &[TypeId]) -> Option<(TypeId, &[TypeId])>
     ensures { MatchOption result (types.now ≡ []) (λ x. types.now ≡ x.0 ∷ x.1.now) }
 {
     match types {
@@ -207,7 +207,7 @@ fn parted(types: &[TypeId]) -> Option<(TypeId, &[TypeId])>
 }
 
 /// What a reference holds; of what is none, itself.
-fn inner(vars: &VarTable, at: SkelId) -> SkelId
+pub(crate) fn inner(vars: &VarTable, at: SkelId) -> SkelId
     ensures { skel_of vars.now result ≡ rules.inner (skel_of vars.now at) }
 {
     match vars.look(at) {

@@ -7,7 +7,10 @@
 mod annotating;
 mod bounds;
 mod casts;
+mod collecting;
 mod flows;
+mod indexed;
+mod indexing;
 mod marks;
 mod naming;
 mod operators;

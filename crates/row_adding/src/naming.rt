@@ -9,10 +9,11 @@ ghost use Rattle.row_rules.specs.Annotations as rules;
 ghost use Rattle.row_rules.specs.Rows as rows;
 ghost use Rattle.row_world.specs.Shown.{skel, type};
 ghost use Rattle.row_adding.specs.Adding.{Adds, Halts};
-ghost use Rattle.row_adding.specs.Kinds.{kind_of, further_row};
+ghost use Rattle.row_adding.specs.Kinds.{kind_of, index_row};
 
 use crate::annotating::annotate_place;
 use crate::flows::{equate_in_all, flow_in_all};
+use crate::indexing::index_place;
 use crate::marks::word_span;
 use flow_graph::{FlowGraph, GraphFault};
 use name_records::{Declared, Role};
@@ -55,9 +56,9 @@ pub fn annotate_name(
 /// A further declaration is as the first.
 fn as_first(known: &Known, graph: &mut FlowGraph, declared: &Declared) -> Result<(), GraphFault>
     ensures ok { OnOk result (Adds known.now graph.old graph.new
-        (λ w. further_row w (declared_of (type known.now) declared.now))) }
+        (λ w. rows.tied_to_first w (declared_of (type known.now) declared.now))) }
     ensures err { IfErr result (λ fault. Halts known.now graph.old graph.new fault
-        (λ w. further_row w (declared_of (type known.now) declared.now))) }
+        (λ w. rows.tied_to_first w (declared_of (type known.now) declared.now))) }
 {
     if is_place(&declared.first, &declared.at) {
         return Ok(());
@@ -67,7 +68,24 @@ fn as_first(known: &Known, graph: &mut FlowGraph, declared: &Declared) -> Result
     equate_in_all(known, graph, first, here, &word_span(&declared.at))
 }
 
-/// A declared name: its annotations, and, where it is a further declaration, it is as the first.
+/// What the index words of a declared name give.
+fn index_name(
+    alloc: Global,
+    known: &Known,
+    graph: &mut FlowGraph,
+    declared: &Declared,
+) -> Result<(), GraphFault>
+    ensures ok { OnOk result (Adds known.now graph.old graph.new (λ w.
+        index_row w (declared_of (type known.now) declared.now))) }
+    ensures err { IfErr result (λ fault. Halts known.now graph.old graph.new fault (λ w.
+        index_row w (declared_of (type known.now) declared.now))) }
+{
+    let at = known.skeleton(&declared.at);
+    index_place(alloc, known, graph, declared.ty, at)
+}
+
+/// A declared name: its annotations, what its index words say, and, where it is a further declaration, it is as the first. A step
+/// for each two nodes with index words, besides, and each two of their numbers.
 pub fn name(
     alloc: Global,
     known: &Known,
@@ -80,6 +98,7 @@ pub fn name(
         (λ w. rows.name_row w (declared_of (type known.now) declared.now))) }
 {
     annotate_name(alloc, known, graph, declared)?;
+    index_name(alloc, known, graph, declared)?;
     as_first(known, graph, declared)
 }
 

@@ -21,21 +21,22 @@ use Rattle.tape_ops.specs.declared.statement.StmtOp.TheVariants as stmts
 use Rattle.type_table.specs.Types.{Words, CType, base, void, struct, pointer, function, CTypes, no_types, more_types, words_of, words_or_none}
 use Rattle.qual_types.specs.declared.look.Kind.TheVariants as kinds
 use Rattle.qual_types.specs.Skel.{Skel, flat, ref, fun, Skels, no_skels, more_skels, root, param_at}
-use Rattle.flow_rules.specs.declared.arrow.Arrow.TheVariants.{Flow}
-use Rattle.flow_rules.specs.Lists.{equal, unsmash}
+use Rattle.flow_rules.specs.Lists.{unsmash}
 use Rattle.name_rules.specs.Spellings.{Place}
-use Rattle.name_rules.specs.Scopes.{Role, typedef_role, object_role, function_role, parameter_role, field_role, enumerator_role, Declared, declared_at, Use, means, called, missing, Known, Own, is_place}
+use Rattle.name_rules.specs.Scopes.{Role, typedef_role, object_role, function_role, parameter_role, field_role, enumerator_role, Declared, declared_at, Use, means, called, missing, Known, Own}
 use Rattle.name_rules.specs.Uses.{use_at}
 use Rattle.shape_steps.specs.State.{declared_last, changed}
-use Rattle.row_rules.specs.Worlds.{World, at, span, in_all, skeleton, word_span}
+use Rattle.row_rules.specs.Worlds.{World, at, span, in_all, skeleton}
 use Rattle.row_rules.specs.Annotations.{Annotation, is_reference_mark, is_reference_word, words_of_level, sorted, annotations_at, some_annotations_at, inner, parameters, outcome, further, annotated, annotated_params, marked, annotation_constraints, annotating, names_lattice, all_words, uncut_from, uncut}
 use Rattle.row_rules.specs.Vals.{Val, a_place, contents, struct_of, member_of, known_skeleton, member_skel, prefix_of, used_by_role, used_some, used, own}
-use Rattle.row_rules.specs.Rows.{flowing, prefixed, passed, instance, some_instance, use_demand, annotating_some, cast_demand, annotating_name, name_row, declared_row, some_declared_row, into_param, param_row, RowKind, no_row, row_of_name, row_of_param, row_at, returned, started, own_skel, behind_known, annotating_place, by_role, by_first, initialised_at}
+use Rattle.row_rules.specs.Rows.{flowing, prefixed, passed, instance, some_instance, use_demand, annotating_some, cast_demand, annotating_name, name_row, declared_row, some_declared_row, into_param, param_row, RowKind, no_row, row_of_name, row_of_param, row_at, returned, started, own_skel, behind_known, annotating_place, by_role, by_first, initialised_at, tied_to_first}
+use Rattle.row_rules.specs.Indexing.{indexing}
 use Rattle.row_steps.specs.Rounds.{Naming, a_name, own_param, other_param, naming, is_quiet}
 use Rattle.row_steps.specs.State.{Operand, Braces, whole, untargeted, listed, State, put, val_at, value_at, is_zero_at, type_at, first_operand, type_of_operand, operands_below, first_braces}
 use Rattle.row_steps.specs.Steps.{item_target, target_in, list_of, with_member, initialised_by, gone_through, expr_step, form_step, init_step, declr_step, stack_step, with_round_step, step, run}
 use Rattle.row_steps.specs.OpRows.{function_skeleton, some_param_row, naming_row, into_target, expr_row, form_row, init_row, declr_row, stmt_row, loud_row, op_row}
 use Rattle.row_steps.specs.Found.{rows_found}
+use Rattle.row_laws.proofs.Indexing.{indexing_alike}
 
 -- a world with another function around
 abbrev pub inside : Option Skel → World → World
@@ -305,10 +306,11 @@ module _ (w : World) (o : Option Skel) where
 
   name_alike : (d : Declared) → name_row (inside o w) d ≡ name_row w d
   name_alike d =
-      ap (λ (rows : List Constraint). rows ++ is_as_first) (annotating_alike (pointer [] d.type) (skeleton w d.at))
-    where
-      is_as_first : List Constraint
-      is_as_first = if is_place d.first d.at then [] else in_all w (word_span d.at) (equal Flow true (skeleton w d.first) (skeleton w d.at))
+      ap (λ (rows : List Constraint). rows
+      ++ (indexing (inside o w) (pointer [] d.type) (skeleton w d.at) ++ tied_to_first w d))
+      (annotating_alike (pointer [] d.type) (skeleton w d.at))
+      ∙ ap (λ (rows : List Constraint). annotating_name w d ++ (rows ++ tied_to_first w d))
+      (indexing_alike w o (pointer [] d.type) (skeleton w d.at))
 
   declared_alike : (d : Declared) (role : Role) → declared_row (inside o w) d role ≡ declared_row w d role
   declared_alike d typedef_role = refl

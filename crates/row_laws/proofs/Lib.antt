@@ -1,6 +1,7 @@
 mod Alike
 mod Goes
 mod Idle
+mod Indexing
 mod Parts
 mod Rules
 mod Stacks

@@ -1,4 +1,5 @@
 pub mod Annotations
+pub mod Indexing
 pub mod Rows
 pub mod Sites
 pub mod Starting

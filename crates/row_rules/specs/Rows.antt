@@ -13,6 +13,7 @@ use Rattle.name_rules.specs.Spellings.{Place, Named}
 use Rattle.name_rules.specs.Scopes.{Role, typedef_role, object_role, function_role, parameter_role, field_role, enumerator_role, Declared, declared_at, Use, means, called, missing, Known, Own, is_place}
 use Rattle.name_rules.specs.Values.{is_additive, own_of, own_number}
 use Rattle.row_rules.specs.Annotations.{annotating, deref_bounds, further, parameters, uncut, write_bounds}
+use Rattle.row_rules.specs.Indexing.{indexing}
 use Rattle.row_rules.specs.Vals.{Val, contents, is_fun, is_ref, is_void, own, result, value}
 use Rattle.row_rules.specs.Worlds.{World, all_lattices, at, constraints, in_all, site_number, skeleton, span, word_span}
 
@@ -104,10 +105,14 @@ cast_demand w (Some type) is_zero a t where_ = annotating w type t ++ (if nat_eq
 abbrev pub annotating_name : World → Declared → List Constraint
 annotating_name w d = annotating w (pointer [] d.type) (skeleton w d.at)
 
--- a declared name: its annotations, and, where it is a further declaration, it is as the first
+-- a further declaration is as the first
+abbrev pub tied_to_first : World → Declared → List Constraint
+tied_to_first w d =
+    if is_place d.first d.at then [] else in_all w (word_span d.at) (equal Flow true (skeleton w d.first) (skeleton w d.at))
+
+-- a declared name: its annotations, what its index words say, and that it is as the first
 abbrev pub name_row : World → Declared → List Constraint
-name_row w d = annotating_name w d
-    ++ (if is_place d.first d.at then [] else in_all w (word_span d.at) (equal Flow true (skeleton w d.first) (skeleton w d.at)))
+name_row w d = annotating_name w d ++ (indexing w (pointer [] d.type) (skeleton w d.at) ++ tied_to_first w d)
 
 abbrev pub declared_row : World → Declared → Role → List Constraint
 declared_row w d typedef_role = []

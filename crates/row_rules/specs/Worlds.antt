@@ -30,6 +30,8 @@ pub record World : Type 0 where
   pub lattices : List LatticeView
   -- the lattice and the element that an annotation word names
   pub mark : Place → Option (ℕ × ℕ)
+  -- the numbers of an index word of a prelude, and none where there is no such word
+  pub index : Place → List ℕ
   -- the function whose body this is in: what its own name is declared with there
   pub own : Option Skel
 

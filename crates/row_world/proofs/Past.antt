@@ -1,9 +1,9 @@
 -- Numbers past a table, and what two words say of one thing.
-use Rattle.std.proofs.Common.{◌≡◌, ℕ, zero, suc, ◌+◌, ◌-◌, ◌<◌, ◌≤◌, ◌^◌, arith, List, [], ◌∷◌, length, slice_get, unwrap_or, Option, Some, None, option_map, refl, sym, ◌∙◌, ap}
+use Rattle.std.proofs.Common.{◌≡◌, ℕ, zero, suc, ◌+◌, ◌≤◌, arith, List, [], ◌∷◌, length, slice_get, unwrap_or, Option, None, option_map, refl, ◌∙◌, ap}
 use Rattle.qual_types.specs.declared.row.Row.{Row}
 use Rattle.qual_types.specs.declared.look.Kind.TheVariants as kinds
-use Rattle.qual_types.specs.Skel.{Skel, flat, ref, fun, Skels, params_of, param_at}
-use Rattle.qual_types.specs.Rows.{Seen, nothing, seen_at, all_seen, skel_of}
+use Rattle.qual_types.specs.Skel.{Skel, flat, ref, fun, params_of, param_at}
+use Rattle.qual_types.specs.Rows.{Seen, nothing, all_seen, skel_of}
 use Rattle.row_rules.specs.Annotations.{parameters}
 
 seen_length : (n : ℕ) (rows : List Row) → length (all_seen n rows) ≡ length rows

@@ -1,14 +1,11 @@
 -- What is known is what a world has.
-use Rattle.std.proofs.Common.{◌≡◌, ℕ, List, Option, option_map, slice_get, refl, sym, ◌∙◌, ap}
+use Rattle.std.proofs.Common.{◌≡◌, ℕ, Option, option_map, sym, ◌∙◌, ap}
 use Rattle.type_table.specs.Types.{CType}
-use Rattle.type_table.specs.Rows.{type_of}
 use Rattle.name_rules.specs.Spellings.{Place}
 use Rattle.name_rules.specs.Scopes as rules
 use Rattle.name_rules.specs.Uses.{use_at, type_named_at}
-use Rattle.name_rules.specs.Values as values
 use Rattle.name_records.specs.declared.declarations.Declared.{Declared}
 use Rattle.name_records.specs.declared.records.Use.{Use}
-use Rattle.unit_names.specs.declared.names.Names.{Names}
 use Rattle.unit_names.specs.Shown.{names_of, use_of, declared_of}
 use Rattle.row_rules.specs.Worlds.{World, at, skeleton}
 use Rattle.row_rules.specs.Vals.{own}

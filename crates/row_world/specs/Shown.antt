@@ -11,6 +11,7 @@ use Rattle.name_rules.specs.Spellings.{Place}
 use Rattle.unit_spelling.specs.Spelled.{spelling_of}
 use Rattle.unit_names.specs.Shown.{names_of}
 use Rattle.place_map.specs.Values.{value_at}
+use Rattle.index_words.specs.Marks.{index_in}
 use Rattle.row_rules.specs.Worlds.{World, skeleton, site_number}
 use Rattle.row_rules.specs.Vals.{Val}
 use Rattle.row_rules.specs.Annotations.{entry_of_view}
@@ -38,7 +39,8 @@ abbrev pub val : Known → Operand → Val
 val known it = val_in known.vars.now it
 
 -- What is known shows a world: names with the types of a table in place of their numbers, the skeleton at each place by its
--- number, the number of each call site that there is, what annotation words name. Whose body this is in is left open.
+-- number, the number of each call site that there is, what annotation words name, and the numbers of index words. Whose body this
+-- is in is left open.
 pub record Shows (known : Known) (w : World) : Type 0 where
   pub spelling : w.spelling ≡ spelling_of known.spelling.now
   pub names : w.names ≡ names_of (type_of known.types.now) known.names.now
@@ -46,6 +48,7 @@ pub record Shows (known : Known) (w : World) : Type 0 where
   pub sites : (p : Place) (n : ℕ) → value_at known.sites.now p ≡ Some n → n ≡ site_number w p
   pub lattices : w.lattices ≡ known.lattices.now
   pub marks : (p : Place) → value_at known.marks.now p ≡ w.mark p
+  pub index : (p : Place) → w.index p ≡ index_in known.prelude.now p
 
 -- the element that a mark names in some lattices, with its attributes
 abbrev pub entry_of : List LatticeView → ℕ × ℕ → Option Entry

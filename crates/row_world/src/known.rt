@@ -7,6 +7,7 @@ ghost use Rattle.row_rules.specs.Vals.{own};
 ghost use Rattle.row_world.specs.Shown.{Shows, skel};
 
 use found_names::FoundNames;
+use index_words::Prelude;
 use lattice_core::Lattices;
 use name_scopes::Place;
 use place_map::PlaceMap;
@@ -31,6 +32,8 @@ pub struct Known<'a> {
     pub lattices: &'a Lattices,
     /// The lattice and the element that the annotation word at a place names.
     pub marks: &'a PlaceMap<(LatticeNo, Elem)>,
+    /// The index words of unit 0, where that is a prelude.
+    pub prelude: &'a Prelude,
 }
 
 impl<'a> Known<'a> {

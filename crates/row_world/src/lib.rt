@@ -1,6 +1,7 @@
-//! What does not change while constraints are made, found at once: skeletons, uses, declarations, members, call sites, marks.
+//! What does not change while constraints are made, found at once: skeletons, uses, declarations, members, call sites, marks, index words.
 #![tactic(auto)]
 
+mod indexing;
 mod known;
 mod lattices;
 mod names;

@@ -3,4 +3,4 @@
 
 mod reading;
 
-pub use reading::marks;
+pub use reading::add_marks;

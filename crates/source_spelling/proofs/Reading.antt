@@ -5,7 +5,8 @@ use Rattle.c_words.specs.declared.kinds.TokenKind.{TokenKind}
 use Rattle.c_lexer.specs.declared.token.Token.{Token}
 use Rattle.c_lexer.specs.Tokens.{Lexed, mark_of_kind}
 use Rattle.name_rules.specs.Spellings.{Spelling}
-use Rattle.source_spelling.specs.Tokens.{is_index, is_annotation, is_zero_text, is_zero, holds_of_some, holds_at, spelling_in}
+use Rattle.source_spelling.specs.Tokens.{is_index, is_annotation, is_zero_text, is_zero, holds_of_some, holds_at, key_behind, spelling_behind}
+use Rattle.source_spelling.specs.Keys.{own_or}
 
 some_is : {A : Type 0} (x y : A) → ◌≡◌ {A = Option A} (Some x) (Some y) → x ≡ y
 some_is {A} x y is = ap (λ (o : Option A). unwrap_or o x) is
@@ -72,23 +73,20 @@ abbrev spelled_by : ℕ → (ℕ → Bool) → (ℕ → Bool) → (ℕ → ℕ) 
 spelled_by unit annotates is_naught key =
     record { unit = unit; annotates = annotates; is_naught = is_naught; key = key }
 
-own_key : (n : ℕ) → unwrap_or (slice_get [] n) n ≡ n
-own_key n = refl
-
-pub spelled_is : (lexed : Lexed) (unit : ℕ) (words zeros : List Bool) (keys : List ℕ) → unit ≡ lexed.unit
-    → words ≡ map (is_annotation lexed) lexed.tokens → zeros ≡ map (is_zero lexed) lexed.tokens → keys ≡ []
-    → spelled unit words zeros keys ≡ spelling_in lexed
-spelled_is lexed unit words zeros keys u w z k =
+pub spelled_is : (units : List Lexed) (lexed : Lexed) (unit : ℕ) (words zeros : List Bool) (keys : List ℕ)
+    → unit ≡ lexed.unit → words ≡ map (is_annotation lexed) lexed.tokens → zeros ≡ map (is_zero lexed) lexed.tokens
+    → ((n : ℕ) → own_or keys n ≡ key_behind units lexed n)
+    → spelled unit words zeros keys ≡ spelling_behind units lexed
+spelled_is units lexed unit words zeros keys u w z k =
     let all_words = map (is_annotation lexed) lexed.tokens in
     let all_zeros = map (is_zero lexed) lexed.tokens in
     let word : ℕ → Bool = λ n. holds_at (is_annotation lexed) lexed.tokens n in
     let zero_there : ℕ → Bool = λ n. holds_at (is_zero lexed) lexed.tokens n in
     let read_zero : ℕ → Bool = λ n. unwrap_or (slice_get all_zeros n) false in
-    let read_key : ℕ → ℕ = λ n. unwrap_or (slice_get [] n) n in
+    let read_key : ℕ → ℕ = λ n. unwrap_or (slice_get keys n) n in
     ap (λ (u : ℕ). spelled u words zeros keys) u ∙ ap (λ (ws : List Bool). spelled lexed.unit ws zeros keys) w
     ∙ ap (λ (zs : List Bool). spelled lexed.unit all_words zs keys) z
-    ∙ ap (λ (ks : List ℕ). spelled lexed.unit all_words all_zeros ks) k
     ∙ ap (λ (f : ℕ → Bool). spelled_by lexed.unit f read_zero read_key)
     (fun_ext (λ n. read_at (is_annotation lexed) lexed.tokens n))
     ∙ ap (λ (f : ℕ → Bool). spelled_by lexed.unit word f read_key) (fun_ext (λ n. read_at (is_zero lexed) lexed.tokens n))
-    ∙ ap (λ (f : ℕ → ℕ). spelled_by lexed.unit word zero_there f) (fun_ext (λ n. own_key n))
+    ∙ ap (λ (f : ℕ → ℕ). spelled_by lexed.unit word zero_there f) (fun_ext (λ n. k n))

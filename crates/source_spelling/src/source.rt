@@ -1,9 +1,12 @@
 //! The spelling of a unit from its tokens.
 
-ghost use Rattle.std.specs.Prelude.{◌≡◌, ◌<◌, length, map, slice_get, IfOk};
+ghost use Rattle.std.specs.Prelude.{◌≡◌, ◌<◌, List, length, map, slice_get, IfOk};
+ghost use Rattle.c_lexer.specs.Tokens.{Lexed};
 ghost use Rattle.unit_spelling.specs.Spelled.{spelling_of};
-ghost use Rattle.source_spelling.specs.Tokens.{is_annotation, is_index, is_zero, is_zero_text, holds_at, spelling_in};
+ghost use Rattle.source_spelling.specs.Tokens.{is_annotation, is_index, is_zero, is_zero_text, holds_at, spelling_behind};
+ghost use Rattle.source_spelling.specs.Keys.{AreNamesOf};
 
+use crate::earlier::EarlierNames;
 use c_lexer::Tokens;
 use c_words::TokenKind;
 use qual_base::{NoMemory, Numbered, TokenId};
@@ -86,17 +89,23 @@ fn zeros(alloc: Global, tokens: &Tokens) -> Result<Vec<bool>, NoMemory>
     Ok(all)
 }
 
-/// What the tokens of a unit say that its tape does not. The key of a name is its number, as it is in
-/// a unit that is alone. Linear in the tokens.
-pub fn spelling(alloc: Global, tokens: &Tokens) -> Result<Spelling, NoMemory>
-    ensures { IfOk result (λ it. spelling_of it ≡ spelling_in tokens.now) }
+/// What the tokens of a unit say that its tape does not, where these are the names of the units before it: names that are spelled
+/// alike have one key in all of them. Linear in the tokens and their bytes.
+pub fn spelling_behind(
+    alloc: Global,
+    earlier: &EarlierNames,
+    tokens: &Tokens,
+) -> Result<Spelling, NoMemory>
+    ensures { IfOk result (λ it. (units : List Lexed) → AreNamesOf units earlier.now
+        → spelling_of it ≡ spelling_behind units tokens.now) }
 {
     let annotates = annotations(alloc, tokens)?;
     let is_naught = zeros(alloc, tokens)?;
+    let keys = earlier.keys(alloc, tokens)?;
     Ok(Spelling {
         unit: tokens.unit(),
         annotates,
         is_naught,
-        keys: Vec::new(alloc),
+        keys,
     })
 }

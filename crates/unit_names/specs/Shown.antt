@@ -1,7 +1,6 @@
 -- What a program holds of names, with types in place of their numbers.
-use Rattle.std.specs.Prelude.{ℕ, List, map, Option, option_map}
+use Rattle.std.specs.Prelude.{ℕ, map, option_map}
 use Rattle.type_table.specs.Types.{CType}
-use Rattle.name_rules.specs.Spellings.{Place}
 use Rattle.name_rules.specs.Scopes as rules
 use Rattle.name_rules.specs.Faults as fault_rules
 use Rattle.name_scopes.specs.declared.meant.Meant.{Meant}

@@ -5,5 +5,6 @@ mod facts;
 mod found;
 mod names;
 mod scope;
+mod shared;
 
 pub use names::Names;

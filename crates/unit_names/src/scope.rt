@@ -4,10 +4,12 @@ ghost use Rattle.std.specs.Prelude.{◌≡◌, ℕ, List, Option, OnOk, option_m
 ghost use Rattle.type_table.specs.Types.{CType};
 ghost use Rattle.name_rules.specs.Scopes.{enter, leave, bound, tag_bound, meaning, inner_meaning, tag_in, tag_through, innermost, is_at_file};
 ghost use Rattle.name_rules.specs.Declaring.{keep, body_left};
+ghost use Rattle.name_rules.specs.Units.{unit_begun};
 ghost use Rattle.unit_names.specs.Shown.{names_of, meaning_of};
 
 use crate::names::Names;
-use name_scopes::{Meant, Place};
+use crate::shared::share_all;
+use name_scopes::{Meant, Place, Scopes};
 use qual_base::{NameId, NoMemory, StructId};
 use tape_ops::TagKind;
 
@@ -130,5 +132,18 @@ impl Names {
     {
         self.enclosing = None;
         self.scopes.leave();
+    }
+    /// A unit begins, with a file scope of its own: of the names before it, it sees the objects and functions of the innermost
+    /// scope, behind a whole unit that of the file. The scopes that are open are let go. Linear in their declarations.
+    #[tactic(auto, using(crate::proofs::Sharing::begun_is), unfolding(crate::specs::Shown::names_of))]
+    pub fn begin_unit(&mut self) -> Result<(), NoMemory>
+        ensures { OnOk result
+            ((t : ℕ → CType) → names_of t self.new ≡ unit_begun (names_of t self.old)) }
+    {
+        let file = self.scopes.close();
+        share_all(&mut self.round, &self.declared, file.names())?;
+        self.scopes = Scopes::new(self.alloc);
+        self.scopes.enter()?;
+        Ok(())
     }
 }

@@ -1,9 +1,9 @@
 -- Values are added where a place has none.
-use Rattle.std.proofs.Common.{◌≡◌, ℕ, zero, suc, ◌+◌, ◌<◌, arith, Bool, true, false, ◌&&◌, nat_eq, eqb, List, [], ◌∷◌, Option, Some, None, is_some, length, drop, slice_index_or, inl, inr, refl, sym, ◌∙◌, ap, subst, if◌then◌else◌}
+use Rattle.std.proofs.Common.{◌≡◌, ℕ, zero, suc, ◌+◌, ◌<◌, arith, Bool, true, false, ◌&&◌, nat_eq, List, [], ◌∷◌, Option, Some, None, is_some, length, drop, slice_index_or, inl, inr, refl, sym, ◌∙◌, ap, if◌then◌else◌}
 use Rattle.std.proofs.lemmas.Bool.Decides.{eqb_tells}
 use Rattle.name_rules.specs.Spellings.{Place}
 use Rattle.name_rules.specs.Scopes.{is_place}
-use Rattle.name_records.specs.Held.{PlaceMap, value_at, IsSet}
+use Rattle.name_records.specs.Held.{PlaceMap, value_at}
 use Rattle.unit_shapes.specs.First.{or_else, there, first_in}
 
 same_place : (p q : Place) → is_place p q ≡ true → p ≡ q

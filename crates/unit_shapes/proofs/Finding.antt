@@ -1,5 +1,5 @@
 -- What is found first is what the rules find.
-use Rattle.std.proofs.Common.{◌≡◌, ℕ, Bool, true, false, List, [], ◌∷◌, map, Option, Some, None, option_map, refl, sym, ◌∙◌, ap, if◌then◌else◌}
+use Rattle.std.proofs.Common.{◌≡◌, ℕ, Bool, true, false, List, [], ◌∷◌, map, Some, None, option_map, refl, if◌then◌else◌}
 use Rattle.type_table.specs.Types.{CType}
 use Rattle.name_rules.specs.Spellings.{Place}
 use Rattle.name_rules.specs.Scopes as rules
@@ -8,7 +8,7 @@ use Rattle.name_records.specs.declared.declarations.Declared.{Declared}
 use Rattle.name_records.specs.declared.records.NameUse.{NameUse}
 use Rattle.name_records.specs.declared.records.TypeNamed.{TypeNamed}
 use Rattle.unit_names.specs.Shown.{use_of, name_use_of, type_named_of, declared_of}
-use Rattle.unit_shapes.specs.First.{or_else, there, first_in, use_entry, type_entry, declared_entry}
+use Rattle.unit_shapes.specs.First.{or_else, first_in, use_entry, type_entry, declared_entry}
 use Rattle.unit_shapes.specs.Held.{use_or_missing}
 
 pub use_found : (us : List NameUse) (at : Place) → use_or_missing (first_in use_entry us at)

@@ -1,5 +1,5 @@
 -- The types that no declaration writes, while their table grows.
-use Rattle.std.proofs.Common.{◌≡◌, ℕ, ◌<◌, ◌≤◌, arith, true, List, [], map, length, refl, ◌∙◌, ap}
+use Rattle.std.proofs.Common.{◌≡◌, ℕ, ◌<◌, arith, true, List, [], map, length, refl, ◌∙◌, ap}
 use Rattle.type_table.specs.declared.row.Row.{Row}
 use Rattle.type_table.specs.Types.{Words, CType, base, void, pointer}
 use Rattle.type_table.specs.Rows.{type_of}

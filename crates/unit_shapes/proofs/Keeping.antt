@@ -1,5 +1,5 @@
 -- The earliest of some faults is the first of them.
-use Rattle.std.proofs.Common.{◌≡◌, ℕ, ◌<◌, arith, nat_lt, nat_eq, Bool, true, false, ◌&&◌, ◌||◌, List, [], ◌∷◌, ◌++◌, length, Option, Some, None, ◌⊎◌, inl, inr, refl, sym, ◌∙◌, ap, subst, append_assoc, append-nil, if◌then◌else◌}
+use Rattle.std.proofs.Common.{◌≡◌, ℕ, ◌<◌, arith, nat_lt, nat_eq, Bool, true, false, ◌&&◌, ◌||◌, List, [], ◌∷◌, ◌++◌, Option, Some, None, ◌⊎◌, inl, inr, refl, sym, ◌∙◌, subst, append_assoc, append-nil, if◌then◌else◌}
 use Rattle.std.specs.List.{Contains}
 use Rattle.std.proofs.lemmas.Bool.{ltb-true, lt-ltb, eqb-true, eq-eqb}
 use Rattle.std.proofs.lemmas.List.Elements.{Contains-push, Contains-push_cases, Contains-append_left}
@@ -135,7 +135,8 @@ first_kept (Some b) ds f is = by_test (is_before f b) refl
       ];
     }
 
-kept_on : (best : Option Fault) (ds fs : List Fault) → IsFirstOf best ds → IsFirstOf (keep best fs) (ds ++ fs)
+-- the first of some faults and of some more
+pub kept_on : (best : Option Fault) (ds fs : List Fault) → IsFirstOf best ds → IsFirstOf (keep best fs) (ds ++ fs)
 kept_on best ds [] is = subst (IsFirstOf best) (sym (append-nil ds)) is
 kept_on best ds (f ∷ fs) is =
     subst (IsFirstOf (keep (Some (earlier best f)) fs)) (append_assoc ds (f ∷ []) fs)

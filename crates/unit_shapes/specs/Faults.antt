@@ -1,5 +1,5 @@
 -- Faults of a program, and the first of several.
-use Rattle.std.specs.Prelude.{◌≡◌, ℕ, nat_lt, nat_eq, Bool, ◌&&◌, ◌||◌, List, [], ◌∷◌, Option, Some, None, option_map, if◌then◌else◌}
+use Rattle.std.specs.Prelude.{◌≡◌, ℕ, nat_lt, nat_eq, Bool, ◌&&◌, ◌||◌, List, [], ◌∷◌, Option, Some, None, if◌then◌else◌}
 use Rattle.name_rules.specs.Faults as rules
 use Rattle.unit_shapes.specs.declared.fault.Rule.{Rule}
 use Rattle.unit_shapes.specs.declared.fault.Rule.TheVariants as rule_names

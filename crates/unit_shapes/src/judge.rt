@@ -1,10 +1,13 @@
 //! The loop over a tape.
 
-ghost use Rattle.std.specs.Prelude.{◌≡◌, ◌++◌, None, Some, map, IfOk, OnOk};
+ghost use Rattle.std.specs.Prelude.{◌≡◌, ◌++◌, ℕ, List, None, Some, map, OnOk};
+ghost use Rattle.type_table.specs.Types.{CType};
+ghost use Rattle.name_rules.specs.Faults as rules;
 ghost use Rattle.shape_steps.specs.State.{nothing};
 ghost use Rattle.shape_steps.specs.Found.{faults_found};
 ghost use Rattle.shape_stacks.specs.Views.{state_in};
 ghost use Rattle.unit_names.specs.Shown as shown;
+ghost use Rattle.unit_names.specs.Shown.{names_of};
 ghost use Rattle.unit_spelling.specs.Spelled.{spelling_of};
 ghost use Rattle.unit_shapes.specs.Faults.{rule_of, some_fault_of, keep, IsFirstOf};
 ghost use Rattle.unit_shapes.specs.Views.{names_in, AreImplicit};
@@ -41,8 +44,8 @@ fn fault_of_names(fault: &records::Fault) -> Fault
     Fault { at: fault.at, rule }
 }
 
-/// The earliest of the faults of names. Linear in them.
-fn first_of_names(faults: &[records::Fault]) -> Option<Fault>
+/// The earliest of some faults of names. Linear in them.
+fn earliest(faults: &[records::Fault]) -> Option<Fault>
     ensures { some_fault_of result ≡ keep None (map shown.fault_of faults.now) }
 {
     let mut best = None;
@@ -50,6 +53,13 @@ fn first_of_names(faults: &[records::Fault]) -> Option<Fault>
         keep(&mut best, &fault_of_names(fault));
     }
     best
+}
+
+/// The first of the faults of names; none where they have none. Linear in them.
+pub fn first_of_names(names: &FoundNames) -> Option<Fault>
+    ensures { (t : ℕ → CType) → IsFirstOf (some_fault_of result) (names_of t names.now).faults }
+{
+    earliest(names.names().faults())
 }
 
 /// Keeps the earliest one of a fault that is known and of those of a tape. Linear in the tape, but
@@ -75,32 +85,23 @@ fn judge(
     Ok(())
 }
 
-/// The first fault of a unit, of its names and of its expressions, which see also what is declared
-/// behind them; none where the unit has none. Linear in the tape, but for growth.
-pub fn judge_unit(
+/// Keeps the first one of some faults and of those of a tape: of the expressions of a unit, which see also what is declared
+/// behind them. Linear in the tape, but for growth.
+pub fn judge_tape(
     alloc: Global,
+    best: &mut Option<Fault>,
     spelling: &Spelling,
     names: &FoundNames,
     types: &TypeTable,
     implicit: &ImplicitTypes,
     tape: &[Op],
-) -> Result<Option<Fault>, NoMemory>
+) -> Result<(), NoMemory>
     requires { AreImplicit types.now implicit.now }
-    ensures { IfOk result (λ first. IsFirstOf (some_fault_of first)
-        ((names_in types.now names.now).faults
-        ++ faults_found (spelling_of spelling.now) (names_in types.now names.now) nothing
-        tape.now)) }
+    ensures { OnOk result ((faults : List rules.Fault) → IsFirstOf (some_fault_of best.old) faults
+        → IsFirstOf (some_fault_of best.new) (faults ++ faults_found (spelling_of spelling.now)
+        (names_in types.now names.now) nothing tape.now)) }
 {
-    let mut best = first_of_names(names.names().faults());
     let mut stacks = Stacks::new(alloc);
-    judge(
-        &mut best,
-        &mut stacks,
-        spelling,
-        names,
-        types,
-        implicit,
-        tape,
-    )?;
-    Ok(best)
+    judge(best, &mut stacks, spelling, names, types, implicit, tape)?;
+    Ok(())
 }

@@ -15,6 +15,6 @@ mod uses;
 
 pub use fault::{Fault, Rule};
 pub use found::FoundNames;
-pub use judge::judge_unit;
+pub use judge::{first_of_names, judge_tape};
 pub use steps::step;
 pub use uses::ImplicitTypes;

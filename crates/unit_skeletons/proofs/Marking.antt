@@ -1,5 +1,5 @@
 -- Each skeleton of a table is one of those that were added.
-use Rattle.std.proofs.Common.{◌≡◌, ◌⊎◌, ℕ, zero, suc, ◌<◌, arith, List, [], ◌∷◌, ◌++◌, length, slice_get, Option, Some, None, inl, inr, refl, sym, ◌∙◌, ap}
+use Rattle.std.proofs.Common.{◌≡◌, ◌⊎◌, ℕ, zero, suc, ◌<◌, arith, List, [], ◌∷◌, ◌++◌, length, slice_get, Some, None, inl, inr, refl, sym, ◌∙◌, ap}
 use Rattle.qual_types.specs.declared.row.Row.{Row}
 use Rattle.qual_types.specs.Skel.{numbered}
 use Rattle.qual_types.specs.Rows.{skel_of}

@@ -55,7 +55,7 @@ fn is_first_function(types: &TypeTable, names: &Names, declared: &Declared) -> b
 }
 
 impl PlaceNumbers {
-    /// The owner that a function is, by where it was first declared, among the functions of a unit. Constant time.
+    /// The owner that a function is, by where it was first declared, among all functions. Constant time.
     pub fn owner(&self, function: &Option<Place>) -> Owner
         ensures { result ≡ sites.owner_by self.now function.now }
     {
@@ -66,7 +66,7 @@ impl PlaceNumbers {
     }
 }
 
-/// The functions of a unit, by the places of their first declarations. Linear in its declarations.
+/// The functions of units, by the places of their first declarations. Linear in the declarations.
 pub fn functions_of(
     alloc: Global,
     types: &TypeTable,

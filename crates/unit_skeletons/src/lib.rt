@@ -1,4 +1,4 @@
-//! Skeletons of a unit, numbered, and the functions that they belong to.
+//! Skeletons of units, numbered, and the functions that they belong to.
 #![tactic(auto)]
 
 mod first_map;
@@ -6,10 +6,8 @@ mod functions;
 mod place_numbers;
 mod sites;
 mod skeletons;
-mod unit;
 
 pub use functions::functions_of;
 pub use place_numbers::PlaceNumbers;
 pub use sites::{CallSites, find_sites};
 pub use skeletons::{Skeletons, number_skeletons};
-pub use unit::{NumberedUnit, number_unit};

@@ -13,7 +13,7 @@ use std::alloc::Global;
 use type_table::TypeTable;
 use unit_starts::Start;
 
-/// A graph with the call sites of a unit, in the order in which they begin, and their places. Memory is linear in them.
+/// A graph with the call sites of units, in the order in which they begin, and their places. Memory is linear in them.
 #[derive(Drop)]
 pub struct CallSites {
     pub graph: FlowGraph,
@@ -83,7 +83,7 @@ impl CallSites {
     }
 }
 
-/// The call sites of a unit. Linear in its skeletons, but for growth.
+/// The call sites of units. Linear in their skeletons, but for growth.
 pub fn find_sites(
     alloc: Global,
     types: &TypeTable,

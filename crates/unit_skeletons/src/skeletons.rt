@@ -2,6 +2,7 @@
 
 ghost use Rattle.std.specs.Prelude.{◌≡◌, ◌+◌, ◌<◌, ◌≤◌, ◌++◌, ◌∷◌, ℕ, List, [], length, map, replicate};
 ghost use Rattle.std.specs.Prelude.{OnOk, IfOk, IsErrOf};
+ghost use Rattle.flow_graph.specs.System.{most_variables};
 ghost use Rattle.type_table.specs.Types.{size};
 ghost use Rattle.type_table.specs.Rows.{type_of};
 ghost use Rattle.qual_types.specs.Skel.{within};
@@ -71,7 +72,7 @@ impl Skeletons {
             AreMarked self.old.vars before → AreMarked self.new.vars
             (before ++ numbered_from (length self.old.vars) (start_in types.now start.now ∷ []))) }
         ensures too_many { IsErrOf result QualFault.TooMany
-            → 16777216 < length self.old.vars + size (start_in types.now start.now).type }
+            → most_variables < length self.old.vars + size (start_in types.now start.now).type }
     {
         let owner = functions.owner(&start.owner);
         let (unit, token) = start.at;
@@ -120,9 +121,9 @@ pub fn number_skeletons(
     ensures marked { IfOk result (λ it.
         AreThose it.vars (map (start_in types.now) starts.now)) }
     ensures few { OnOk result
-        (variables_among (map (start_in types.now) starts.now) ≤ 16777216) }
+        (variables_among (map (start_in types.now) starts.now) ≤ most_variables) }
     ensures too_many { IsErrOf result QualFault.TooMany
-        → 16777216 < variables_among (map (start_in types.now) starts.now) }
+        → most_variables < variables_among (map (start_in types.now) starts.now) }
 {
     let mut it = Skeletons::new(alloc);
     for start in starts {

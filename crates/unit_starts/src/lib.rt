@@ -1,4 +1,4 @@
-//! Where skeletons begin along the tape of a unit, by one loop over it.
+//! Where skeletons begin along the tapes of units, by one loop over each.
 #![tactic(auto)]
 
 mod expressions;
@@ -9,4 +9,4 @@ mod start;
 mod starts;
 
 pub use start::Start;
-pub use starts::{Starts, find_starts};
+pub use starts::{Starts, add_starts};

@@ -1,6 +1,8 @@
 //! A skeleton that begins, and what is around it.
 
-ghost use Rattle.std.specs.Prelude.{◌≡◌};
+ghost use Rattle.std.specs.Prelude.{◌≡◌, ◌≤◌};
+ghost use Rattle.flow_graph.specs.System.{most_variables};
+ghost use Rattle.type_table.specs.Types.{size};
 ghost use Rattle.type_table.specs.Rows.{type_of};
 ghost use Rattle.qual_types.specs.Skel.{within};
 ghost use Rattle.shape_values.specs.Views.{value_type, some_value_type, some_type};
@@ -11,7 +13,7 @@ ghost use Rattle.name_rules.specs.Scopes.{declared_at};
 ghost use Rattle.name_rules.specs.Spellings.{place};
 ghost use Rattle.unit_spelling.specs.Spelled.{spelling_of};
 ghost use Rattle.unit_shapes.specs.Views.{names_in};
-ghost use Rattle.unit_starts.specs.Views.{starts_in, fresh_at, some_fresh_at};
+ghost use Rattle.unit_starts.specs.Views.{start_in, starts_in, fresh_at, some_fresh_at};
 
 use name_scopes::Place;
 use qual_base::{TokenId, TypeId};
@@ -30,6 +32,17 @@ pub struct Start {
     pub outer: bool,
     pub owner: Option<Place>,
     pub calls: Option<Place>,
+}
+
+impl Start {
+    /// How many variables the skeleton has. Constant time.
+    pub fn size(&self, types: &TypeTable) -> u32
+        requires { size (start_in types.now self.now).type ≤ most_variables }
+        ensures { result ≡ size (start_in types.now self.now).type }
+    {
+        let size = types.size(self.ty);
+        if self.outer { size + 1 } else { size }
+    }
 }
 
 /// The function in whose body something stands, by where it was first declared, and whether nothing is fresh there.

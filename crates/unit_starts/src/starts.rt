@@ -1,6 +1,6 @@
 //! The loop over a tape.
 
-ghost use Rattle.std.specs.Prelude.{◌≡◌, ◌++◌, [], map, IfOk, OnOk};
+ghost use Rattle.std.specs.Prelude.{◌≡◌, ◌++◌, [], map, OnOk};
 ghost use Rattle.row_steps.specs.Starting.{starts_found, unit_starts};
 ghost use Rattle.shape_stacks.specs.Views.{state_in};
 ghost use Rattle.unit_spelling.specs.Spelled.{spelling_of};
@@ -36,7 +36,7 @@ impl Model for Starts {
 
 impl Starts {
     /// No skeletons. Takes no memory.
-    fn new(alloc: Global) -> Self
+    pub fn new(alloc: Global) -> Self
         ensures { result ≡ [] }
     {
         Starts {
@@ -101,25 +101,26 @@ fn find(
     Ok(())
 }
 
-/// The skeletons of a unit in the order in which they begin along its tape. Linear in the tape, but for growth, and in the members
-/// of the structs one of which an op names; memory is linear in the skeletons.
-pub fn find_starts(
+/// Adds the skeletons of a unit in the order in which they begin along its tape. Linear in the tape, but for growth, and in the
+/// members of the structs one of which an op names; memory is linear in the skeletons.
+pub fn add_starts(
     alloc: Global,
+    found: &mut Starts,
     spelling: &Spelling,
     names: &FoundNames,
     types: &TypeTable,
     implicit: &ImplicitTypes,
     tape: &[Op],
-) -> Result<Starts, NoMemory>
+) -> Result<(), NoMemory>
     requires { AreImplicit types.now implicit.now }
-    ensures { IfOk result (λ found. map (start_in types.now) found
-        ≡ unit_starts (spelling_of spelling.now) (names_in types.now names.now) tape.now) }
+    ensures { OnOk result (map (start_in types.now) found.new
+        ≡ map (start_in types.now) found.old
+        ++ unit_starts (spelling_of spelling.now) (names_in types.now names.now) tape.now) }
 {
-    let mut found = Starts::new(alloc);
     let mut stacks = Stacks::new(alloc);
     let mut rounds = Rounds::new(alloc);
     find(
-        &mut found,
+        found,
         &mut stacks,
         &mut rounds,
         spelling,
@@ -127,6 +128,5 @@ pub fn find_starts(
         types,
         implicit,
         tape,
-    )?;
-    Ok(found)
+    )
 }

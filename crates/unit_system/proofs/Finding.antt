@@ -1,5 +1,5 @@
 -- What is found at a place.
-use Rattle.std.proofs.Common.{◌≡◌, ℕ, zero, suc, ◌+◌, ◌<◌, ◌≤◌, nat_eq, arith, Bool, true, false, ◌&&◌, List, [], ◌∷◌, length, map, slice_get, unwrap_or, Option, Some, None, inl, inr, refl, sym, ◌∙◌, ap, subst, if◌then◌else◌}
+use Rattle.std.proofs.Common.{◌≡◌, ℕ, zero, suc, ◌+◌, ◌≤◌, nat_eq, arith, Bool, true, false, ◌&&◌, List, [], ◌∷◌, length, map, slice_get, unwrap_or, Option, Some, None, inl, inr, refl, sym, ◌∙◌, ap, subst, if◌then◌else◌}
 use Rattle.std.proofs.lemmas.Bool.Decides.{eqb_tells}
 use Rattle.type_table.specs.declared.row.Row.{Row as TypeRow}
 use Rattle.qual_types.specs.declared.row.Row.{Row}
@@ -12,7 +12,6 @@ use Rattle.name_rules.specs.Scopes.{is_place}
 use Rattle.place_map.specs.declared.map.PlaceMap.{PlaceMap}
 use Rattle.place_map.specs.Values.{value_at, or_else}
 use Rattle.found_names.specs.First.{first_in}
-use Rattle.row_rules.specs.Starting as rules
 use Rattle.row_rules.specs.Worlds.{numbered_from, skeleton_among, number_among}
 use Rattle.row_world.specs.Shown.{or_nowhere}
 use Rattle.unit_starts.specs.declared.start.Start.{Start}

@@ -1,4 +1,4 @@
 pub mod Finding
-pub mod Numbering
-pub mod Owning
+pub mod Owners
+pub mod Units
 pub mod Showing

@@ -1,3 +1,3 @@
-pub mod Listing
 pub mod Places
 pub mod Systems
+pub mod Sharing

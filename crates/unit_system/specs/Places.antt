@@ -1,5 +1,5 @@
 -- Skeletons and call sites that are found by their places.
-use Rattle.std.specs.Prelude.{◌≡◌, ℕ, List, [], ◌∷◌, Option, Some, None, if◌then◌else◌}
+use Rattle.std.specs.Prelude.{◌≡◌, ℕ, List, Option, Some, None}
 use Rattle.name_rules.specs.Spellings.{Place}
 use Rattle.name_records.specs.Held as held
 use Rattle.place_map.specs.declared.map.PlaceMap.{PlaceMap}

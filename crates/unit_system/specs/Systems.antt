@@ -1,53 +1,67 @@
--- The system of a unit, by its tape.
-use Rattle.std.specs.Prelude.{◌≡◌, ℕ, ◌<◌, ◌≤◌, List, length, Option, None}
+-- The system of units, by their tapes.
+use Rattle.std.specs.Prelude.{◌≡◌, ℕ, List, [], ◌∷◌, ◌++◌, length, Option, None}
 use Rattle.lattice_core.specs.View.{LatticeView}
+use Rattle.flow_graph.specs.declared.constraint.Constraint.{Constraint}
 use Rattle.flow_graph.specs.System.{System}
-use Rattle.qual_types.specs.declared.row.Row.{Row}
-use Rattle.qual_types.specs.Rows.{skel_of, owners_of}
-use Rattle.tape_ops.specs.declared.op.Op.{Op}
+use Rattle.qual_types.specs.Rows.{skel_of}
 use Rattle.name_rules.specs.Spellings.{Place, Spelling}
 use Rattle.name_rules.specs.Scopes.{Names}
+use Rattle.name_steps.specs.Units.{Tape}
 use Rattle.row_rules.specs.Starting.{Start}
 use Rattle.row_rules.specs.Sites.{functions_of, owners_among, site_places, sites_among, variables_among}
 use Rattle.row_rules.specs.Worlds.{World, numbered_from, skeleton_among}
 use Rattle.position_laws.specs.Positions.{AreThose}
 use Rattle.row_steps.specs.Found.{unit_rows}
 use Rattle.row_steps.specs.Starting.{unit_starts}
-use Rattle.unit_spelling.specs.Spelled.{spelling_of}
 use Rattle.unit_shapes.specs.Views.{names_in}
-use Rattle.unit_types.specs.Resolved.{Resolved}
+use Rattle.unit_types.specs.Resolved.{Resolved, tapes_of}
 use Rattle.unit_skeletons.specs.declared.skeletons.Skeletons.{Skeletons}
 use Rattle.unit_system.specs.Places.{number_at}
 
 abbrev pub names_on : Resolved → Names
 names_on it = names_in it.rows it.names
 
--- the skeletons of a unit, in the order of its tape
+-- the skeletons of units, in the order of their tapes
+abbrev pub starts_among : Names → List Tape → List Start
+starts_among s [] = []
+starts_among s (it ∷ tapes) = unit_starts it.spelling s it.ops ++ starts_among s tapes
+
 abbrev pub starts_on : Resolved → List Start
-starts_on it = unit_starts (spelling_of it.spelling) (names_on it) it.ops
+starts_on it = starts_among (names_on it) (tapes_of it.units)
+
+-- What is said of words: the lattices, the lattice and element that an annotation word names, and the numbers of an index word.
+pub record Meant : Type 0 where
+  pub lattices : List LatticeView
+  pub mark : Place → Option (ℕ × ℕ)
+  pub index : Place → List ℕ
 
 -- what is known while the constraints of a unit are found, where these skeletons begin
-abbrev pub world_by : Spelling → Names → List Start → List LatticeView → (Place → Option (ℕ × ℕ)) → World
-world_by u s starts lattices mark = record {
+abbrev pub world_by : Meant → Names → List Start → Spelling → World
+world_by meant s starts u = record {
   spelling = u;
   names = s;
   skeletons = numbered_from 0 starts;
   sites = site_places starts;
-  lattices = lattices;
-  mark = mark;
+  lattices = meant.lattices;
+  mark = meant.mark;
+  index = meant.index;
   own = None;
 }
 
-abbrev pub system_by : Spelling → Names → List Op → List Start → List LatticeView → (Place → Option (ℕ × ℕ)) → System
-system_by u s ops starts lattices mark = record {
-  constraints = unit_rows (world_by u s starts lattices mark) ops;
+-- the constraints of units, in the order of their tapes
+abbrev pub rows_among : Meant → Names → List Start → List Tape → List Constraint
+rows_among meant s starts [] = []
+rows_among meant s starts (it ∷ tapes) = unit_rows (world_by meant s starts it.spelling) it.ops ++ rows_among meant s starts tapes
+
+abbrev pub system_by : Meant → Names → List Start → List Tape → System
+system_by meant s starts tapes = record {
+  constraints = rows_among meant s starts tapes;
   sites = sites_among (functions_of s) starts;
   owners = owners_among (functions_of s) starts;
 }
 
-abbrev pub system_on : Resolved → List LatticeView → (Place → Option (ℕ × ℕ)) → System
-system_on it lattices mark =
-    system_by (spelling_of it.spelling) (names_on it) it.ops (starts_on it) lattices mark
+abbrev pub system_on : Meant → Resolved → System
+system_on meant it = system_by meant (names_on it) (starts_on it) (tapes_of it.units)
 
 -- skeletons by their numbers, one behind the other: each is one of those that begin so, the first at each place found by it
 pub record AreNumbered (all : List Start) (it : Skeletons) : Type 0 where

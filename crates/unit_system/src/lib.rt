@@ -1,11 +1,11 @@
-//! The system of constraints of a unit: its skeletons, call sites and owners, its constraints, and the variables that a report
-//! lists.
+//! The system of constraints of units: their skeletons, call sites and owners, and their constraints.
 #![tactic(auto)]
 
+mod adding;
 mod fault;
-mod listing;
+mod owning;
 mod places;
 mod system;
 
 pub use fault::GenerateFault;
-pub use system::{Generated, unit_system};
+pub use system::{UnitSystem, unit_system};

@@ -1,30 +1,38 @@
--- A unit with its names and types, and what its tape says of both.
-use Rattle.std.specs.Prelude.{List, ◌++◌}
+-- Units with their names and types, and what their tapes say of both.
+use Rattle.std.specs.Prelude.{List, [], ◌∷◌, ◌++◌, map}
 use Rattle.type_table.specs.declared.row.Row.{Row}
-use Rattle.tape_ops.specs.declared.op.Op.{Op}
-use Rattle.name_rules.specs.Spellings as rules
 use Rattle.name_rules.specs.Faults.{Fault}
 use Rattle.name_rules.specs.Scopes as scopes
 use Rattle.name_rules.specs.Units.{no_names}
-use Rattle.name_steps.specs.State.{with_names}
-use Rattle.name_steps.specs.Steps.{run}
+use Rattle.name_steps.specs.Units.{Tape, tapes_named}
 use Rattle.shape_steps.specs.State.{nothing}
 use Rattle.shape_steps.specs.Found.{faults_found}
 use Rattle.unit_names.specs.declared.names.Names.{Names}
-use Rattle.unit_spelling.specs.declared.spelling.Spelling.{Spelling}
+use Rattle.unit_spelling.specs.Spelled.{spelling_of}
 use Rattle.unit_shapes.specs.declared.uses.ImplicitTypes.{ImplicitTypes}
+use Rattle.unit_types.specs.declared.program.UnitTape.{UnitTape}
 
 pub record Resolved : Type 0 where
   pub rows : List Row
   pub implicit : ImplicitTypes
   pub names : Names
-  pub spelling : Spelling
-  pub ops : List Op
+  -- in their order
+  pub units : List UnitTape
 
--- the names of one unit alone
-abbrev pub names_on : rules.Spelling → List Op → scopes.Names
-names_on u ops = (run u ops (with_names no_names)).names
+abbrev pub tape_of : UnitTape → Tape
+tape_of it = record { spelling = spelling_of it.spelling; ops = it.ops.items }
+
+abbrev pub tapes_of : List UnitTape → List Tape
+tapes_of units = map tape_of units
+
+-- the names of units, one after another
+abbrev pub names_on : List Tape → scopes.Names
+names_on tapes = tapes_named tapes no_names
+
+abbrev pub faults_among : scopes.Names → List Tape → List Fault
+faults_among s [] = []
+faults_among s (it ∷ tapes) = faults_found it.spelling s nothing it.ops ++ faults_among s tapes
 
 -- the faults of names, and those of expressions, which see also what is declared behind them
-abbrev pub faults_on : rules.Spelling → List Op → List Fault
-faults_on u ops = (names_on u ops).faults ++ faults_found u (names_on u ops) nothing ops
+abbrev pub faults_on : List Tape → List Fault
+faults_on tapes = (names_on tapes).faults ++ faults_among (names_on tapes) tapes

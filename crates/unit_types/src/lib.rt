@@ -1,4 +1,4 @@
-//! The names, types and tape of a unit whose names and types have no fault, or its first fault.
+//! The names, types and tapes of units whose names and types have no fault, or their first fault.
 #![tactic(auto)]
 
 mod fault;
@@ -6,5 +6,5 @@ mod program;
 mod resolve;
 
 pub use fault::ShapeFault;
-pub use program::Program;
-pub use resolve::resolve_unit;
+pub use program::{Program, UnitTape};
+pub use resolve::resolve_units;

@@ -1,4 +1,4 @@
-//! A unit whose names and types have no fault.
+//! Units whose names and types have no fault.
 
 ghost use Rattle.std.specs.Prelude.{◌≡◌};
 ghost use Rattle.unit_shapes.specs.Views.{AreImplicit};
@@ -11,15 +11,20 @@ use unit_names::Names;
 use unit_shapes::{FoundNames, ImplicitTypes};
 use unit_spelling::Spelling;
 
-/// A unit with its names and types, its tape and what is read from its tokens. Memory is linear in
-/// its tape and in its tokens.
+/// A unit: what is read from its tokens, and its tape.
+#[derive(Drop)]
+pub struct UnitTape {
+    pub spelling: Spelling,
+    pub ops: Vec<Op>,
+}
+
+/// Units with their names and types. Memory is linear in their tapes and in their tokens.
 #[derive(Drop)]
 pub struct Program {
     pub(crate) types: Types,
     pub(crate) implicit: ImplicitTypes,
     pub(crate) found: FoundNames,
-    pub(crate) spelling: Spelling,
-    pub(crate) tape: Vec<Op>,
+    pub(crate) units: Vec<UnitTape>,
 }
 
 impl Model for Program {
@@ -32,8 +37,7 @@ impl Model for Program {
       rows = s.types;
       implicit = s.implicit;
       names = s.found;
-      spelling = s.spelling;
-      ops = s.tape.items;
+      units = s.units.items;
     } };
 
     ghost invariant = { λ s. AreImplicit s.types s.implicit };
@@ -69,17 +73,10 @@ impl Program {
         &self.found
     }
 
-    /// What is read from the tokens. Constant time.
-    pub fn spelling(&self) -> &Spelling
-        ensures { result.now ≡ self.now.spelling }
+    /// The units in their order. Constant time.
+    pub fn units(&self) -> &[UnitTape]
+        ensures { result.now ≡ self.now.units }
     {
-        &self.spelling
-    }
-
-    /// The tape of the unit. Constant time.
-    pub fn tape(&self) -> &[Op]
-        ensures { result.now ≡ self.now.ops }
-    {
-        self.tape.as_slice()
+        self.units.as_slice()
     }
 }

@@ -1,69 +1,109 @@
-//! Names and types of a unit, found on its tape.
+//! Names and types of units, found on their tapes.
 
-ghost use Rattle.std.specs.Prelude.{◌≡◌, [], IfOk, IfErr};
-ghost use Rattle.unit_spelling.specs.Spelled.{spelling_of};
+ghost use Rattle.std.specs.Prelude.{◌≡◌, ◌++◌, [], ℕ, IfOk, IfErr, OnOk};
+ghost use Rattle.type_table.specs.Types.{CType};
+ghost use Rattle.name_types.specs.Known.{Knows};
+ghost use Rattle.unit_names.specs.Shown.{names_of};
 ghost use Rattle.unit_shapes.specs.Faults.{some_fault_of, IsFirstOf};
-ghost use Rattle.unit_shapes.specs.Views.{names_in};
+ghost use Rattle.unit_shapes.specs.Views.{names_in, AreImplicit};
 ghost use Rattle.unit_types.specs.Faults.{IsFirstUnlessMemory};
-ghost use Rattle.unit_types.specs.Resolved.{names_on, faults_on};
+ghost use Rattle.unit_types.specs.Resolved.{tapes_of, names_on, faults_among, faults_on};
 
 use crate::fault::{ShapeFault, found};
-use crate::program::Program;
-use c_names::resolve_names;
+use crate::program::{Program, UnitTape};
+use c_names::name_unit;
 use name_types::Types;
 use qual_base::NoMemory;
 use std::alloc::Global;
-use tape_ops::Op;
-use unit_shapes::{Fault, FoundNames, ImplicitTypes, judge_unit};
-use unit_spelling::Spelling;
+use type_table::TypeTable;
+use unit_names::Names;
+use unit_shapes::{Fault, FoundNames, ImplicitTypes, first_of_names, judge_tape};
 
-/// A unit with its first fault, if it has one.
+/// Units with their first fault, if they have one.
 #[derive(Drop)]
 struct Judged {
     program: Program,
     first: Option<Fault>,
 }
 
-/// The names and types of a unit, and its first fault.
-fn judge(alloc: Global, spelling: Spelling, tape: Vec<Op>) -> Result<Judged, NoMemory>
+/// The names of units and their types, one unit behind the other.
+fn name_units(alloc: Global, types: &mut Types, units: &[UnitTape]) -> Result<Names, NoMemory>
+    ensures { IfOk result (λ names. (t : ℕ → CType) → Knows t types.new
+        → names_of t names ≡ names_on (tapes_of units.now)) }
+{
+    let mut names = Names::new(alloc)?;
+    for unit in units {
+        names = name_unit(alloc, names, &unit.spelling, types, &unit.ops)?;
+    }
+    Ok(names)
+}
+
+/// The first fault of units, of their names and of their expressions.
+fn first_fault(
+    alloc: Global,
+    names: &FoundNames,
+    types: &TypeTable,
+    implicit: &ImplicitTypes,
+    units: &[UnitTape],
+) -> Result<Option<Fault>, NoMemory>
+    requires { AreImplicit types.now implicit.now }
+    ensures { IfOk result (λ first. IsFirstOf (some_fault_of first)
+        ((names_in types.now names.now).faults
+        ++ faults_among (names_in types.now names.now) (tapes_of units.now))) }
+{
+    let mut best = first_of_names(names);
+    for unit in units {
+        judge_tape(
+            alloc,
+            &mut best,
+            &unit.spelling,
+            names,
+            types,
+            implicit,
+            &unit.ops,
+        )?;
+    }
+    Ok(best)
+}
+
+/// The names and types of units, and their first fault.
+fn judge(alloc: Global, units: Vec<UnitTape>) -> Result<Judged, NoMemory>
     ensures names { IfOk result (λ it. names_in it.program.rows it.program.names
-        ≡ names_on (spelling_of spelling) tape.items) }
-    ensures spelling { IfOk result (λ it. it.program.spelling ≡ spelling) }
-    ensures tape { IfOk result (λ it. it.program.ops ≡ tape.items) }
+        ≡ names_on (tapes_of units.items)) }
+    ensures units { IfOk result (λ it. it.program.units ≡ units.items) }
     ensures first { IfOk result (λ it. IsFirstOf (some_fault_of it.first)
-        (faults_on (spelling_of spelling) tape.items)) }
+        (faults_on (tapes_of units.items))) }
 {
     let mut types = Types::new(alloc)?;
-    let named = resolve_names(alloc, &spelling, &mut types, &tape)?;
+    let named = name_units(alloc, &mut types, &units)?;
     let implicit = ImplicitTypes::push(alloc, &mut types)?;
-    let names = FoundNames::new(alloc, named)?;
-    let first = judge_unit(alloc, &spelling, &names, types.table(), &implicit, &tape)?;
+    let found = FoundNames::new(alloc, named)?;
+    let first = first_fault(alloc, &found, types.table(), &implicit, &units)?;
     let program = Program {
         types,
         implicit,
-        found: names,
-        spelling,
-        tape,
+        found,
+        units,
     };
     Ok(Judged { program, first })
 }
 
-/// The names and types of a unit, from its tape and what is read from its tokens, or its first
-/// fault: that at the earliest token, of several there that of the lowest rule. Expressions are
-/// judged by all names, those declared behind them too.
+/// The names and types of units in their order, from their tapes and what is read from their
+/// tokens, or their first fault: that of the earliest unit, there at the earliest token, of several
+/// there that of the lowest rule. A unit sees the objects and functions of the file scopes of those
+/// before it. Expressions are judged by all names, those declared behind them too.
 ///
-/// Time is linear in the tape, but for growth, for looking names up in the scopes that are open,
-/// and for the words and parameters of the types that are made. Memory is linear in the tape.
-pub fn resolve_unit(alloc: Global, spelling: Spelling, tape: Vec<Op>) -> Result<Program, ShapeFault>
+/// Time is linear in the tapes, but for growth, for looking names up in the scopes that are open,
+/// and for the words and parameters of the types that are made. Memory is linear in the tapes.
+pub fn resolve_units(alloc: Global, units: Vec<UnitTape>) -> Result<Program, ShapeFault>
     ensures names { IfOk result (λ it. names_in it.rows it.names
-        ≡ names_on (spelling_of spelling) tape.items) }
-    ensures spelling { IfOk result (λ it. it.spelling ≡ spelling) }
-    ensures tape { IfOk result (λ it. it.ops ≡ tape.items) }
-    ensures none { IfOk result (λ it. faults_on (spelling_of spelling) tape.items ≡ []) }
+        ≡ names_on (tapes_of units.items)) }
+    ensures units { IfOk result (λ it. it.units ≡ units.items) }
+    ensures none { IfOk result (λ it. faults_on (tapes_of units.items) ≡ []) }
     ensures first { IfErr result (λ fault. IsFirstUnlessMemory fault
-        (faults_on (spelling_of spelling) tape.items)) }
+        (faults_on (tapes_of units.items))) }
 {
-    match judge(alloc, spelling, tape) {
+    match judge(alloc, units) {
         Ok(it) => {
             let Judged { program, first } = it;
             match first {

@@ -1,6 +1,6 @@
 use Rattle.std.proofs.Common.{ap, ◌∙◌}
 use Rattle.name_rules.specs.Scopes.{Names}
-use Rattle.name_rules.specs.Units.{no_names}
+use Rattle.name_rules.specs.Units.{no_names, unit_begun}
 use Rattle.name_steps.specs.State.{with_names}
 use Rattle.name_steps.specs.Steps.{run}
 use Rattle.unit_spelling.specs.Spelled.{spelling_of}
@@ -13,5 +13,5 @@ pub returns-clause-named : goal.returns-clause-named
 returns-clause-named c =
     λ t knows.
     c.in_ok-named.ensures.named t knows
-    ∙ ap (λ (s : Names). (run (spelling_of c.args.spelling.now) c.args.tape.now (with_names s)).names)
+    ∙ ap (λ (s : Names). (run (spelling_of c.args.spelling.now) c.args.tape.now (with_names (unit_begun s))).names)
     (c.in_ok-names.ensures t)

@@ -1,10 +1,6 @@
-use Rattle.std.proofs.Common.{◌≡◌, sym, ap, ◌∙◌, map, Option, option_map, List, None, refl}
-use Rattle.name_rules.specs.Scopes as rules
-use Rattle.name_records.specs.declared.aggregates.Aggregate.{Aggregate}
-use Rattle.name_records.specs.Bodies.{OneBody, with_member, with_unnamed}
-use Rattle.name_records.specs.Aggregates.{known_at}
-use Rattle.unit_names.specs.Shown.{names_of, aggregate_of, declared_of, known_of}
-use Rattle.unit_names.proofs.Views.{changed_is, member_is, unnamed_is, inner_is, last_get, map_last}
+use Rattle.std.proofs.Common.{ap, ◌∙◌, map, refl}
+use Rattle.unit_names.specs.Shown.{names_of, aggregate_of}
+use Rattle.unit_names.proofs.Views.{changed_is}
 use Rattle.unit_names.proofs.names.Names.open_body.Goals as goal
 
 pub returns : goal.returns

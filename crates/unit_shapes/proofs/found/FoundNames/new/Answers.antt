@@ -1,8 +1,6 @@
-use Rattle.std.proofs.Common.{arith, ◌≡◌, ◌+◌, List, Option, option_map, sym, ◌∙◌, ap}
+use Rattle.std.proofs.Common.{arith, ◌≡◌, ◌+◌, List, option_map, ◌∙◌, ap}
 use Rattle.name_rules.specs.Scopes as rules
 use Rattle.name_rules.specs.Uses.{use_at, type_named_at}
-use Rattle.name_records.specs.declared.declarations.Declared.{Declared}
-use Rattle.name_records.specs.declared.records.Use.{Use}
 use Rattle.unit_names.specs.Shown.{declared_of, known_of}
 use Rattle.unit_shapes.specs.Held.{use_or_missing}
 use Rattle.name_rules.specs.Values.{member_in}

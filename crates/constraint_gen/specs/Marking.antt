@@ -1,0 +1,16 @@
+-- What annotation words name, unit by unit.
+use Rattle.std.specs.Prelude.{◌≡◌, ℕ, nat_eq, Bool, true, false, List, [], ◌∷◌, if◌then◌else◌}
+use Rattle.c_lexer.specs.Tokens.{Lexed}
+use Rattle.name_rules.specs.Spellings.{Place}
+use Rattle.place_map.specs.declared.map.PlaceMap.{PlaceMap}
+use Rattle.place_map.specs.Values.{value_at}
+use Rattle.source_marks.specs.Marks.{mark_among}
+
+-- one of some units has this number
+abbrev pub has_unit : List Lexed → ℕ → Bool
+has_unit [] unit = false
+has_unit (lexed ∷ units) unit = if nat_eq lexed.unit unit then true else has_unit units unit
+
+-- a map has what the words of units name, and nothing else
+abbrev pub AreMarks : List Lexed → PlaceMap (ℕ × ℕ) → Type 0
+AreMarks units found = (p : Place) → value_at found p ≡ mark_among units p

@@ -1,0 +1,9 @@
+pub mod Different
+pub mod Digits
+pub mod Groups
+pub mod MarkLemmas
+pub mod Meanings
+pub mod PartLemmas
+pub mod ReadLemmas
+pub mod RuleLemmas
+pub mod Typedefs

@@ -1,0 +1,139 @@
+-- What is read of a prelude, and why bytes are none.
+use Rattle.std.proofs.Common.{◌≡◌, ◌≢◌, ℕ, List, [], ◌∷◌, Option, zero, suc, refl, sym, ap, ◌∙◌, subst, arith, All, Contains}
+use Rattle.std.specs.Prelude.{codes}
+use Rattle.qual_base.specs.Words.{meaning_of}
+use Rattle.c_lexer.specs.Reading.{Meanings, Spells}
+use Rattle.c_lexer.specs.Refusals.{IsRefusal}
+use Rattle.c_lexer.specs.Tokens.{Lexed, NamesKeywords}
+use Rattle.c_lexer.specs.declared.lexing.LexFault.{LexFault}
+use Rattle.c_lexer.specs.declared.lexing.LexFault.TheVariants.{BadByte, NoMemory as NoRoom, Unended, UnknownQualifier}
+use Rattle.c_lexer.specs.declared.places.Mark.{Mark}
+use Rattle.c_lexer.specs.declared.token.Token.{Token}
+use Rattle.c_parser.specs.Parsing.{lexemes_of}
+use Rattle.c_parser.specs.declared.parsing.ParseFault.{ParseFault}
+use Rattle.c_parser.specs.declared.parsing.ParseFault.TheVariants.{BadMix, BadTarget, NoMemory as OutOfRoom, Redeclared, Syntax, TooDeep}
+use Rattle.c_tree.specs.Unit.{Item, items_of}
+use Rattle.c_types.specs.Sources.{UnitRead, sources_in, sources_of}
+use Rattle.c_types.specs.declared.source.Source.{Source}
+use Rattle.c_units.specs.Units.{IsWellFormed}
+use Rattle.index_words.specs.Marks.{IndexMark}
+use Rattle.name_laws.specs.NameLaws.{IsSound}
+use Rattle.type_rules.specs.Program.{HasNoFault}
+use Rattle.unit_types.specs.declared.fault.ShapeFault.{ShapeFault}
+use Rattle.unit_types.specs.declared.fault.ShapeFault.TheVariants as shapes
+use Rattle.name_rules.specs.Faults as rules
+use Rattle.name_rules.specs.Faults.{Fault}
+use Rattle.qual_base.specs.declared.places.Spot.{Spot}
+use Rattle.cq_prelude.specs.Answers.{IsFaultIn, IsShaped, placed_lex, placed_parse}
+use Rattle.cq_prelude.specs.Preludes.{IsFaultOf, IsPrelude, Lexes, Parses, refused_at}
+use Rattle.cq_prelude.specs.Rules.{NoneFails, bad_index, has_body}
+use Rattle.cq_prelude.specs.declared.fault.PreludeFault.{PreludeFault}
+use Rattle.cq_prelude.specs.declared.fault.PreludeFault.TheVariants.{BadIndex, HasBody, Lex, NoMemory, Parse, Shape}
+use Rattle.cq_prelude.proofs.Meanings.{spelled_by}
+
+pub sound_alone : (source : Source) → IsWellFormed (lexemes_of source.tokens) (items_of source.unit) → All IsSound (sources_of (source ∷ []))
+sound_alone source h zero d lt = (lexemes_of source.tokens, h.rules)
+sound_alone source h (suc k) d lt = absurd (omega arith)
+
+pub lex_refusal : (words : Meanings) (bytes : List ℕ) (fault : LexFault) → IsRefusal 0 words bytes fault → IsFaultOf words bytes (placed_lex fault)
+lex_refusal words bytes (BadByte spot) h = (h, λ same. (cc))
+lex_refusal words bytes (Unended spot) h = (h, λ same. (cc))
+lex_refusal words bytes (UnknownQualifier spot) h = (h, λ same. (cc))
+lex_refusal words bytes NoRoom h = tt
+
+-- the tokens of unit 0 that bytes spell, with the words that are asked
+spells : (words : Meanings) (bytes : List ℕ) (lexed : Lexed) → Lexes words bytes lexed → (names : List (List ℕ)) × Spells 0 words bytes lexed.tokens names lexed.marks
+spells words bytes lexed h =
+    let spelled = rw (h.unit, h.bytes_are) at h.marks.spelled in
+    (spelled.0, spelled_by 0 h.marks.words words h.marks.mean bytes lexed.tokens spelled.0 lexed.marks spelled.1)
+
+abbrev made : ℕ → List ℕ → List Token → List Mark → Option (ℕ × ℕ) → Option (ℕ × ℕ) → Option (ℕ × ℕ) → Lexed
+made unit bytes tokens marks constant volatile restrict =
+    record { unit = unit; bytes = bytes; tokens = tokens; marks = marks; constant = constant; volatile = volatile; restrict = restrict }
+
+same : (one other : Lexed) → one.unit ≡ other.unit → one.bytes ≡ other.bytes → one.tokens ≡ other.tokens → one.marks ≡ other.marks → one.constant ≡ other.constant → one.volatile ≡ other.volatile →
+    one.restrict ≡ other.restrict → one ≡ other
+same one other unit bytes tokens marks constant volatile restrict =
+    let parts : made one.unit one.bytes one.tokens one.marks one.constant one.volatile one.restrict ≡ made other.unit other.bytes other.tokens other.marks other.constant other.volatile other.restrict = cc in
+    parts
+
+pub same_lexed : (words : Meanings) (bytes : List ℕ) (one other : Lexed) → one.unit ≡ 0 → one.bytes ≡ bytes → NamesKeywords words one → Lexes words bytes other →
+    ((tokens : List Token) (names : List (List ℕ)) (marks : List Mark) → Spells 0 words bytes tokens names marks → (one.tokens ≡ tokens) × (one.marks ≡ marks)) → one ≡ other
+same_lexed words bytes one other unit bytes_are keywords h only =
+    let spelled = spells words bytes other h in
+    let read = only other.tokens spelled.0 other.marks spelled.1 in
+    same one other (unit ∙ sym h.unit) (bytes_are ∙ sym h.bytes_are) read.0 read.1
+        (keywords.constant ∙ sym (h.marks.mean (codes "const")) ∙ sym h.marks.keywords.constant)
+        (keywords.volatile ∙ sym (h.marks.mean (codes "volatile")) ∙ sym h.marks.keywords.volatile)
+        (keywords.restrict ∙ sym (h.marks.mean (codes "restrict")) ∙ sym h.marks.keywords.restrict)
+
+pub lex_only : (words : Meanings) (bytes : List ℕ) (lexed : Lexed) (fault : LexFault) → Lexes words bytes lexed →
+    ((tokens : List Token) (names : List (List ℕ)) (marks : List Mark) → Spells 0 words bytes tokens names marks → fault ≡ NoRoom) → placed_lex fault ≡ NoMemory
+lex_only words bytes lexed fault h only = let spelled = spells words bytes lexed h in ap placed_lex (only lexed.tokens spelled.0 lexed.marks spelled.1)
+
+pub parse_fault : (words : Meanings) (bytes : List ℕ) (lexed : Lexed) (fault : ParseFault) → Lexes words bytes lexed → (fault ≢ OutOfRoom → (items : List Item) → IsWellFormed (lexemes_of lexed) items → ⊥) →
+    IsFaultOf words bytes (placed_parse lexed fault (refused_at fault))
+parse_fault words bytes lexed (Syntax token) h none = (lexed, h, λ same. (cc), none (λ same. (cc)), refl)
+parse_fault words bytes lexed (TooDeep token) h none = (lexed, h, λ same. (cc), none (λ same. (cc)), refl)
+parse_fault words bytes lexed (Redeclared token) h none = (lexed, h, λ same. (cc), none (λ same. (cc)), refl)
+parse_fault words bytes lexed (BadMix token) h none = (lexed, h, λ same. (cc), none (λ same. (cc)), refl)
+parse_fault words bytes lexed (BadTarget token) h none = (lexed, h, λ same. (cc), none (λ same. (cc)), refl)
+parse_fault words bytes lexed OutOfRoom h none = tt
+
+parse_only : (lexed : Lexed) (fault : ParseFault) (items : List Item) → (fault ≢ OutOfRoom → (items : List Item) → IsWellFormed (lexemes_of lexed) items → ⊥) → IsWellFormed (lexemes_of lexed) items →
+    placed_parse lexed fault (refused_at fault) ≡ NoMemory
+parse_only lexed (Syntax token) items none h = absurd (none (λ same. (cc)) items h)
+parse_only lexed (TooDeep token) items none h = absurd (none (λ same. (cc)) items h)
+parse_only lexed (Redeclared token) items none h = absurd (none (λ same. (cc)) items h)
+parse_only lexed (BadMix token) items none h = absurd (none (λ same. (cc)) items h)
+parse_only lexed (BadTarget token) items none h = absurd (none (λ same. (cc)) items h)
+parse_only lexed OutOfRoom items none h = refl
+
+pub unit_fault : (words : Meanings) (bytes : List ℕ) (it : UnitRead) (fault : PreludeFault) → Parses words bytes it → IsFaultIn it fault → IsFaultOf words bytes fault
+unit_fault words bytes it (Lex fault) parses h = absurd h
+unit_fault words bytes it (Parse fault spot) parses h = absurd h
+unit_fault words bytes it (HasBody spot) parses h = (it, h.0, parses, h.1, h.2)
+unit_fault words bytes it (BadIndex spot) parses h = (it, h.0, parses, h.1, h.2)
+unit_fault words bytes it (Shape fault spot) parses h = (it, parses, h.0, h.1.reason, h.1.first, h.1.place)
+unit_fault words bytes it NoMemory parses h = tt
+
+none_first : (fault : Fault) (all : List Fault) → all ≡ [] → rules.IsFirst fault all → ⊥
+none_first fault all is h = let has = subst (λ (faults : List Fault). Contains faults fault) is h.there in omega (arith, has.1)
+
+no_shape : (it : UnitRead) (fault : ShapeFault) (spot : Spot) → HasNoFault (sources_in (it ∷ [])) → IsShaped it fault spot → ⊥
+no_shape it (shapes.Undeclared unit token) spot none h = none_first _ _ none h.first
+no_shape it (shapes.NotPointer unit token) spot none h = none_first _ _ none h.first
+no_shape it (shapes.NotFunction unit token) spot none h = none_first _ _ none h.first
+no_shape it (shapes.NoMember unit token) spot none h = none_first _ _ none h.first
+no_shape it (shapes.ArgCount unit token) spot none h = none_first _ _ none h.first
+no_shape it (shapes.NotPlace unit token) spot none h = none_first _ _ none h.first
+no_shape it (shapes.DefinedTwice unit token) spot none h = none_first _ _ none h.first
+no_shape it (shapes.TypeTooLarge unit token) spot none h = none_first _ _ none h.first
+no_shape it shapes.NoMemory spot none h = h.reason refl
+
+unit_only : (it : UnitRead) (fault : PreludeFault) → NoneFails it.lexed it.items → HasNoFault (sources_in (it ∷ [])) → IsFaultIn it fault → fault ≡ NoMemory
+unit_only it (Lex fault) rules none h = absurd h
+unit_only it (Parse fault spot) rules none h = absurd h
+unit_only it (HasBody spot) obeys none h = absurd (obeys has_body h.0 h.1.fails)
+unit_only it (BadIndex spot) obeys none h = absurd (obeys bad_index h.0 h.1.fails)
+unit_only it (Shape fault spot) rules none h = absurd (no_shape it fault spot none h.1)
+unit_only it NoMemory rules none h = refl
+
+abbrev read_unit : Lexed → List Item → UnitRead
+read_unit lexed items = record { lexed = lexed; items = items }
+
+-- a prelude is the unit that is read
+pub unit_is : (words : Meanings) (bytes : List ℕ) (it : UnitRead) (marks : List IndexMark) (lexed : Lexed) (items : List Item) → lexed ≡ it.lexed →
+    ((others : List Item) → IsWellFormed (lexemes_of lexed) others → items ≡ others) → IsPrelude words bytes it marks → read_unit lexed items ≡ it
+unit_is words bytes it marks lexed items same only h =
+    let parsed = only it.items (subst (λ (tokens : Lexed). IsWellFormed (lexemes_of tokens) it.items) (sym same) h.parses.formed) in
+    let parts : read_unit lexed items ≡ read_unit it.lexed it.items = cc in
+    parts
+
+pub memory_only : (words : Meanings) (bytes : List ℕ) (it : UnitRead) (marks : List IndexMark) (read : UnitRead) (fault : PreludeFault) → read ≡ it → IsPrelude words bytes it marks → IsFaultIn read fault → fault ≡ NoMemory
+memory_only words bytes it marks read fault same h fails = unit_only it fault h.rules h.shaped (subst (λ (unit : UnitRead). IsFaultIn unit fault) same fails)
+
+pub not_parsed : (words : Meanings) (bytes : List ℕ) (it : UnitRead) (marks : List IndexMark) (lexed : Lexed) (fault : ParseFault) → lexed ≡ it.lexed →
+    (fault ≢ OutOfRoom → (items : List Item) → IsWellFormed (lexemes_of lexed) items → ⊥) → IsPrelude words bytes it marks → placed_parse lexed fault (refused_at fault) ≡ NoMemory
+not_parsed words bytes it marks lexed fault same none h =
+    parse_only lexed fault it.items none (subst (λ (tokens : Lexed). IsWellFormed (lexemes_of tokens) it.items) (sym same) h.parses.formed)

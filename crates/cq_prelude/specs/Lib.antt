@@ -1,0 +1,9 @@
+pub mod Answers
+pub mod Least
+pub mod Marking
+pub mod Pending
+pub mod Placing
+pub mod Preludes
+pub mod Rules
+pub mod Words
+pub mod Written

@@ -1,0 +1,70 @@
+-- Which bytes are a prelude, and why others are none.
+use Rattle.std.specs.Prelude.{◌≡◌, ◌≢◌, ℕ, List, [], ◌∷◌, length, nat_lt, Option, None, Some, IfSome, if◌then◌else◌}
+use Rattle.qual_base.specs.declared.places.Spot.{Spot}
+use Rattle.c_lexer.specs.Reading.{Meanings}
+use Rattle.c_lexer.specs.Refusals.{IsRefusal}
+use Rattle.c_lexer.specs.Tokens.{IsMarkedBy, Lexed, token_spot}
+use Rattle.c_lexer.specs.declared.lexing.LexFault.TheVariants.{NoMemory as NoRoom}
+use Rattle.c_tree.specs.Unit.{Item}
+use Rattle.c_units.specs.Units.{IsWellFormed}
+use Rattle.c_parser.specs.Parsing.{lexemes_of}
+use Rattle.c_parser.specs.declared.parsing.ParseFault.{ParseFault}
+use Rattle.c_parser.specs.declared.parsing.ParseFault.TheVariants.{BadMix, BadTarget, NoMemory as OutOfRoom, Redeclared, Syntax, TooDeep}
+use Rattle.type_rules.specs.Program.{HasNoFault, faults_of}
+use Rattle.name_rules.specs.Faults.{Fault}
+use Rattle.unit_types.specs.Faults.{IsFirstUnlessMemory, fault_in}
+use Rattle.unit_types.specs.declared.fault.ShapeFault.TheVariants.{NoMemory as OutOfNames}
+use Rattle.c_types.specs.Sources.{UnitRead, sources_in}
+use Rattle.index_words.specs.Marks.{IndexMark}
+use Rattle.cq_prelude.specs.Rules.{AreMarks, IsFirst, NoneFails, bad_index, has_body}
+use Rattle.cq_prelude.specs.declared.fault.PreludeFault.{PreludeFault}
+use Rattle.cq_prelude.specs.declared.fault.PreludeFault.TheVariants.{BadIndex, HasBody, Lex, NoMemory, Parse, Shape}
+
+-- the bytes spell these tokens of unit 0, where the words mean what these meanings say
+pub record Lexes (words : Meanings) (bytes : List ℕ) (lexed : Lexed) : Type 0 where
+  pub unit : lexed.unit ≡ 0
+  pub bytes_are : lexed.bytes ≡ bytes
+  pub marks : IsMarkedBy words lexed
+
+-- the tokens are those of this well-formed unit
+pub record Parses (words : Meanings) (bytes : List ℕ) (it : UnitRead) : Type 0 where
+  pub lexes : Lexes words bytes it.lexed
+  pub formed : IsWellFormed (lexemes_of it.lexed) it.items
+
+-- The bytes are a prelude: a well-formed unit without bodies of functions, whose index words are right, and whose names and types have
+-- no fault.
+pub record IsPrelude (words : Meanings) (bytes : List ℕ) (it : UnitRead) (marks : List IndexMark) : Type 0 where
+  pub parses : Parses words bytes it
+  pub rules : NoneFails it.lexed it.items
+  pub marks_are : AreMarks it.lexed marks
+  pub shaped : HasNoFault (sources_in (it ∷ []))
+
+-- the token that is refused
+abbrev pub refused_at : ParseFault → Option ℕ
+refused_at (Syntax token) = Some token
+refused_at (TooDeep token) = Some token
+refused_at (Redeclared token) = Some token
+refused_at (BadMix token) = Some token
+refused_at (BadTarget token) = Some token
+refused_at OutOfRoom = None
+
+-- the place of a token, and the first one of the file where there is no such token
+abbrev pub spot_of : Lexed → ℕ → Spot
+spot_of lexed token =
+    if nat_lt token (length lexed.tokens) then token_spot lexed token
+    else record { unit = lexed.unit; line = 1; column = 1; name_from = 0; name_to = 0 }
+
+-- Why the bytes are no prelude, in the order in which that is found out; want of memory may come anywhere.
+abbrev pub IsFaultOf : Meanings → List ℕ → PreludeFault → Type 0
+IsFaultOf words bytes (Lex fault) = IsRefusal 0 words bytes fault × (fault ≢ NoRoom)
+IsFaultOf words bytes (Parse fault spot) =
+    (lexed : Lexed) × Lexes words bytes lexed × (fault ≢ OutOfRoom) × ((items : List Item) → IsWellFormed (lexemes_of lexed) items → ⊥)
+    × IfSome (refused_at fault) (λ token. spot ≡ spot_of lexed token)
+IsFaultOf words bytes (HasBody spot) =
+    (it : UnitRead) × (token : ℕ) × Parses words bytes it × IsFirst it.lexed it.items has_body token × (spot ≡ spot_of it.lexed token)
+IsFaultOf words bytes (BadIndex spot) =
+    (it : UnitRead) × (token : ℕ) × Parses words bytes it × IsFirst it.lexed it.items bad_index token × (spot ≡ spot_of it.lexed token)
+IsFaultOf words bytes (Shape fault spot) =
+    (it : UnitRead) × Parses words bytes it × NoneFails it.lexed it.items × (fault ≢ OutOfNames)
+    × IsFirstUnlessMemory fault (faults_of (sources_in (it ∷ []))) × IfSome (fault_in fault) (λ (f : Fault). spot ≡ spot_of it.lexed f.at.1)
+IsFaultOf words bytes NoMemory = Unit {0}

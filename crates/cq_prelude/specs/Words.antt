@@ -1,0 +1,16 @@
+-- Words of specifiers.
+use Rattle.std.specs.Prelude.{Bool, false}
+use Rattle.c_tree.specs.Tree.{SpecWord, storage, thread, inline_word, noreturn, qualifier, basic, struct_type, enum_type, typedef_name, attribute}
+use Rattle.cq_prelude.specs.Placing.{is_typedef}
+
+abbrev pub is_typedef_word : SpecWord → Bool
+is_typedef_word (storage word) = is_typedef word.keyword
+is_typedef_word (thread token) = false
+is_typedef_word (inline_word token) = false
+is_typedef_word (noreturn token) = false
+is_typedef_word (qualifier q) = false
+is_typedef_word (basic word) = false
+is_typedef_word (struct_type word attrs tag body) = false
+is_typedef_word (enum_type it) = false
+is_typedef_word (typedef_name it) = false
+is_typedef_word (attribute attr) = false

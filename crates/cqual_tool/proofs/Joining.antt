@@ -1,0 +1,97 @@
+-- Units that are joined, and what is made of them.
+use Rattle.std.proofs.Common.{◌≡◌, ◌≢◌, ℕ, ◌<◌, ◌≤◌, List, [], ◌∷◌, ◌++◌, length, map, codes, refl, sym, ◌∙◌, ap, subst}
+use Rattle.std.specs.Prelude.{All}
+use Rattle.std.proofs.lemmas.List.Elements.{All-nil, All-cons, All-head, All-tail, All-push, All-same}
+use Rattle.lattice_core.specs.View.{LatticeView}
+use Rattle.c_lexer.specs.Tokens.{Lexed}
+use Rattle.flow_graph.specs.System.{most_constraints, most_variables}
+use Rattle.type_rules.specs.Program.{HasNoFault, faults_of}
+use Rattle.name_laws.specs.NameLaws.{IsSound}
+use Rattle.unit_types.specs.declared.fault.ShapeFault.{ShapeFault}
+use Rattle.unit_types.specs.declared.fault.ShapeFault.TheVariants.{NoMemory as OutOfNames}
+use Rattle.unit_types.specs.Faults.{IsFirstUnlessMemory}
+use Rattle.c_types.specs.declared.source.Source.{Source}
+use Rattle.c_types.specs.Sources.{UnitRead, sources_behind, sources_in, unit_of, units_of}
+use Rattle.index_words.specs.Marks.{IndexMark}
+use Rattle.constraint_gen.specs.Programs.{program_in, positions_in}
+use Rattle.constraint_gen.specs.Generating.{IsGenerated}
+use Rattle.constraint_rules.specs.Systems.{system_of}
+use Rattle.constraint_gen.specs.declared.generating.Generated.{Generated}
+use Rattle.cqual_tool.specs.declared.answer.Answer.{Answer}
+use Rattle.cqual_tool.specs.declared.status.Status.TheVariants.{Malformed}
+use Rattle.cqual_tool.specs.Statuses.{Says}
+use Rattle.cqual_tool.specs.Texts.{malformed_line}
+use Rattle.cqual_tool.specs.Shapes.{shape_line}
+use Rattle.cqual_tool.specs.Words.{FileNames}
+use Rattle.cqual_tool.specs.Programs.{judging_of, texts_of}
+use Rattle.cqual_tool.specs.Outcome.{IsCounted, IsRefused, Faulty, ManyConstraints, ManyVariables, SourceParses, SourceReads}
+use Rattle.cqual_tool.specs.Preparing.{IsFormed, IsPrepared}
+
+pub sound_behind : (earlier : List Lexed) (units : List UnitRead) → All IsFormed units → All IsSound (sources_behind earlier units)
+sound_behind earlier [] formed = All-nil IsSound
+sound_behind earlier (it ∷ units) formed =
+    All-cons IsSound _ (sources_behind (earlier ++ it.lexed ∷ []) units) (All-head IsFormed it units formed)
+    (sound_behind (earlier ++ it.lexed ∷ []) units (All-tail IsFormed it units formed))
+
+-- one more unit
+pub units_on : (sources : List Source) (source : Source) → units_of (sources ++ source ∷ []) ≡ units_of sources ++ unit_of source ∷ []
+units_on [] source = refl
+units_on (it ∷ sources) source = ap (λ (units : List UnitRead). unit_of it ∷ units) (units_on sources source)
+
+pub formed_on : (sources : List Source) (source : Source) → All IsFormed (units_of sources) → IsFormed (unit_of source)
+    → All IsFormed (units_of (sources ++ source ∷ []))
+formed_on sources source formed own =
+    All-same IsFormed (units_of (sources ++ source ∷ [])) (units_of sources ++ unit_of source ∷ []) (units_on sources source)
+    (All-push IsFormed (units_of sources) (unit_of source) formed own)
+
+-- an answer that says a line which refuses the source
+pub refused : (named : FileNames) (lattices : List LatticeView) (before : List UnitRead) (marks : List IndexMark) (bytes line : List ℕ) (answer : Answer)
+    → Says Malformed line answer → IsRefused named lattices before marks bytes line
+    → (answer.status ≡ Malformed) × IsRefused named lattices before marks bytes answer.text.items
+refused named lattices before marks bytes line answer says is =
+    (says.0, subst (IsRefused named lattices before marks bytes) (sym says.1) is)
+
+-- units that are those before the source and the source
+module _ (named : FileNames) (lattices : List LatticeView) (before : List UnitRead) (marks : List IndexMark) (bytes : List ℕ) (unit : UnitRead)
+    (units : List UnitRead) (are : units ≡ before ++ unit ∷ []) where
+  pub shaped : HasNoFault (sources_in units) → HasNoFault (sources_in (before ++ unit ∷ []))
+  shaped none = subst (λ (us : List UnitRead). HasNoFault (sources_in us)) are none
+
+  pub reads : SourceParses lattices bytes unit → HasNoFault (sources_in units) → SourceReads lattices before bytes unit
+  reads parses none = record { parses = parses; shaped = shaped none }
+
+  pub faulty : (fault : ShapeFault) → SourceParses lattices bytes unit → fault ≢ OutOfNames → IsFirstUnlessMemory fault (faults_of (sources_in units))
+      → IsRefused named lattices before marks bytes (shape_line named.source (texts_of named units) fault)
+  faulty fault parses reason first =
+      subst (λ (us : List UnitRead). IsRefused named lattices before marks bytes (shape_line named.source (texts_of named us) fault)) (sym are)
+      (Faulty unit fault parses reason (subst (λ (us : List UnitRead). IsFirstUnlessMemory fault (faults_of (sources_in us))) are first))
+
+  module _ (is : SourceReads lattices before bytes unit) where
+    pub many_variables : most_variables < length (positions_in (program_in lattices marks units))
+        → IsRefused named lattices before marks bytes (malformed_line named.source (codes "Q1"))
+    many_variables many =
+        ManyVariables unit is (subst (λ (us : List UnitRead). most_variables < length (positions_in (program_in lattices marks us))) are many)
+
+    few_variables : length (positions_in (program_in lattices marks units)) ≤ most_variables
+        → length (judging_of named lattices marks (before ++ unit ∷ [])).scene.positions ≤ most_variables
+    few_variables few = subst (λ (us : List UnitRead). length (positions_in (program_in lattices marks us)) ≤ most_variables) are few
+
+    pub many_constraints : length (positions_in (program_in lattices marks units)) ≤ most_variables
+        → most_constraints < length (system_of (program_in lattices marks units)).constraints
+        → IsRefused named lattices before marks bytes (malformed_line named.source (codes "G1"))
+    many_constraints few many =
+        ManyConstraints unit is (few_variables few)
+        (subst (λ (us : List UnitRead). most_constraints < length (system_of (program_in lattices marks us)).constraints) are many)
+
+    pub counted : length (positions_in (program_in lattices marks units)) ≤ most_variables
+        → length (system_of (program_in lattices marks units)).constraints ≤ most_constraints
+        → IsCounted named lattices before marks bytes unit
+    counted few few_constraints = record {
+      reads = is;
+      few_variables = few_variables few;
+      few_constraints = subst (λ (us : List UnitRead). length (system_of (program_in lattices marks us)).constraints ≤ most_constraints) are few_constraints;
+    }
+
+  pub generated : (made : Generated) → IsGenerated units (program_in lattices marks units) made
+      → IsGenerated (before ++ unit ∷ []) (program_in lattices marks (before ++ unit ∷ [])) made
+  generated made is = subst (λ (us : List UnitRead). IsGenerated us (program_in lattices marks us) made) are is

@@ -1,0 +1,63 @@
+-- What is made of a source: a line that refuses it, or a program with its constraints.
+use Rattle.std.specs.Prelude.{◌≡◌, ℕ, List, [], ◌∷◌, ◌++◌, Option, Some, IfSome}
+use Rattle.qual_base.specs.Outside.{content_of}
+use Rattle.lattice_core.specs.View.{LatticeView}
+use Rattle.c_tree.specs.declared.lexeme.Lexeme.{Lexeme}
+use Rattle.c_tree.specs.Unit.{IsUnit}
+use Rattle.c_types.specs.Sources.{UnitRead, units_of}
+use Rattle.index_words.specs.Marks.{IndexMark}
+use Rattle.constraint_gen.specs.Programs.{program_in}
+use Rattle.constraint_gen.specs.Generating.{IsGenerated}
+use Rattle.cqual_tool.specs.declared.status.Status.TheVariants.{Malformed}
+use Rattle.cqual_tool.specs.declared.preparing.Ready.{Ready}
+use Rattle.cqual_tool.specs.declared.preparing.Prepared.{Prepared}
+use Rattle.cqual_tool.specs.declared.preparing.Prepared.TheVariants.{Refused, Program}
+use Rattle.cqual_tool.specs.Words.{FileNames}
+use Rattle.cqual_tool.specs.Outcome.{AreBefore, IsCounted, IsRefused, named_one}
+
+-- its items are those of some tokens, well formed but for scopes
+abbrev pub IsFormed : UnitRead → Type 0
+IsFormed it = (all : List Lexeme) × IsUnit all it.items
+
+-- a program of the units before a source and of that source, within the limits, with its constraints
+pub record IsReady (named : FileNames) (lattices : List LatticeView) (before : List UnitRead) (marks : List IndexMark) (bytes : List ℕ) (it : Ready) : Type 0 where
+  pub unit : UnitRead
+  pub counted : IsCounted named lattices before marks bytes unit
+  pub units : units_of it.sources.items ≡ before ++ unit ∷ []
+  pub made : IsGenerated (before ++ unit ∷ []) (program_in lattices marks (before ++ unit ∷ [])) it.made
+
+abbrev pub IsPrepared : FileNames → List LatticeView → List UnitRead → List IndexMark → List ℕ → Prepared → Type 0
+IsPrepared named lattices before marks bytes (Refused answer) = (answer.status ≡ Malformed) × IsRefused named lattices before marks bytes answer.text.items
+IsPrepared named lattices before marks bytes (Program it) = IsReady named lattices before marks bytes it
+
+-- the files that are started behind a source: the report, where one is to be checked
+pub data EndStarts (named : FileNames) : List (List ℕ) → Type 0 where
+  NoReport : EndStarts named []
+  OneReport : (file : List ℕ) → named.report ≡ Some file → EndStarts named (file ∷ [])
+
+-- from the source on
+pub data SourceStarts (named : FileNames) (files : Option (List (List ℕ × List ℕ))) (lattices : List LatticeView) (before : List UnitRead) (marks : List IndexMark) : List (List ℕ) → Type 0 where
+  SourceAlone : SourceStarts named files lattices before marks (named.source ∷ [])
+  ReportBehind : (file : List ℕ) → named.report ≡ Some file →
+      IfSome files (λ all. (unit : UnitRead) × IsCounted named lattices before marks (content_of all named.source) unit) →
+      SourceStarts named files lattices before marks (named.source ∷ file ∷ [])
+
+-- what was read before the source
+pub record BeforeIsRead (named : FileNames) (lattices : List LatticeView) (all : List (List ℕ × List ℕ)) : Type 0 where
+  pub before : List UnitRead
+  pub marks : List IndexMark
+  pub are : AreBefore named (content_of all) lattices before marks
+
+pub record CountedIsRead (named : FileNames) (lattices : List LatticeView) (all : List (List ℕ × List ℕ)) : Type 0 where
+  pub before : List UnitRead
+  pub marks : List IndexMark
+  pub are : AreBefore named (content_of all) lattices before marks
+  pub unit : UnitRead
+  pub counted : IsCounted named lattices before marks (content_of all named.source) unit
+
+-- behind the lattice file
+pub data UnitsStart (named : FileNames) (files : Option (List (List ℕ × List ℕ))) (lattices : List LatticeView) : List (List ℕ) → Type 0 where
+  PreludeAlone : (file : List ℕ) → named.prelude ≡ Some file → UnitsStart named files lattices (file ∷ [])
+  SourceToo : IfSome files (BeforeIsRead named lattices) → UnitsStart named files lattices (named_one named.prelude ++ named.source ∷ [])
+  ReportToo : (file : List ℕ) → named.report ≡ Some file → IfSome files (CountedIsRead named lattices) →
+      UnitsStart named files lattices (named_one named.prelude ++ named.source ∷ file ∷ [])

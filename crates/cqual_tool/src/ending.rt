@@ -1,0 +1,149 @@
+//! What is asked of a program whose constraints are there: its report, or what another report comes to.
+
+ghost use Rattle.std.specs.Prelude.{◌≡◌, ◌∷◌, ◌++◌, [], ◌<◌, ◌-◌, ◌^◌, ℕ, List, IfOk, IfSome, IsErrOf, length};
+ghost use Rattle.qual_base.specs.Counts.{GoesOn, Rose};
+ghost use Rattle.qual_base.specs.Outside.{content_of};
+ghost use Rattle.index_words.specs.Marks.{IndexMark};
+ghost use Rattle.c_types.specs.Sources.{UnitRead, units_of};
+ghost use Rattle.constraint_gen.specs.Programs.{program_in};
+ghost use Rattle.constraint_gen.specs.Generating.{IsGenerated};
+ghost use Rattle.annotate.specs.Scenes.{Shows};
+ghost use Rattle.cqual_tool.specs.Statuses.{status_of, checked_status};
+ghost use Rattle.cqual_tool.specs.Words.{names_in as files_in};
+ghost use Rattle.cqual_tool.specs.Programs.{Judging, judging_of};
+ghost use Rattle.cqual_tool.specs.Outcome.{IsChecked, IsDecided, IsEnd, IsReport, RecordsAll};
+ghost use Rattle.cqual_tool.specs.Preparing.{EndStarts, IsReady};
+
+use crate::answer::{Answer, not_yet};
+use crate::preparing::{Ready, texts};
+use crate::status::Status;
+use crate::taking::{REPORT_LIMIT, Stop, taken, too_large};
+use crate::words::Named;
+use annotate::{Judged, Scene, are_named, judge};
+use flow_graph::{FlowGraph, is_well_owned};
+use lattice_core::Lattices;
+use qual_base::{Files, NoMemory};
+use report_checks::{Checked, judge_report, put_checked};
+use std::alloc::Global;
+
+/// The answer for a program that was judged.
+fn reported(judged: Judged) -> Answer
+    ensures text { result.text ≡ judged.text }
+    ensures status { result.status ≡ status_of judged.accepted }
+{
+    let status = if judged.accepted {
+        Status::Accepted
+    } else {
+        Status::Rejected
+    };
+    Answer {
+        status,
+        text: judged.text,
+    }
+}
+
+/// The answer for constraints and what the reports name of them. Each lattice is solved once.
+fn report(
+    alloc: Global,
+    file: &str,
+    scene: &Scene<'_>,
+    graph: &FlowGraph,
+) -> Result<Answer, NoMemory>
+    ensures report { IfOk result (λ answer. (it : Judging) → Shows scene.now it.scene →
+        it.system ≡ graph.now → IsReport file.now it answer.status answer.text.items) }
+    ensures decided { IfOk result (λ answer. IsDecided answer.status) }
+{
+    if !is_well_owned(graph) {
+        return Ok(not_yet(alloc, file)?);
+    }
+    if !are_named(scene.lattices, graph) {
+        return Ok(not_yet(alloc, file)?);
+    }
+    let judged = judge(alloc, scene, graph)?;
+    Ok(reported(judged))
+}
+
+/// The report of a program.
+fn inferred(
+    alloc: Global,
+    named: &Named<'_>,
+    lattices: &Lattices,
+    ready: &Ready<'_>,
+) -> Result<Answer, NoMemory>
+    ensures report { (units : List UnitRead) (marks : List IndexMark) →
+        units_of ready.now.sources.items ≡ units →
+        IsGenerated units (program_in lattices.now marks units) ready.now.made →
+        IfOk result (λ answer. IsReport named.now.source.now
+        (judging_of (files_in named.now) lattices.now marks units)
+        answer.status answer.text.items) }
+    ensures decided { IfOk result (λ answer. IsDecided answer.status) }
+{
+    let units = texts(alloc, named, &ready.sources)?;
+    let scene = Scene {
+        units: &units,
+        lattices,
+        vars: ready.made.skeletons.vars(),
+        listed: &ready.made.listed,
+    };
+    report(alloc, named.source, &scene, &ready.made.graph)
+}
+
+/// The status of what a report comes to.
+fn status_for(checked: &Checked) -> Status
+    ensures { result ≡ checked_status checked.now }
+{
+    match checked {
+        Checked::Hold => Status::PathsHold,
+        Checked::Bad { .. } => Status::PathBad,
+    }
+}
+
+/// The answer for the text of a report.
+fn checked(
+    alloc: Global,
+    lattices: &Lattices,
+    graph: &FlowGraph,
+    text: &[u8],
+) -> Result<Answer, NoMemory>
+    requires { length text.now < 2 ^ 32 - 1 }
+    ensures checked { IfOk result (λ answer. (it : Judging) → it.scene.lattices ≡ lattices.now →
+        it.system ≡ graph.now → IsChecked it text.now answer.status answer.text.items) }
+    ensures decided { IfOk result (λ answer. IsDecided answer.status) }
+{
+    let found = judge_report(alloc, graph, lattices, text)?;
+    let mut text = Vec::new(alloc);
+    put_checked(&mut text, found)?;
+    Ok(Answer {
+        status: status_for(&found),
+        text,
+    })
+}
+
+/// The answer for a program: its report, or what the report that is named comes to.
+pub fn end<F: Files>(
+    alloc: Global,
+    named: &Named<'_>,
+    lattices: &Lattices,
+    ready: &Ready<'_>,
+    files: &mut F,
+) -> Result<Answer, Stop>
+    ensures outcome { (before : List UnitRead) (marks : List IndexMark) (bytes : List ℕ) →
+        (is : IsReady (files_in named.now) lattices.now before marks bytes ready.now) →
+        IfOk result (λ answer. IfSome (F.contents files.old) (λ all. IsEnd (files_in named.now)
+        (content_of all) (judging_of (files_in named.now) lattices.now marks
+        (before ++ is.unit ∷ [])) answer.status answer.text.items)) }
+    ensures decided { IfOk result (λ answer. IsDecided answer.status) }
+    ensures read_fault { IsErrOf result Stop.ReadFault →
+        Rose (F.faults files.old) (F.faults files.new) }
+    ensures count { GoesOn (F.faults files.old) (F.faults files.new) }
+    ensures started { (names : List (List ℕ)) × RecordsAll (F.started files.old)
+        (F.started files.new) names × EndStarts (files_in named.now) names }
+{
+    match named.report {
+        None => Ok(inferred(alloc, named, lattices, ready)?),
+        Some(file) => match taken(alloc, files, file, REPORT_LIMIT)? {
+            Some(text) => Ok(checked(alloc, lattices, &ready.made.graph, &text)?),
+            None => Ok(too_large(alloc, file)?),
+        },
+    }
+}

@@ -1,0 +1,19 @@
+//! The tool as one call: reads a lattice file, a prelude and a source, decides, and writes a report; or checks the paths of one.
+#![tactic(auto)]
+
+mod answer;
+mod ending;
+mod faults;
+mod preludes;
+mod preparing;
+mod reading;
+mod running;
+mod sending;
+mod shapes;
+mod status;
+mod syntax;
+mod taking;
+mod words;
+
+pub use running::run;
+pub use status::Status;

@@ -1,0 +1,73 @@
+//! Taking whole files.
+
+ghost use Rattle.std.specs.Prelude.{◌≡◌, ◌<◌, ◌≤◌, IfOk, IfSome, IsErrOf, MatchOption};
+ghost use Rattle.std.specs.Prelude.{length, codes};
+ghost use Rattle.qual_base.specs.Counts.{GoesOn, Rose};
+ghost use Rattle.qual_base.specs.Outside.{content_of, Records};
+ghost use Rattle.cqual_tool.specs.declared.status.Status.TheVariants as Statuses;
+ghost use Rattle.cqual_tool.specs.Statuses.{Says};
+ghost use Rattle.cqual_tool.specs.Texts.{malformed_line};
+
+use crate::answer::{Answer, malformed};
+use qual_base::{Files, NoMemory, TakeFault, take_all};
+use std::alloc::Global;
+
+/// The most bytes that a lattice file may have.
+pub const LATTICE_LIMIT: usize = 1_048_576;
+
+/// The most bytes that a prelude or a source may have.
+pub const SOURCE_LIMIT: usize = 16_777_216;
+
+/// The most bytes that a report may have.
+pub const REPORT_LIMIT: usize = 268_435_456;
+
+/// Why nothing is written.
+#[derive(Clone, Copy, PartialEq, Eq, Debug)]
+pub enum Stop {
+    ReadFault,
+    NoMemory,
+}
+
+impl From<NoMemory> for Stop {
+    ghost use Rattle.std.specs.Prelude.{◌≡◌};
+    ghost use Rattle.cqual_tool.specs.declared.taking.Stop.TheVariants as stops;
+
+    ghost from_gives = { λ _ stop. stop ≡ stops.NoMemory };
+
+    fn from(_: NoMemory) -> Stop {
+        Stop::NoMemory
+    }
+}
+
+/// The bytes of a file; none where it has more than the limit.
+pub fn taken<F: Files>(
+    alloc: Global,
+    files: &mut F,
+    name: &str,
+    limit: usize,
+) -> Result<Option<Vec<u8>>, Stop>
+    requires { limit < usize.MAX }
+    ensures whole { IfOk result
+        (λ found. IfSome (F.contents files.old) (λ all. MatchOption found (limit
+        < length (content_of all name.now)) (λ bytes. bytes.items ≡ content_of all name.now))) }
+    ensures within { IfOk result (λ found. IfSome found (λ bytes. length bytes.items ≤ limit)) }
+    ensures read_fault { IsErrOf result Stop.ReadFault →
+        Rose (F.faults files.old) (F.faults files.new) }
+    ensures count { GoesOn (F.faults files.old) (F.faults files.new) }
+    ensures started { Records (F.started files.old) (F.started files.new) name.now }
+    ensures contents { F.contents files.new ≡ F.contents files.old }
+{
+    match take_all(alloc, files, name, limit) {
+        Ok(bytes) => Ok(Some(bytes)),
+        Err(TakeFault::TooLarge) => Ok(None),
+        Err(TakeFault::ReadFault) => Err(Stop::ReadFault),
+        Err(TakeFault::NoMemory) => Err(Stop::NoMemory),
+    }
+}
+
+/// The answer for a file that has more bytes than its limit.
+pub fn too_large(alloc: Global, file: &str) -> Result<Answer, NoMemory>
+    ensures { IfOk result (Says Statuses.Malformed (malformed_line file.now (codes "F2"))) }
+{
+    Ok(malformed(alloc, file, b"F2")?)
+}

@@ -1,0 +1,59 @@
+//! What later units see of a unit.
+
+ghost use Rattle.std.specs.Prelude.{◌≡◌, ◌++◌, reverse, OnOk};
+ghost use Rattle.unit_names.specs.Shared.{is_shared, shared_name, shared};
+
+use name_lists::NameList;
+use name_records::{Declarations, Declared, Role};
+use name_scopes::{Meant, Place};
+use qual_base::{NameId, NoMemory};
+
+/// Whether later units see what a declaration declares: an object or function.
+fn is_shared(declared: &Option<Declared>) -> bool
+    ensures { result ≡ is_shared declared.now }
+{
+    match declared {
+        Some(declared) => match declared.role {
+            Role::Object | Role::Function => true,
+            Role::Typedef | Role::Parameter(_) | Role::Field(_, _) | Role::Enumerator => false,
+        },
+        None => false,
+    }
+}
+
+/// One more name for later units, where it is an object or function. Constant time but for growth.
+fn share(
+    round: &mut NameList<Place>,
+    declared: &Declarations,
+    name: NameId,
+    meant: &Meant,
+) -> Result<(), NoMemory>
+    ensures { OnOk result
+        (round.new ≡ shared_name declared.now name meant.now ++ round.old) }
+{
+    match meant {
+        Meant::Type(_) => Ok(()),
+        Meant::Thing(at) => {
+            if is_shared(&declared.first_at(at)) {
+                round.push(name, *at)
+            } else {
+                Ok(())
+            }
+        }
+    }
+}
+
+/// The names of a scope for later units, the oldest first. Linear in them.
+pub(crate) fn share_all(
+    round: &mut NameList<Place>,
+    declared: &Declarations,
+    names: &[(NameId, Meant)],
+) -> Result<(), NoMemory>
+    ensures { OnOk result
+        (round.new ≡ shared declared.now (reverse names.now) ++ round.old) }
+{
+    for it in names {
+        share(round, declared, it.0, &it.1)?;
+    }
+    Ok(())
+}

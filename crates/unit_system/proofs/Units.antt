@@ -1,0 +1,126 @@
+-- Constraints are added unit by unit.
+use Rattle.std.proofs.Common.{◌≡◌, ◌<◌, ◌≤◌, ◌+◌, ℕ, zero, suc, List, [], ◌∷◌, ◌++◌, length, take, drop, slice_index_or, refl, sym, ◌∙◌, ap, arith, append_assoc, append-nil, length-append}
+use Rattle.std.proofs.lemmas.List.{take-append-le}
+use Rattle.std.proofs.Math.Seq.{take-append-add}
+use Rattle.flow_graph.specs.declared.constraint.Constraint.{Constraint}
+use Rattle.flow_graph.specs.declared.graph.GraphFault.{GraphFault}
+use Rattle.flow_graph.specs.System.{System}
+use Rattle.flow_rules.specs.Adding.{with}
+use Rattle.name_rules.specs.Scopes.{Names}
+use Rattle.row_adding.specs.Adding.{StopsEarly}
+use Rattle.row_rules.specs.Starting as rules
+use Rattle.row_steps.specs.Starting.{unit_starts}
+use Rattle.unit_types.specs.declared.program.UnitTape.{UnitTape}
+use Rattle.unit_types.specs.Resolved.{tape_of, tapes_of}
+use Rattle.unit_system.specs.declared.adding.Shared.{Shared}
+use Rattle.unit_system.specs.Sharing.{meant_in, tape_rows, rows_on}
+use Rattle.unit_system.specs.Systems.{names_on, starts_on, starts_among, rows_among}
+
+with_none : (sys : System) → sys ≡ with sys []
+with_none sys = sym (ap (λ (cs : List Constraint). record sys { constraints = cs }) (append-nil sys.constraints))
+
+with_more : (sys : System) (xs ys : List Constraint) → with (with sys xs) ys ≡ with sys (xs ++ ys)
+with_more sys xs ys = ap (λ (cs : List Constraint). record sys { constraints = cs }) (append_assoc sys.constraints xs ys)
+
+take_in : (xs ys zs : List Constraint) (n : ℕ) → n ≤ length ys → take (length xs + n) (xs ++ (ys ++ zs)) ≡ xs ++ take n ys
+take_in xs ys zs n le =
+    take-append-add xs (ys ++ zs) n ∙ ap (λ (l : List Constraint). xs ++ l) (take-append-le n ys zs le)
+
+-- an adding that stopped inside a longer one
+stops_within : (old now new : System) (fault : GraphFault) (before list after whole : List Constraint)
+    → now ≡ with old before → whole ≡ before ++ (list ++ after) → StopsEarly now new fault list
+    → StopsEarly old new fault whole
+stops_within old now new fault before list after whole so all stop = record {
+  added = length before + stop.added;
+  within =
+      let e = ap length all in
+      let a = length-append before (list ++ after) in
+      let b = length-append list after in
+      let le = stop.within in
+      omega arith;
+  part =
+      stop.part
+      ∙ ap (λ (sys : System). with sys (take stop.added list)) so
+      ∙ with_more old before (take stop.added list)
+      ∙ ap (with old) (sym (ap (take (length before + stop.added)) all ∙ take_in before list after stop.added stop.within));
+  full = λ many.
+      let e = ap length all in
+      let a = length-append before (list ++ after) in
+      let b = length-append list after in
+      let lt : stop.added < length list = (stop.full many).0 in
+      (omega arith, (stop.full many).1);
+}
+
+-- the next unit
+behind : (xs : List UnitTape) (i : ℕ) (x : UnitTape) → i < length xs → x ≡ slice_index_or xs i x
+    → tapes_of (drop i xs) ≡ tape_of x ∷ tapes_of (drop (i + 1) xs)
+behind [] i x lt is = absurd (omega arith)
+behind (y ∷ xs) zero x lt is = ap (λ (z : UnitTape). tape_of z ∷ tapes_of xs) (sym is)
+behind (y ∷ xs) (suc i) x lt is =
+    let e : suc i + 1 ≡ suc (i + 1) = omega arith in rw e (behind xs i x (omega arith) is)
+
+-- there is none
+past : (xs : List UnitTape) (i : ℕ) → length xs ≤ i → tapes_of (drop i xs) ≡ []
+past [] zero le = refl
+past [] (suc i) le = refl
+past (x ∷ xs) zero le = absurd (omega arith)
+past (x ∷ xs) (suc i) le = past xs i (omega arith)
+
+-- the skeletons of one unit more
+pub starts_next : (s : Names) (found : List rules.Start) (xs : List UnitTape) (i : ℕ) (x : UnitTape)
+    → i < length xs → x ≡ slice_index_or xs i x
+    → (found ++ unit_starts (tape_of x).spelling s (tape_of x).ops) ++ starts_among s (tapes_of (drop (i + 1) xs))
+    ≡ found ++ starts_among s (tapes_of (drop i xs))
+starts_next s found xs i x lt is =
+    append_assoc found (unit_starts (tape_of x).spelling s (tape_of x).ops) (starts_among s (tapes_of (drop (i + 1) xs)))
+    ∙ ap (λ ts. found ++ starts_among s ts) (sym (behind xs i x lt is))
+
+pub starts_end : (s : Names) (found : List rules.Start) (xs : List UnitTape) (i : ℕ) → length xs ≤ i
+    → found ++ starts_among s (tapes_of (drop i xs)) ≡ found
+starts_end s found xs i le = ap (λ ts. found ++ starts_among s ts) (past xs i le) ∙ append-nil found
+
+module _ (it : Shared) where
+  abbrev rows_left : List UnitTape → List Constraint
+  rows_left units = rows_among (meant_in it) (names_on it.program.now) (starts_on it.program.now) (tapes_of units)
+
+  -- what stands in the graph while the constraints of these units are not added yet
+  pub record Reached (old now : System) (units : List UnitTape) : Type 0 where
+    pub before : List Constraint
+    pub rows : now ≡ with old before
+    pub split : rows_on it ≡ before ++ rows_left units
+
+  pub at_first : (old : System) (units : List UnitTape) → units ≡ it.program.now.units → Reached old old units
+  at_first old units is = record { before = []; rows = with_none old; split = ap rows_left (sym is) }
+
+  pub at_next : (old now new : System) (units : List UnitTape) (i : ℕ) (unit : UnitTape) → Reached old now (drop i units)
+      → i < length units → unit ≡ slice_index_or units i unit → new ≡ with now (tape_rows it (tape_of unit))
+      → Reached old new (drop (i + 1) units)
+  at_next old now new units i unit so lt is row = record {
+    before = so.before ++ tape_rows it (tape_of unit);
+    rows = row ∙ ap (λ (sys : System). with sys (tape_rows it (tape_of unit))) so.rows
+        ∙ with_more old so.before (tape_rows it (tape_of unit));
+    split = so.split
+        ∙ ap (λ ts. so.before ++ rows_among (meant_in it) (names_on it.program.now) (starts_on it.program.now) ts)
+        (behind units i unit lt is)
+        ∙ sym (append_assoc so.before (tape_rows it (tape_of unit)) (rows_left (drop (i + 1) units)));
+  }
+
+  pub at_end : (old now : System) (units : List UnitTape) (i : ℕ) → Reached old now (drop i units) → length units ≤ i
+      → now ≡ with old (rows_on it)
+  at_end old now units i so le =
+      so.rows
+      ∙ ap (with old) (sym (so.split
+      ∙ ap (λ ts. so.before ++ rows_among (meant_in it) (names_on it.program.now) (starts_on it.program.now) ts) (past units i le)
+      ∙ append-nil so.before))
+
+  -- the adding of a unit's constraints stopped
+  pub at_stop : (old now new : System) (fault : GraphFault) (units : List UnitTape) (i : ℕ) (unit : UnitTape)
+      → Reached old now (drop i units) → i < length units → unit ≡ slice_index_or units i unit
+      → StopsEarly now new fault (tape_rows it (tape_of unit)) → StopsEarly old new fault (rows_on it)
+  at_stop old now new fault units i unit so lt is stop =
+      stops_within old now new fault so.before (tape_rows it (tape_of unit)) (rows_left (drop (i + 1) units)) (rows_on it)
+      so.rows
+      (so.split
+      ∙ ap (λ ts. so.before ++ rows_among (meant_in it) (names_on it.program.now) (starts_on it.program.now) ts)
+      (behind units i unit lt is))
+      stop

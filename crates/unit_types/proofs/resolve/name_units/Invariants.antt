@@ -1,0 +1,16 @@
+use Rattle.std.proofs.Common.{◌≡◌, ℕ, drop}
+use Rattle.type_table.specs.Types.{CType}
+use Rattle.name_types.specs.Known.{Knows}
+use Rattle.name_steps.specs.Units.{tapes_named}
+use Rattle.unit_names.specs.Shown.{names_of}
+use Rattle.c_names.specs.Shown.{AreShown}
+use Rattle.unit_types.specs.Resolved.{tapes_of, names_on}
+use Rattle.unit_types.proofs.resolve.name_units.Given as goal
+
+abbrev pub invariant-loop-unit : goal.invariant-loop-unit
+invariant-loop-unit l =
+    record {
+      shown : AreShown l.types l.names;
+      named : (t : ℕ → CType) → Knows t l.types
+          → tapes_named (tapes_of (drop l.unit-index l.units)) (names_of t l.names) ≡ names_on (tapes_of l.units);
+    }
