@@ -1,5 +1,5 @@
 -- Units that are joined, and what is made of them.
-use Rattle.std.proofs.Common.{◌≡◌, ◌≢◌, ℕ, ◌<◌, ◌≤◌, List, [], ◌∷◌, ◌++◌, length, map, codes, refl, sym, ◌∙◌, ap, subst}
+use Rattle.std.proofs.Common.{arith, ◌≡◌, ◌≢◌, ℕ, zero, suc, ◌+◌, ◌<◌, ◌≤◌, List, [], ◌∷◌, ◌++◌, length, map, drop, slice_index_or, codes, refl, sym, ◌∙◌, ap, subst, append_assoc}
 use Rattle.std.specs.Prelude.{All}
 use Rattle.std.proofs.lemmas.List.Elements.{All-nil, All-cons, All-head, All-tail, All-push, All-same}
 use Rattle.lattice_core.specs.View.{LatticeView}
@@ -12,6 +12,9 @@ use Rattle.unit_types.specs.declared.fault.ShapeFault.TheVariants.{NoMemory as O
 use Rattle.unit_types.specs.Faults.{IsFirstUnlessMemory}
 use Rattle.c_types.specs.declared.source.Source.{Source}
 use Rattle.c_types.specs.Sources.{UnitRead, sources_behind, sources_in, unit_of, units_of}
+use Rattle.annotate.specs.Texts.{UnitText}
+use Rattle.annotate.specs.declared.scene.UnitText.{UnitText as LentUnit}
+use Rattle.annotate.specs.Scenes as scenes
 use Rattle.index_words.specs.Marks.{IndexMark}
 use Rattle.constraint_gen.specs.Programs.{program_in, positions_in}
 use Rattle.constraint_gen.specs.Generating.{IsGenerated}
@@ -23,7 +26,7 @@ use Rattle.cqual_tool.specs.Statuses.{Says}
 use Rattle.cqual_tool.specs.Texts.{malformed_line}
 use Rattle.cqual_tool.specs.Shapes.{shape_line}
 use Rattle.cqual_tool.specs.Words.{FileNames}
-use Rattle.cqual_tool.specs.Programs.{judging_of, texts_of}
+use Rattle.cqual_tool.specs.Programs.{judging_of, text_of, texts_of}
 use Rattle.cqual_tool.specs.Outcome.{IsCounted, IsRefused, Faulty, ManyConstraints, ManyVariables, SourceParses, SourceReads}
 use Rattle.cqual_tool.specs.Preparing.{IsFormed, IsPrepared}
 
@@ -95,3 +98,26 @@ module _ (named : FileNames) (lattices : List LatticeView) (before : List UnitRe
   pub generated : (made : Generated) → IsGenerated units (program_in lattices marks units) made
       → IsGenerated (before ++ unit ∷ []) (program_in lattices marks (before ++ unit ∷ [])) made
   generated made is = subst (λ (us : List UnitRead). IsGenerated us (program_in lattices marks us) made) are is
+
+-- the texts of sources, one more at a time
+shown_on : (shown : List LentUnit) (u : LentUnit) → scenes.units_of (shown ++ u ∷ []) ≡ scenes.units_of shown ++ scenes.unit_of u ∷ []
+shown_on [] u = refl
+shown_on (it ∷ shown) u = ap (λ (units : List UnitText). scenes.unit_of it ∷ units) (shown_on shown u)
+
+next_text : (named : FileNames) (sources : List Source) (i : ℕ) (it : Source) → it ≡ slice_index_or sources i it → i < length sources
+    → text_of named (unit_of it) ∷ texts_of named (units_of (drop (i + 1) sources)) ≡ texts_of named (units_of (drop i sources))
+next_text named [] i it is lt = absurd (omega arith)
+next_text named (x ∷ sources) zero it is lt = ap (λ (s : Source). text_of named (unit_of s) ∷ texts_of named (units_of sources)) is
+next_text named (x ∷ sources) (suc i) it is lt =
+    let e : suc i + 1 ≡ suc (i + 1) = omega arith in rw e (next_text named sources i it is (omega arith))
+
+pub texts_on : (named : FileNames) (sources : List Source) (i : ℕ) (it : Source) (shown : List LentUnit) (u : LentUnit)
+    → scenes.unit_of u ≡ text_of named (unit_of it) → it ≡ slice_index_or sources i it → i < length sources
+    → scenes.units_of (shown ++ u ∷ []) ++ texts_of named (units_of (drop (i + 1) sources))
+    ≡ scenes.units_of shown ++ texts_of named (units_of (drop i sources))
+texts_on named sources i it shown u same is lt =
+    let rest = texts_of named (units_of (drop (i + 1) sources)) in
+    ap (λ (units : List UnitText). units ++ rest) (shown_on shown u)
+    ∙ append_assoc (scenes.units_of shown) (scenes.unit_of u ∷ []) rest
+    ∙ ap (λ (units : List UnitText). scenes.units_of shown ++ units)
+    (ap (λ (one : UnitText). one ∷ rest) same ∙ next_text named sources i it is lt)

@@ -24,8 +24,8 @@ module _ (named : FileNames) (told : Option (List (List ℕ × List ℕ))) (latt
   pub behind_source : (before : List UnitRead) (marks : List IndexMark) (names : List (List ℕ)) → EndStarts named names
       → IfSome told (λ all. (unit : UnitRead) × IsCounted named lattices before marks (content_of all named.source) unit)
       → SourceStarts named told lattices before marks (named.source ∷ names)
-  behind_source before marks [] NoReport counted = SourceAlone
-  behind_source before marks (file ∷ []) (OneReport file is) counted = ReportBehind file is counted
+  behind_source before marks _ NoReport counted = SourceAlone
+  behind_source before marks _ (OneReport file is) counted = ReportBehind file is counted
 
   both : {P Q R : List (List ℕ × List ℕ) → Type 0} (o : Option (List (List ℕ × List ℕ))) → IfSome o P → IfSome o Q
       → ((all : List (List ℕ × List ℕ)) → P all → Q all → R all) → IfSome o R
@@ -72,3 +72,9 @@ module _ (named : FileNames) (told : Option (List (List ℕ × List ℕ))) (latt
         unit = is.unit;
         counted = is.counted;
       }))
+
+-- what holds of units and marks holds of equal ones
+pub at_units : (P : List UnitRead → List IndexMark → Type 0) (units other : List UnitRead) (marks same : List IndexMark) → units ≡ other
+    → marks ≡ same → P units marks → P other same
+at_units P units other marks same one two is =
+    subst (λ (us : List UnitRead). P us same) one (subst (λ (ms : List IndexMark). P units ms) two is)

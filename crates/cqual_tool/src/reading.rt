@@ -93,16 +93,18 @@ fn take_prelude<F: Files>(
         (F.started files.new) names
         × UnitsStart (files_in named.now) (F.contents files.old) lattices.now names }
 {
-    let Some(bytes) = taken(alloc, files, file, SOURCE_LIMIT)? else {
-        return Ok(too_large(alloc, file)?);
-    };
-    let words = lattices.words(alloc)?;
-    match read_prelude(alloc, &bytes, &words) {
-        Ok(read) => {
-            let earlier = prelude_before(alloc, read)?;
-            take_source(alloc, named, lattices, earlier, files)
+    match taken(alloc, files, file, SOURCE_LIMIT)? {
+        Some(bytes) => {
+            let words = lattices.words(alloc)?;
+            match read_prelude(alloc, &bytes, &words) {
+                Ok(read) => {
+                    let earlier = prelude_before(alloc, read)?;
+                    take_source(alloc, named, lattices, earlier, files)
+                }
+                Err(fault) => Ok(prelude_refused(alloc, file, &bytes, &fault)?),
+            }
         }
-        Err(fault) => Ok(prelude_refused(alloc, file, &bytes, &fault)?),
+        None => Ok(too_large(alloc, file)?),
     }
 }
 

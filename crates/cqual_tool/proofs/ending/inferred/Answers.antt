@@ -2,21 +2,26 @@ use Rattle.std.proofs.Common.{List, length, refl, sym, ◌∙◌, ap, subst}
 use Rattle.std.proofs.lemmas.Result.{IfOk-weaker}
 use Rattle.qual_types.specs.declared.row.Row.{Row}
 use Rattle.qual_types.specs.Table.{Stands}
-use Rattle.c_types.specs.Sources.{UnitRead}
+use Rattle.annotate.specs.Scenes as scenes
+use Rattle.c_types.specs.declared.source.Source.{Source}
+use Rattle.c_types.specs.Sources.{units_of}
 use Rattle.cqual_tool.specs.Words.{names_in}
 use Rattle.cqual_tool.specs.Programs.{judging_of, texts_of}
 use Rattle.cqual_tool.proofs.ending.inferred.Goals as goal
 
-pub returns-in_ok-clause-report : goal.returns-in_ok-clause-report
-returns-in_ok-clause-report c = λ units marks are made.
+pub returns-clause-report : goal.returns-clause-report
+returns-clause-report c = λ units marks are made.
     let it = judging_of (names_in c.args.named.now) c.args.lattices.now marks units in
     IfOk-weaker c.report.result _ _
     (λ answer is.
     is it
     (record {
-      units = ?;
+      units =
+          sym (ap scenes.units_of c.deref-2.ensures.value ∙ c.in_ok-units.ensures
+          ∙ ap (λ (ss : List Source). texts_of (names_in c.args.named.now) (units_of ss)) c.deref.ensures.value
+          ∙ ap (texts_of (names_in c.args.named.now)) are);
       lattices = refl;
-      listed = sym (c.deref-2.ensures.value ∙ made.listed);
+      listed = sym (c.deref-3.ensures.value ∙ made.listed);
       count = sym made.count ∙ ap (λ (rows : List Row). length rows) (sym c.vars.ensures);
       stand = λ v p lt stands. made.stand p v (subst (λ (rows : List Row). Stands rows p v) c.vars.ensures stands);
     })

@@ -17,22 +17,22 @@ returns-in-Ok c = λ before unit bytes are is.
       made = generated named c.args.lattices.now before c.args.prelude.now bytes unit units same c.in-Ok.made c.in-Ok.ensures.made;
     }
 
-pub returns-in_ok-malformed-in-Err-TooManyVariables : goal.returns-in_ok-malformed-in-Err-TooManyVariables
-returns-in_ok-malformed-in-Err-TooManyVariables c = λ before unit bytes are is.
+pub returns-in-Err-TooManyVariables : goal.returns-in-Err-TooManyVariables
+returns-in-Err-TooManyVariables c = λ before unit bytes are is.
     let units = units_of c.deref.result.now in
     let same = ap units_of c.deref.ensures.value ∙ are in
     let named = names_in c.args.named.now in
-    refused named c.args.lattices.now before c.args.prelude.now bytes _ _ c.in_ok-malformed-in-Err-TooManyVariables.ensures
+    refused named c.args.lattices.now before c.args.prelude.now bytes _ c.in_ok-malformed-in-Err-TooManyVariables.field-0 c.in_ok-malformed-in-Err-TooManyVariables.ensures
     (many_variables named c.args.lattices.now before c.args.prelude.now bytes unit units same is
     (c.in-Err-TooManyVariables.ensures.too_many_variables (ap Err c.in-Err-TooManyVariables.field-0-is)))
 
-pub returns-in_ok-malformed-in-Err-TooManyConstraints : goal.returns-in_ok-malformed-in-Err-TooManyConstraints
-returns-in_ok-malformed-in-Err-TooManyConstraints c = λ before unit bytes are is.
+pub returns-in-Err-TooManyConstraints : goal.returns-in-Err-TooManyConstraints
+returns-in-Err-TooManyConstraints c = λ before unit bytes are is.
     let units = units_of c.deref.result.now in
     let same = ap units_of c.deref.ensures.value ∙ are in
     let named = names_in c.args.named.now in
     let no = c.in-Err-TooManyConstraints.ensures in
     let fault = ap Err c.in-Err-TooManyConstraints.field-0-is in
-    refused named c.args.lattices.now before c.args.prelude.now bytes _ _ c.in_ok-malformed-in-Err-TooManyConstraints.ensures
+    refused named c.args.lattices.now before c.args.prelude.now bytes _ c.in_ok-malformed-in-Err-TooManyConstraints.field-0 c.in_ok-malformed-in-Err-TooManyConstraints.ensures
     (many_constraints named c.args.lattices.now before c.args.prelude.now bytes unit units same is (no.fit_variables fault)
     (no.too_many_constraints fault))

@@ -1,9 +1,18 @@
-use Rattle.std.proofs.Common.{ap, ◌∙◌, sym}
-use Rattle.c_types.specs.Sources.{unit_of, units_of}
-use Rattle.cqual_tool.proofs.Joining.{units_on}
+use Rattle.std.proofs.Common.{List, [], ◌∷◌, ◌++◌, ap, ◌∙◌, sym, subst}
+use Rattle.std.specs.Prelude.{All}
+use Rattle.name_laws.specs.NameLaws.{IsSound}
+use Rattle.c_types.specs.declared.source.Source.{Source}
+use Rattle.c_types.specs.Sources.{sources_of, unit_of, units_of}
+use Rattle.cqual_tool.proofs.Joining.{formed_on, sound_behind, units_on}
 use Rattle.cqual_tool.proofs.preparing.joined.Goals as goal
 
-pub returns-in_ok : goal.returns-in_ok
-returns-in_ok c = λ bytes parses.
+pub returns : goal.returns
+returns c = λ bytes parses.
     c.resolved.ensures (units_of c.args.earlier.sources.items) (unit_of c.args.source) bytes
-    (ap units_of c.in_ok.ensures ∙ units_on c.args.earlier.sources.items c.args.source) parses
+    (ap units_of c.in_ok-push.ensures.items ∙ units_on c.args.earlier.sources.items c.args.source) parses
+
+pub resolved-requires : goal.resolved-requires
+resolved-requires c =
+    let before = c.args.earlier.sources.items in
+    subst (λ (ss : List Source). All IsSound (sources_of ss)) (sym c.in_ok-push.ensures.items)
+    (sound_behind [] (units_of (before ++ c.args.source ∷ [])) (formed_on before c.args.source c.requires.before c.requires.formed))

@@ -1,0 +1,37 @@
+use Rattle.std.proofs.Common.{ℕ, List, [], IfSome, refl, sym, ap, subst}
+use Rattle.std.specs.declared.option.Option.{Option}
+use Rattle.std.specs.Option.{option_map}
+use Rattle.std.proofs.lemmas.Result.{IfOk-weaker}
+use Rattle.qual_base.specs.Outside.{content_of}
+use Rattle.c_types.specs.Sources.{UnitRead, units_of}
+use Rattle.c_types.specs.declared.source.Source.{Source}
+use Rattle.index_words.specs.Marks.{IndexMark}
+use Rattle.cqual_tool.specs.Words.{names_in}
+use Rattle.cqual_tool.specs.Outcome.{OfSource, OfUnits, NoPrelude, PreludeRead, named_one}
+use Rattle.cqual_tool.specs.Preparing.{SourceStarts}
+use Rattle.cqual_tool.proofs.Outcomes.{when_told, always_told}
+use Rattle.cqual_tool.proofs.Starting.{at_units, units_start}
+use Rattle.cqual_tool.proofs.reading.take_units.Goals as goal
+
+pub returns-in-None-clause-outcome : goal.returns-in-None-clause-outcome
+returns-in-None-clause-outcome g c =
+    let named = names_in c.args.named.now in
+    let lattices = c.args.lattices.now in
+    let none = ap (option_map (λ name. name.now)) c.in-None.is in
+    let units = ap units_of c.nothing_before.ensures.sources in
+    IfOk-weaker c.take_source.result _ _
+    (λ answer of. when_told (g.F.Files.contents c.args.files.now) of (λ all is.
+    PreludeRead [] [] _ _ (NoPrelude none)
+    (at_units (λ us marks. OfSource named (content_of all) lattices us marks answer.status answer.text.items) _ [] _ [] units c.nothing_before.ensures.prelude is)))
+    c.take_source.ensures.outcome
+
+pub returns-in-None-clause-started : goal.returns-in-None-clause-started
+returns-in-None-clause-started g c =
+    let named = names_in c.args.named.now in
+    let lattices = c.args.lattices.now in
+    let told = g.F.Files.contents c.args.files.now in
+    let none = ap (option_map (λ name. name.now)) c.in-None.is in
+    let units = ap units_of c.nothing_before.ensures.sources in
+    let starts = c.take_source.ensures.started in
+    let there = at_units (λ us marks. SourceStarts named told lattices us marks starts.0) _ [] _ [] units c.nothing_before.ensures.prelude starts.2 in
+    (starts.0, starts.1, units_start named told lattices [] [] starts.0 [] (ap named_one none) (always_told told (λ all. NoPrelude none)) there)
