@@ -63,9 +63,9 @@ same_lexed words bytes one other unit bytes_are keywords h only =
     let spelled = spells words bytes other h in
     let read = only other.tokens spelled.0 other.marks spelled.1 in
     same one other (unit ∙ sym h.unit) (bytes_are ∙ sym h.bytes_are) read.0 read.1
-        (keywords.constant ∙ sym (h.marks.mean (codes "const")) ∙ sym h.marks.keywords.constant)
-        (keywords.volatile ∙ sym (h.marks.mean (codes "volatile")) ∙ sym h.marks.keywords.volatile)
-        (keywords.restrict ∙ sym (h.marks.mean (codes "restrict")) ∙ sym h.marks.keywords.restrict)
+    (keywords.constant ∙ sym (h.marks.mean (codes "const")) ∙ sym h.marks.keywords.constant)
+    (keywords.volatile ∙ sym (h.marks.mean (codes "volatile")) ∙ sym h.marks.keywords.volatile)
+    (keywords.restrict ∙ sym (h.marks.mean (codes "restrict")) ∙ sym h.marks.keywords.restrict)
 
 pub lex_only : (words : Meanings) (bytes : List ℕ) (lexed : Lexed) (fault : LexFault) → Lexes words bytes lexed →
     ((tokens : List Token) (names : List (List ℕ)) (marks : List Mark) → Spells 0 words bytes tokens names marks → fault ≡ NoRoom) → placed_lex fault ≡ NoMemory

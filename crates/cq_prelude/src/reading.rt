@@ -48,7 +48,7 @@ fn check_names(alloc: Global, source: &Source) -> Result<(), PreludeFault>
     ensures fault { IfErr result (IsShapeFaultIn (unit_of source.now)) }
 {
     match resolve(alloc, from_ref(source)) {
-        Ok(_) => Ok(()),
+        Ok(_program) => Ok(()),
         Err(fault) => Err(shape_refused(&source.tokens, fault)),
     }
 }

@@ -25,8 +25,8 @@ returns-in-Ok-clause-first c =
     let marked = rw c.as_slice-3.ensures.value at c.in-Ok.ensures.all in
     let least = rw c.as_slice-2.ensures.value at c.first_body-body.ensures in
     IfErr-weaker c.unless_body.result _ _
-        (λ fault h. subst (IsRuleFault c.args.tokens.now (items_of c.args.unit.now)) (sym h.2) (body_is_first _ (items_of c.args.unit.now) _ flagged c.first_body-body.result h.0 _ least h.1 marked))
-        c.unless_body.ensures.some
+    (λ fault h. subst (IsRuleFault c.args.tokens.now (items_of c.args.unit.now)) (sym h.2) (body_is_first _ (items_of c.args.unit.now) _ flagged c.first_body-body.result h.0 _ least h.1 marked))
+    c.unless_body.ensures.some
 
 pub returns-clause-first : goal.returns-clause-first
 returns-clause-first c =
