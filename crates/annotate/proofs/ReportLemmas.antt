@@ -1,5 +1,6 @@
 -- Reports from their parts.
-use Rattle.std.proofs.Common.{◌≡◌, Bool, true, ℕ, suc, ◌+◌, ◌<◌, arith, List, [], ◌∷◌, take, get_or, ◌++◌, length, slice_get, Option, Some, None, IsSome, MatchOption, codes, refl, sym, ◌∙◌, ap, subst, append_assoc, append-nil}
+use Rattle.std.proofs.Common.{◌≡◌, Bool, true, ℕ, suc, ◌+◌, ◌<◌, arith, List, [], ◌∷◌, take, get_or, ◌++◌, length, slice_get, Option}
+use Rattle.std.proofs.Common.{Some, None, IsSome, MatchOption, codes, refl, sym, ◌∙◌, ap, subst, append_assoc, append-nil}
 use Rattle.std.proofs.lemmas.Option.{slice_get_within}
 use Rattle.std.proofs.Math.Seq.{take-suc}
 use Rattle.lattice_core.specs.Order.{Order, IsLattice, IsJoinOf}
@@ -18,7 +19,9 @@ use Rattle.annotate.specs.declared.listing.Listing.{Listing}
 use Rattle.annotate.specs.Texts.{Scene, line, accepted_text, error_line, proof_text}
 use Rattle.annotate.specs.Annotated.{annotation}
 use Rattle.annotate.specs.Solutions.{Adds, IsListedIn}
-use Rattle.annotate.specs.Reports.{IsAtOnce, IsBottom, AtBottom, Above, VarListings, Listings, NextVar, IsError, IsOver, Errors, IsAcceptedReport, IsRejectedReport, IsJudged, JudgedAccepted, JudgedRejected, IsJudgedWith, AcceptedWith, RejectedWith}
+use Rattle.annotate.specs.Reports.{IsAtOnce, IsBottom, AtBottom, Above, VarListings, Listings, NextVar, IsError, IsOver, Errors}
+use Rattle.annotate.specs.Reports.{IsAcceptedReport, IsRejectedReport, IsJudged, JudgedAccepted, JudgedRejected, IsJudgedWith}
+use Rattle.annotate.specs.Reports.{AcceptedWith, RejectedWith}
 use Rattle.lattice_core.specs.View.{LatticeView, orders_of}
 
 some_is : {A : Type 0} {x y : A} → Some x ≡ Some y → x ≡ y
@@ -33,14 +36,18 @@ pub limit_given : (A : Type 0) (B : Limit → Type 0) (found : Option Limit) (li
 limit_given A B found limit is given = let Of : Option Limit → Type 0 = λ x. MatchOption x A B in subst Of is given
 
 -- an accepted report of what is listed, with what stands behind it
-pub accepted_with : (scene : Scene) (sys : System) (unit : Option ℕ) (listings : List Listing) (text : List ℕ) → IsAccepted sys (orders_of scene.lattices) →
+pub accepted_with : (scene : Scene) (sys : System) (unit : Option ℕ) (listings : List Listing) (text : List ℕ) →
+    IsAccepted sys (orders_of scene.lattices) →
     ((lattice : ℕ) (order : Order) → slice_get (orders_of scene.lattices) lattice ≡ Some order → IsAtOnce sys lattice order) →
-    Listings scene.lattices sys scene.listed listings → text ≡ accepted_text scene listings ++ annotation scene unit listings → IsJudgedWith scene sys unit true text
+    Listings scene.lattices sys scene.listed listings → text ≡ accepted_text scene listings ++ annotation scene unit listings →
+    IsJudgedWith scene sys unit true text
 accepted_with scene sys unit listings text accepted at_once listed is =
-    AcceptedWith text (accepted_text scene listings) (record { accepted = accepted; at_once = at_once; listings = listings; listed = listed; spelled = refl }) is
+    AcceptedWith text (accepted_text scene listings)
+    (record { accepted = accepted; at_once = at_once; listings = listings; listed = listed; spelled = refl }) is
 
 -- where no annotated source is asked for, it is the report alone
-pub judged_alone : (scene : Scene) (sys : System) (accepted : Bool) (text : List ℕ) → IsJudgedWith scene sys None accepted text → IsJudged scene sys accepted text
+pub judged_alone : (scene : Scene) (sys : System) (accepted : Bool) (text : List ℕ) → IsJudgedWith scene sys None accepted text →
+    IsJudged scene sys accepted text
 judged_alone scene sys accepted text (AcceptedWith _ report is spelled) =
     let Is : List ℕ → Type 0 = λ t. IsAcceptedReport scene sys t in
     JudgedAccepted text (subst Is (sym (spelled ∙ append-nil report)) is)
@@ -56,16 +63,27 @@ rejected_report scene sys text begun errors law n over begins is listed = record
 }
 
 -- what is listed from the least element of the solution of a lattice
-module _ (lattices : List LatticeView) (sys : System) (number : ℕ) (order : Order) (there : slice_get (orders_of lattices) number ≡ Some order) (solution : Solution) (var elem bottom : ℕ)
+module _ (lattices : List LatticeView) (sys : System) (number : ℕ) (order : Order) (there : slice_get (orders_of lattices) number
+    ≡ Some order) (solution : Solution) (var elem bottom : ℕ)
     (own : solution.lattice ≡ number) (kept : IsKept sys solution order) (lattice : IsLattice order) (is_bottom : IsBottom order bottom) (join : IsJoinOf order (reached_at solution var) elem) where
   printed : Printed sys number order var elem
   printed = let Is : ℕ → Type 0 = λ l. Printed sys l order var elem in subst Is own (kept.printed var elem join)
 
   pub not_listed : elem ≡ bottom → IsListedIn lattices sys number var []
-  not_listed same = record { order = order; there = there; is = AtBottom elem (let Is : ℕ → Type 0 = λ a. IsBottom order a in subst Is (sym same) is_bottom) printed }
+  not_listed same = record {
+    order = order;
+    there = there;
+    is = AtBottom elem
+        (let Is : ℕ → Type 0 = λ a. IsBottom order a in subst Is (sym same) is_bottom) printed;
+  }
 
   pub one_listed : (elem ≡ bottom → ⊥) → IsListedIn lattices sys number var (record { var = var; lattice = number; elem = elem } ∷ [])
-  one_listed other = record { order = order; there = there; is = Above elem (λ low. other (lattice.ordered.apart elem bottom (low.1 bottom is_bottom.0) (is_bottom.1 elem low.0))) printed }
+  one_listed other = record {
+    order = order;
+    there = there;
+    is = Above elem
+        (λ low. other (lattice.ordered.apart elem bottom (low.1 bottom is_bottom.0) (is_bottom.1 elem low.0))) printed;
+  }
 
 -- nothing more is listed, or one list and then another
 pub adds_none : (old : List Listing) (Is : List Listing → Type 0) → Is [] → Adds old old Is
@@ -86,7 +104,8 @@ taken_more {A} xs n x within is =
     ap (λ (y : A). take n xs ++ y ∷ []) (sym is) ∙ sym (take-suc xs n x within) ∙ ap (λ k. take k xs) step
 
 -- what is listed with one variable more
-pub next_listed : (lattices : List LatticeView) (sys : System) (vars : List ℕ) (n var : ℕ) (before here : List Listing) → n < length vars → get_or vars n var ≡ var → Listings lattices sys (take n vars) before →
+pub next_listed : (lattices : List LatticeView) (sys : System) (vars : List ℕ) (n var : ℕ) (before here : List Listing) →
+    n < length vars → get_or vars n var ≡ var → Listings lattices sys (take n vars) before →
     VarListings lattices sys var (length lattices) here → Listings lattices sys (take (n + 1) vars) (before ++ here)
 next_listed lattices sys vars n var before here within is first next =
     let Of : List ℕ → Type 0 = λ taken. Listings lattices sys taken (before ++ here) in

@@ -1,5 +1,6 @@
 -- The annotated source: the bytes of a unit, with a comment behind each name at which variables stand that the accepted report lists.
-use Rattle.std.specs.Prelude.{◌≡◌, ℕ, zero, suc, ◌+◌, ◌-◌, List, [], ◌∷◌, ◌++◌, length, take, drop, slice_get, Option, Some, None, codes, nat_eq, ◌&&◌, if◌then◌else◌}
+use Rattle.std.specs.Prelude.{◌≡◌, ℕ, zero, suc, ◌+◌, ◌-◌, List, [], ◌∷◌, ◌++◌, length, take, drop, slice_get, Option, Some, None, codes}
+use Rattle.std.specs.Prelude.{nat_eq, ◌&&◌, if◌then◌else◌}
 use Rattle.std.specs.List.{flat_map}
 use Rattle.c_lexer.specs.Tokens.{Lexed, start_of, text_of}
 use Rattle.qual_types.specs.declared.position.Step.{Step}
@@ -18,12 +19,14 @@ item_text scene path listing = steps_or_dot path ++ codes " " ++ elem_text scene
 
 -- the same where the variable stands at this token of this unit, else nothing
 abbrev pub item_at : Scene → ℕ → ℕ → Listing → Option PositionView → List (List ℕ)
-item_at scene unit token listing (Some at) = if nat_eq at.unit unit && nat_eq at.token token then item_text scene at.path listing ∷ [] else []
+item_at scene unit token listing (Some at) =
+    if nat_eq at.unit unit && nat_eq at.token token then item_text scene at.path listing ∷ [] else []
 item_at scene unit token listing None = []
 
 -- what the comment of a token of a unit says, in the order of the report
 abbrev pub items_at : Scene → ℕ → ℕ → List Listing → List (List ℕ)
-items_at scene unit token listings = flat_map (λ (listing : Listing). item_at scene unit token listing (slice_get scene.positions listing.var)) listings
+items_at scene unit token listings =
+    flat_map (λ (listing : Listing). item_at scene unit token listing (slice_get scene.positions listing.var)) listings
 
 -- a comment with its items, and none where there are none
 abbrev pub comment_text : List (List ℕ) → List ℕ
@@ -51,7 +54,8 @@ pieces_from items ends at left token (suc more) =
     ∷ pieces_from items ends (at + (ends token - at)) (drop (ends token - at) left) (suc token) more
 
 abbrev pub pieces_of : Scene → Lexed → List Listing → List Piece
-pieces_of scene lexed listings = pieces_from (λ token. items_at scene lexed.unit token listings) (behind lexed) 0 lexed.bytes 0 (length lexed.tokens)
+pieces_of scene lexed listings =
+    pieces_from (λ token. items_at scene lexed.unit token listings) (behind lexed) 0 lexed.bytes 0 (length lexed.tokens)
 
 -- the pieces with their comments, and without
 abbrev pub with_comments : List Piece → List ℕ
@@ -75,4 +79,5 @@ annotation scene None listings = []
 
 -- taking the comments out gives the source back
 abbrev pub CommentsComeOut : Type 0
-CommentsComeOut = (scene : Scene) (lexed : Lexed) (listings : List Listing) → without_comments (pieces_of scene lexed listings) ≡ lexed.bytes
+CommentsComeOut = (scene : Scene) (lexed : Lexed) (listings : List Listing) →
+    without_comments (pieces_of scene lexed listings) ≡ lexed.bytes

@@ -23,7 +23,8 @@ closed (byte ∷ bytes) = byte ∷ bytes ++ codes "*/"
 
 -- the comments of tokens with these items
 abbrev pub HoldComments : (ℕ → List (List ℕ)) → List (Vec ℕ Global) → Type 0
-HoldComments items comments = (token : ℕ) (comment : Vec ℕ Global) → slice_get comments token ≡ Some comment → comment.items ≡ opened (items token)
+HoldComments items comments = (token : ℕ) (comment : Vec ℕ Global) → slice_get comments token ≡ Some comment →
+    comment.items ≡ opened (items token)
 
 -- the comments of the tokens of a unit
 abbrev pub AreComments : Scene → ℕ → List Listing → List (Vec ℕ Global) → Type 0

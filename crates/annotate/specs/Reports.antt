@@ -26,12 +26,14 @@ pub data IsListed (sys : System) (lattice : ℕ) (order : Order) (var : ℕ) : L
 pub data VarListings (lattices : List LatticeView) (sys : System) (var : ℕ) : ℕ → List Listing → Type 0 where
   NoLattice : VarListings lattices sys var 0 []
   NextLattice : (lattice : ℕ) (order : Order) (before here : List Listing) → slice_get (orders_of lattices) lattice ≡ Some order →
-      VarListings lattices sys var lattice before → IsListed sys lattice order var here → VarListings lattices sys var (lattice + 1) (before ++ here)
+      VarListings lattices sys var lattice before → IsListed sys lattice order var here →
+      VarListings lattices sys var (lattice + 1) (before ++ here)
 
 -- what is listed of variables, in order
 pub data Listings (lattices : List LatticeView) (sys : System) : List ℕ → List Listing → Type 0 where
   NoVar : Listings lattices sys [] []
-  NextVar : (vars : List ℕ) (var : ℕ) (before here : List Listing) → Listings lattices sys vars before → VarListings lattices sys var (length lattices) here →
+  NextVar : (vars : List ℕ) (var : ℕ) (before here : List Listing) → Listings lattices sys vars before →
+      VarListings lattices sys var (length lattices) here →
       Listings lattices sys (vars ++ var ∷ []) (before ++ here)
 
 -- In each lattice one assignment meets the unfolding at every depth, and on all copies of all variables at once it is at or
@@ -102,5 +104,6 @@ pub data IsJudged (scene : Scene) (sys : System) : Bool → List ℕ → Type 0 
 
 -- The same, with the annotated source of a unit behind an accepted report, where it is asked for.
 pub data IsJudgedWith (scene : Scene) (sys : System) (unit : Option ℕ) : Bool → List ℕ → Type 0 where
-  AcceptedWith : (text report : List ℕ) (is : IsAcceptedReport scene sys report) → text ≡ report ++ annotation scene unit is.listings → IsJudgedWith scene sys unit true text
+  AcceptedWith : (text report : List ℕ) (is : IsAcceptedReport scene sys report) → text ≡ report ++ annotation scene unit is.listings →
+      IsJudgedWith scene sys unit true text
   RejectedWith : (text : List ℕ) → IsRejectedReport scene sys text → IsJudgedWith scene sys unit false text

@@ -1,5 +1,5 @@
-//! The two reports of a program: the elements of its variables, or a path proof for each exceeded bound; and its source with the
-//! elements as comments.
+//! The two reports of a program: the elements of its variables, or a path proof for each exceeded bound; and its source with
+//! the elements as comments.
 #![tactic(auto)]
 
 mod annotated;

@@ -16,5 +16,9 @@ verdict_text (suc errors) = line (codes "rejected")
 -- the size of the source, what is counted of it, and whether it is accepted
 abbrev pub summary_text : ℕ → Counts → List ℕ
 summary_text n counts =
-    count_line (codes "generated ") n ++ count_line (codes "variables ") counts.variables ++ count_line (codes "constraints ") counts.constraints
-    ++ count_line (codes "sites ") counts.sites ++ verdict_text counts.errors ++ count_line (codes "errors ") counts.errors
+    count_line (codes "generated ") n
+    ++ count_line (codes "variables ") counts.variables
+    ++ count_line (codes "constraints ") counts.constraints
+    ++ count_line (codes "sites ") counts.sites
+    ++ verdict_text counts.errors
+    ++ count_line (codes "errors ") counts.errors

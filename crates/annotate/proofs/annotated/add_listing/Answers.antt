@@ -11,7 +11,9 @@ pub returns-then-number-count-clause-added : goal.returns-then-number-count-clau
 returns-then-number-count-clause-added c =
     λ s shows before.
     let count = shows.count in
-    none_more s c.args.unit before c.args.listing.now c.args.comments.now.items (λ token within. no_item s c.args.unit token c.args.listing.now _ (slice_get_past s.positions c.args.listing.now.var (omega (arith, count))))
+    none_more s c.args.unit before c.args.listing.now c.args.comments.now.items
+    (λ token within. no_item s c.args.unit token c.args.listing.now _
+    (slice_get_past s.positions c.args.listing.now.var (omega (arith, count))))
 
 pub returns-then-ne-clause-added : goal.returns-then-ne-clause-added
 returns-then-ne-clause-added c =
@@ -19,7 +21,9 @@ returns-then-ne-clause-added c =
     let position = view_of c.in_ok-position.position in
     let in_table : c.args.listing.now.var < length c.args.scene.now.vars.now = omega arith in
     let found = shows.stand c.args.listing.now.var position in_table (c.in_ok-position.ensures in_table) in
-    none_more s c.args.unit before c.args.listing.now c.args.comments.now.items (λ token within. other_unit s c.args.unit token c.args.listing.now _ position found (λ (same : c.in_ok-position.position.unit ≡ c.args.unit). grind arith))
+    none_more s c.args.unit before c.args.listing.now c.args.comments.now.items
+    (λ token within. other_unit s c.args.unit token c.args.listing.now _ position found
+    (λ (same : c.in_ok-position.position.unit ≡ c.args.unit). grind arith))
 
 pub returns-then-token-len-clause-added : goal.returns-then-token-len-clause-added
 returns-then-token-len-clause-added c =
@@ -27,7 +31,9 @@ returns-then-token-len-clause-added c =
     let position = view_of c.in_ok-position.position in
     let in_table : c.args.listing.now.var < length c.args.scene.now.vars.now = omega arith in
     let found = shows.stand c.args.listing.now.var position in_table (c.in_ok-position.ensures in_table) in
-    none_more s c.args.unit before c.args.listing.now c.args.comments.now.items (λ token within. other_token s c.args.unit token c.args.listing.now _ position found (λ (same : c.in_ok-position.position.token ≡ token). grind arith))
+    none_more s c.args.unit before c.args.listing.now c.args.comments.now.items
+    (λ token within. other_token s c.args.unit token c.args.listing.now _ position found
+    (λ (same : c.in_ok-position.position.token ≡ token). grind arith))
 
 pub returns-clause-added : goal.returns-clause-added
 returns-clause-added c =
@@ -37,7 +43,10 @@ returns-clause-added c =
     let found = shows.stand c.args.listing.now.var position in_table (c.in_ok-position.ensures in_table) in
     let same_unit : c.in_ok-position.position.unit ≡ c.args.unit = grind arith in
     let was : slice_get c.args.comments.now.items c.number-token.result ≡ Some c.index_mut.result.now =
-    slice_get_read c.args.comments.now.items (length c.args.comments.now.items) c.number-token.result c.index_mut.result.now refl (grind arith) c.index_mut.ensures.value in
+    slice_get_read c.args.comments.now.items (length c.args.comments.now.items) c.number-token.result c.index_mut.result.now refl
+    (grind arith) c.index_mut.ensures.value in
     let path : List Step = c.in_ok-position.position.path.items in
-    one_more s c.args.unit before c.args.listing.now c.args.comments.now.items position c.number-token.result c.index_mut.result.now c.add_item.new.comment found same_unit (sym c.number-token.ensures)
-    (grind arith) was (c.in_ok-add_item.ensures.is s shows ∙ ap (λ (p : List Step). begun_with c.index_mut.result.now.items ++ item_text s p c.args.listing.now) c.deref.ensures.value)
+    one_more s c.args.unit before c.args.listing.now c.args.comments.now.items position c.number-token.result c.index_mut.result.now
+    c.add_item.new.comment found same_unit (sym c.number-token.ensures)
+    (grind arith) was (c.in_ok-add_item.ensures.is s shows
+    ∙ ap (λ (p : List Step). begun_with c.index_mut.result.now.items ++ item_text s p c.args.listing.now) c.deref.ensures.value)

@@ -14,7 +14,8 @@ loop-listing-preserved c = (
   λ s shows.
       let Of : List Listing → Type 0 = λ listings. AreComments s c.args.unit listings c.add_listing.new.comments.items in
       subst Of (taken_more c.args.listings.now c.loop-listing.listing-index c.listing-item.result (omega arith) (sym c.listing-item.is))
-      (c.in_ok-add_listing.ensures.added s shows (take c.loop-listing.listing-index c.args.listings.now) (c.loop-listing.invariant.1 s shows)),
+      (c.in_ok-add_listing.ensures.added s shows (take c.loop-listing.listing-index c.args.listings.now)
+      (c.loop-listing.invariant.1 s shows)),
 )
 
 pub returns : goal.returns

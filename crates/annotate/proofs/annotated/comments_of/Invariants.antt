@@ -6,4 +6,5 @@ use Rattle.annotate.proofs.annotated.comments_of.Given as goal
 
 abbrev pub invariant-loop-listing : goal.invariant-loop-listing
 invariant-loop-listing l =
-    (length l.comments.items ≡ l.count) × ((s : Scene) → Shows l.scene s → AreComments s l.unit (take l.listing-index l.listings) l.comments.items)
+    (length l.comments.items ≡ l.count) × ((s : Scene) → Shows l.scene s →
+    AreComments s l.unit (take l.listing-index l.listings) l.comments.items)

@@ -20,5 +20,6 @@ returns c = record {
       let text = annotated_in s (Some unit) listings in
       c.in_ok-put_pieces.ensures (λ token. items_at s unit.lexed.unit token listings) hold
       ∙ ap (λ (t : List ℕ). t ++ text) c.in_ok-put.ensures ∙ append_assoc old (line (codes "annotated")) text
-      ∙ ap (λ (u : Option UnitText). old ++ (line (codes "annotated") ++ annotated_in s u listings)) (unit_is lent s shows c.args.unit c.find_unit.result (Some c.in-Some.found) c.in-Some.is c.find_unit.ensures);
+      ∙ ap (λ (u : Option UnitText). old ++ (line (codes "annotated") ++ annotated_in s u listings))
+      (unit_is lent s shows c.args.unit c.find_unit.result (Some c.in-Some.found) c.in-Some.is c.find_unit.ensures);
 }

@@ -17,7 +17,9 @@ loop-n-preserved c =
     NextLattice c.loop-n.n listed.order before here listed.there first listed.is)
 
 pub list_in-requires-clause-lattice : goal.list_in-requires-clause-lattice
-list_in-requires-clause-lattice c = (c.requires.solutions.each c.new-number.result c.solved_of-solved.result.now c.solved_of-solved.ensures).lattice_is
+list_in-requires-clause-lattice c =
+    (c.requires.solutions.each c.new-number.result c.solved_of-solved.result.now c.solved_of-solved.ensures).lattice_is
 
 pub list_in-requires-clause-kept : goal.list_in-requires-clause-kept
-list_in-requires-clause-kept c = λ view there. c.requires.kept c.new-number.result view c.solved_of-solved.result.now there c.solved_of-solved.ensures
+list_in-requires-clause-kept c = λ view there. c.requires.kept c.new-number.result view c.solved_of-solved.result.now there
+    c.solved_of-solved.ensures

@@ -19,9 +19,12 @@ returns c =
     let By : List _ → Type 0 = λ listed. Listings c.args.scene.now.lattices.now c.args.graph.now listed list in
     let solutions = subst Solved (sym shows.lattices) c.requires.solutions in
     let kept = subst Kept (sym shows.lattices) c.requires.kept in
-    accepted_with s c.args.graph.now c.args.unit list c.put_annotation.new.out.items (accepted_all c.args.graph.now s.lattices c.args.solutions.now solutions kept)
-    (at_once_all c.args.graph.now s.lattices c.args.solutions.now solutions kept) (subst Of (sym shows.lattices) (subst By (sym shows.listed) c.in_ok-listings.ensures))
+    accepted_with s c.args.graph.now c.args.unit list c.put_annotation.new.out.items
+    (accepted_all c.args.graph.now s.lattices c.args.solutions.now solutions kept)
+    (at_once_all c.args.graph.now s.lattices c.args.solutions.now solutions kept)
+    (subst Of (sym shows.lattices) (subst By (sym shows.listed) c.in_ok-listings.ensures))
     (c.in_ok-put_annotation.ensures.is s shows
-    ∙ ap (λ (t : List ℕ). t ++ annotation s c.args.unit c.deref-2.result.now) (c.in_ok-put_accepted.ensures.is s shows ∙ ap (λ (t : List ℕ). t ++ accepted_text s c.deref.result.now) c.new-text.ensures.items)
+    ∙ ap (λ (t : List ℕ). t ++ annotation s c.args.unit c.deref-2.result.now) (c.in_ok-put_accepted.ensures.is s shows
+    ∙ ap (λ (t : List ℕ). t ++ accepted_text s c.deref.result.now) c.new-text.ensures.items)
     ∙ ap (λ (l : List Listing). accepted_text s l ++ annotation s c.args.unit c.deref-2.result.now) c.deref.ensures.value
     ∙ ap (λ (l : List Listing). accepted_text s list ++ annotation s c.args.unit l) c.deref-2.ensures.value)

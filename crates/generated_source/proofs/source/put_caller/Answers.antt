@@ -8,5 +8,7 @@ returns c =
     on_ok_weaker c.put.result (λ put.
     put ∙ ap (λ (t : List _). t ++ (codes "(x)); }" ++ 10 ∷ []))
     (c.in_ok-put_numbered-3.ensures ∙ ap (λ (t : List _). t ++ codes "(f" ++ decimal c.args.called)
-    (c.in_ok-put_numbered-2.ensures ∙ ap (λ (t : List _). t ++ codes "(int x) { return f" ++ decimal c.args.called) c.in_ok-put_numbered.ensures)) ∙ simp append_assoc)
+    (c.in_ok-put_numbered-2.ensures
+    ∙ ap (λ (t : List _). t ++ codes "(int x) { return f" ++ decimal c.args.called)
+    c.in_ok-put_numbered.ensures)) ∙ simp append_assoc)
     c.put.ensures
