@@ -6,11 +6,9 @@ use Rattle.std.proofs.lemmas.Option.{slice_get-map, slice_get_within}
 use Rattle.lattice_core.specs.Order.{Order}
 use Rattle.lattice_core.specs.View.{LatticeView, orders_of}
 use Rattle.flow_graph.specs.declared.constraint.Constraint.{Constraint}
-use Rattle.flow_graph.specs.declared.constraint.Link.{Link}
 use Rattle.flow_graph.specs.declared.constraint.Link.TheVariants.{Bound}
-use Rattle.flow_graph.specs.System.{System, Stands}
+use Rattle.flow_graph.specs.System.{System}
 use Rattle.flow_graph.specs.Unfolding.{IsAccepted, IsAcceptedIn, IsExceeded, NamesElementsIn}
-use Rattle.lattice_solver.specs.Solution.{IsKept}
 use Rattle.annotate.specs.Texts.{Scene}
 use Rattle.annotate.specs.declared.solving.Solved.{Solved}
 use Rattle.annotate.specs.Solutions.{AreSolutions, AreKept, IsNoBound}

@@ -4,3 +4,4 @@ mod SubsLemmas
 mod LatticeLemmas
 mod SolutionLemmas
 mod ReportLemmas
+mod Annotating

@@ -1,8 +1,9 @@
 -- Reports from their parts.
-use Rattle.std.proofs.Common.{◌≡◌, ℕ, suc, ◌+◌, ◌<◌, arith, List, [], ◌∷◌, take, get_or, ◌++◌, length, slice_get, Option, Some, None, IsSome, MatchOption, codes, refl, sym, ◌∙◌, ap, subst, append_assoc, append-nil}
+use Rattle.std.proofs.Common.{◌≡◌, Bool, true, ℕ, suc, ◌+◌, ◌<◌, arith, List, [], ◌∷◌, take, get_or, ◌++◌, length, slice_get, Option}
+use Rattle.std.proofs.Common.{Some, None, IsSome, MatchOption, codes, refl, sym, ◌∙◌, ap, subst, append_assoc, append-nil}
 use Rattle.std.proofs.lemmas.Option.{slice_get_within}
 use Rattle.std.proofs.Math.Seq.{take-suc}
-use Rattle.lattice_core.specs.Order.{Order, size, leq, IsLattice, IsJoinOf}
+use Rattle.lattice_core.specs.Order.{Order, IsLattice, IsJoinOf}
 use Rattle.flow_graph.specs.declared.constraint.Constraint.{Constraint}
 use Rattle.flow_graph.specs.declared.constraint.Limit.{Limit}
 use Rattle.flow_graph.specs.declared.constraint.Link.{Link}
@@ -10,14 +11,18 @@ use Rattle.flow_graph.specs.declared.constraint.Link.TheVariants.{Const, Bound}
 use Rattle.flow_graph.specs.System.{System, IsNoBound}
 use Rattle.flow_graph.specs.Unfolding.{IsAccepted, Printed}
 use Rattle.flow_graph.specs.declared.proof.PathProof.{PathProof}
-use Rattle.flow_graph.specs.PathProofs.{AreApart, Holds, last_of, steps_of}
+use Rattle.flow_graph.specs.PathProofs.{AreApart, Holds, steps_of}
 use Rattle.flow_laws.specs.Refuting.{ExceededIsRefuted}
 use Rattle.lattice_solver.specs.Solution.{Solution, reached_at, IsKept, Exceeds}
 use Rattle.error_path.specs.Shown.{BeginsOver, EndsWith}
-use Rattle.annotate.specs.Texts.{Scene, line, value_line, error_line, proof_text}
-use Rattle.annotate.specs.Solutions.{IsLineIn}
-use Rattle.annotate.specs.Reports.{IsAtOnce, IsBottom, AtBottom, Above, VarLines, Lines, NextVar, IsError, IsOver, Errors, IsAcceptedReport, IsRejectedReport}
-use Rattle.lattice_core.specs.View.{LatticeView, orders_of, IsElement}
+use Rattle.annotate.specs.declared.listing.Listing.{Listing}
+use Rattle.annotate.specs.Texts.{Scene, line, accepted_text, error_line, proof_text}
+use Rattle.annotate.specs.Annotated.{annotation}
+use Rattle.annotate.specs.Solutions.{Adds, IsListedIn}
+use Rattle.annotate.specs.Reports.{IsAtOnce, IsBottom, AtBottom, Above, VarListings, Listings, NextVar, IsError, IsOver, Errors}
+use Rattle.annotate.specs.Reports.{IsAcceptedReport, IsRejectedReport, IsJudged, JudgedAccepted, JudgedRejected, IsJudgedWith}
+use Rattle.annotate.specs.Reports.{AcceptedWith, RejectedWith}
+use Rattle.lattice_core.specs.View.{LatticeView, orders_of}
 
 some_is : {A : Type 0} {x y : A} → Some x ≡ Some y → x ≡ y
 some_is e = cc
@@ -30,16 +35,23 @@ bound_found link lattice v e B (Some limit) is given = refl
 pub limit_given : (A : Type 0) (B : Limit → Type 0) (found : Option Limit) (limit : Limit) → found ≡ Some limit → MatchOption found A B → B limit
 limit_given A B found limit is given = let Of : Option Limit → Type 0 = λ x. MatchOption x A B in subst Of is given
 
-pub accepted_report : (scene : Scene) (sys : System) (text begun lines : List ℕ) → IsAccepted sys (orders_of scene.lattices) →
+-- an accepted report of what is listed, with what stands behind it
+pub accepted_with : (scene : Scene) (sys : System) (unit : Option ℕ) (listings : List Listing) (text : List ℕ) →
+    IsAccepted sys (orders_of scene.lattices) →
     ((lattice : ℕ) (order : Order) → slice_get (orders_of scene.lattices) lattice ≡ Some order → IsAtOnce sys lattice order) →
-    begun ≡ line (codes "accepted") → text ≡ begun ++ lines → Lines scene sys scene.listed lines → IsAcceptedReport scene sys text
-accepted_report scene sys text begun lines accepted at_once begins is listed = record {
-  accepted = accepted;
-  at_once = at_once;
-  lines = lines;
-  listed = listed;
-  spelled = is ∙ ap (λ (t : List ℕ). t ++ lines) begins;
-}
+    Listings scene.lattices sys scene.listed listings → text ≡ accepted_text scene listings ++ annotation scene unit listings →
+    IsJudgedWith scene sys unit true text
+accepted_with scene sys unit listings text accepted at_once listed is =
+    AcceptedWith text (accepted_text scene listings)
+    (record { accepted = accepted; at_once = at_once; listings = listings; listed = listed; spelled = refl }) is
+
+-- where no annotated source is asked for, it is the report alone
+pub judged_alone : (scene : Scene) (sys : System) (accepted : Bool) (text : List ℕ) → IsJudgedWith scene sys None accepted text →
+    IsJudged scene sys accepted text
+judged_alone scene sys accepted text (AcceptedWith _ report is spelled) =
+    let Is : List ℕ → Type 0 = λ t. IsAcceptedReport scene sys t in
+    JudgedAccepted text (subst Is (sym (spelled ∙ append-nil report)) is)
+judged_alone scene sys accepted text (RejectedWith _ is) = JudgedRejected text is
 
 pub rejected_report : (scene : Scene) (sys : System) (text begun errors : List ℕ) → ExceededIsRefuted → (n : ℕ) → IsOver scene sys n →
     begun ≡ line (codes "rejected") → text ≡ begun ++ errors → Errors scene sys (length sys.constraints) errors → IsRejectedReport scene sys text
@@ -50,26 +62,54 @@ rejected_report scene sys text begun errors law n over begins is listed = record
   spelled = is ∙ ap (λ (t : List ℕ). t ++ errors) begins;
 }
 
--- a line from the least element of the solution of a lattice
-module _ (scene : Scene) (sys : System) (number : ℕ) (order : Order) (there : slice_get (orders_of scene.lattices) number ≡ Some order) (solution : Solution) (var elem bottom : ℕ)
+-- what is listed from the least element of the solution of a lattice
+module _ (lattices : List LatticeView) (sys : System) (number : ℕ) (order : Order) (there : slice_get (orders_of lattices) number
+    ≡ Some order) (solution : Solution) (var elem bottom : ℕ)
     (own : solution.lattice ≡ number) (kept : IsKept sys solution order) (lattice : IsLattice order) (is_bottom : IsBottom order bottom) (join : IsJoinOf order (reached_at solution var) elem) where
   printed : Printed sys number order var elem
   printed = let Is : ℕ → Type 0 = λ l. Printed sys l order var elem in subst Is own (kept.printed var elem join)
 
-  pub no_line : elem ≡ bottom → IsLineIn scene sys number var []
-  no_line same = record { order = order; there = there; is = AtBottom elem (let Is : ℕ → Type 0 = λ a. IsBottom order a in subst Is (sym same) is_bottom) printed }
+  pub not_listed : elem ≡ bottom → IsListedIn lattices sys number var []
+  not_listed same = record {
+    order = order;
+    there = there;
+    is = AtBottom elem
+        (let Is : ℕ → Type 0 = λ a. IsBottom order a in subst Is (sym same) is_bottom) printed;
+  }
 
-  pub a_line : (elem ≡ bottom → ⊥) → IsLineIn scene sys number var (value_line scene number var elem)
-  a_line other = record { order = order; there = there; is = Above elem (λ low. other (lattice.ordered.apart elem bottom (low.1 bottom is_bottom.0) (is_bottom.1 elem low.0))) printed }
+  pub one_listed : (elem ≡ bottom → ⊥) → IsListedIn lattices sys number var (record { var = var; lattice = number; elem = elem } ∷ [])
+  one_listed other = record {
+    order = order;
+    there = there;
+    is = Above elem
+        (λ low. other (lattice.ordered.apart elem bottom (low.1 bottom is_bottom.0) (is_bottom.1 elem low.0))) printed;
+  }
 
--- the lines of one variable more
-pub next_lines : (scene : Scene) (sys : System) (vars : List ℕ) (n var : ℕ) (text lines : List ℕ) → n < length vars → get_or vars n var ≡ var → Lines scene sys (take n vars) text →
-    VarLines scene sys var (length scene.lattices) lines → Lines scene sys (take (n + 1) vars) (text ++ lines)
-next_lines scene sys vars n var text lines within is before here =
-    let step : n + 1 ≡ suc n = omega arith in
-    let more : take (n + 1) vars ≡ take n vars ++ var ∷ [] = ap (λ k. take k vars) step ∙ take-suc vars n var within ∙ ap (λ v. take n vars ++ v ∷ []) is in
-    let Of : List ℕ → Type 0 = λ taken. Lines scene sys taken (text ++ lines) in
-    subst Of (sym more) (NextVar (take n vars) var text lines before here)
+-- nothing more is listed, or one list and then another
+pub adds_none : (old : List Listing) (Is : List Listing → Type 0) → Is [] → Adds old old Is
+adds_none old Is none = record { here = []; added = sym (append-nil old); is = none }
+
+pub adds_both : {a b c : List Listing} {Is Has : List Listing → Type 0} (Both : List Listing → Type 0) → Adds a b Is → Adds b c Has →
+    ((x y : List Listing) → Is x → Has y → Both (x ++ y)) → Adds a c Both
+adds_both {a = a} Both one two both = record {
+  here = one.here ++ two.here;
+  added = two.added ∙ ap (λ (l : List Listing). l ++ two.here) one.added ∙ append_assoc a one.here two.here;
+  is = both one.here two.here one.is two.is;
+}
+
+-- the items of a list up to one and with it
+pub taken_more : {A : Type 0} (xs : List A) (n : ℕ) (x : A) → n < length xs → get_or xs n x ≡ x → take n xs ++ x ∷ [] ≡ take (n + 1) xs
+taken_more {A} xs n x within is =
+    let step : suc n ≡ n + 1 = omega arith in
+    ap (λ (y : A). take n xs ++ y ∷ []) (sym is) ∙ sym (take-suc xs n x within) ∙ ap (λ k. take k xs) step
+
+-- what is listed with one variable more
+pub next_listed : (lattices : List LatticeView) (sys : System) (vars : List ℕ) (n var : ℕ) (before here : List Listing) →
+    n < length vars → get_or vars n var ≡ var → Listings lattices sys (take n vars) before →
+    VarListings lattices sys var (length lattices) here → Listings lattices sys (take (n + 1) vars) (before ++ here)
+next_listed lattices sys vars n var before here within is first next =
+    let Of : List ℕ → Type 0 = λ taken. Listings lattices sys taken (before ++ here) in
+    subst Of (taken_more vars n var within is) (NextVar (take n vars) var before here first next)
 
 bound_is : {v w l m a b : ℕ} → Bound v l a ≡ Bound w m b → (l ≡ m) × (a ≡ b)
 bound_is e = (cc, cc)

@@ -1,5 +1,6 @@
 -- What is found of a scene is what its texts name.
-use Rattle.std.proofs.Common.{◌≡◌, ℕ, zero, suc, ◌+◌, ◌<◌, ◌≤◌, ◌⊎◌, inl, inr, Bool, false, if◌then◌else◌, List, [], ◌∷◌, ◌++◌, length, drop, Some, None, slice_get, refl, sym, ◌∙◌, ap, arith, get_or}
+use Rattle.std.proofs.Common.{◌≡◌, ℕ, zero, suc, ◌+◌, ◌<◌, ◌≤◌, inl, inr, Bool, false, if◌then◌else◌, List, [], ◌∷◌, ◌++◌, length, drop}
+use Rattle.std.proofs.Common.{Some, None, slice_get, refl, sym, ◌∙◌, ap, arith, get_or}
 use Rattle.std.proofs.Math.Dec.{eqb}
 use Rattle.std.proofs.lemmas.Bool.{eq-eqb}
 use Rattle.std.proofs.lemmas.Bool.Decides.{eqb_tells}
@@ -12,7 +13,7 @@ use Rattle.qual_types.specs.Positions.{PositionView}
 use Rattle.qual_types.specs.Table.{Stands}
 use Rattle.annotate.specs.declared.scene.Scene.{Scene as Lent}
 use Rattle.annotate.specs.declared.scene.UnitText.{UnitText as LentUnit}
-use Rattle.annotate.specs.Texts.{UnitText, Scene, spot_text, unit_in, place_at, place_in, bytes_in, name_text, marks_text, position_text, var_text}
+use Rattle.annotate.specs.Texts.{UnitText, Scene, spot_text, unit_in, place_at, place_in, name_text, marks_text, position_text, var_text}
 use Rattle.annotate.specs.Scenes.{unit_of, units_of, Shows}
 
 -- the unit that was found is the scene's
@@ -47,7 +48,7 @@ pub place_there : (unit : UnitText) (token : ℕ) → token < length unit.lexed.
 place_there unit token within = ap (place_at unit token) (item_at unit.lexed.tokens token within).there
 
 -- the search for a unit, from a unit of the list on
-not_equal : (a b : ℕ) → (a ≡ b → ⊥) → eqb a b ≡ false
+pub not_equal : (a b : ℕ) → (a ≡ b → ⊥) → eqb a b ≡ false
 not_equal a b other = elim (eqb_tells a b) [ inl same ↦ absurd (other same.1) | inr is ↦ is.0 ]
 
 from_here : (units : List LentUnit) (n number : ℕ) (d : LentUnit) → n < length units → (get_or units n d).tokens.now.unit ≡ number → unit_in (units_of (drop n units)) number ≡ Some (unit_of (get_or units n d))

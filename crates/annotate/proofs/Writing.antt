@@ -3,7 +3,7 @@ use Rattle.std.proofs.Common.{◌≡◌, ℕ, List, [], ◌++◌, sym, ◌∙◌
 use Rattle.std.specs.declared.result.Result.{Result}
 use Rattle.annotate.specs.declared.scene.Scene.{Scene as Lent}
 use Rattle.annotate.specs.Texts.{Scene}
-use Rattle.annotate.specs.Scenes.{Shows, Writes, Part, WritesSome}
+use Rattle.annotate.specs.Scenes.{Shows, Writes, WritesSome}
 
 -- what holds at a success gives what follows from it there
 pub on_ok : {T E P Q : Type 0} (r : Result T E) → OnOk r P → (P → Q) → OnOk r Q

@@ -1,35 +1,40 @@
 -- The two reports of a program.
-use Rattle.std.specs.Prelude.{◌≡◌, ℕ, ◌+◌, ◌<◌, Bool, true, false, List, [], ◌∷◌, ◌++◌, length, slice_get, Some, None, codes}
+use Rattle.std.specs.Prelude.{◌≡◌, ℕ, ◌+◌, ◌<◌, Bool, true, false, List, [], ◌∷◌, ◌++◌, length, slice_get, Some, None, Option, codes}
 use Rattle.lattice_core.specs.Order.{Order, size, leq}
-use Rattle.lattice_core.specs.View.{orders_of}
 use Rattle.flow_graph.specs.declared.constraint.Link.TheVariants.{Const, Bound}
 use Rattle.flow_graph.specs.declared.proof.PathStep.{PathStep}
 use Rattle.flow_graph.specs.declared.proof.PathStep.TheVariants.{Take}
 use Rattle.flow_graph.specs.System.{System, Stands}
 use Rattle.flow_graph.specs.Unfolding.{Assignment, IsAccepted, IsExceeded, Meets, Printed}
 use Rattle.flow_graph.specs.PathProofs.{AreApart, first_fault, first_of, last_of}
-use Rattle.annotate.specs.Texts.{Scene, line, value_line, error_line, proof_text}
+use Rattle.lattice_core.specs.View.{LatticeView, orders_of}
+use Rattle.annotate.specs.declared.listing.Listing.{Listing}
+use Rattle.annotate.specs.Texts.{Scene, line, accepted_text, error_line, proof_text}
+use Rattle.annotate.specs.Annotated.{annotation}
 
 -- an element at or below each
 abbrev pub IsBottom : Order → ℕ → Type 0
 IsBottom order bottom = (bottom < size order) × ((a : ℕ) → a < size order → leq order bottom a ≡ true)
 
--- The line of a variable in a lattice: its least element over all copies, or nothing where that is the bottom.
-pub data IsLine (scene : Scene) (sys : System) (lattice : ℕ) (order : Order) (var : ℕ) : List ℕ → Type 0 where
-  AtBottom : (bottom : ℕ) → IsBottom order bottom → Printed sys lattice order var bottom → IsLine scene sys lattice order var []
-  Above : (elem : ℕ) → (IsBottom order elem → ⊥) → Printed sys lattice order var elem → IsLine scene sys lattice order var (value_line scene lattice var elem)
+-- What is listed of a variable in a lattice: its least element over all copies, or nothing where that is the bottom.
+pub data IsListed (sys : System) (lattice : ℕ) (order : Order) (var : ℕ) : List Listing → Type 0 where
+  AtBottom : (bottom : ℕ) → IsBottom order bottom → Printed sys lattice order var bottom → IsListed sys lattice order var []
+  Above : (elem : ℕ) → (IsBottom order elem → ⊥) → Printed sys lattice order var elem →
+      IsListed sys lattice order var (record { var = var; lattice = lattice; elem = elem } ∷ [])
 
--- the lines of a variable in the lattices below a number, in order
-pub data VarLines (scene : Scene) (sys : System) (var : ℕ) : ℕ → List ℕ → Type 0 where
-  NoLattice : VarLines scene sys var 0 []
-  NextLattice : (lattice : ℕ) (order : Order) (text line : List ℕ) → slice_get (orders_of scene.lattices) lattice ≡ Some order →
-      VarLines scene sys var lattice text → IsLine scene sys lattice order var line → VarLines scene sys var (lattice + 1) (text ++ line)
+-- what is listed of a variable in the lattices below a number, in order
+pub data VarListings (lattices : List LatticeView) (sys : System) (var : ℕ) : ℕ → List Listing → Type 0 where
+  NoLattice : VarListings lattices sys var 0 []
+  NextLattice : (lattice : ℕ) (order : Order) (before here : List Listing) → slice_get (orders_of lattices) lattice ≡ Some order →
+      VarListings lattices sys var lattice before → IsListed sys lattice order var here →
+      VarListings lattices sys var (lattice + 1) (before ++ here)
 
--- the lines of variables, in order
-pub data Lines (scene : Scene) (sys : System) : List ℕ → List ℕ → Type 0 where
-  NoVar : Lines scene sys [] []
-  NextVar : (vars : List ℕ) (var : ℕ) (text lines : List ℕ) → Lines scene sys vars text → VarLines scene sys var (length scene.lattices) lines →
-      Lines scene sys (vars ++ var ∷ []) (text ++ lines)
+-- what is listed of variables, in order
+pub data Listings (lattices : List LatticeView) (sys : System) : List ℕ → List Listing → Type 0 where
+  NoVar : Listings lattices sys [] []
+  NextVar : (vars : List ℕ) (var : ℕ) (before here : List Listing) → Listings lattices sys vars before →
+      VarListings lattices sys var (length lattices) here →
+      Listings lattices sys (vars ++ var ∷ []) (before ++ here)
 
 -- In each lattice one assignment meets the unfolding at every depth, and on all copies of all variables at once it is at or
 -- below the printed elements.
@@ -43,9 +48,9 @@ pub record IsAtOnce (sys : System) (lattice : ℕ) (order : Order) : Type 0 wher
 pub record IsAcceptedReport (scene : Scene) (sys : System) (text : List ℕ) : Type 0 where
   pub accepted : IsAccepted sys (orders_of scene.lattices)
   pub at_once : (lattice : ℕ) (order : Order) → slice_get (orders_of scene.lattices) lattice ≡ Some order → IsAtOnce sys lattice order
-  pub lines : List ℕ
-  pub listed : Lines scene sys scene.listed lines
-  pub spelled : text ≡ line (codes "accepted") ++ lines
+  pub listings : List Listing
+  pub listed : Listings scene.lattices sys scene.listed listings
+  pub spelled : text ≡ accepted_text scene listings
 
 -- The error of a bound: a path proof that holds, from a constant to the bound, under a line with both elements.
 pub record IsError (scene : Scene) (sys : System) (number : ℕ) (text : List ℕ) : Type 0 where
@@ -96,3 +101,9 @@ pub record IsRejectedReport (scene : Scene) (sys : System) (text : List ℕ) : T
 pub data IsJudged (scene : Scene) (sys : System) : Bool → List ℕ → Type 0 where
   JudgedAccepted : (text : List ℕ) → IsAcceptedReport scene sys text → IsJudged scene sys true text
   JudgedRejected : (text : List ℕ) → IsRejectedReport scene sys text → IsJudged scene sys false text
+
+-- The same, with the annotated source of a unit behind an accepted report, where it is asked for.
+pub data IsJudgedWith (scene : Scene) (sys : System) (unit : Option ℕ) : Bool → List ℕ → Type 0 where
+  AcceptedWith : (text report : List ℕ) (is : IsAcceptedReport scene sys report) → text ≡ report ++ annotation scene unit is.listings →
+      IsJudgedWith scene sys unit true text
+  RejectedWith : (text : List ℕ) → IsRejectedReport scene sys text → IsJudgedWith scene sys unit false text

@@ -1,5 +1,5 @@
 -- What is found of each lattice, and what of a report follows from it.
-use Rattle.std.specs.Prelude.{◌≡◌, ℕ, ◌↔◌, List, length, slice_get, Some}
+use Rattle.std.specs.Prelude.{◌≡◌, ℕ, ◌↔◌, List, ◌++◌, length, slice_get, Some}
 use Rattle.flow_graph.specs.System.{System}
 use Rattle.flow_graph.specs.Paths.{Lead}
 use Rattle.flow_graph.specs.declared.constraint.Link.{Link}
@@ -9,10 +9,11 @@ use Rattle.lattice_core.specs.Order.{Order}
 use Rattle.lattice_core.specs.View.{LatticeView, orders_of}
 use Rattle.match_summary.specs.Summary.{Summarises}
 use Rattle.lattice_solver.specs.Solution.{Exceeds, HasElement, IsSolved, IsKept}
+use Rattle.annotate.specs.declared.listing.Listing.{Listing}
 use Rattle.annotate.specs.declared.solving.Solved.{Solved}
 use Rattle.annotate.specs.declared.scene.Scene.{Scene as Lent}
 use Rattle.annotate.specs.Texts.{Scene}
-use Rattle.annotate.specs.Reports.{IsLine, IsOver}
+use Rattle.annotate.specs.Reports.{IsListed, IsOver}
 use Rattle.annotate.specs.Scenes.{Shows}
 
 -- each constant and bound of a lattice of the list names an element of it
@@ -36,11 +37,17 @@ abbrev pub AreKept : System → List LatticeView → List Solved → Type 0
 AreKept sys lattices solutions = (n : ℕ) (view : LatticeView) (solution : Solved) → slice_get lattices n ≡ Some view → slice_get solutions n ≡ Some solution →
     IsKept sys solution.solver view.order
 
--- the line of a variable in the lattice with a number
-pub record IsLineIn (scene : Scene) (sys : System) (lattice var : ℕ) (line : List ℕ) : Type 0 where
+-- what is listed of a variable in the lattice with a number
+pub record IsListedIn (lattices : List LatticeView) (sys : System) (lattice var : ℕ) (here : List Listing) : Type 0 where
   pub order : Order
-  pub there : slice_get (orders_of scene.lattices) lattice ≡ Some order
-  pub is : IsLine scene sys lattice order var line
+  pub there : slice_get (orders_of lattices) lattice ≡ Some order
+  pub is : IsListed sys lattice order var here
+
+-- behind what was listed stands a list of this kind
+pub record Adds (old new : List Listing) (Is : List Listing → Type 0) : Type 0 where
+  pub here : List Listing
+  pub added : new ≡ old ++ here
+  pub is : Is here
 
 -- a link is no bound
 abbrev pub IsNoBound : Link → Type 0

@@ -17,6 +17,7 @@ use Rattle.c_lexer.specs.Tokens.{Lexed, text_of, token_spot}
 use Rattle.qual_types.specs.declared.position.Step.{Step}
 use Rattle.qual_types.specs.declared.position.Step.TheVariants.{Inside, Param, Result, Ellipsis}
 use Rattle.qual_types.specs.Positions.{PositionView}
+use Rattle.annotate.specs.declared.listing.Listing.{Listing}
 
 -- a line with its line feed
 abbrev pub line : List ℕ → List ℕ
@@ -129,6 +130,16 @@ proof_text scene sys subs main = subs_text scene sys 1 subs ++ line (codes "path
 -- the line of a variable with its element in a lattice
 abbrev pub value_line : Scene → ℕ → ℕ → ℕ → List ℕ
 value_line scene lattice var elem = line (var_text scene var ++ codes " " ++ elem_text scene lattice elem)
+
+-- the accepted report of what is listed, a line for each
+abbrev pub listing_line : Scene → Listing → List ℕ
+listing_line scene listing = value_line scene listing.lattice listing.var listing.elem
+
+abbrev pub listing_lines : Scene → List Listing → List ℕ
+listing_lines scene listings = flat_map (listing_line scene) listings
+
+abbrev pub accepted_text : Scene → List Listing → List ℕ
+accepted_text scene listings = line (codes "accepted") ++ listing_lines scene listings
 
 -- the line of a bound that is exceeded by an element of its lattice
 abbrev pub error_line : Scene → ℕ → ℕ → ℕ → Span → List ℕ

@@ -5,14 +5,14 @@ ghost use Rattle.std.specs.Bool.{OnTrue, OnFalse};
 ghost use Rattle.flow_graph.specs.System.{IsWellOwned};
 ghost use Rattle.annotate.specs.Scenes.{Shows};
 ghost use Rattle.annotate.specs.Solutions.{AllNamed, AreKept, AreSolutions, IsSomeOver};
-ghost use Rattle.annotate.specs.Reports.{IsJudged};
+ghost use Rattle.annotate.specs.Reports.{IsJudged, IsJudgedWith};
 
 use crate::reports::{accepted, rejected};
 use crate::scene::Scene;
 use crate::solving::{Solved, solve_all, solved_of};
 use flow_graph::{FlowGraph, names_elements};
 use lattice_core::Lattices;
-use qual_base::{LatticeNo, NoMemory};
+use qual_base::{LatticeNo, NoMemory, UnitNo};
 use std::alloc::Global;
 
 /// Whether a program is accepted, and its whole report.
@@ -58,16 +58,25 @@ fn is_exceeded(scene: &Scene<'_>, graph: &FlowGraph, solutions: &[Solved]) -> bo
     false
 }
 
-/// The report of a program whose constraints are there. Each lattice is solved once. The accepted report takes time linear
-/// in its text, in the variables that it lists times the lattices, in the units of each name and in the path of each
-/// position; the rejected one takes a search for each exceeded bound besides. A text is not longer than memory.
+/// The report of a program whose constraints are there, and behind an accepted one the annotated source of a unit, if it is
+/// asked for: the line `annotated`, and the bytes of the unit with a comment right behind each token that the report names.
+/// Each lattice is solved once. The accepted report takes time linear in its text, in the variables that it lists times the
+/// lattices, in the units of each name and in the path of each position; the annotated source is linear besides, and takes 24
+/// bytes of memory for each token; the rejected report takes a search for each exceeded bound. A text is not longer than
+/// memory.
 ///
-/// `flow_graph::is_well_owned` and `are_named` test what is asked of the graph. Any variables may be listed.
-pub fn judge(alloc: Global, scene: &Scene<'_>, graph: &FlowGraph) -> Result<Judged, NoMemory>
+/// `flow_graph::is_well_owned` and `are_named` test what is asked of the graph. Any variables may be listed. Of a unit that
+/// is not there the line stands alone.
+pub fn judge_with(
+    alloc: Global,
+    scene: &Scene<'_>,
+    graph: &FlowGraph,
+    annotated: Option<UnitNo>,
+) -> Result<Judged, NoMemory>
     requires named { AllNamed scene.now.lattices.now graph.now }
     requires owned { IsWellOwned graph.now }
     ensures { IfOk result (λ judged. (s : _) → Shows scene.now s →
-        IsJudged s graph.now judged.accepted judged.text.items) }
+        IsJudgedWith s graph.now annotated judged.accepted judged.text.items) }
 {
     let solutions = solve_all(alloc, graph, scene.lattices)?;
     if is_exceeded(scene, graph, &solutions) {
@@ -77,9 +86,19 @@ pub fn judge(alloc: Global, scene: &Scene<'_>, graph: &FlowGraph) -> Result<Judg
             text,
         });
     }
-    let text = accepted(alloc, scene, graph, &solutions)?;
+    let text = accepted(alloc, scene, graph, &solutions, annotated)?;
     Ok(Judged {
         accepted: true,
         text,
     })
+}
+
+/// The report of a program whose constraints are there, alone.
+pub fn judge(alloc: Global, scene: &Scene<'_>, graph: &FlowGraph) -> Result<Judged, NoMemory>
+    requires named { AllNamed scene.now.lattices.now graph.now }
+    requires owned { IsWellOwned graph.now }
+    ensures { IfOk result (λ judged. (s : _) → Shows scene.now s →
+        IsJudged s graph.now judged.accepted judged.text.items) }
+{
+    judge_with(alloc, scene, graph, None)
 }

@@ -1,19 +1,21 @@
 //! The two reports of a program.
 
 ghost use Rattle.std.specs.Prelude.{◌≡◌, ◌<◌, ◌++◌, ◌*◌, ◌≤◌, ◌^◌, ℕ, List, IfOk, OnOk};
-ghost use Rattle.std.specs.Prelude.{MatchOption, length, slice_get, Some};
-ghost use Rattle.lattice_core.specs.View.{LatticeView, orders_of};
+ghost use Rattle.std.specs.Prelude.{MatchOption, length, slice_get, true, Some};
 ghost use Rattle.flow_graph.specs.declared.constraint.Link.TheVariants.{Const, Bound};
 ghost use Rattle.flow_graph.specs.declared.proof.PathStep.TheVariants.{Take};
 ghost use Rattle.flow_graph.specs.PathProofs.{first_of};
 ghost use Rattle.flow_graph.specs.System.{IsWellOwned};
-ghost use Rattle.lattice_solver.specs.Solution.{IsKept};
-ghost use Rattle.annotate.specs.Scenes.{Shows, WritesSome};
-ghost use Rattle.annotate.specs.Solutions.{AllNamed, AreKept, AreSolutions, IsLineIn};
+ghost use Rattle.annotate.specs.Texts.{listing_line, listing_lines, accepted_text};
+ghost use Rattle.annotate.specs.Annotated.{annotation};
+ghost use Rattle.annotate.specs.Scenes.{Shows, Writes, WritesSome};
+ghost use Rattle.annotate.specs.Solutions.{AllNamed, AreKept, AreSolutions};
 ghost use Rattle.annotate.specs.Solutions.{IsNoBound, IsOverIn, IsSomeOver};
-ghost use Rattle.annotate.specs.Reports.{IsOver, VarLines, Lines, IsError, IsErrorOf, Errors};
-ghost use Rattle.annotate.specs.Reports.{IsAcceptedReport, IsRejectedReport};
+ghost use Rattle.annotate.specs.Reports.{IsOver, IsError, IsErrorOf, Errors};
+ghost use Rattle.annotate.specs.Reports.{IsJudgedWith, IsRejectedReport};
 
+use crate::annotated::put_annotated;
+use crate::listing::{Listing, list_all};
 use crate::paths::put_proof;
 use crate::places::put;
 use crate::scene::Scene;
@@ -22,89 +24,72 @@ use crate::texts::{put_error, put_value};
 use error_path::show;
 use flow_graph::{Constraint, FlowGraph, Link, PathStep};
 use flow_laws::exceeded_is_refuted;
-use lattice_solver::Solver;
-use qual_base::{EdgeId, Elem, LatticeNo, NoMemory, Numbered, VarId};
+use qual_base::{EdgeId, Elem, LatticeNo, NoMemory, Numbered, UnitNo};
 use std::alloc::Global;
 
-/// The line of a variable in a lattice, unless its least element is the bottom.
-fn put_line(
-    out: &mut Vec<u8>,
-    scene: &Scene<'_>,
-    graph: &FlowGraph,
-    solver: &Solver,
-    number: LatticeNo,
-    var: VarId,
-) -> Result<(), NoMemory>
-    requires there { number < length scene.now.lattices.now }
-    requires lattice { solver.now.lattice ≡ number }
-    requires kept { (view : LatticeView) → slice_get scene.now.lattices.now number ≡ Some view →
-        IsKept graph.now solver.now view.order }
-    ensures { OnOk result (WritesSome scene.now out.old.items out.new.items
-        (λ s line. IsLineIn s graph.now number var line)) }
+/// The line of an element that is listed.
+fn put_listing(out: &mut Vec<u8>, scene: &Scene<'_>, listing: &Listing) -> Result<(), NoMemory>
+    ensures { OnOk result (Writes scene.now out.old.items out.new.items
+        (λ s. listing_line s listing.now)) }
 {
-    let lattice = scene.lattices.get(number);
-    lattice.law();
-    let elem = solver.value(lattice, var);
-    if elem == lattice.bottom() {
-        return Ok(());
-    }
-    put_value(out, scene, number, var, elem)
+    put_value(out, scene, listing.lattice, listing.var, listing.elem)
 }
 
-/// The lines of a variable in all lattices, in order.
-fn put_var_lines(
-    out: &mut Vec<u8>,
-    scene: &Scene<'_>,
-    graph: &FlowGraph,
-    solutions: &[Solved],
-    var: VarId,
-) -> Result<(), NoMemory>
-    requires solutions { AreSolutions graph.now scene.now.lattices.now solutions.now }
-    requires kept { AreKept graph.now scene.now.lattices.now solutions.now }
-    ensures { OnOk result (WritesSome scene.now out.old.items out.new.items
-        (λ s lines. VarLines s graph.now var (length scene.now.lattices.now) lines)) }
+/// The lines of all that is listed.
+fn put_listings(out: &mut Vec<u8>, scene: &Scene<'_>, listings: &[Listing]) -> Result<(), NoMemory>
+    ensures { OnOk result (Writes scene.now out.old.items out.new.items
+        (λ s. listing_lines s listings.now)) }
 {
-    for n in 0..scene.lattices.len() {
-        let number = LatticeNo::new(n);
-        let solved = solved_of(solutions, number);
-        put_line(out, scene, graph, &solved.solver, number, var)?;
+    for listing in listings {
+        put_listing(out, scene, listing)?;
     }
     Ok(())
 }
 
-/// The lines of all variables, in order.
-fn put_lines(
-    out: &mut Vec<u8>,
-    scene: &Scene<'_>,
-    graph: &FlowGraph,
-    solutions: &[Solved],
-) -> Result<(), NoMemory>
-    requires solutions { AreSolutions graph.now scene.now.lattices.now solutions.now }
-    requires kept { AreKept graph.now scene.now.lattices.now solutions.now }
-    ensures { OnOk result (WritesSome scene.now out.old.items out.new.items
-        (λ s lines. Lines s graph.now scene.now.listed.now lines)) }
+/// The accepted report of what is listed. Linear in its text, but for the places of the lines.
+fn put_accepted(out: &mut Vec<u8>, scene: &Scene<'_>, listings: &[Listing]) -> Result<(), NoMemory>
+    ensures { OnOk result (Writes scene.now out.old.items out.new.items
+        (λ s. accepted_text s listings.now)) }
 {
-    for var in scene.listed {
-        put_var_lines(out, scene, graph, solutions, *var)?;
-    }
-    Ok(())
+    put(out, b"accepted\n")?;
+    put_listings(out, scene, listings)
 }
 
-/// The accepted report: linear in variables and lattices, but for the places of the lines.
+/// What stands behind an accepted report: the annotated source of a unit, if it is asked for.
+fn put_annotation(
+    alloc: Global,
+    out: &mut Vec<u8>,
+    scene: &Scene<'_>,
+    unit: Option<UnitNo>,
+    listings: &[Listing],
+) -> Result<(), NoMemory>
+    ensures { OnOk result (Writes scene.now out.old.items out.new.items
+        (λ s. annotation s unit listings.now)) }
+{
+    match unit {
+        Some(unit) => put_annotated(alloc, out, scene, unit, listings),
+        None => Ok(()),
+    }
+}
+
+/// The accepted report, with the annotated source of a unit behind it, if it is asked for: linear in variables and lattices
+/// and in the texts, but for the places of the lines and the paths of positions.
 pub fn accepted(
     alloc: Global,
     scene: &Scene<'_>,
     graph: &FlowGraph,
     solutions: &[Solved],
+    unit: Option<UnitNo>,
 ) -> Result<Vec<u8>, NoMemory>
     requires solutions { AreSolutions graph.now scene.now.lattices.now solutions.now }
     requires kept { AreKept graph.now scene.now.lattices.now solutions.now }
     ensures { IfOk result
-        (λ text. (s : _) → Shows scene.now s → IsAcceptedReport s graph.now text.items) }
+        (λ text. (s : _) → Shows scene.now s → IsJudgedWith s graph.now unit true text.items) }
 {
+    let listings = list_all(alloc, scene, graph, solutions)?;
     let mut text = Vec::new(alloc);
-    put(&mut text, b"accepted\n")?;
-    put_lines(&mut text, scene, graph, solutions)?;
+    put_accepted(&mut text, scene, &listings)?;
+    put_annotation(alloc, &mut text, scene, unit, &listings)?;
     Ok(text)
 }
 

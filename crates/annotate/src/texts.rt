@@ -90,7 +90,7 @@ fn put_step_mark(out: &mut Vec<u8>, step: Step) -> Result<(), AllocError>
 }
 
 /// The steps to a variable inside a type.
-fn put_marks(out: &mut Vec<u8>, path: &[Step]) -> Result<(), AllocError>
+pub fn put_marks(out: &mut Vec<u8>, path: &[Step]) -> Result<(), AllocError>
     ensures { OnOk result (out.new.items ≡ out.old.items ++ marks_text path.now) }
 {
     for step in path {
@@ -115,7 +115,7 @@ fn put_var(out: &mut Vec<u8>, scene: &Scene<'_>, var: VarId) -> Result<(), NoMem
 }
 
 /// The name of an element of a lattice; nothing where there is no such lattice or element.
-fn put_elem(
+pub fn put_elem(
     out: &mut Vec<u8>,
     scene: &Scene<'_>,
     lattice: LatticeNo,

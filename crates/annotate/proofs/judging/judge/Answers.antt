@@ -1,16 +1,8 @@
-use Rattle.std.proofs.Common.{List, sym, ◌∙◌, subst}
-use Rattle.annotate.specs.declared.solving.Solved.{Solved}
-use Rattle.annotate.specs.Solutions.{AreKept}
-use Rattle.annotate.specs.Reports.{JudgedAccepted, JudgedRejected}
+use Rattle.std.proofs.lemmas.Result.{IfOk-weaker}
+use Rattle.annotate.proofs.ReportLemmas.{judged_alone}
 use Rattle.annotate.proofs.judging.judge.Goals as goal
 
-pub accepted-requires-clause-kept : goal.accepted-requires-clause-kept
-accepted-requires-clause-kept c =
-    let Kept : List Solved → Type 0 = λ solutions. AreKept c.args.graph.now c.args.scene.now.lattices.now solutions in
-    subst Kept (c.deref.ensures.value ∙ sym c.deref-2.ensures.value) c.if-is_exceeded.ensures.kept
-
-pub returns-then-is_exceeded : goal.returns-then-is_exceeded
-returns-then-is_exceeded c = λ s shows. JudgedRejected _ (c.in_ok-text.ensures s shows)
-
 pub returns : goal.returns
-returns c = λ s shows. JudgedAccepted _ (c.in_ok-text-2.ensures s shows)
+returns c =
+    IfOk-weaker c.judge_with.result _ _
+    (λ judged is s shows. judged_alone s c.args.graph.now judged.accepted judged.text.items (is s shows)) c.judge_with.ensures

@@ -1,8 +1,8 @@
-use Rattle.std.proofs.Common.{List, ◌++◌, codes, ap, ◌∙◌}
+use Rattle.std.proofs.Common.{List, codes, ap}
 use Rattle.flow_graph.specs.declared.proof.PathStep.{PathStep}
 use Rattle.flow_graph.specs.declared.proof.SubPath.{SubPath}
 use Rattle.flow_graph.specs.PathProofs.{steps_of}
-use Rattle.annotate.specs.Texts.{line, subs_text, steps_text, proof_text}
+use Rattle.annotate.specs.Texts.{line, subs_text, steps_text}
 use Rattle.annotate.proofs.Writing.{on_ok, fixed, then_both, same_text}
 use Rattle.annotate.proofs.paths.put_proof.Goals as goal
 

@@ -1,5 +1,5 @@
-use Rattle.std.proofs.Common.{◌+◌, refl, ap, sym, ◌∙◌, take, length, arith, get_or}
-use Rattle.annotate.specs.Texts.{step_text, steps_text}
+use Rattle.std.proofs.Common.{◌+◌, refl, sym, take, arith}
+use Rattle.annotate.specs.Texts.{steps_text}
 use Rattle.annotate.proofs.Writing.{nothing, then_both, same_text}
 use Rattle.annotate.proofs.SubsLemmas.{step_more, all_steps}
 use Rattle.annotate.proofs.paths.put_steps.Goals as goal

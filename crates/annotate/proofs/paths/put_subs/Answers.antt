@@ -1,4 +1,4 @@
-use Rattle.std.proofs.Common.{◌+◌, get_or, refl, take, sym, length, arith}
+use Rattle.std.proofs.Common.{get_or, refl, take, arith}
 use Rattle.std.proofs.lemmas.Option.{slice_get-get_or}
 use Rattle.flow_graph.specs.PathProofs.{steps_of}
 use Rattle.annotate.specs.Texts.{subs_text}

@@ -1,4 +1,4 @@
-use Rattle.std.proofs.Common.{Some, None, ap, sym, ◌∙◌, slice_get}
+use Rattle.std.proofs.Common.{ap, sym, ◌∙◌, slice_get}
 use Rattle.std.specs.declared.option.Option.{Option}
 use Rattle.flow_graph.specs.declared.constraint.Constraint.{Constraint}
 use Rattle.annotate.specs.Texts.{constraint_text}

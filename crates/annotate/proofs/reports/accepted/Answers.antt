@@ -1,23 +1,30 @@
-use Rattle.std.proofs.Common.{◌≡◌, List, ◌++◌, slice_get, codes, ◌∙◌, ap, sym, subst, Some}
-use Rattle.lattice_core.specs.View.{LatticeView, orders_of}
-use Rattle.flow_graph.specs.Unfolding.{IsAccepted}
-use Rattle.annotate.specs.Texts.{line}
-use Rattle.annotate.specs.Reports.{IsAtOnce, Lines}
+use Rattle.std.proofs.Common.{ℕ, List, ◌++◌, ◌∙◌, ap, sym, subst}
+use Rattle.lattice_core.specs.View.{LatticeView}
+use Rattle.annotate.specs.declared.listing.Listing.{Listing}
+use Rattle.annotate.specs.Texts.{accepted_text}
+use Rattle.annotate.specs.Annotated.{annotation}
+use Rattle.annotate.specs.Reports.{Listings}
 use Rattle.annotate.specs.Solutions.{AreSolutions, AreKept}
 use Rattle.annotate.proofs.LatticeLemmas.{accepted_all, at_once_all}
-use Rattle.annotate.proofs.ReportLemmas.{accepted_report}
+use Rattle.annotate.proofs.ReportLemmas.{accepted_with}
 use Rattle.annotate.proofs.reports.accepted.Goals as goal
 
 pub returns : goal.returns
 returns c =
     λ s shows.
-    let lines = c.in_ok-put_lines.ensures.part s shows in
+    let list = c.in_ok-listings.listings.items in
     let Solved : List LatticeView → Type 0 = λ ls. AreSolutions c.args.graph.now ls c.args.solutions.now in
     let Kept : List LatticeView → Type 0 = λ ls. AreKept c.args.graph.now ls c.args.solutions.now in
-    let Listed : List _ → Type 0 = λ listed. Lines s c.args.graph.now listed lines.text in
+    let Of : List LatticeView → Type 0 = λ ls. Listings ls c.args.graph.now s.listed list in
+    let By : List _ → Type 0 = λ listed. Listings c.args.scene.now.lattices.now c.args.graph.now listed list in
     let solutions = subst Solved (sym shows.lattices) c.requires.solutions in
     let kept = subst Kept (sym shows.lattices) c.requires.kept in
-    accepted_report s c.args.graph.now c.put_lines.new.out.items c.put.new.out.items lines.text
+    accepted_with s c.args.graph.now c.args.unit list c.put_annotation.new.out.items
     (accepted_all c.args.graph.now s.lattices c.args.solutions.now solutions kept)
     (at_once_all c.args.graph.now s.lattices c.args.solutions.now solutions kept)
-    (c.in_ok-put.ensures ∙ ap (λ (text : List _). text ++ line (codes "accepted")) c.new-text.ensures.items) lines.added (subst Listed (sym shows.listed) lines.is)
+    (subst Of (sym shows.lattices) (subst By (sym shows.listed) c.in_ok-listings.ensures))
+    (c.in_ok-put_annotation.ensures.is s shows
+    ∙ ap (λ (t : List ℕ). t ++ annotation s c.args.unit c.deref-2.result.now) (c.in_ok-put_accepted.ensures.is s shows
+    ∙ ap (λ (t : List ℕ). t ++ accepted_text s c.deref.result.now) c.new-text.ensures.items)
+    ∙ ap (λ (l : List Listing). accepted_text s l ++ annotation s c.args.unit c.deref-2.result.now) c.deref.ensures.value
+    ∙ ap (λ (l : List Listing). accepted_text s list ++ annotation s c.args.unit l) c.deref-2.ensures.value)

@@ -1,4 +1,4 @@
-use Rattle.std.proofs.Common.{◌≡◌, ◌+◌, sym, ◌∙◌, arith}
+use Rattle.std.proofs.Common.{◌≡◌, sym, ◌∙◌, arith}
 use Rattle.annotate.proofs.SceneLemmas.{unit_here, unit_past, no_unit}
 use Rattle.annotate.proofs.scene.find_unit.Goals as goal
 
