@@ -1,0 +1,23 @@
+//! The number of a source that the tool makes.
+
+/// The greatest number of a source that the tool makes.
+const MOST: u32 = 1000;
+
+/// Whether a text begins with a digit other than 0.
+fn begins_number(text: &str) -> bool {
+    match text.as_bytes() {
+        [] => false,
+        [first, ..] => b'1' <= *first && *first <= b'9',
+    }
+}
+
+/// The number of a text: a decimal numeral of 1 to 1000, with no sign and no 0 before it.
+pub fn number(text: &str) -> Option<u32> {
+    if !begins_number(text) {
+        return None;
+    }
+    match text.parse::<u32>() {
+        Ok(number) if number <= MOST => Some(number),
+        _ => None,
+    }
+}
