@@ -25,32 +25,40 @@ pub data Task : Type 0 where
 
 -- ---- the pieces that words spell
 
--- the parts of a command line: the options `--lattice`, `--prelude`, `--check` and `--generate`, the flag `--annotate`, and the
--- words that are no options
+-- the options that have a value: `--lattice`, `--prelude`, `--check` and `--generate`
+pub data Key : Type 0 where
+  Lattice : Key
+  Prelude : Key
+  Report : Key
+  Number : Key
+
+-- the parts of a command line: the options with a value, the flag `--annotate`, and the words that are no options
 pub data Part : Type 0 where
-  Lattice : Part
-  Prelude : Part
-  Report : Part
-  Number : Part
+  Valued : Key → Part
   Annotation : Part
   Source : Part
 
--- a part with its text
-pub record Piece : Type 0 where
-  pub part : Part
-  pub text : Text
+-- what words give: an option with its value, the flag, or a word that is no option
+pub data Piece : Type 0 where
+  Value : Key → Text → Piece
+  Flag : Piece
+  Plain : Text → Piece
 
--- the flag has no text of its own, so a piece of it says that it is there
-abbrev pub flag : Piece
-flag = record { part = Annotation; text = codes "true" }
+abbrev pub part_of : Piece → Part
+part_of (Value key text) = Valued key
+part_of Flag = Annotation
+part_of (Plain word) = Source
 
-abbrev pub plain : Text → Piece
-plain word = record { part = Source; text = word }
+-- the flag has no text of its own, and reads as `true`
+abbrev pub text_of : Piece → Text
+text_of (Value key text) = text
+text_of Flag = codes "true"
+text_of (Plain word) = word
 
 -- one word: `--`, which ends the options; an option whose value is the next word; or a whole piece
 pub data Word : Type 0 where
   Ends : Word
-  Opens : Part → Word
+  Opens : Key → Word
   Whole : Piece → Word
 
 -- what a word has behind two hyphens at its start
@@ -62,10 +70,10 @@ behind_hyphens (a ∷ b ∷ more) = if a == 45 && b == 45 then Some more else No
 -- the option or the flag of this name, in full
 abbrev pub named : Text → Option Part
 named name =
-    if bytes_eq (codes "lattice") name then Some Lattice
-    else (if bytes_eq (codes "prelude") name then Some Prelude
-    else (if bytes_eq (codes "check") name then Some Report
-    else (if bytes_eq (codes "generate") name then Some Number
+    if bytes_eq (codes "lattice") name then Some (Valued Lattice)
+    else (if bytes_eq (codes "prelude") name then Some (Valued Prelude)
+    else (if bytes_eq (codes "check") name then Some (Valued Report)
+    else (if bytes_eq (codes "generate") name then Some (Valued Number)
     else (if bytes_eq (codes "annotate") name then Some Annotation else None))))
 
 -- what stands before the first `=`, and what stands behind it where there is one
@@ -81,14 +89,15 @@ value_in text = if list_any is_equals text then Some (after_first is_equals text
 -- the word of an option, by its name and the value that is attached; what names no option, and a flag with a value, is a plain
 -- word
 abbrev pub option_word : Text → Option Part → Option Text → Word
-option_word word (Some Annotation) None = Whole flag
-option_word word (Some Annotation) (Some value) = Whole (plain word)
-option_word word (Some part) None = Opens part
-option_word word (Some part) (Some value) = Whole (record { part = part; text = value })
-option_word word None value = Whole (plain word)
+option_word word (Some Annotation) None = Whole Flag
+option_word word (Some Annotation) (Some value) = Whole (Plain word)
+option_word word (Some Source) value = Whole (Plain word)
+option_word word (Some (Valued key)) None = Opens key
+option_word word (Some (Valued key)) (Some value) = Whole (Value key value)
+option_word word None value = Whole (Plain word)
 
 abbrev pub word_behind : Text → Option Text → Word
-word_behind word None = Whole (plain word)
+word_behind word None = Whole (Plain word)
 word_behind word (Some []) = Ends
 word_behind word (Some (b ∷ more)) = option_word word (named (name_in (b ∷ more))) (value_in (b ∷ more))
 
@@ -96,28 +105,31 @@ word_behind word (Some (b ∷ more)) = option_word word (named (name_in (b ∷ m
 abbrev pub word_of : Text → Word
 word_of word = word_behind word (behind_hyphens word)
 
-abbrev pub with_word : Word → List Text → (Option Part → List Piece) → List Piece
-with_word Ends words more = map plain words
-with_word (Opens part) words more = more (Some part)
+abbrev pub with_word : Word → List Text → (Option Key → List Piece) → List Piece
+with_word Ends words more = map Plain words
+with_word (Opens key) words more = more (Some key)
 with_word (Whole piece) words more = piece ∷ more None
 
 -- the pieces of the words, where the first may be the value of an option before them; with no word left that value is empty
-unfoldable pub pieces_from : Option Part → List Text → List Piece
+unfoldable pub pieces_from : Option Key → List Text → List Piece
 pieces_from None [] = []
-pieces_from (Some part) [] = record { part = part; text = [] } ∷ []
-pieces_from (Some part) (word ∷ words) = record { part = part; text = word } ∷ pieces_from None words
 pieces_from None (word ∷ words) = with_word (word_of word) words (λ opened. pieces_from opened words)
+pieces_from (Some key) [] = Value key [] ∷ []
+pieces_from (Some key) (word ∷ words) = Value key word ∷ pieces_from None words
 
 abbrev pub pieces_of : List Text → List Piece
 pieces_of words = pieces_from None words
 
 -- ---- what the pieces ask
 
+abbrev pub key_place : Key → ℕ
+key_place Lattice = 0
+key_place Prelude = 1
+key_place Report = 2
+key_place Number = 3
+
 abbrev pub place : Part → ℕ
-place Lattice = 0
-place Prelude = 1
-place Report = 2
-place Number = 3
+place (Valued key) = key_place key
 place Annotation = 4
 place Source = 5
 
@@ -125,7 +137,7 @@ place Source = 5
 abbrev pub texts_of : Part → List Piece → List Text
 texts_of part [] = []
 texts_of part (piece ∷ pieces) =
-    if place piece.part == place part then piece.text ∷ texts_of part pieces else texts_of part pieces
+    if place (part_of piece) == place part then text_of piece ∷ texts_of part pieces else texts_of part pieces
 
 -- a text that has a meaning: it is not empty and does not begin with a hyphen
 abbrev pub has_meaning : Text → Bool
@@ -138,13 +150,16 @@ at_most_once [] = Some None
 at_most_once (text ∷ []) = if has_meaning text then Some (Some text) else None
 at_most_once (text ∷ other ∷ more) = None
 
--- a numeral: decimal digits of which the first is not 0
+-- a decimal numeral with no sign and no 0 at its start
+abbrev pub begins_number : Text → Bool
+begins_number [] = false
+begins_number (b ∷ more) = nat_le 49 b && nat_le b 57
+
 abbrev pub is_digit : ℕ → Bool
 is_digit b = nat_le 48 b && nat_le b 57
 
 abbrev pub is_numeral : Text → Bool
-is_numeral [] = false
-is_numeral (b ∷ more) = not (b == 48) && list_all is_digit (b ∷ more)
+is_numeral text = begins_number text && list_all is_digit text
 
 -- the number of a made source: 1 to 1000, as a numeral
 abbrev pub number_of : Text → Option ℕ
@@ -167,8 +182,9 @@ with_part part pieces next = option_and_then next (at_most_once (texts_of part p
 
 abbrev pub task_in : List Piece → Option Task
 task_in pieces =
-    with_part Lattice pieces (λ l. with_part Prelude pieces (λ p. with_part Report pieces (λ r. with_part Number pieces (λ n.
-    with_part Annotation pieces (λ on. with_part Source pieces (λ s. task_of_parts l p r n on s))))))
+    with_part (Valued Lattice) pieces (λ l. with_part (Valued Prelude) pieces (λ p. with_part (Valued Report) pieces (λ r.
+    with_part (Valued Number) pieces (λ n. with_part Annotation pieces (λ on. with_part Source pieces (λ s.
+    task_of_parts l p r n on s))))))
 
 -- what the words behind the program's name ask, or nothing where they have no meaning
 abbrev pub meaning_of : List Text → Option Task

@@ -3,10 +3,10 @@
 
 mod asked;
 mod command;
-mod meaning;
 mod numeral;
 #[cfg(test)]
 mod tests;
+mod words;
 
 pub use asked::{Asked, FileWords};
-pub use meaning::meaning;
+pub use words::meaning;

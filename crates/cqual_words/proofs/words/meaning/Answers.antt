@@ -1,0 +1,19 @@
+use Rattle.std.proofs.Common.{rules, refl, ap, ap₂, ◌≡◌, ◌∙◌, ◌≢◌, Some, None, Option, List, ℕ, codes, map, IfOk, string_bytes}
+use Rattle.std.specs.Option.{option_map}
+use Rattle.clap.specs.Words.{FailsBy, HasMatchesOf, fault_of, found_of, kind_of}
+use Rattle.clap.specs.declared.error.kind.ErrorKind.TheVariants as kind
+use Rattle.cqual_words.specs.Words.{meaning_of}
+use Rattle.cqual_words.specs.Tool.{asked_by, tool}
+use Rattle.cqual_words.proofs.Agrees.{matches_right, refusal_right}
+use Rattle.cqual_words.proofs.words.meaning.Goals as goal
+
+pub returns-in-Ok : goal.returns-in-Ok
+returns-in-Ok c =
+    let words = map (λ s. string_bytes s) c.args.words.now in
+    let read = matches_right words (found_of c.in-Ok.matches) c.in-Ok.ensures.kinds (c.in-Ok.ensures.ok refl).0 in
+    c.of_matches.ensures read.0 read.1 ∙ read.2
+
+pub returns : goal.returns
+returns c =
+    let words = map (λ s. string_bytes s) c.args.words.now in
+    refusal_right words c.in-Err.error c.in-Err.ensures.kinds (λ e. c.in_default.not-OutOfMemory (c.kind.ensures ∙ e))
