@@ -1,9 +1,9 @@
 -- A text that the code reads as a number, and `number_of`.
-use Rattle.std.proofs.Common.{rules, arith, refl, sym, ap, ap₂, subst, ◌≡◌, ◌∙◌, ◌<◌, ◌≤◌, ◌&&◌, ◌==◌, ◌^◌, ◌-◌, ◌<◌, ℕ, Bool, true, false, cond, List, [], ◌∷◌, length, drop, Option, Some, None, Result, Ok, Err, true≢false, le-leb, leb-true}
+use Rattle.std.proofs.Common.{rules, arith, refl, sym, ap, ap₂, subst, ◌≡◌, ◌∙◌, ◌<◌, ◌≤◌, ◌&&◌, ◌==◌, ◌^◌, ◌-◌, ◌+◌, ◌*◌, ℕ, Bool, true, false, cond, List, [], ◌∷◌, length, drop, Option, Some, None, Result, Ok, Err, true≢false, le-leb, leb-true}
 use Rattle.std.specs.Prelude.{nat_le, slice_index}
 use Rattle.std.specs.List.{list_all}
 use Rattle.std.specs.Char.{digit_value}
-use Rattle.std.specs.Str.Parse.{AllDigits, IsNumeral, digits_value, without_leading_plus}
+use Rattle.std.specs.Str.Parse.{AllDigits, IsNumeral, digits_value, digits_value_after, without_leading_plus}
 use Rattle.std.proofs.lemmas.Bool.Decides.{nat_tests}
 use Rattle.cqual_words.specs.Words.{Text, begins_number, is_digit, is_numeral, number_of}
 
@@ -55,6 +55,26 @@ read_number text n begins h is most =
     let n_is : n ≡ digits_value 10 text = is ∙ ap (digits_value 10) same in
     let small : nat_le (digits_value 10 text) 1000 ≡ true = subst (λ m. nat_le m 1000 ≡ true) n_is (le-leb n 1000 most) in
     rw (begins, digits, small) (ap Some n_is)
+
+after_more : (n : ℕ) (ds : List ℕ) → n ≤ digits_value_after 10 n ds
+after_more n [] = omega arith
+after_more n (d ∷ ds) =
+    let next = after_more (n * 10 + digit_value d) ds in
+    omega arith
+
+digit_some : (b : ℕ) → (nat_le 49 b && nat_le b 57) ≡ true → 1 ≤ 0 * 10 + digit_value b
+digit_some b h = grind (arith, nat_tests)
+
+begins_some : (text : Text) → begins_number text ≡ true → 1 ≤ digits_value 10 text
+begins_some [] h = absurd (true≢false (sym h))
+begins_some (b ∷ more) h =
+    let first = digit_some b h in
+    let rest = after_more (0 * 10 + digit_value b) more in
+    omega arith
+
+-- the number that it read is at least 1
+pub read_some : (text : Text) (n : ℕ) → begins_number text ≡ true → n ≡ digits_value 10 (without_leading_plus text) → 1 ≤ n
+read_some text n begins is = subst (λ m. 1 ≤ m) (sym (is ∙ ap (digits_value 10) (plusless text begins))) (begins_some text begins)
 
 -- what it did not read
 pub no_number : (text : Text) → begins_number text ≡ true → (IsRead text → ⊥) → None ≡ number_of text

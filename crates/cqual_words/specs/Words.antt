@@ -1,5 +1,5 @@
 -- What the words of a command line mean.
-use Rattle.std.specs.Prelude.{ℕ, Bool, true, false, ◌==◌, ◌&&◌, not, List, [], ◌∷◌, map, Option, Some, None, codes, nat_le}
+use Rattle.std.specs.Prelude.{◌≤◌, ℕ, Bool, true, false, ◌==◌, ◌&&◌, not, List, [], ◌∷◌, map, Option, Some, None, codes, nat_le}
 use Rattle.std.specs.Prelude.{if◌then◌else◌, option_and_then}
 use Rattle.std.specs.List.{list_all, list_any, before_first, after_first}
 use Rattle.std.specs.Str.{bytes_eq}
@@ -164,6 +164,10 @@ is_numeral text = begins_number text && list_all is_digit text
 -- the number of a made source: 1 to 1000, as a numeral
 abbrev pub number_of : Text → Option ℕ
 number_of text = if is_numeral text && nat_le (digits_value 10 text) 1000 then Some (digits_value 10 text) else None
+
+-- a number that the tool makes a source of
+abbrev pub IsMade : ℕ → Type 0
+IsMade number = (1 ≤ number) × (number ≤ 1000)
 
 abbrev pub files_of : Text → Option Text → Text → FileNames
 files_of lattice prelude source = record { lattice = lattice; prelude = prelude; source = source }

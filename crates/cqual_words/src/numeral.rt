@@ -1,7 +1,7 @@
 //! The number of a source that the tool makes.
 
-ghost use Rattle.std.specs.Prelude.{◌≡◌};
-ghost use Rattle.cqual_words.specs.Words.{begins_number, number_of};
+ghost use Rattle.std.specs.Prelude.{◌≡◌, IfSome};
+ghost use Rattle.cqual_words.specs.Words.{IsMade, begins_number, number_of};
 
 /// The greatest number of a source that the tool makes.
 const MOST: u32 = 1000;
@@ -18,7 +18,8 @@ fn begins_number(text: &str) -> bool
 
 /// The number of a text: a decimal numeral of 1 to 1000, with no sign and no 0 before it.
 pub fn number(text: &str) -> Option<u32>
-    ensures { result ≡ number_of text.now }
+    ensures number { result ≡ number_of text.now }
+    ensures made { IfSome result IsMade }
 {
     if !begins_number(text) {
         return None;

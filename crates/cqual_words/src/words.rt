@@ -1,10 +1,10 @@
 //! What the words mean together.
 
-ghost use Rattle.std.specs.Prelude.{◌≡◌, Bool, Some, None, Option, List, ℕ, codes, map, IfOk, string_bytes};
+ghost use Rattle.std.specs.Prelude.{◌≡◌, Bool, Some, None, Option, List, ℕ, codes, map, IfOk, IfSome, string_bytes};
 ghost use Rattle.std.specs.Option.{option_map};
 ghost use Rattle.clap.specs.Words.{FailsBy, HasMatchesOf, fault_of, first_value, found_of, one_text};
 ghost use Rattle.clap.specs.Values.{bool_text};
-ghost use Rattle.cqual_words.specs.Asked.{names_in, task_of};
+ghost use Rattle.cqual_words.specs.Asked.{AsksMade, names_in, task_of};
 ghost use Rattle.cqual_words.specs.Words as rules;
 ghost use Rattle.cqual_words.specs.Words.{meaning_of};
 ghost use Rattle.cqual_words.specs.Tool.{asked_by, flag_text, given, tool};
@@ -40,9 +40,10 @@ fn text_of<'a>(matches: &ArgMatches<'a>, id: &str) -> Option<Option<&'a str>>
 
 /// What is asked with a lattice and a source.
 fn of_files<'a>(files: FileWords<'a>, report: Option<&'a str>, annotate: bool) -> Option<Asked<'a>>
-    ensures { option_map task_of result ≡ rules.task_of_parts (Some files.entry.lattice.now)
+    ensures task { option_map task_of result ≡ rules.task_of_parts (Some files.entry.lattice.now)
         (option_map (λ s. s.now) files.entry.prelude) (option_map (λ s. s.now) report.entry) None
         (flag_text annotate) (Some files.entry.source.now) }
+    ensures made { IfSome result AsksMade }
 {
     match (report, annotate) {
         (None, false) => Some(Asked::Infer(files)),
@@ -54,9 +55,10 @@ fn of_files<'a>(files: FileWords<'a>, report: Option<&'a str>, annotate: bool) -
 
 /// What the texts of the parts ask.
 fn of_matches<'a>(matches: &ArgMatches<'a>) -> Option<Asked<'a>>
-    ensures { (on : Bool) → one_text (found_of matches.now) (codes "annotate")
+    ensures task { (on : Bool) → one_text (found_of matches.now) (codes "annotate")
         ≡ Some (bool_text on) → option_map task_of result
         ≡ asked_by on (λ id. first_value (found_of matches.now) id) }
+    ensures made { IfSome result AsksMade }
 {
     let lattice = text_of(matches, "lattice")?;
     let prelude = text_of(matches, "prelude")?;
@@ -101,8 +103,9 @@ fn matches<'a>(alloc: Global, words: &'a [String]) -> Result<ArgMatches<'a>, Err
 ///
 /// Want of memory.
 pub fn meaning<'a>(alloc: Global, words: &'a [String]) -> Result<Option<Asked<'a>>, AllocError>
-    ensures { IfOk result (λ found. option_map task_of found
+    ensures meaning { IfOk result (λ found. option_map task_of found
         ≡ meaning_of (map (λ s. string_bytes s) words.entry.now)) }
+    ensures made { IfOk result (λ found. IfSome found AsksMade) }
 {
     match matches(alloc, words) {
         Ok(matches) => Ok(of_matches(&matches)),

@@ -11,9 +11,9 @@ pub returns-in-Ok : goal.returns-in-Ok
 returns-in-Ok c =
     let words = map (λ s. string_bytes s) c.args.words.now in
     let read = matches_right words (found_of c.in-Ok.matches) c.in-Ok.ensures.kinds (c.in-Ok.ensures.ok refl).0 in
-    c.of_matches.ensures read.0 read.1 ∙ read.2
+    record { meaning = c.of_matches.ensures.task read.0 read.1 ∙ read.2; made = c.of_matches.ensures.made }
 
 pub returns : goal.returns
 returns c =
     let words = map (λ s. string_bytes s) c.args.words.now in
-    refusal_right words c.in-Err.error c.in-Err.ensures.kinds (λ e. c.in_default.not-OutOfMemory (c.kind.ensures ∙ e))
+    record { meaning = refusal_right words c.in-Err.error c.in-Err.ensures.kinds (λ e. c.in_default.not-OutOfMemory (c.kind.ensures ∙ e)); made = tt }
