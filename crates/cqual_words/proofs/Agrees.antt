@@ -1,21 +1,21 @@
 -- clap's matches and faults at the words, and their meaning.
-use Rattle.std.proofs.Common.{refl, sym, ap, ap₂, subst, ◌≡◌, ◌≢◌, ◌∙◌, ◌⊎◌, ℕ, Bool, true, false, List, [], ◌∷◌, Option, Some, None, inl, inr}
+use Rattle.std.proofs.Common.{refl, sym, ap₂, subst, ◌≡◌, ◌≢◌, ◌∙◌, Bool, false, List, [], ◌∷◌, Option, Some, None, inl, inr}
 use Rattle.std.specs.Prelude.{codes, is_some}
 use Rattle.clap.specs.Values.{bool_text, kind_of}
 use Rattle.clap.specs.Matches.{first_value, one_text}
 use Rattle.clap.specs.Walk.{Row, rows_of, nothing_held, walk_from}
-use Rattle.clap.specs.Simple.{App, built, entered, matches_of}
+use Rattle.clap.specs.Simple.{built, entered, matches_of}
 use Rattle.clap.specs.Faults.{entered_fault, fault_of, level_fault}
-use Rattle.clap.specs.Kinds.{HasKind, IsAmong, Kinds}
+use Rattle.clap.specs.Kinds.{HasKind, Kinds}
 use Rattle.clap.specs.declared.error.Error.{Error}
 use Rattle.clap.specs.declared.error.kind.ErrorKind.TheVariants as kind
 use Rattle.clap.specs.declared.parser.matches.Found.{Found}
 use Rattle.clap.proofs.WalkLemmas.{first_value-rows, one_text-rows}
-use Rattle.cqual_words.specs.Words.{Task, Text, meaning_of}
+use Rattle.cqual_words.specs.Words.{Text, meaning_of}
 use Rattle.cqual_words.specs.Tool.{asked_by, tool}
 use Rattle.cqual_words.proofs.Rules.{shape}
 use Rattle.cqual_words.proofs.States.{Free}
-use Rattle.cqual_words.proofs.Steps.{Judged, end_of, end_fault}
+use Rattle.cqual_words.proofs.Steps.{Judged}
 use Rattle.cqual_words.proofs.Walks.{walks}
 
 -- there is no subcommand

@@ -1,15 +1,14 @@
 -- What the matches ask at the end of the words, where each part stands once.
-use Rattle.std.proofs.Common.{rules, arith, refl, sym, ap, ap₂, subst, ◌≡◌, ◌∙◌, ◌&&◌, ◌||◌, ◌==◌, ◌++◌, ℕ, Bool, true, false, cond, map, List, [], ◌∷◌, Option, Some, None, true≢false, append-nil, append_assoc}
-use Rattle.std.specs.Prelude.{option_and_then, option_map, slice_get, codes, fold}
-use Rattle.std.specs.List.{list_any, find}
+use Rattle.std.proofs.Common.{refl, sym, ap, ◌≡◌, ◌∙◌, ◌||◌, ◌++◌, Bool, true, false, cond, List, [], ◌∷◌, Option, Some, None, true≢false}
+use Rattle.std.specs.Prelude.{option_and_then, slice_get, codes, fold}
+use Rattle.std.specs.List.{find}
 use Rattle.std.specs.Str.{bytes_eq}
 use Rattle.clap.specs.Values.{bool_text}
 use Rattle.clap.specs.Walk.{Row, Rule, at_row, first_of, has_row, more_values, one_of, row_text, with_default, with_values}
 use Rattle.clap.specs.Faults.{default_fault, defaults_fault, check_fault, given_default_fault}
-use Rattle.clap.specs.Kinds.{Kinds}
-use Rattle.clap.specs.declared.parser.matches.ValueSource.TheVariants.{CommandLine, DefaultValue}
+use Rattle.clap.specs.declared.parser.matches.ValueSource.TheVariants.{DefaultValue}
 use Rattle.clap.specs.declared.builder.value_parser.Reading.TheVariants.{AsWritten}
-use Rattle.cqual_words.specs.Words.{Key, Part, Piece, Task, Text, Valued, Lattice, Prelude, Report, Number, Annotation, Source, Value, Flag, Plain, at_most_once, part_of, text_of, place, task_in, task_of_parts, texts_of}
+use Rattle.cqual_words.specs.Words.{Part, Piece, Task, Text, Valued, Lattice, Prelude, Report, Number, Annotation, Source, Value, Flag, Plain, at_most_once, task_in, task_of_parts, texts_of}
 use Rattle.cqual_words.specs.Tool.{asked_by, flag_text, given, id_of}
 use Rattle.cqual_words.proofs.Pieces.{first_is, row_of, rows_at}
 use Rattle.cqual_words.proofs.Rules.{all_rules, at_none, rule_for, shape}

@@ -1,11 +1,11 @@
 -- What one word is, as `specs/Words.antt` and clap's reader see it.
-use Rattle.std.proofs.Common.{rules, arith, refl, sym, ap, ap₂, subst, ◌≡◌, ◌∙◌, ◌&&◌, ◌||◌, ◌==◌, ◌++◌, ℕ, Bool, true, false, cond, zero, suc, map, length, List, [], ◌∷◌, Option, Some, None, true≢false}
-use Rattle.std.specs.Prelude.{option_and_then, option_map, slice_get, codes}
+use Rattle.std.proofs.Common.{refl, ◌≡◌, ◌==◌, ℕ, Bool, true, false, [], ◌∷◌, Option, Some, None}
+use Rattle.std.specs.Prelude.{slice_get}
 use Rattle.std.specs.Str.{bytes_eq, chars}
 use Rattle.clap.specs.Lexer.{long_of, short_of}
-use Rattle.clap.specs.Walk.{Held, Names, Outcome, Rule, Step, Waiting, arg_by_short, bundle, bundle_met, bundle_step, idle, option, plain, plain_word, positional, long_word, trailing, subcommand_met, word_met}
+use Rattle.clap.specs.Walk.{Held, Step, Waiting, arg_by_short, bundle, bundle_met, idle, option, plain, plain_word, positional, long_word, trailing, subcommand_met, word_met}
 use Rattle.clap.specs.Walk.{arg_by_long}
-use Rattle.clap.specs.Faults.{bundle_fault, bundle_step_fault, flags_fault, long_fault, word_fault}
+use Rattle.clap.specs.Faults.{bundle_fault, flags_fault, long_fault, word_fault}
 use Rattle.clap.specs.Kinds.{Kinds}
 use Rattle.clap.specs.declared.error.kind.ErrorKind.TheVariants as kind
 use Rattle.cqual_words.specs.Words.{Text, Ends, Plain, Whole, has_meaning, name_in, named, option_word, value_in, word_of}

@@ -1,14 +1,13 @@
 -- Pieces, and the rows that clap's matches have of them.
-use Rattle.std.proofs.Common.{rules, arith, refl, sym, ap, ap₂, subst, ◌≡◌, ◌∙◌, ◌&&◌, ◌||◌, ◌==◌, ◌++◌, ℕ, Bool, true, false, cond, map, List, [], ◌∷◌, Option, Some, None, true≢false}
-use Rattle.std.specs.Prelude.{option_and_then, slice_get, codes}
+use Rattle.std.proofs.Common.{refl, sym, ap, ◌≡◌, ◌∙◌, ◌||◌, ◌==◌, ◌++◌, Bool, true, false, cond, map, List, [], ◌∷◌, Option, Some, None, true≢false}
+use Rattle.std.specs.Prelude.{option_and_then, slice_get}
 use Rattle.std.specs.List.{list_any, find}
 use Rattle.std.specs.Str.{bytes_eq}
-use Rattle.std.proofs.lemmas.Bool.Decides.{nat_tests}
-use Rattle.clap.specs.Walk.{Row, at_row, first_of, has_row, without}
+use Rattle.clap.specs.Walk.{Row, first_of, has_row}
 use Rattle.clap.specs.declared.parser.matches.ValueSource.TheVariants.{CommandLine}
 use Rattle.clap.specs.declared.builder.value_parser.Reading.TheVariants.{AsWritten}
-use Rattle.cqual_words.specs.Words.{Key, Part, Piece, Task, Text, Valued, Lattice, Prelude, Report, Number, Annotation, Source, part_of, text_of, at_most_once, has_meaning, place, task_in, task_of_parts, texts_of, with_part}
-use Rattle.cqual_words.specs.Tool.{given, id_of}
+use Rattle.cqual_words.specs.Words.{Part, Piece, Text, Valued, Lattice, Prelude, Report, Number, Annotation, Source, part_of, text_of, at_most_once, has_meaning, place, task_in, texts_of}
+use Rattle.cqual_words.specs.Tool.{id_of}
 
 -- what holds of each part
 pub each : (P : Part → Type 0) → P (Valued Lattice) → P (Valued Prelude) → P (Valued Report) → P (Valued Number) → P Annotation → P Source → (a : Part) → P a

@@ -1,18 +1,16 @@
 -- clap's rules for the parts, and one use of each.
-use Rattle.std.proofs.Common.{rules, arith, refl, sym, ap, ap₂, subst, ◌≡◌, ◌∙◌, ◌&&◌, ◌||◌, ◌==◌, ◌++◌, ℕ, Bool, true, false, cond, map, List, [], ◌∷◌, Option, Some, None, true≢false, append-nil, append_assoc}
-use Rattle.std.specs.Prelude.{option_and_then, option_map, slice_get, codes}
-use Rattle.std.specs.List.{list_any, find}
+use Rattle.std.proofs.Common.{refl, ap, ◌≡◌, ◌∙◌, ◌||◌, ◌++◌, Bool, true, false, cond, List, [], ◌∷◌, Some, None, true≢false, append-nil}
+use Rattle.std.specs.Prelude.{option_map, codes}
 use Rattle.std.specs.Str.{bytes_eq}
-use Rattle.std.proofs.lemmas.List.{map-append}
-use Rattle.clap.specs.Walk.{Held, Row, Rule, arg_by_id, arg_by_index, arg_by_long, at_row, has_row, more_values, settled, settled_rows, used, with_values, without}
+use Rattle.clap.specs.Walk.{Row, Rule, arg_by_id, arg_by_long, at_row, has_row, more_values, used, with_values, without}
 use Rattle.clap.specs.Simple.{Shape, built, filled, with_index}
-use Rattle.clap.specs.Faults.{settle_fault, use_fault}
+use Rattle.clap.specs.Faults.{use_fault}
 use Rattle.clap.specs.declared.parser.matches.ValueSource.TheVariants.{CommandLine}
 use Rattle.clap.specs.declared.builder.value_parser.Reading.TheVariants.{AsWritten}
 use Rattle.clap.specs.declared.error.kind.ErrorKind.TheVariants as kind
-use Rattle.cqual_words.specs.Words.{Key, Part, Piece, Task, Text, Valued, Lattice, Prelude, Report, Number, Annotation, Source, Value, Flag, Plain, named, part_of, text_of}
+use Rattle.cqual_words.specs.Words.{Key, Part, Piece, Text, Valued, Lattice, Prelude, Report, Number, Annotation, Source, Value, Flag, Plain, named, part_of, text_of}
 use Rattle.cqual_words.specs.Tool.{flag_rule, id_of, option_rule, source_rule, tool}
-use Rattle.cqual_words.proofs.Pieces.{each, row_of, rows_at}
+use Rattle.cqual_words.proofs.Pieces.{each, row_of}
 
 abbrev pub rule_for : Part → Rule
 rule_for (Valued Lattice) = filled (option_rule (codes "lattice"))

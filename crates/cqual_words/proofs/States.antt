@@ -1,19 +1,16 @@
 -- Where clap's walk stands, by the pieces that it has read.
-use Rattle.std.proofs.Common.{rules, arith, refl, sym, ap, ap₂, subst, ◌≡◌, ◌∙◌, ◌&&◌, ◌||◌, ◌==◌, ◌++◌, ℕ, Bool, true, false, cond, map, List, [], ◌∷◌, Option, Some, None, true≢false, append-nil, append_assoc}
-use Rattle.std.specs.Prelude.{option_and_then, option_map, slice_get, codes}
-use Rattle.std.specs.List.{list_any, find}
+use Rattle.std.proofs.Common.{arith, refl, sym, ap, ap₂, ◌≡◌, ◌∙◌, ◌==◌, ◌++◌, ℕ, Bool, true, false, cond, List, [], ◌∷◌, Option, Some, None, true≢false, append-nil, append_assoc}
+use Rattle.std.specs.Prelude.{codes}
 use Rattle.std.specs.Option.{option_map_or}
-use Rattle.std.specs.Str.{bytes_eq}
 use Rattle.std.proofs.lemmas.Bool.Decides.{nat_tests}
 use Rattle.std.proofs.lemmas.List.{map-append}
-use Rattle.clap.specs.Walk.{Held, Row, Rule, Waiting, Walk, arg_by_id, has_row, idle, option, plain_word, next, settled, settled_rows, used, used_by_id, value, Step}
+use Rattle.clap.specs.Walk.{Held, Waiting, Walk, has_row, idle, option, plain_word, next, settled, settled_rows, used, used_by_id}
 use Rattle.clap.specs.Faults.{settle_fault, use_fault}
-use Rattle.clap.specs.Kinds.{Kinds}
 use Rattle.clap.specs.declared.error.kind.ErrorKind.TheVariants as kind
-use Rattle.cqual_words.specs.Words.{Key, Part, Piece, Task, Text, Valued, Lattice, Prelude, Report, Number, Annotation, Source, Value, Flag, Plain, part_of, text_of, place, task_in, texts_of}
+use Rattle.cqual_words.specs.Words.{Key, Part, Piece, Text, Valued, Lattice, Prelude, Report, Number, Source, Plain, part_of, text_of, place, task_in, texts_of}
 use Rattle.cqual_words.specs.Tool.{id_of}
-use Rattle.cqual_words.proofs.Pieces.{each, has_any, has_row_is, row_of, rows_at, spoilt, texts_append, twice}
-use Rattle.cqual_words.proofs.Rules.{Hand, OfKey, OfSource, all_rules, by_id, hand_again, hand_fine, none_faulty, piece_of, rule_for, shape, used_hand}
+use Rattle.cqual_words.proofs.Pieces.{has_any, has_row_is, row_of, rows_at, texts_append, twice}
+use Rattle.cqual_words.proofs.Rules.{Hand, OfKey, all_rules, by_id, hand_again, hand_fine, none_faulty, piece_of, rule_for, used_hand}
 
 -- what waits behind the pieces that clap has used: nothing, a piece that comes with the next flag or word, or an option whose value
 -- is to come

@@ -1,23 +1,19 @@
 -- clap's walk and its faults agree with the meaning of the words, word by word.
-use Rattle.std.proofs.Common.{rules, arith, refl, sym, ap, ap₂, subst, ◌≡◌, ◌∙◌, ◌&&◌, ◌||◌, ◌==◌, ◌++◌, ℕ, Bool, true, false, cond, map, List, [], ◌∷◌, Option, Some, None, true≢false, append-nil, append_assoc}
-use Rattle.std.specs.Prelude.{option_and_then, option_map, slice_get, codes, fold}
-use Rattle.std.specs.Option.{option_map_or}
-use Rattle.std.specs.Str.{bytes_eq}
+use Rattle.std.proofs.Common.{refl, sym, ap, ap₂, subst, ◌≡◌, ◌∙◌, ◌&&◌, ◌||◌, ◌++◌, ℕ, Bool, true, false, cond, map, List, [], ◌∷◌, Option, Some, None, true≢false, append-nil, append_assoc}
+use Rattle.std.specs.Prelude.{codes, fold}
 use Rattle.clap.specs.Values.{bool_text}
-use Rattle.clap.specs.Lexer.{long_of, short_of}
-use Rattle.clap.specs.Walk.{Held, Row, Rule, Step, Waiting, Walk, word_met, pushed, after_flag, after_step, arg_by_index, arg_by_long, finished, first_of, has_row, idle, long_met, long_word, next, one_of, option, option_met, plain_word, reacted, settled, takes_several, to_positional, trailing, used, value, walked, is_pending, with_default}
-use Rattle.clap.specs.Faults.{check_fault, defaults_fault, long_fault, positional_fault, react_fault, settle_fault, step_fault, stray_fault, turn_fault, use_fault, walk_fault, word_fault}
+use Rattle.clap.specs.Walk.{Held, Row, Step, Waiting, Walk, word_met, pushed, after_step, finished, first_of, has_row, idle, next, one_of, settled, trailing, value, walked, is_pending, with_default}
+use Rattle.clap.specs.Faults.{check_fault, defaults_fault, settle_fault, step_fault, turn_fault, walk_fault, word_fault}
 use Rattle.clap.specs.Kinds.{Kinds, or_else}
 use Rattle.clap.specs.declared.error.kind.ErrorKind.{ErrorKind}
 use Rattle.clap.specs.declared.error.kind.ErrorKind.TheVariants as kind
-use Rattle.cqual_words.specs.Words.{Key, Part, Piece, Task, Text, Word, Valued, Lattice, Prelude, Report, Number, Annotation, Source, Value, Flag, Plain, Ends, Opens, Whole, has_meaning, named, option_word, part_of, pieces_from, text_of, place, task_in, texts_of, with_word, word_of}
-use Rattle.cqual_words.specs.Tool.{asked_by, id_of}
-use Rattle.cqual_words.proofs.Pieces.{row_of, rows_at, spoilt, twice}
-use Rattle.cqual_words.proofs.Rules.{Hand, OfKey, OfSource, all_rules, by_name, flag_again, flag_fine, hand_again, hand_fine, piece_of, rule_for, shape, used_flag, used_hand}
-use Rattle.cqual_words.proofs.Lexing.{Looks, Dashes, Long, Short, Other, ReadsShort, Refuses, Passes, dashes_fine, dashes_met, faults, hyphens, long_faults, long_met_by, looks, meets, other_fine, other_met, short_read}
-use Rattle.cqual_words.proofs.States.{Pend, Free, Holds, Wants, OnceEach, Settling, Settles, Repeats, Lacks, all_at, held_at, once_more, place_after, place_kept, place_taken, settling, value_read, waits_for, walk_at}
+use Rattle.cqual_words.specs.Words.{Key, Piece, Task, Text, Source, Plain, task_in}
+use Rattle.cqual_words.specs.Tool.{asked_by}
+use Rattle.cqual_words.proofs.Pieces.{rows_at, twice}
+use Rattle.cqual_words.proofs.Rules.{OfSource, all_rules, rule_for, shape}
+use Rattle.cqual_words.proofs.Lexing.{faults, meets}
+use Rattle.cqual_words.proofs.States.{Pend, Holds, Wants, OnceEach, Settling, Settles, Repeats, Lacks, all_at, held_at, place_after, place_taken, settling, walk_at}
 use Rattle.cqual_words.proofs.Ends.{asked_is, check_fine, defaults_fine, end_rows, finished_is, flag_reads}
-use Rattle.std.proofs.lemmas.List.{map-append}
 
 -- ---- what is claimed
 
@@ -111,7 +107,7 @@ module _ (ps : List Piece) (pend : Pend) (waiting : Waiting) (t : Bool) (word : 
       → (((more : List Piece) → task_in (all_at ps pend ++ more) ≡ None) → task ≡ None)
       → (has_row (codes "source") (rows_at (all_at ps pend)) ≡ true → task ≡ None)
       → (OnceEach (all_at ps pend) → has_row (codes "source") (rows_at (all_at ps pend)) ≡ false
-          → Claim (walk_at (held_at (all_at ps pend) (Holds (OfSource word))) idle 2 t) words task)
+      → Claim (walk_at (held_at (all_at ps pend) (Holds (OfSource word))) idle 2 t) words task)
       → Claim (walk_at (held_at ps pend) waiting i t) (word ∷ words) task
   source_read is i at settling_ lacks again taken claim = go (has_row (codes "source") (rows_at (all_at ps pend))) refl
     where
@@ -187,8 +183,8 @@ trails (word ∷ words) ps pend waiting i still once at = source_read ps pend wa
     (refl, λ j. refl) i at (settling ps pend once) (λ key e. not_wanting pend still key e) (λ none. none (Plain word ∷ map Plain words))
     (λ e. twice (all_at ps pend) (Plain word) (map Plain words) e)
     (λ once_all none. subst (λ qs. Claim (walk_at (held_at (all_at ps pend) (Holds (OfSource word))) idle 2 true) words (task_in qs))
-        (append_assoc (all_at ps pend) (Plain word ∷ []) (map Plain words))
-        (trails words (all_at ps pend) (Holds (OfSource word)) idle 2 refl once_all (sym (place_taken (all_at ps pend) word))))
+    (append_assoc (all_at ps pend) (Plain word ∷ []) (map Plain words))
+    (trails words (all_at ps pend) (Holds (OfSource word)) idle 2 refl once_all (sym (place_taken (all_at ps pend) word))))
 
 pub trail_lacks : (words : List Text) (ps : List Piece) (key : Key) (waiting : Waiting) (i : ℕ) (task : Option Task)
     → settle_fault all_rules false (held_at ps (Wants key)) ≡ kind.InvalidValue ∷ [] → i ≡ place_after ps → task ≡ None

@@ -1,18 +1,18 @@
 -- The induction over the words.
-use Rattle.std.proofs.Common.{rules, arith, refl, sym, ap, ap₂, subst, ◌≡◌, ◌∙◌, ◌&&◌, ◌||◌, ◌==◌, ◌++◌, ℕ, Bool, true, false, cond, map, List, [], ◌∷◌, Option, Some, None, true≢false, append-nil, append_assoc}
+use Rattle.std.proofs.Common.{refl, sym, ap, ap₂, subst, ◌≡◌, ◌∙◌, ◌==◌, ◌++◌, ℕ, Bool, true, false, cond, List, [], ◌∷◌, Option, Some, None, true≢false, append-nil, append_assoc}
 use Rattle.std.specs.Prelude.{option_map, codes}
 use Rattle.std.specs.Str.{bytes_eq}
 use Rattle.std.proofs.lemmas.List.{map-append}
 use Rattle.clap.specs.Lexer.{long_of}
-use Rattle.clap.specs.Walk.{Held, Outcome, Row, Rule, Step, Waiting, after_flag, arg_by_long, done, has_row, idle, long_met, next, option, plain_word, reacted, settled, used, value, waits}
+use Rattle.clap.specs.Walk.{Held, Outcome, Row, Rule, Step, Waiting, after_flag, done, has_row, idle, long_met, next, option, plain_word, reacted, settled, used, waits}
 use Rattle.clap.specs.Faults.{long_fault, react_fault, settle_fault, use_fault}
-use Rattle.clap.specs.Kinds.{Kinds, or_else}
+use Rattle.clap.specs.Kinds.{or_else}
 use Rattle.clap.specs.declared.error.kind.ErrorKind.{ErrorKind}
 use Rattle.clap.specs.declared.error.kind.ErrorKind.TheVariants as kind
-use Rattle.cqual_words.specs.Words.{Key, Part, Piece, Task, Text, Word, Valued, Lattice, Prelude, Report, Number, Annotation, Source, Value, Flag, Plain, Ends, Opens, Whole, has_meaning, meaning_of, named, option_word, part_of, pieces_from, text_of, place, task_in, with_word, word_of}
+use Rattle.cqual_words.specs.Words.{Key, Part, Piece, Task, Text, Word, Valued, Lattice, Prelude, Report, Number, Annotation, Source, Value, Flag, Plain, Whole, has_meaning, named, option_word, part_of, pieces_from, place, task_in, with_word, word_of}
 use Rattle.cqual_words.specs.Tool.{id_of}
 use Rattle.cqual_words.proofs.Pieces.{row_of, rows_at, spoilt, twice}
-use Rattle.cqual_words.proofs.Rules.{Hand, OfKey, OfSource, all_rules, by_name, flag_again, flag_fine, hand_again, hand_fine, piece_of, rule_for, shape, used_flag, used_hand}
+use Rattle.cqual_words.proofs.Rules.{OfKey, OfSource, all_rules, by_name, flag_again, flag_fine, hand_again, hand_fine, piece_of, rule_for, used_flag, used_hand}
 use Rattle.cqual_words.proofs.Lexing.{Looks, Dashes, Long, Short, Other, ReadsShort, Refuses, Passes, dashes_fine, dashes_met, faults, hyphens, long_faults, long_met_by, looks, meets, other_fine, other_met, short_read}
 use Rattle.cqual_words.proofs.States.{Pend, Free, Holds, Wants, OnceEach, Settling, Settles, Repeats, Lacks, all_at, held_at, once_more, place_after, place_kept, place_taken, settling, value_read, wants_fault, waits_for, walk_at}
 use Rattle.cqual_words.proofs.Steps.{Claim, IsSource, end_read, ends, is_wanting, not_wanting, reads, refuses, source_read, trail_lacks, trails, end_faulty}
@@ -192,8 +192,8 @@ module _ (words : List Text) (next_words : Walks words) (word : Text) (ps : List
   plainly is = source_read ps pend idle false word words (task_in (after (Whole (Plain word)))) is i at (settling ps pend once) (λ key e. not_wanting pend still key e)
       (λ none. none (Plain word ∷ pieces_from None words)) (λ e. twice (all_at ps pend) (Plain word) (pieces_from None words) e)
       (λ once_all none. subst (λ qs. Claim (walk_at (held_at (all_at ps pend) (Holds (OfSource word))) idle 2 false) words (task_in qs))
-          (append_assoc (all_at ps pend) (Plain word ∷ []) (pieces_from None words))
-          (next_words (all_at ps pend) (Holds (OfSource word)) 2 once_all (sym (place_taken (all_at ps pend) word))))
+      (append_assoc (all_at ps pend) (Plain word ∷ []) (pieces_from None words))
+      (next_words (all_at ps pend) (Holds (OfSource word)) 2 once_all (sym (place_taken (all_at ps pend) word))))
 
   by_short : has_meaning word ≡ false → ReadsShort idle word (held_at ps pend) → Here (Whole (Plain word))
   by_short bad (Refuses fault) = refuses (held_at ps pend) idle i word words _ kind.UnknownArgument fault (spoilt (all_at ps pend) (Plain word) (pieces_from None words) bad)

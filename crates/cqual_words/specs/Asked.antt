@@ -1,5 +1,5 @@
 -- What the code holds of the words, as a task.
-use Rattle.std.specs.Prelude.{Option, ⊤}
+use Rattle.std.specs.Prelude.{⊤}
 use Rattle.std.specs.Option.{option_map}
 use Rattle.cqual_words.specs.Words.{FileNames, IsMade, Task}
 use Rattle.cqual_words.specs.Words as words

@@ -1,6 +1,6 @@
 -- The options as clap's parser takes them, and what its matches ask.
-use Rattle.std.specs.Prelude.{ℕ, Bool, true, false, List, [], ◌∷◌, Option, Some, None, codes, if◌then◌else◌, option_and_then}
-use Rattle.clap.specs.Words.{App, Row, Rule, first_of, new_app, new_rule, with_rule}
+use Rattle.std.specs.Prelude.{Bool, true, false, Option, Some, None, codes, if◌then◌else◌, option_and_then}
+use Rattle.clap.specs.Words.{App, Rule, new_app, new_rule, with_rule}
 use Rattle.clap.specs.Simple.{on_top}
 use Rattle.clap.specs.declared.builder.ArgAction.TheVariants.{Set, SetTrue}
 use Rattle.cqual_words.specs.Words.{Part, Task, Text, Valued, Lattice, Prelude, Report, Number, Annotation, Source, has_meaning, task_of_parts}

@@ -1,5 +1,5 @@
 -- What the words of a command line mean.
-use Rattle.std.specs.Prelude.{◌≤◌, ℕ, Bool, true, false, ◌==◌, ◌&&◌, not, List, [], ◌∷◌, map, Option, Some, None, codes, nat_le}
+use Rattle.std.specs.Prelude.{◌≤◌, ℕ, Bool, false, ◌==◌, ◌&&◌, not, List, [], ◌∷◌, map, Option, Some, None, codes, nat_le}
 use Rattle.std.specs.Prelude.{if◌then◌else◌, option_and_then}
 use Rattle.std.specs.List.{list_all, list_any, before_first, after_first}
 use Rattle.std.specs.Str.{bytes_eq}

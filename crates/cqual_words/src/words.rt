@@ -12,8 +12,8 @@ ghost use Rattle.cqual_words.specs.Tool.{asked_by, flag_text, given, tool};
 use crate::asked::{Asked, FileWords};
 use crate::command::command;
 use crate::numeral::number;
-use clap::{ArgMatches, Error};
 use clap::error::ErrorKind;
+use clap::{ArgMatches, Error};
 use std::alloc::{AllocError, Global};
 
 /// Whether a text has a meaning: it is not empty and does not begin with a hyphen.

@@ -1,7 +1,7 @@
 use Rattle.std.proofs.Common.{rules, ap₂, codes, ◌≡◌, ◌∙◌}
 use Rattle.std.proofs.lemmas.Result.{IfOk-weaker}
-use Rattle.clap.specs.Words.{App, app_of, with_rule}
-use Rattle.cqual_words.specs.Tool.{bare, flag_rule, option_rule, tool, with_options}
+use Rattle.clap.specs.Words.{app_of, with_rule}
+use Rattle.cqual_words.specs.Tool.{bare, flag_rule, option_rule, with_options}
 use Rattle.cqual_words.proofs.command.command.Goals as goal
 
 pub returns : goal.returns

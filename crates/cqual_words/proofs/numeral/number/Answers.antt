@@ -1,5 +1,5 @@
-use Rattle.std.proofs.Common.{rules, ◌≡◌, ℕ, ◌≤◌, true}
-use Rattle.cqual_words.specs.Words.{begins_number, number_of}
+use Rattle.std.proofs.Common.{rules, ◌≡◌, ◌≤◌, true}
+use Rattle.cqual_words.specs.Words.{begins_number}
 use Rattle.cqual_words.proofs.Numerals.{no_number, read_number, read_some}
 use Rattle.cqual_words.proofs.numeral.number.Goals as goal
 

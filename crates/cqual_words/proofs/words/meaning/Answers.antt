@@ -1,9 +1,5 @@
-use Rattle.std.proofs.Common.{rules, refl, ap, ap₂, ◌≡◌, ◌∙◌, ◌≢◌, Some, None, Option, List, ℕ, codes, map, IfOk, string_bytes}
-use Rattle.std.specs.Option.{option_map}
-use Rattle.clap.specs.Words.{FailsBy, HasMatchesOf, fault_of, found_of, kind_of}
-use Rattle.clap.specs.declared.error.kind.ErrorKind.TheVariants as kind
-use Rattle.cqual_words.specs.Words.{meaning_of}
-use Rattle.cqual_words.specs.Tool.{asked_by, tool}
+use Rattle.std.proofs.Common.{refl, ◌∙◌, map, string_bytes}
+use Rattle.clap.specs.Words.{found_of}
 use Rattle.cqual_words.proofs.Agrees.{matches_right, refusal_right}
 use Rattle.cqual_words.proofs.words.meaning.Goals as goal
 
