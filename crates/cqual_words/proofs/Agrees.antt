@@ -39,10 +39,12 @@ pub matches_right : (words : List Text) (f : Found) → fault_of tool words ≡ 
     → (on : Bool) × (one_text f (codes "annotate") ≡ Some (bool_text on)) × (asked_by on (λ id. first_value f id) ≡ meaning_of words)
 matches_right words f fine rows =
     let judged : Judged [] (rows_of f) (meaning_of words) =
-    subst (λ rs. Judged [] rs (meaning_of words)) (sym rows) (subst (λ ks. Judged ks (matches_of tool words) (meaning_of words)) fine (agrees words)) in
+    subst (λ rs. Judged [] rs (meaning_of words)) (sym rows) (subst (λ ks. Judged ks (matches_of tool words) (meaning_of words)) fine
+    (agrees words)) in
     (judged.0, one_text-rows f (codes "annotate") ∙ judged.1, (λ i. asked_by judged.0 (λ id. first_value-rows f id i)) ∙ judged.2)
 
-pub refusal_right : (words : List Text) (e : Error) → HasKind (fault_of tool words) e → kind_of e ≢ kind.OutOfMemory → None ≡ meaning_of words
+pub refusal_right : (words : List Text) (e : Error) → HasKind (fault_of tool words) e → kind_of e ≢ kind.OutOfMemory
+    → None ≡ meaning_of words
 refusal_right words e has other = go (fault_of tool words) (agrees words) has
   where
     go : (ks : Kinds) → Judged ks (matches_of tool words) (meaning_of words) → HasKind ks e → None ≡ meaning_of words

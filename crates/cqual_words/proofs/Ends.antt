@@ -8,7 +8,8 @@ use Rattle.clap.specs.Walk.{Row, Rule, at_row, first_of, has_row, more_values, o
 use Rattle.clap.specs.Faults.{default_fault, defaults_fault, check_fault, given_default_fault}
 use Rattle.clap.specs.declared.parser.matches.ValueSource.TheVariants.{DefaultValue}
 use Rattle.clap.specs.declared.builder.value_parser.Reading.TheVariants.{AsWritten}
-use Rattle.cqual_words.specs.Words.{Part, Piece, Task, Text, Valued, Lattice, Prelude, Report, Number, Annotation, Source, Value, Flag, Plain, at_most_once, task_in, task_of_parts, texts_of}
+use Rattle.cqual_words.specs.Words.{Part, Piece, Task, Text, Valued, Lattice, Prelude, Report, Number, Annotation, Source, Value, Flag}
+use Rattle.cqual_words.specs.Words.{Plain, at_most_once, task_in, task_of_parts, texts_of}
 use Rattle.cqual_words.specs.Tool.{asked_by, flag_text, given, id_of}
 use Rattle.cqual_words.proofs.Pieces.{first_is, row_of, rows_at}
 use Rattle.cqual_words.proofs.Rules.{all_rules, at_none, rule_for, shape}
@@ -24,11 +25,14 @@ end_rows rows = with_default rows (rule_for Annotation)
 
 pub finished_is : (rows : List Row) → fold with_default rows all_rules ≡ end_rows rows
 finished_is rows =
-    ap (λ rs. with_default (with_default (with_default (with_default (with_default rs (rule_for (Valued Prelude))) (rule_for (Valued Report))) (rule_for (Valued Number)))
+    ap (λ rs. with_default (with_default (with_default (with_default (with_default rs (rule_for (Valued Prelude))) (rule_for
+    (Valued Report))) (rule_for (Valued Number)))
     (rule_for Annotation)) (rule_for Source)) (cond_same (has_row (codes "lattice") rows) rows)
-    ∙ ap (λ rs. with_default (with_default (with_default (with_default rs (rule_for (Valued Report))) (rule_for (Valued Number))) (rule_for Annotation)) (rule_for Source))
+    ∙ ap (λ rs. with_default (with_default (with_default (with_default rs (rule_for (Valued Report))) (rule_for (Valued Number)))
+    (rule_for Annotation)) (rule_for Source))
     (cond_same (has_row (codes "prelude") rows) rows)
-    ∙ ap (λ rs. with_default (with_default (with_default rs (rule_for (Valued Number))) (rule_for Annotation)) (rule_for Source)) (cond_same (has_row (codes "check") rows) rows)
+    ∙ ap (λ rs. with_default (with_default (with_default rs (rule_for (Valued Number))) (rule_for Annotation)) (rule_for Source))
+    (cond_same (has_row (codes "check") rows) rows)
     ∙ ap (λ rs. with_default (with_default rs (rule_for Annotation)) (rule_for Source)) (cond_same (has_row (codes "generate") rows) rows)
     ∙ cond_same (has_row (codes "source") (end_rows rows)) (end_rows rows)
 
@@ -60,7 +64,8 @@ check_fine rows = refl
 abbrev off_row : Row
 off_row = record { id = codes "annotate"; values = codes "false" ∷ []; count = None; source = Some DefaultValue; reading = AsWritten }
 
-pub end_rows_are : (rows : List Row) (on : Bool) → has_row (codes "annotate") rows ≡ on → end_rows rows ≡ cond on rows (rows ++ off_row ∷ [])
+pub end_rows_are : (rows : List Row) (on : Bool) → has_row (codes "annotate") rows ≡ on
+    → end_rows rows ≡ cond on rows (rows ++ off_row ∷ [])
 end_rows_are rows true h = rw h refl
 end_rows_are rows false h = rw h (at_none (codes "annotate") (more_values DefaultValue (codes "false" ∷ [])) (off_row ∷ []) rows h)
 
@@ -69,7 +74,8 @@ find_past : (id : Text) (rows : List Row) → bytes_eq (codes "annotate") id ≡
 find_past id [] h = rw h refl
 find_past id (r ∷ rows) h = ap (cond (bytes_eq r.id id) (Some r)) (find_past id rows h)
 
-find_new : (rows : List Row) → has_row (codes "annotate") rows ≡ false → find (λ r. bytes_eq r.id (codes "annotate")) (rows ++ off_row ∷ []) ≡ Some off_row
+find_new : (rows : List Row) → has_row (codes "annotate") rows ≡ false
+    → find (λ r. bytes_eq r.id (codes "annotate")) (rows ++ off_row ∷ []) ≡ Some off_row
 find_new [] h = refl
 find_new (r ∷ rows) h = go (bytes_eq r.id (codes "annotate")) h (find_new rows)
   where
@@ -101,7 +107,8 @@ flag_found (Value Number text ∷ ps) h = flag_found ps h
 pub flag_reads : (ps : List Piece) (on : Bool) → has_row (codes "annotate") (rows_at ps) ≡ on
     → one_of (codes "annotate") (end_rows (rows_at ps)) ≡ Some (bool_text on)
 flag_reads ps true h = ap (one_of (codes "annotate")) (end_rows_are (rows_at ps) true h) ∙ ap (option_and_then row_text) (flag_found ps h)
-flag_reads ps false h = ap (one_of (codes "annotate")) (end_rows_are (rows_at ps) false h) ∙ ap (option_and_then row_text) (find_new (rows_at ps) h)
+flag_reads ps false h = ap (one_of (codes "annotate")) (end_rows_are (rows_at ps) false h)
+    ∙ ap (option_and_then row_text) (find_new (rows_at ps) h)
 
 -- ---- the parts
 
@@ -116,21 +123,26 @@ first_kept id rows true h other = ap (first_of id) (end_rows_are rows true h)
 first_kept id rows false h other =
     ap (first_of id) (end_rows_are rows false h) ∙ ap (option_and_then (λ (r : Row). slice_get r.values 0)) (find_past id rows other)
 
-part_given : (a : Part) (ps : List Piece) (on : Bool) → OnceEach ps → has_row (codes "annotate") (rows_at ps) ≡ on → bytes_eq (codes "annotate") (id_of a) ≡ false
+part_given : (a : Part) (ps : List Piece) (on : Bool) → OnceEach ps → has_row (codes "annotate") (rows_at ps) ≡ on
+    → bytes_eq (codes "annotate") (id_of a) ≡ false
     → given (first_of (id_of a) (end_rows (rows_at ps))) ≡ at_most_once (texts_of a ps)
 part_given a ps on once h other =
     ap given (first_kept (id_of a) (rows_at ps) on h other ∙ first_is a ps) ∙ given_is (texts_of a ps) (once a)
 
 flag_given : (ps : List Piece) (on : Bool) → OnceEach ps → has_row (codes "annotate") (rows_at ps) ≡ on
     → Some (flag_text on) ≡ at_most_once (texts_of Annotation ps)
-flag_given ps true once h = ap given (sym (ap (option_and_then (λ (r : Row). slice_get r.values 0)) (flag_found ps h)) ∙ first_is Annotation ps)
+flag_given ps true once h = ap given (sym (ap (option_and_then (λ (r : Row). slice_get r.values 0)) (flag_found ps h))
+    ∙ first_is Annotation ps)
     ∙ given_is (texts_of Annotation ps) (once Annotation)
 flag_given ps false once h =
-    ap given (sym (ap (option_and_then (λ (r : Row). slice_get r.values 0)) (find_none (codes "annotate") (rows_at ps) h)) ∙ first_is Annotation ps)
+    ap given (sym (ap (option_and_then (λ (r : Row). slice_get r.values 0)) (find_none (codes "annotate") (rows_at ps) h))
+    ∙ first_is Annotation ps)
     ∙ given_is (texts_of Annotation ps) (once Annotation)
 
-abbrev together : Option (Option Text) → Option (Option Text) → Option (Option Text) → Option (Option Text) → Option (Option Text) → Option (Option Text) → Option Task
-together l p r n on s = option_and_then (λ l. option_and_then (λ p. option_and_then (λ r. option_and_then (λ n. option_and_then (λ on. option_and_then (λ s.
+abbrev together : Option (Option Text) → Option (Option Text) → Option (Option Text) → Option (Option Text) → Option (Option Text)
+    → Option (Option Text) → Option Task
+together l p r n on s = option_and_then (λ l. option_and_then (λ p. option_and_then (λ r. option_and_then (λ n. option_and_then
+    (λ on. option_and_then (λ s.
     task_of_parts l p r n on s) s) on) n) r) p) l
 
 pub asked_is : (ps : List Piece) (on : Bool) → OnceEach ps → has_row (codes "annotate") (rows_at ps) ≡ on

@@ -3,7 +3,8 @@ use Rattle.std.proofs.Common.{refl, ◌≡◌, ◌==◌, ℕ, Bool, true, false,
 use Rattle.std.specs.Prelude.{slice_get}
 use Rattle.std.specs.Str.{bytes_eq, chars}
 use Rattle.clap.specs.Lexer.{long_of, short_of}
-use Rattle.clap.specs.Walk.{Held, Step, Waiting, arg_by_short, bundle, bundle_met, idle, option, plain, plain_word, positional, long_word, trailing, subcommand_met, word_met}
+use Rattle.clap.specs.Walk.{Held, Step, Waiting, arg_by_short, bundle, bundle_met, idle, option, plain, plain_word, positional, long_word}
+use Rattle.clap.specs.Walk.{trailing, subcommand_met, word_met}
 use Rattle.clap.specs.Walk.{arg_by_long}
 use Rattle.clap.specs.Faults.{bundle_fault, flags_fault, long_fault, word_fault}
 use Rattle.clap.specs.Kinds.{Kinds}
@@ -57,7 +58,8 @@ abbrev pub faults : Waiting → Text → Held → Kinds
 faults waiting word h = word_fault shape [] false waiting word h
 
 -- `--` ends the options
-pub dashes_met : (waiting : Waiting) (i : ℕ) (word : Text) (h : Held) → bytes_eq word hyphens ≡ true → meets waiting i word h ≡ (h, trailing i)
+pub dashes_met : (waiting : Waiting) (i : ℕ) (word : Text) (h : Held) → bytes_eq word hyphens ≡ true
+    → meets waiting i word h ≡ (h, trailing i)
 dashes_met waiting i word h e = rw (no_subcommand waiting word, e) refl
 
 pub dashes_fine : (waiting : Waiting) (word : Text) (h : Held) → bytes_eq word hyphens ≡ true → faults waiting word h ≡ []
@@ -73,7 +75,8 @@ pub long_faults : (waiting : Waiting) (word name : Text) (value : Option Text) (
 long_faults waiting word name value h e long = rw (no_subcommand waiting word, e, long) refl
 
 -- any other word
-pub other_met : (waiting : Waiting) (i : ℕ) (word : Text) (h : Held) → bytes_eq word hyphens ≡ false → long_of word ≡ None → short_of word ≡ None
+pub other_met : (waiting : Waiting) (i : ℕ) (word : Text) (h : Held) → bytes_eq word hyphens ≡ false → long_of word ≡ None
+    → short_of word ≡ None
     → meets waiting i word h ≡ plain_word all_rules waiting word h
 other_met waiting i word h e long short = rw (no_subcommand waiting word, e, long, short) refl
 
@@ -92,11 +95,13 @@ no_short x = refl
 abbrev no_skip : Held → Held
 no_skip h = record h { skip = 0 }
 
-bundle_is : (b : ℕ) (more : Text) (h : Held) → slice_get (chars (b ∷ more)) 0 ≡ None → bundle all_rules (b ∷ more) (no_skip h) ≡ (no_skip h, plain)
+bundle_is : (b : ℕ) (more : Text) (h : Held) → slice_get (chars (b ∷ more)) 0 ≡ None
+    → bundle all_rules (b ∷ more) (no_skip h) ≡ (no_skip h, plain)
 unfolding bundle_met
 bundle_is b more h e = rw e refl
 
-no_fault : (b : ℕ) (more : Text) (h : Held) → slice_get (chars (b ∷ more)) 0 ≡ None → bundle_fault all_rules false (b ∷ more) (no_skip h) ≡ []
+no_fault : (b : ℕ) (more : Text) (h : Held) → slice_get (chars (b ∷ more)) 0 ≡ None
+    → bundle_fault all_rules false (b ∷ more) (no_skip h) ≡ []
 unfolding flags_fault
 no_fault b more h e = rw e refl
 

@@ -1,5 +1,6 @@
 -- A text that the code reads as a number, and `number_of`.
-use Rattle.std.proofs.Common.{arith, refl, sym, ap, subst, ◌≡◌, ◌∙◌, ◌<◌, ◌≤◌, ◌&&◌, ◌==◌, ◌^◌, ◌+◌, ◌*◌, ℕ, Bool, true, false, List, [], ◌∷◌, length, Some, None, true≢false, le-leb, leb-true}
+use Rattle.std.proofs.Common.{arith, refl, sym, ap, subst, ◌≡◌, ◌∙◌, ◌<◌, ◌≤◌, ◌&&◌, ◌==◌, ◌^◌, ◌+◌, ◌*◌, ℕ, Bool, true, false, List, []}
+use Rattle.std.proofs.Common.{◌∷◌, length, Some, None, true≢false, le-leb, leb-true}
 use Rattle.std.specs.Prelude.{nat_le}
 use Rattle.std.specs.List.{list_all}
 use Rattle.std.specs.Char.{digit_value}
@@ -48,7 +49,8 @@ abbrev pub IsRead : Text → Type 0
 IsRead text = IsNumeral 10 (without_leading_plus text) × (digits_value 10 (without_leading_plus text) < 2 ^ 32)
 
 -- what `parse` read
-pub read_number : (text : Text) (n : ℕ) → begins_number text ≡ true → IsRead text → n ≡ digits_value 10 (without_leading_plus text) → n ≤ 1000 → Some n ≡ number_of text
+pub read_number : (text : Text) (n : ℕ) → begins_number text ≡ true → IsRead text → n ≡ digits_value 10 (without_leading_plus text)
+    → n ≤ 1000 → Some n ≡ number_of text
 read_number text n begins h is most =
     let same = plusless text begins in
     let digits : list_all is_digit text ≡ true = digits_pass text (subst (AllDigits 10) same h.0.1) in

@@ -1,16 +1,19 @@
 -- Pieces, and the rows that clap's matches have of them.
-use Rattle.std.proofs.Common.{refl, sym, ap, ◌≡◌, ◌∙◌, ◌||◌, ◌==◌, ◌++◌, Bool, true, false, cond, map, List, [], ◌∷◌, Option, Some, None, true≢false}
+use Rattle.std.proofs.Common.{refl, sym, ap, ◌≡◌, ◌∙◌, ◌||◌, ◌==◌, ◌++◌, Bool, true, false, cond, map, List, [], ◌∷◌, Option, Some, None}
+use Rattle.std.proofs.Common.{true≢false}
 use Rattle.std.specs.Prelude.{option_and_then, slice_get}
 use Rattle.std.specs.List.{list_any, find}
 use Rattle.std.specs.Str.{bytes_eq}
 use Rattle.clap.specs.Walk.{Row, first_of, has_row}
 use Rattle.clap.specs.declared.parser.matches.ValueSource.TheVariants.{CommandLine}
 use Rattle.clap.specs.declared.builder.value_parser.Reading.TheVariants.{AsWritten}
-use Rattle.cqual_words.specs.Words.{Part, Piece, Text, Valued, Lattice, Prelude, Report, Number, Annotation, Source, part_of, text_of, at_most_once, has_meaning, place, task_in, texts_of}
+use Rattle.cqual_words.specs.Words.{Part, Piece, Text, Valued, Lattice, Prelude, Report, Number, Annotation, Source, part_of, text_of}
+use Rattle.cqual_words.specs.Words.{at_most_once, has_meaning, place, task_in, texts_of}
 use Rattle.cqual_words.specs.Tool.{id_of}
 
 -- what holds of each part
-pub each : (P : Part → Type 0) → P (Valued Lattice) → P (Valued Prelude) → P (Valued Report) → P (Valued Number) → P Annotation → P Source → (a : Part) → P a
+pub each : (P : Part → Type 0) → P (Valued Lattice) → P (Valued Prelude) → P (Valued Report) → P (Valued Number) → P Annotation
+    → P Source → (a : Part) → P a
 each P l p r n a s (Valued Lattice) = l
 each P l p r n a s (Valued Prelude) = p
 each P l p r n a s (Valued Report) = r
@@ -36,7 +39,14 @@ place_same a = each (λ a. (place a == place a) ≡ true) refl refl refl refl re
 
 -- the row of a piece
 abbrev pub row_of : Piece → Row
-row_of piece = record { id = id_of (part_of piece); values = text_of piece ∷ []; count = None; source = Some CommandLine; reading = AsWritten }
+row_of piece = record {
+  id = id_of (part_of piece);
+  values = text_of piece ∷
+      [];
+  count = None;
+  source = Some CommandLine;
+  reading = AsWritten;
+}
 
 abbrev pub rows_at : List Piece → List Row
 rows_at pieces = map row_of pieces
@@ -48,7 +58,8 @@ texts_append a [] qs = refl
 texts_append a (p ∷ ps) qs = go (place (part_of p) == place a) (texts_append a ps qs)
   where
     go : (b : Bool) → texts_of a (ps ++ qs) ≡ texts_of a ps ++ texts_of a qs
-        → cond b (text_of p ∷ texts_of a (ps ++ qs)) (texts_of a (ps ++ qs)) ≡ cond b (text_of p ∷ texts_of a ps) (texts_of a ps) ++ texts_of a qs
+        → cond b (text_of p ∷ texts_of a (ps ++ qs)) (texts_of a (ps ++ qs)) ≡ cond b (text_of p ∷ texts_of a ps)
+        (texts_of a ps) ++ texts_of a qs
     go true e = ap (λ ts. text_of p ∷ ts) e
     go false e = e
 
@@ -60,7 +71,8 @@ has_any xs = list_any (λ _. true) xs
 
 pub has_row_is : (a : Part) (ps : List Piece) → has_row (id_of a) (rows_at ps) ≡ has_any (texts_of a ps)
 has_row_is a [] = refl
-has_row_is a (p ∷ ps) = ap (λ b. b || has_row (id_of a) (rows_at ps)) (ids (part_of p) a) ∙ go (place (part_of p) == place a) (has_row_is a ps)
+has_row_is a (p ∷ ps) = ap (λ b. b || has_row (id_of a) (rows_at ps)) (ids (part_of p) a)
+    ∙ go (place (part_of p) == place a) (has_row_is a ps)
   where
     go : (b : Bool) → has_row (id_of a) (rows_at ps) ≡ has_any (texts_of a ps)
         → (b || has_row (id_of a) (rows_at ps)) ≡ has_any (cond b (text_of p ∷ texts_of a ps) (texts_of a ps))
@@ -71,7 +83,8 @@ has_row_is a (p ∷ ps) = ap (λ b. b || has_row (id_of a) (rows_at ps)) (ids (p
 pub first_is : (a : Part) (ps : List Piece) → first_of (id_of a) (rows_at ps) ≡ slice_get (texts_of a ps) 0
 first_is a [] = refl
 first_is a (p ∷ ps) =
-    ap (λ b. option_and_then (λ (r : Row). slice_get r.values 0) (cond b (Some (row_of p)) (find (λ r. bytes_eq r.id (id_of a)) (rows_at ps)))) (ids (part_of p) a)
+    ap (λ b. option_and_then (λ (r : Row). slice_get r.values 0) (cond b (Some (row_of p)) (find (λ r. bytes_eq r.id (id_of a))
+    (rows_at ps)))) (ids (part_of p) a)
     ∙ go (place (part_of p) == place a) (first_is a ps)
   where
     go : (b : Bool) → first_of (id_of a) (rows_at ps) ≡ slice_get (texts_of a ps) 0
@@ -103,7 +116,8 @@ part_none (Valued Prelude) ps h = bind_none (at_most_once (texts_of (Valued Latt
 part_none (Valued Report) ps h = bind_none (at_most_once (texts_of (Valued Lattice) ps)) _ (λ l.
     bind_none (at_most_once (texts_of (Valued Prelude) ps)) _ (λ p. rw h refl))
 part_none (Valued Number) ps h = bind_none (at_most_once (texts_of (Valued Lattice) ps)) _ (λ l.
-    bind_none (at_most_once (texts_of (Valued Prelude) ps)) _ (λ p. bind_none (at_most_once (texts_of (Valued Report) ps)) _ (λ r. rw h refl)))
+    bind_none (at_most_once (texts_of (Valued Prelude) ps)) _ (λ p. bind_none (at_most_once (texts_of (Valued Report) ps)) _
+    (λ r. rw h refl)))
 part_none Annotation ps h = bind_none (at_most_once (texts_of (Valued Lattice) ps)) _ (λ l.
     bind_none (at_most_once (texts_of (Valued Prelude) ps)) _ (λ p. bind_none (at_most_once (texts_of (Valued Report) ps)) _ (λ r.
     bind_none (at_most_once (texts_of (Valued Number) ps)) _ (λ n. rw h refl))))
@@ -111,14 +125,17 @@ part_none Source ps h = bind_none (at_most_once (texts_of (Valued Lattice) ps)) 
     bind_none (at_most_once (texts_of (Valued Prelude) ps)) _ (λ p. bind_none (at_most_once (texts_of (Valued Report) ps)) _ (λ r.
     bind_none (at_most_once (texts_of (Valued Number) ps)) _ (λ n. bind_none (at_most_once (texts_of Annotation ps)) _ (λ on. rw h refl)))))
 
-texts_at : (ps : List Piece) (p : Piece) (more : List Piece) → texts_of (part_of p) (ps ++ p ∷ more) ≡ texts_of (part_of p) ps ++ text_of p ∷ texts_of (part_of p) more
+texts_at : (ps : List Piece) (p : Piece) (more : List Piece)
+    → texts_of (part_of p) (ps ++ p ∷ more) ≡ texts_of (part_of p) ps ++ text_of p ∷ texts_of (part_of p) more
 texts_at ps p more = texts_append (part_of p) ps (p ∷ more) ∙ ap (λ ts. texts_of (part_of p) ps ++ ts) (texts_here p more)
 
 -- a text with no meaning leaves the whole with none
 pub spoilt : (ps : List Piece) (p : Piece) (more : List Piece) → has_meaning (text_of p) ≡ false → task_in (ps ++ p ∷ more) ≡ None
-spoilt ps p more h = part_none (part_of p) (ps ++ p ∷ more) (ap at_most_once (texts_at ps p more) ∙ once_bad (texts_of (part_of p) ps) (text_of p) _ h)
+spoilt ps p more h = part_none (part_of p) (ps ++ p ∷ more) (ap at_most_once (texts_at ps p more)
+    ∙ once_bad (texts_of (part_of p) ps) (text_of p) _ h)
 
 -- and so does a part that stands again
-pub twice : (ps : List Piece) (p : Piece) (more : List Piece) → has_row (id_of (part_of p)) (rows_at ps) ≡ true → task_in (ps ++ p ∷ more) ≡ None
+pub twice : (ps : List Piece) (p : Piece) (more : List Piece) → has_row (id_of (part_of p)) (rows_at ps) ≡ true
+    → task_in (ps ++ p ∷ more) ≡ None
 twice ps p more h = part_none (part_of p) (ps ++ p ∷ more)
     (ap at_most_once (texts_at ps p more) ∙ once_again (texts_of (part_of p) ps) (text_of p) _ (sym (has_row_is (part_of p) ps) ∙ h))

@@ -8,7 +8,8 @@ use Rattle.clap.specs.Faults.{use_fault}
 use Rattle.clap.specs.declared.parser.matches.ValueSource.TheVariants.{CommandLine}
 use Rattle.clap.specs.declared.builder.value_parser.Reading.TheVariants.{AsWritten}
 use Rattle.clap.specs.declared.error.kind.ErrorKind.TheVariants as kind
-use Rattle.cqual_words.specs.Words.{Key, Part, Piece, Text, Valued, Lattice, Prelude, Report, Number, Annotation, Source, Value, Flag, Plain, named, part_of, text_of}
+use Rattle.cqual_words.specs.Words.{Key, Part, Piece, Text, Valued, Lattice, Prelude, Report, Number, Annotation, Source, Value, Flag}
+use Rattle.cqual_words.specs.Words.{Plain, named, part_of, text_of}
 use Rattle.cqual_words.specs.Tool.{flag_rule, id_of, option_rule, source_rule, tool}
 use Rattle.cqual_words.proofs.Pieces.{each, row_of}
 
@@ -25,14 +26,16 @@ shape = (built tool).top
 
 abbrev pub all_rules : List Rule
 all_rules =
-    rule_for (Valued Lattice) ∷ rule_for (Valued Prelude) ∷ rule_for (Valued Report) ∷ rule_for (Valued Number) ∷ rule_for Annotation ∷ rule_for Source ∷ []
+    rule_for (Valued Lattice) ∷ rule_for (Valued Prelude) ∷ rule_for (Valued Report) ∷ rule_for
+    (Valued Number) ∷ rule_for Annotation ∷ rule_for Source ∷ []
 
 pub rules_are : shape.rules ≡ all_rules
 rules_are = refl
 
 -- ---- rows
 
-pub at_none : (id : Text) (change : Row → List Row) (missing rows : List Row) → has_row id rows ≡ false → at_row id change missing rows ≡ rows ++ missing
+pub at_none : (id : Text) (change : Row → List Row) (missing rows : List Row) → has_row id rows ≡ false
+    → at_row id change missing rows ≡ rows ++ missing
 at_none id change missing [] h = refl
 at_none id change missing (r ∷ rows) h = go (bytes_eq r.id id) h (at_none id change missing rows)
   where
@@ -92,7 +95,8 @@ hand_again (OfSource text) rows h = rw h refl
 pub flag_fine : (rows : List Row) → has_row (id_of Annotation) rows ≡ false → use_fault false (rule_for Annotation) [] rows ≡ []
 flag_fine rows h = rw h refl
 
-pub flag_again : (rows : List Row) → has_row (id_of Annotation) rows ≡ true → use_fault false (rule_for Annotation) [] rows ≡ kind.ArgumentConflict ∷ []
+pub flag_again : (rows : List Row) → has_row (id_of Annotation) rows ≡ true
+    → use_fault false (rule_for Annotation) [] rows ≡ kind.ArgumentConflict ∷ []
 flag_again rows h = rw h refl
 
 -- an option that has no value

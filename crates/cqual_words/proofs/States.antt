@@ -1,5 +1,6 @@
 -- Where clap's walk stands, by the pieces that it has read.
-use Rattle.std.proofs.Common.{arith, refl, sym, ap, ap₂, ◌≡◌, ◌∙◌, ◌==◌, ◌++◌, ℕ, Bool, true, false, cond, List, [], ◌∷◌, Option, Some, None, true≢false, append-nil, append_assoc}
+use Rattle.std.proofs.Common.{arith, refl, sym, ap, ap₂, ◌≡◌, ◌∙◌, ◌==◌, ◌++◌, ℕ, Bool, true, false, cond, List, [], ◌∷◌, Option, Some}
+use Rattle.std.proofs.Common.{None, true≢false, append-nil, append_assoc}
 use Rattle.std.specs.Prelude.{codes}
 use Rattle.std.specs.Option.{option_map_or}
 use Rattle.std.proofs.lemmas.Bool.Decides.{nat_tests}
@@ -7,7 +8,8 @@ use Rattle.std.proofs.lemmas.List.{map-append}
 use Rattle.clap.specs.Walk.{Held, Waiting, Walk, has_row, idle, option, plain_word, next, settled, settled_rows, used, used_by_id}
 use Rattle.clap.specs.Faults.{settle_fault, use_fault}
 use Rattle.clap.specs.declared.error.kind.ErrorKind.TheVariants as kind
-use Rattle.cqual_words.specs.Words.{Key, Part, Piece, Text, Valued, Lattice, Prelude, Report, Number, Source, Plain, part_of, text_of, place, task_in, texts_of}
+use Rattle.cqual_words.specs.Words.{Key, Part, Piece, Text, Valued, Lattice, Prelude, Report, Number, Source, Plain, part_of, text_of}
+use Rattle.cqual_words.specs.Words.{place, task_in, texts_of}
 use Rattle.cqual_words.specs.Tool.{id_of}
 use Rattle.cqual_words.proofs.Pieces.{has_any, has_row_is, row_of, rows_at, texts_append, twice}
 use Rattle.cqual_words.proofs.Rules.{Hand, OfKey, all_rules, by_id, hand_again, hand_fine, none_faulty, piece_of, rule_for, used_hand}
@@ -65,7 +67,8 @@ place_is m n h = grind (arith, nat_tests)
 pub once_more : (ps : List Piece) (p : Piece) → OnceEach ps → has_row (id_of (part_of p)) (rows_at ps) ≡ false → OnceEach (ps ++ p ∷ [])
 once_more ps p once none a = go (place (part_of p) == place a) refl
   where
-    goal : (b : Bool) → (place (part_of p) == place a) ≡ b → is_once (texts_of a ps ++ cond b (text_of p ∷ []) []) ≡ true → is_once (texts_of a (ps ++ p ∷ [])) ≡ true
+    goal : (b : Bool) → (place (part_of p) == place a) ≡ b → is_once (texts_of a ps ++ cond b (text_of p ∷ []) []) ≡ true
+        → is_once (texts_of a (ps ++ p ∷ [])) ≡ true
     goal b e h = ap is_once (texts_append a ps (p ∷ []) ∙ ap (λ c. texts_of a ps ++ cond c (text_of p ∷ []) []) e) ∙ h
 
     go : (b : Bool) → (place (part_of p) == place a) ≡ b → is_once (texts_of a (ps ++ p ∷ [])) ≡ true
@@ -87,7 +90,8 @@ place_taken ps word = ap (λ b. cond b 2 1) (has_row_is Source (ps ++ Plain word
     ∙ ap has_any (texts_append Source ps (Plain word ∷ [])) ∙ any_more (texts_of Source ps) (word ∷ []) refl)
 
 same_any : (ps : List Piece) (p : Piece) → (place (part_of p) == 5) ≡ false → texts_of Source (ps ++ p ∷ []) ≡ texts_of Source ps
-same_any ps p h = texts_append Source ps (p ∷ []) ∙ ap (λ b. texts_of Source ps ++ cond b (text_of p ∷ []) []) h ∙ append-nil (texts_of Source ps)
+same_any ps p h = texts_append Source ps (p ∷ []) ∙ ap (λ b. texts_of Source ps ++ cond b (text_of p ∷ []) []) h
+    ∙ append-nil (texts_of Source ps)
 
 pub place_kept : (ps : List Piece) (p : Piece) → (place (part_of p) == 5) ≡ false → place_after (ps ++ p ∷ []) ≡ place_after ps
 place_kept ps p h = ap (λ b. cond b 2 1) (has_row_is Source (ps ++ p ∷ []) ∙ ap has_any (same_any ps p h) ∙ sym (has_row_is Source ps))
@@ -99,13 +103,15 @@ pub data Settling (ps : List Piece) (pend : Pend) : Type 0 where
   Settles : settle_fault all_rules false (held_at ps pend) ≡ [] → settled all_rules (held_at ps pend) ≡ held_at (all_at ps pend) Free
       → OnceEach (all_at ps pend) → Settling ps pend
   -- its part was there before
-  Repeats : settle_fault all_rules false (held_at ps pend) ≡ kind.ArgumentConflict ∷ [] → ((more : List Piece) → task_in (all_at ps pend ++ more) ≡ None)
+  Repeats : settle_fault all_rules false (held_at ps pend) ≡ kind.ArgumentConflict ∷ [] → ((more : List Piece)
+      → task_in (all_at ps pend ++ more) ≡ None)
       → Settling ps pend
   -- it is an option without its value
   Lacks : (key : Key) → pend ≡ Wants key → settle_fault all_rules false (held_at ps pend) ≡ kind.InvalidValue ∷ [] → Settling ps pend
 
 settle_uses : (ps : List Piece) (a : Part) (texts : List Text)
-    → settle_fault all_rules false (record { rows = rows_at ps; pending = Some (id_of a, texts); skip = 0 }) ≡ use_fault false (rule_for a) texts (rows_at ps)
+    → settle_fault all_rules false (record { rows = rows_at ps; pending = Some (id_of a, texts); skip = 0 }) ≡ use_fault false
+    (rule_for a) texts (rows_at ps)
 settle_uses ps a texts = ap (λ o. option_map_or (λ r. use_fault false r texts (rows_at ps)) o []) (by_id a)
 
 settled_uses : (ps : List Piece) (a : Part) (texts : List Text)
@@ -123,7 +129,8 @@ settling ps (Holds hand) once = go (has_row (id_of (part_of (piece_of hand))) (r
     go : (b : Bool) → has_row (id_of (part_of (piece_of hand))) (rows_at ps) ≡ b → Settling ps (Holds hand)
     go false e = Settles (settle_uses ps (part_of (piece_of hand)) (text_of (piece_of hand) ∷ []) ∙ hand_fine hand (rows_at ps) e)
         (ap (λ rs. record { rows = rs; pending = None; skip = 0 })
-        (settled_uses ps (part_of (piece_of hand)) (text_of (piece_of hand) ∷ []) ∙ used_hand hand (rows_at ps) e ∙ sym (map-append row_of ps (piece_of hand ∷ []))))
+        (settled_uses ps (part_of (piece_of hand)) (text_of (piece_of hand) ∷ []) ∙ used_hand hand (rows_at ps) e
+        ∙ sym (map-append row_of ps (piece_of hand ∷ []))))
         (once_more ps (piece_of hand) once e)
     go true e = Repeats (settle_uses ps (part_of (piece_of hand)) (text_of (piece_of hand) ∷ []) ∙ hand_again hand (rows_at ps) e)
         (λ more. ap task_in (append_assoc ps (piece_of hand ∷ []) more) ∙ twice ps (piece_of hand) more e)

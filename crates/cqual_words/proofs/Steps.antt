@@ -1,8 +1,10 @@
 -- clap's walk and its faults agree with the meaning of the words, word by word.
-use Rattle.std.proofs.Common.{refl, sym, ap, ap₂, subst, ◌≡◌, ◌∙◌, ◌&&◌, ◌||◌, ◌++◌, ℕ, Bool, true, false, cond, map, List, [], ◌∷◌, Option, Some, None, true≢false, append-nil, append_assoc}
+use Rattle.std.proofs.Common.{refl, sym, ap, ap₂, subst, ◌≡◌, ◌∙◌, ◌&&◌, ◌||◌, ◌++◌, ℕ, Bool, true, false, cond, map, List, [], ◌∷◌}
+use Rattle.std.proofs.Common.{Option, Some, None, true≢false, append-nil, append_assoc}
 use Rattle.std.specs.Prelude.{codes, fold}
 use Rattle.clap.specs.Values.{bool_text}
-use Rattle.clap.specs.Walk.{Held, Row, Step, Waiting, Walk, word_met, pushed, after_step, finished, first_of, has_row, idle, next, one_of, settled, trailing, value, walked, is_pending, with_default}
+use Rattle.clap.specs.Walk.{Held, Row, Step, Waiting, Walk, word_met, pushed, after_step, finished, first_of, has_row, idle, next, one_of}
+use Rattle.clap.specs.Walk.{settled, trailing, value, walked, is_pending, with_default}
 use Rattle.clap.specs.Faults.{check_fault, defaults_fault, settle_fault, step_fault, turn_fault, walk_fault, word_fault}
 use Rattle.clap.specs.Kinds.{Kinds, or_else}
 use Rattle.clap.specs.declared.error.kind.ErrorKind.{ErrorKind}
@@ -12,7 +14,8 @@ use Rattle.cqual_words.specs.Tool.{asked_by}
 use Rattle.cqual_words.proofs.Pieces.{rows_at, twice}
 use Rattle.cqual_words.proofs.Rules.{OfSource, all_rules, rule_for, shape}
 use Rattle.cqual_words.proofs.Lexing.{faults, meets}
-use Rattle.cqual_words.proofs.States.{Pend, Holds, Wants, OnceEach, Settling, Settles, Repeats, Lacks, all_at, held_at, place_after, place_taken, settling, walk_at}
+use Rattle.cqual_words.proofs.States.{Pend, Holds, Wants, OnceEach, Settling, Settles, Repeats, Lacks, all_at, held_at, place_after}
+use Rattle.cqual_words.proofs.States.{place_taken, settling, walk_at}
 use Rattle.cqual_words.proofs.Ends.{asked_is, check_fine, defaults_fine, end_rows, finished_is, flag_reads}
 
 -- ---- what is claimed
@@ -34,18 +37,22 @@ Claim w words task = Judged (or_else (walk_fault shape [] w words) (end_fault (e
 
 -- ---- one word more
 
-goes_on : (w after : Walk) (word : Text) (words : List Text) (task : Option Task) → turn_fault shape [] w word ≡ [] → walked all_rules [] w word ≡ after
+goes_on : (w after : Walk) (word : Text) (words : List Text) (task : Option Task) → turn_fault shape [] w word ≡ []
+    → walked all_rules [] w word ≡ after
     → Claim after words task → Claim w (word ∷ words) task
 unfolding walk_fault
 goes_on w after word words task fine is claim =
-    subst (λ ks. Judged (or_else (or_else ks (walk_fault shape [] (walked all_rules [] w word) words)) (end_fault (end_of (walked all_rules [] w word) words)))
+    subst (λ ks. Judged (or_else (or_else ks (walk_fault shape [] (walked all_rules [] w word) words)) (end_fault (end_of
+    (walked all_rules [] w word) words)))
     (finished all_rules (end_of (walked all_rules [] w word) words)) task) (sym fine) (subst (λ v. Claim v words task) (sym is) claim)
 
-stops : (w : Walk) (word : Text) (words : List Text) (task : Option Task) (k : ErrorKind) → turn_fault shape [] w word ≡ k ∷ [] → task ≡ None
+stops : (w : Walk) (word : Text) (words : List Text) (task : Option Task) (k : ErrorKind) → turn_fault shape [] w word ≡ k ∷ []
+    → task ≡ None
     → Claim w (word ∷ words) task
 unfolding walk_fault
 stops w word words task k fault none =
-    subst (λ ks. Judged (or_else (or_else ks (walk_fault shape [] (walked all_rules [] w word) words)) (end_fault (end_of (walked all_rules [] w word) words)))
+    subst (λ ks. Judged (or_else (or_else ks (walk_fault shape [] (walked all_rules [] w word) words)) (end_fault (end_of
+    (walked all_rules [] w word) words)))
     (finished all_rules (end_of (walked all_rules [] w word) words)) task) (sym fault) none
 
 module _ (h : Held) (waiting : Waiting) (i : ℕ) (word : Text) (words : List Text) (task : Option Task) where
@@ -93,11 +100,13 @@ module _ (ps : List Piece) (pend : Pend) (waiting : Waiting) (t : Bool) (word : 
   IsSource = (word_fault shape [] t waiting word (held_at ps pend) ≡ [])
       × ((i : ℕ) → word_met all_rules [] t waiting i word (held_at ps pend) ≡ (held_at ps pend, value))
 
-  turn_is : IsSource → (i : ℕ) → turn_fault shape [] (walk_at (held_at ps pend) waiting i t) word ≡ step_fault shape i (held_at ps pend) value
+  turn_is : IsSource → (i : ℕ) → turn_fault shape [] (walk_at (held_at ps pend) waiting i t) word ≡ step_fault shape i
+      (held_at ps pend) value
   turn_is is i = ap₂ (λ ks (m : Held × Step). or_else ks (step_fault shape i m.0 m.1)) is.0 (is.1 i)
 
   walked_is : IsSource → (i : ℕ)
-      → walked all_rules [] (walk_at (held_at ps pend) waiting i t) word ≡ after_step all_rules word (walk_at (held_at ps pend) waiting i t) (held_at ps pend) value
+      → walked all_rules [] (walk_at (held_at ps pend) waiting i t) word ≡ after_step all_rules word (walk_at
+      (held_at ps pend) waiting i t) (held_at ps pend) value
   unfolding walked
   walked_is is i = ap (λ (m : Held × Step). after_step all_rules word (walk_at (held_at ps pend) waiting i t) m.0 m.1) (is.1 i)
 
@@ -116,26 +125,34 @@ module _ (ps : List Piece) (pend : Pend) (waiting : Waiting) (t : Bool) (word : 
 
       first_fault : (k : ErrorKind) → settle_fault all_rules false (held_at ps pend) ≡ k ∷ [] → task ≡ None
           → Claim (walk_at (held_at ps pend) waiting 1 t) (word ∷ words) task
-      first_fault k fault none = stops (walk_at (held_at ps pend) waiting 1 t) word words task k (turn_is is 1 ∙ positional_is (held_at ps pend) ∙ fault) none
+      first_fault k fault none = stops (walk_at (held_at ps pend) waiting 1 t) word words task k (turn_is is 1
+          ∙ positional_is (held_at ps pend) ∙ fault) none
 
-      first : has_row (codes "source") (rows_at (all_at ps pend)) ≡ false → Settling ps pend → Claim (walk_at (held_at ps pend) waiting 1 t) (word ∷ words) task
-      first e (Settles fine held once) = goes_on (walk_at (held_at ps pend) waiting 1 t) (walk_at (held_at (all_at ps pend) (Holds (OfSource word))) idle 2 t) word words task
+      first : has_row (codes "source") (rows_at (all_at ps pend)) ≡ false → Settling ps pend
+          → Claim (walk_at (held_at ps pend) waiting 1 t) (word ∷ words) task
+      first e (Settles fine held once) = goes_on (walk_at (held_at ps pend) waiting 1 t) (walk_at (held_at (all_at ps pend) (Holds
+          (OfSource word))) idle 2 t) word words task
           (turn_is is 1 ∙ positional_is (held_at ps pend) ∙ fine)
-          (walked_is is 1 ∙ source_held (held_at ps pend) waiting t word ∙ ap (λ h. walk_at (pushed (codes "source") word h) idle 2 t) held) (claim once e)
+          (walked_is is 1 ∙ source_held (held_at ps pend) waiting t word
+          ∙ ap (λ h. walk_at (pushed (codes "source") word h) idle 2 t) held) (claim once e)
       first e (Repeats fault none) = first_fault kind.ArgumentConflict fault (again none)
       first e (Lacks key wants fault) = first_fault kind.InvalidValue fault (lacks key wants)
 
-      go : (b : Bool) → has_row (codes "source") (rows_at (all_at ps pend)) ≡ b → Claim (walk_at (held_at ps pend) waiting i t) (word ∷ words) task
+      go : (b : Bool) → has_row (codes "source") (rows_at (all_at ps pend)) ≡ b
+          → Claim (walk_at (held_at ps pend) waiting i t) (word ∷ words) task
       go true e = subst (λ j. Claim (walk_at (held_at ps pend) waiting j t) (word ∷ words) task) (sym (place_of true e))
           (stops (walk_at (held_at ps pend) waiting 2 t) word words task kind.UnknownArgument (turn_is is 2) (taken e))
-      go false e = subst (λ j. Claim (walk_at (held_at ps pend) waiting j t) (word ∷ words) task) (sym (place_of false e)) (first e settling_)
+      go false e = subst (λ j. Claim (walk_at (held_at ps pend) waiting j t) (word ∷ words) task) (sym (place_of false e))
+          (first e settling_)
 
   -- the option before it has no value, or there is a fault before it
-  pub source_lacks : IsSource → (i : ℕ) → i ≡ place_after (all_at ps pend) → (k : ErrorKind) → settle_fault all_rules false (held_at ps pend) ≡ k ∷ [] → task ≡ None
+  pub source_lacks : IsSource → (i : ℕ) → i ≡ place_after (all_at ps pend) → (k : ErrorKind)
+      → settle_fault all_rules false (held_at ps pend) ≡ k ∷ [] → task ≡ None
       → Claim (walk_at (held_at ps pend) waiting i t) (word ∷ words) task
   source_lacks is i at k fault none = go (has_row (codes "source") (rows_at (all_at ps pend))) refl
     where
-      go : (b : Bool) → has_row (codes "source") (rows_at (all_at ps pend)) ≡ b → Claim (walk_at (held_at ps pend) waiting i t) (word ∷ words) task
+      go : (b : Bool) → has_row (codes "source") (rows_at (all_at ps pend)) ≡ b
+          → Claim (walk_at (held_at ps pend) waiting i t) (word ∷ words) task
       go true e = subst (λ j. Claim (walk_at (held_at ps pend) waiting j t) (word ∷ words) task) (sym (at ∙ ap (λ c. cond c 2 1) e))
           (stops (walk_at (held_at ps pend) waiting 2 t) word words task kind.UnknownArgument (turn_is is 2) none)
       go false e = subst (λ j. Claim (walk_at (held_at ps pend) waiting j t) (word ∷ words) task) (sym (at ∙ ap (λ c. cond c 2 1) e))
@@ -144,13 +161,16 @@ module _ (ps : List Piece) (pend : Pend) (waiting : Waiting) (t : Bool) (word : 
 -- ---- the end of the words
 
 module _ (ps : List Piece) (pend : Pend) (waiting : Waiting) (i : ℕ) (t : Bool) (task : Option Task) where
-  pub end_faulty : (k : ErrorKind) → settle_fault all_rules false (held_at ps pend) ≡ k ∷ [] → task ≡ None → Claim (walk_at (held_at ps pend) waiting i t) [] task
+  pub end_faulty : (k : ErrorKind) → settle_fault all_rules false (held_at ps pend) ≡ k ∷ [] → task ≡ None
+      → Claim (walk_at (held_at ps pend) waiting i t) [] task
   unfolding walk_fault
   end_faulty k fault none = subst (λ ks. Judged (or_else ks
-      (or_else (defaults_fault (settled all_rules (held_at ps pend)).rows all_rules) (check_fault shape (finished all_rules (held_at ps pend)) false)))
+      (or_else (defaults_fault (settled all_rules (held_at ps pend)).rows all_rules) (check_fault shape (finished all_rules
+      (held_at ps pend)) false)))
       (finished all_rules (held_at ps pend)) task) (sym fault) none
 
-  pub end_read : Settling ps pend → ((key : Key) → pend ≡ Wants key → task ≡ None) → (((more : List Piece) → task_in (all_at ps pend ++ more) ≡ None) → task ≡ None)
+  pub end_read : Settling ps pend → ((key : Key) → pend ≡ Wants key → task ≡ None) → (((more : List Piece)
+      → task_in (all_at ps pend ++ more) ≡ None) → task ≡ None)
       → task_in (all_at ps pend) ≡ task → Claim (walk_at (held_at ps pend) waiting i t) [] task
   unfolding walk_fault
   end_read (Lacks key wants fault) lacks again is = end_faulty kind.InvalidValue fault (lacks key wants)
@@ -159,12 +179,20 @@ module _ (ps : List Piece) (pend : Pend) (waiting : Waiting) (i : ℕ) (t : Bool
       let rows : finished all_rules (held_at ps pend) ≡ end_rows (rows_at (all_at ps pend)) =
       ap (λ (h : Held). fold with_default h.rows all_rules) held ∙ finished_is (rows_at (all_at ps pend)) in
       let faults_are : end_fault (held_at ps pend) ≡ [] =
-      ap (λ ks. or_else ks (or_else (defaults_fault (settled all_rules (held_at ps pend)).rows all_rules) (check_fault shape (finished all_rules (held_at ps pend)) false))) fine
-      ∙ ap (λ ks. or_else ks (check_fault shape (finished all_rules (held_at ps pend)) false)) (defaults_fine (settled all_rules (held_at ps pend)).rows)
+      ap (λ ks. or_else ks (or_else (defaults_fault (settled all_rules (held_at ps pend)).rows all_rules) (check_fault shape
+      (finished all_rules (held_at ps pend)) false))) fine
+      ∙ ap (λ ks. or_else ks (check_fault shape (finished all_rules (held_at ps pend)) false)) (defaults_fine (settled all_rules
+      (held_at ps pend)).rows)
       ∙ check_fine (finished all_rules (held_at ps pend)) in
       let on = has_row (codes "annotate") (rows_at (all_at ps pend)) in
-      let judged : Judged [] (end_rows (rows_at (all_at ps pend))) task = (on, flag_reads (all_at ps pend) on refl, asked_is (all_at ps pend) on once refl ∙ is) in
-      subst (λ ks. Judged ks (finished all_rules (held_at ps pend)) task) (sym faults_are) (subst (λ rs. Judged [] rs task) (sym rows) judged)
+      let judged : Judged [] (end_rows (rows_at (all_at ps pend))) task = (
+        on,
+        flag_reads (all_at ps pend) on refl,
+        asked_is
+            (all_at ps pend) on once refl ∙ is,
+      ) in
+      subst (λ ks. Judged ks (finished all_rules (held_at ps pend)) task) (sym faults_are) (subst (λ rs. Judged [] rs task)
+      (sym rows) judged)
 
 -- ---- behind `--`
 
@@ -175,11 +203,13 @@ is_wanting _ = false
 pub not_wanting : (pend : Pend) → is_wanting pend ≡ false → (key : Key) → pend ≡ Wants key → {T : Type 0} → T
 not_wanting pend still key e = absurd (true≢false (sym (ap is_wanting e) ∙ still))
 
-pub trails : (words : List Text) (ps : List Piece) (pend : Pend) (waiting : Waiting) (i : ℕ) → is_wanting pend ≡ false → OnceEach ps → i ≡ place_after (all_at ps pend)
+pub trails : (words : List Text) (ps : List Piece) (pend : Pend) (waiting : Waiting) (i : ℕ) → is_wanting pend ≡ false → OnceEach ps
+    → i ≡ place_after (all_at ps pend)
     → Claim (walk_at (held_at ps pend) waiting i true) words (task_in (all_at ps pend ++ map Plain words))
 trails [] ps pend waiting i still once at = end_read ps pend waiting i true (task_in (all_at ps pend ++ [])) (settling ps pend once)
     (λ key e. not_wanting pend still key e) (λ none. none []) (ap task_in (sym (append-nil (all_at ps pend))))
-trails (word ∷ words) ps pend waiting i still once at = source_read ps pend waiting true word words (task_in (all_at ps pend ++ Plain word ∷ map Plain words))
+trails (word ∷ words) ps pend waiting i still once at = source_read ps pend waiting true word words (task_in
+    (all_at ps pend ++ Plain word ∷ map Plain words))
     (refl, λ j. refl) i at (settling ps pend once) (λ key e. not_wanting pend still key e) (λ none. none (Plain word ∷ map Plain words))
     (λ e. twice (all_at ps pend) (Plain word) (map Plain words) e)
     (λ once_all none. subst (λ qs. Claim (walk_at (held_at (all_at ps pend) (Holds (OfSource word))) idle 2 true) words (task_in qs))

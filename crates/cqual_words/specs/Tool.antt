@@ -3,7 +3,8 @@ use Rattle.std.specs.Prelude.{Bool, true, false, Option, Some, None, codes, ifâ—
 use Rattle.clap.specs.Words.{App, Rule, new_app, new_rule, with_rule}
 use Rattle.clap.specs.Simple.{on_top}
 use Rattle.clap.specs.declared.builder.ArgAction.TheVariants.{Set, SetTrue}
-use Rattle.cqual_words.specs.Words.{Part, Task, Text, Valued, Lattice, Prelude, Report, Number, Annotation, Source, has_meaning, task_of_parts}
+use Rattle.cqual_words.specs.Words.{Part, Task, Text, Valued, Lattice, Prelude, Report, Number, Annotation, Source, has_meaning}
+use Rattle.cqual_words.specs.Words.{task_of_parts}
 
 -- the name of a part among the matches, which is an option's name too
 abbrev pub id_of : Part â†’ Text

@@ -14,6 +14,8 @@ returns c =
     let three : app_of c.in_ok-arg-3.field-0
     ≡ with_rule (with_rule (with_rule bare (option_rule (codes "lattice"))) (option_rule (codes "prelude"))) (option_rule (codes "check")) =
     c.in_ok-arg-3.ensures.shape (search rules) ∙ ap₂ with_rule two c.option-3.ensures.rule in
-    let four : app_of c.in_ok-arg-4.field-0 ≡ with_options = c.in_ok-arg-4.ensures.shape (search rules) ∙ ap₂ with_rule three c.option-4.ensures.rule in
-    let five : app_of c.in_ok-arg-5.field-0 ≡ with_rule with_options (flag_rule (codes "annotate")) = c.in_ok-arg-5.ensures.shape (search rules) ∙ ap₂ with_rule four c.flag.ensures.rule in
+    let four : app_of c.in_ok-arg-4.field-0 ≡ with_options = c.in_ok-arg-4.ensures.shape (search rules)
+    ∙ ap₂ with_rule three c.option-4.ensures.rule in
+    let five : app_of c.in_ok-arg-5.field-0 ≡ with_rule with_options (flag_rule (codes "annotate")) = c.in_ok-arg-5.ensures.shape
+    (search rules) ∙ ap₂ with_rule four c.flag.ensures.rule in
     IfOk-weaker c.arg-6.result _ _ (λ r h. h.shape (search rules) ∙ ap₂ with_rule five c.source.ensures.rule) c.arg-6.ensures
