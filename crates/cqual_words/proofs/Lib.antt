@@ -7,3 +7,4 @@ mod Ends
 mod Steps
 mod Walks
 mod Agrees
+mod Examples

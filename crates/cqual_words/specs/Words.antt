@@ -1,6 +1,6 @@
 -- What the words of a command line mean.
 use Rattle.std.specs.Prelude.{◌≤◌, ℕ, Bool, false, ◌==◌, ◌&&◌, not, List, [], ◌∷◌, map, Option, Some, None, codes, nat_le}
-use Rattle.std.specs.Prelude.{if◌then◌else◌, option_and_then}
+use Rattle.std.specs.Prelude.{if◌then◌else◌, option_and_then, option_map}
 use Rattle.std.specs.List.{list_all, list_any, before_first, after_first}
 use Rattle.std.specs.Str.{bytes_eq}
 use Rattle.std.specs.Str.Parse.{digits_value}
@@ -49,7 +49,7 @@ part_of (Value key text) = Valued key
 part_of Flag = Annotation
 part_of (Plain word) = Source
 
--- the flag has no text of its own, and reads as `true`
+-- the flag has no text of its own: where it stands it reads as `true`, which has a meaning
 abbrev pub text_of : Piece → Text
 text_of (Value key text) = text
 text_of Flag = codes "true"
@@ -86,8 +86,8 @@ name_in text = before_first is_equals text
 abbrev pub value_in : Text → Option Text
 value_in text = if list_any is_equals text then Some (after_first is_equals text) else None
 
--- the word of an option, by its name and the value that is attached; what names no option, and a flag with a value, is a plain
--- word
+-- the word of an option, by its name and the value that is attached; a word that names no option, and a flag with a value, is
+-- read as a plain word, which begins with a hyphen and so has no meaning
 abbrev pub option_word : Text → Option Part → Option Text → Word
 option_word word (Some Annotation) None = Whole Flag
 option_word word (Some Annotation) (Some value) = Whole (Plain word)
@@ -177,10 +177,10 @@ abbrev pub task_of_parts : Option Text → Option Text → Option Text → Optio
 task_of_parts (Some l) p None None None (Some s) = Some (Infer (files_of l p s))
 task_of_parts (Some l) p None None (Some on) (Some s) = Some (Annotate (files_of l p s))
 task_of_parts (Some l) p (Some r) None None (Some s) = Some (Check (files_of l p s) r)
-task_of_parts None None None (Some n) None None = option_and_then (λ number. Some (Generate number)) (number_of n)
+task_of_parts None None None (Some n) None None = option_map (λ number. Generate number) (number_of n)
 task_of_parts l p r n on s = None
 
--- a part of the pieces goes to what comes of it, where it stands at most once
+-- what comes of a part of the pieces, where it stands at most once
 abbrev pub with_part : Part → List Piece → (Option Text → Option Task) → Option Task
 with_part part pieces next = option_and_then next (at_most_once (texts_of part pieces))
 

@@ -87,8 +87,8 @@ fn of_matches<'a>(matches: &ArgMatches<'a>) -> Option<Asked<'a>>
 
 /// The matches of the words, or which kind of fault they have.
 fn matches<'a>(alloc: Global, words: &'a [String]) -> Result<ArgMatches<'a>, Error>
-    ensures ok { IfOk result (λ m. HasMatchesOf tool (map (λ s. string_bytes s) words.entry.now) m) }
-    ensures kinds { FailsBy (fault_of tool (map (λ s. string_bytes s) words.entry.now)) result }
+    ensures ok { IfOk result (λ m. HasMatchesOf tool (map string_bytes words.entry.now) m) }
+    ensures kinds { FailsBy (fault_of tool (map string_bytes words.entry.now)) result }
 {
     let command = command(alloc)?;
     command.try_get_matches_from(words)
@@ -97,14 +97,15 @@ fn matches<'a>(alloc: Global, words: &'a [String]) -> Result<ArgMatches<'a>, Err
 /// What the words behind the program's name ask, or nothing where they have no meaning. Each part stands at most once, in any
 /// order, as `--name VALUE` or `--name=VALUE`; behind `--` there are no options.
 ///
-/// Its time is in proportion to the words and their bytes. Memory is taken for a table of them alone.
+/// Its time is in proportion to the words and their bytes. Memory is taken for the options, for the places of the words and for
+/// the text of a refusal, and is given back: what is asked lends its texts from the words.
 ///
 /// # Errors
 ///
 /// Want of memory.
 pub fn meaning<'a>(alloc: Global, words: &'a [String]) -> Result<Option<Asked<'a>>, AllocError>
     ensures meaning { IfOk result (λ found. option_map task_of found
-        ≡ meaning_of (map (λ s. string_bytes s) words.entry.now)) }
+        ≡ meaning_of (map string_bytes words.entry.now)) }
     ensures made { IfOk result (λ found. IfSome found AsksMade) }
 {
     match matches(alloc, words) {
