@@ -1,0 +1,53 @@
+-- clap's matches and faults at the words, and their meaning.
+use Rattle.std.proofs.Common.{refl, sym, ap₂, subst, ◌≡◌, ◌≢◌, ◌∙◌, Bool, false, List, [], ◌∷◌, Option, Some, None, inl, inr}
+use Rattle.std.specs.Prelude.{codes, is_some}
+use Rattle.clap.specs.Values.{bool_text, kind_of}
+use Rattle.clap.specs.Matches.{first_value, one_text}
+use Rattle.clap.specs.Walk.{Row, rows_of, nothing_held, walk_from}
+use Rattle.clap.specs.Simple.{built, entered, matches_of}
+use Rattle.clap.specs.Faults.{entered_fault, fault_of, level_fault}
+use Rattle.clap.specs.Kinds.{HasKind, Kinds}
+use Rattle.clap.specs.declared.error.Error.{Error}
+use Rattle.clap.specs.declared.error.kind.ErrorKind.TheVariants as kind
+use Rattle.clap.specs.declared.parser.matches.Found.{Found}
+use Rattle.clap.proofs.WalkLemmas.{first_value-rows, one_text-rows}
+use Rattle.cqual_words.specs.Words.{Text, meaning_of}
+use Rattle.cqual_words.specs.Tool.{asked_by, tool}
+use Rattle.cqual_words.proofs.Rules.{shape}
+use Rattle.cqual_words.proofs.States.{Free}
+use Rattle.cqual_words.proofs.Steps.{Judged}
+use Rattle.cqual_words.proofs.Walks.{walks}
+
+-- there is no subcommand
+no_entered : (stop : Option (Text × List Text)) → is_some (entered (built tool) stop) ≡ false
+no_entered None = refl
+no_entered (Some p) = refl
+
+no_entered_fault : (stop : Option (Text × List Text)) → entered_fault (built tool) stop ≡ []
+no_entered_fault None = refl
+no_entered_fault (Some p) = refl
+
+-- with no fault the matches ask what the words mean, and with a fault they mean nothing
+pub agrees : (words : List Text) → Judged (fault_of tool words) (matches_of tool words) (meaning_of words)
+agrees words =
+    let stop = (Rattle.clap.specs.Walk.walk shape.rules [] nothing_held words).stopped in
+    let same : fault_of tool words ≡ level_fault shape [] nothing_held words false [] =
+    ap₂ (λ b ks. level_fault shape [] nothing_held words b ks) (no_entered stop) (no_entered_fault stop) in
+    subst (λ ks. Judged ks (matches_of tool words) (meaning_of words)) (sym same) (walks words [] Free 1 (λ a. refl) refl)
+
+pub matches_right : (words : List Text) (f : Found) → fault_of tool words ≡ [] → rows_of f ≡ matches_of tool words
+    → (on : Bool) × (one_text f (codes "annotate") ≡ Some (bool_text on)) × (asked_by on (λ id. first_value f id) ≡ meaning_of words)
+matches_right words f fine rows =
+    let judged : Judged [] (rows_of f) (meaning_of words) =
+    subst (λ rs. Judged [] rs (meaning_of words)) (sym rows) (subst (λ ks. Judged ks (matches_of tool words) (meaning_of words)) fine
+    (agrees words)) in
+    (judged.0, one_text-rows f (codes "annotate") ∙ judged.1, (λ i. asked_by judged.0 (λ id. first_value-rows f id i)) ∙ judged.2)
+
+pub refusal_right : (words : List Text) (e : Error) → HasKind (fault_of tool words) e → kind_of e ≢ kind.OutOfMemory
+    → None ≡ meaning_of words
+refusal_right words e has other = go (fault_of tool words) (agrees words) has
+  where
+    go : (ks : Kinds) → Judged ks (matches_of tool words) (meaning_of words) → HasKind ks e → None ≡ meaning_of words
+    go [] judged (inl out) = absurd (other out)
+    go [] judged (inr among) = absurd among
+    go (k ∷ ks) judged has_ = sym judged

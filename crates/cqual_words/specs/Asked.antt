@@ -1,0 +1,26 @@
+-- What the code holds of the words, as a task.
+use Rattle.std.specs.Prelude.{⊤}
+use Rattle.std.specs.Option.{option_map}
+use Rattle.cqual_words.specs.Words.{FileNames, IsMade, Task}
+use Rattle.cqual_words.specs.Words as words
+use Rattle.cqual_words.specs.declared.asked.Asked.{Asked}
+use Rattle.cqual_words.specs.declared.asked.Asked.TheVariants as asked
+use Rattle.cqual_words.specs.declared.asked.FileWords.{FileWords}
+
+abbrev pub names_in : FileWords → FileNames
+names_in files = record {
+  lattice = files.lattice.now;
+  prelude = option_map (λ name. name.now) files.prelude;
+  source = files.source.now;
+}
+
+abbrev pub task_of : Asked → Task
+task_of (asked.Infer files) = words.Infer (names_in files)
+task_of (asked.Annotate files) = words.Annotate (names_in files)
+task_of (asked.Check files report) = words.Check (names_in files) report.now
+task_of (asked.Generate number) = words.Generate number
+
+-- where the report of a made source is asked, there is such a source
+abbrev pub AsksMade : Asked → Type 0
+AsksMade (asked.Generate number) = IsMade number
+AsksMade _ = ⊤

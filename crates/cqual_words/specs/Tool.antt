@@ -1,0 +1,56 @@
+-- The options as clap's parser takes them, and what its matches ask.
+use Rattle.std.specs.Prelude.{Bool, true, false, Option, Some, None, codes, if◌then◌else◌, option_and_then}
+use Rattle.clap.specs.Words.{App, Rule, new_app, new_rule, with_rule}
+use Rattle.clap.specs.Simple.{on_top}
+use Rattle.clap.specs.declared.builder.ArgAction.TheVariants.{Set, SetTrue}
+use Rattle.cqual_words.specs.Words.{Part, Task, Text, Valued, Lattice, Prelude, Report, Number, Annotation, Source, has_meaning}
+use Rattle.cqual_words.specs.Words.{task_of_parts}
+
+-- the name of a part among the matches, which is an option's name too
+abbrev pub id_of : Part → Text
+id_of (Valued Lattice) = codes "lattice"
+id_of (Valued Prelude) = codes "prelude"
+id_of (Valued Report) = codes "check"
+id_of (Valued Number) = codes "generate"
+id_of Annotation = codes "annotate"
+id_of Source = codes "source"
+
+-- an option with a value
+abbrev pub option_rule : Text → Rule
+option_rule name = record (new_rule name) { long = Some name; action = Some Set }
+
+abbrev pub flag_rule : Text → Rule
+flag_rule name = record (new_rule name) { long = Some name; action = Some SetTrue }
+
+abbrev pub source_rule : Rule
+source_rule = record (new_rule (codes "source")) { action = Some Set }
+
+abbrev pub bare : App
+bare = on_top (λ s. record s { no_binary_name = true; disable_help_flag = true; disable_version_flag = true }) (new_app (codes "cqual"))
+
+abbrev pub with_options : App
+with_options =
+    with_rule (with_rule (with_rule (with_rule bare (option_rule (codes "lattice"))) (option_rule (codes "prelude")))
+    (option_rule (codes "check"))) (option_rule (codes "generate"))
+
+abbrev pub tool : App
+tool = with_rule (with_rule with_options (flag_rule (codes "annotate"))) source_rule
+
+-- a part by its text among the matches: a text with no meaning makes the whole have none
+abbrev pub given : Option Text → Option (Option Text)
+given None = Some None
+given (Some text) = if has_meaning text then Some (Some text) else None
+
+-- the flag, as the part's text
+abbrev pub flag_text : Bool → Option Text
+flag_text true = Some (codes "true")
+flag_text false = None
+
+abbrev pub with_given : Option Text → (Option Text → Option Task) → Option Task
+with_given text next = option_and_then next (given text)
+
+-- what the matches ask, where the flag is on or off, by the text of each part
+abbrev pub asked_by : Bool → (Text → Option Text) → Option Task
+asked_by on first =
+    with_given (first (codes "lattice")) (λ l. with_given (first (codes "prelude")) (λ p. with_given (first (codes "check")) (λ r.
+    with_given (first (codes "generate")) (λ n. with_given (first (codes "source")) (λ s. task_of_parts l p r n (flag_text on) s)))))

@@ -1,0 +1,48 @@
+//! The options, as the command line's reader takes them.
+
+ghost use Rattle.std.specs.Prelude.{◌≡◌, IfOk, false};
+ghost use Rattle.clap.specs.Words.{app_of, rule_of};
+ghost use Rattle.cqual_words.specs.Tool.{flag_rule, option_rule, source_rule, tool};
+
+use clap::{Arg, ArgAction, Command};
+use std::alloc::{AllocError, Global};
+
+/// An option with a value, that stands at most once.
+fn option<'a>(alloc: Global, name: &'a str) -> Arg<'a>
+    ensures rule { rule_of result ≡ option_rule name.entry.now }
+    ensures local { result.global ≡ false }
+{
+    Arg::new(alloc, name).long(name).action(ArgAction::Set)
+}
+
+/// A flag, that stands at most once.
+fn flag<'a>(alloc: Global, name: &'a str) -> Arg<'a>
+    ensures rule { rule_of result ≡ flag_rule name.entry.now }
+    ensures local { result.global ≡ false }
+{
+    Arg::new(alloc, name).long(name).action(ArgAction::SetTrue)
+}
+
+/// The one word that is no option.
+fn source<'a>(alloc: Global) -> Arg<'a>
+    ensures rule { rule_of result ≡ source_rule }
+    ensures local { result.global ≡ false }
+{
+    Arg::new(alloc, "source").action(ArgAction::Set)
+}
+
+/// The options, the flag and the one word that is neither.
+pub fn command<'a>(alloc: Global) -> Result<Command<'a>, AllocError>
+    ensures { IfOk result (λ c. app_of c ≡ tool) }
+{
+    Command::new(alloc, "cqual")
+        .no_binary_name(true)
+        .disable_help_flag(true)
+        .disable_version_flag(true)
+        .arg(option(alloc, "lattice"))?
+        .arg(option(alloc, "prelude"))?
+        .arg(option(alloc, "check"))?
+        .arg(option(alloc, "generate"))?
+        .arg(flag(alloc, "annotate"))?
+        .arg(source(alloc))
+}

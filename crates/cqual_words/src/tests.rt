@@ -1,0 +1,118 @@
+//! What no clause says: that calls succeed where there is memory, and what lists of words ask, worked out by hand.
+
+use crate::asked::{Asked, FileWords};
+use crate::words::meaning;
+use std::alloc::{AllocError, Global};
+use std::test::Fail;
+
+fn files_text(alloc: Global, files: &FileWords<'_>) -> Result<String, AllocError> {
+    let prelude = files.prelude.unwrap_or("none");
+    format!(in alloc; "{} {prelude} {}", files.lattice, files.source)
+}
+
+fn asked_text(alloc: Global, asked: Option<Asked<'_>>) -> Result<String, AllocError> {
+    match asked {
+        None => String::from_str(alloc, "nothing"),
+        Some(Asked::Infer(files)) => {
+            let text = files_text(alloc, &files)?;
+            format!(in alloc; "infer {text}")
+        }
+        Some(Asked::Annotate(files)) => {
+            let text = files_text(alloc, &files)?;
+            format!(in alloc; "annotate {text}")
+        }
+        Some(Asked::Check(files, report)) => {
+            let text = files_text(alloc, &files)?;
+            format!(in alloc; "check {text} {report}")
+        }
+        Some(Asked::Generate(number)) => format!(in alloc; "generate {number}"),
+    }
+}
+
+/// Words with a bar between two, and what they ask: the lattice, the prelude or none, the source and the report.
+static LISTS: [(&str, &str); 49] = [
+    ("--lattice|l.q|s.c", "infer l.q none s.c"),
+    ("--lattice=l.q|s.c", "infer l.q none s.c"),
+    ("s.c|--lattice|l.q", "infer l.q none s.c"),
+    ("--lattice|l.q|--|s.c", "infer l.q none s.c"),
+    ("s.c|--lattice|l.q|--", "infer l.q none s.c"),
+    ("--prelude|p.h|s.c|--lattice=l.q", "infer l.q p.h s.c"),
+    ("--lattice==x|s.c", "infer =x none s.c"),
+    ("--lattice=a=b|s.c", "infer a=b none s.c"),
+    ("--lattice|l.q|lattice", "infer l.q none lattice"),
+    ("--annotate|--lattice|l.q|s.c", "annotate l.q none s.c"),
+    (
+        "--lattice|l.q|s.c|--prelude=p.h|--annotate",
+        "annotate l.q p.h s.c",
+    ),
+    (
+        "--check|r.txt|--lattice|l.q|s.c",
+        "check l.q none s.c r.txt",
+    ),
+    (
+        "--lattice|l.q|--prelude|p.h|--check=r.txt|s.c",
+        "check l.q p.h s.c r.txt",
+    ),
+    ("--generate|1", "generate 1"),
+    ("--generate=1000", "generate 1000"),
+    ("--generate|70|--", "generate 70"),
+    ("", "nothing"),
+    ("--", "nothing"),
+    ("s.c", "nothing"),
+    ("--lattice", "nothing"),
+    ("--lattice|l.q", "nothing"),
+    ("--lattice=|s.c", "nothing"),
+    ("--lattice||s.c", "nothing"),
+    ("--lattice|l.q|", "nothing"),
+    ("--lattice=-x|s.c", "nothing"),
+    ("--lattice|-|s.c", "nothing"),
+    ("--lattice|-x|s.c", "nothing"),
+    ("--lattice|--check|r.txt|s.c", "nothing"),
+    ("--lattice|--|l.q|s.c", "nothing"),
+    ("--lattice|l.q|-", "nothing"),
+    ("--lattice|l.q|--|-x", "nothing"),
+    ("--lattice|l.q|--|--", "nothing"),
+    ("--lattice|l.q|s.c|t.c", "nothing"),
+    ("--lattice|l.q|--lattice|l.q|s.c", "nothing"),
+    ("--lattice|l.q|s.c|--annotate|--annotate", "nothing"),
+    ("--lattice|l.q|s.c|--annotate=x", "nothing"),
+    ("--lattice|l.q|s.c|--annotate=", "nothing"),
+    ("--lattice|l.q|s.c|--annotate|--check|r.txt", "nothing"),
+    ("--latt|l.q|s.c", "nothing"),
+    ("-l|l.q|s.c", "nothing"),
+    ("--help", "nothing"),
+    ("--lattice|l.q|s.c|--version", "nothing"),
+    ("--=x|--lattice|l.q|s.c", "nothing"),
+    ("--generate|0", "nothing"),
+    ("--generate|01", "nothing"),
+    ("--generate|+1", "nothing"),
+    ("--generate| 1", "nothing"),
+    ("--generate|1001", "nothing"),
+    ("--generate|1|s.c", "nothing"),
+];
+
+fn words_of(alloc: Global, text: &str) -> Result<Vec<String>, AllocError> {
+    let mut words = Vec::new(alloc);
+    for word in text.split('|') {
+        words.push(String::from_str(alloc, word)?)?;
+    }
+    Ok(words)
+}
+
+#[test]
+fn each_list_asks_what_it_means(rt: HostRuntime) -> Result<(), Fail> {
+    let alloc = rt.alloc();
+    for (text, expected) in &LISTS {
+        let words = words_of(alloc, *text)?;
+        let asked = meaning(alloc, words.as_slice())?;
+        assert_eq!(rt; asked_text(alloc, asked)?.as_str(), *expected, "{text}");
+    }
+    Ok(())
+}
+
+#[test]
+fn no_words_ask_nothing(rt: HostRuntime) -> Result<(), Fail> {
+    let words: Vec<String> = Vec::new(rt.alloc());
+    assert!(rt; meaning(rt.alloc(), words.as_slice())?.is_none());
+    Ok(())
+}
