@@ -1,8 +1,9 @@
 -- Programs that are judged, and reports that are checked.
 use Rattle.std.proofs.Common.{◌≡◌, ℕ, Bool, true, false, List, refl, sym, ap, subst}
+use Rattle.std.specs.declared.option.Option.{Option}
 use Rattle.lattice_core.specs.View.{LatticeView, orders_of}
 use Rattle.flow_graph.specs.System.{System}
-use Rattle.annotate.specs.Reports.{IsJudged}
+use Rattle.annotate.specs.Reports.{IsJudgedWith}
 use Rattle.report_checks.specs.declared.judging.Checked.{Checked}
 use Rattle.report_checks.specs.declared.judging.Checked.TheVariants.{Hold, Bad}
 use Rattle.report_checks.specs.Checks.{ComesTo, Refutes}
@@ -11,19 +12,22 @@ use Rattle.cqual_tool.specs.declared.status.Status.{Status}
 use Rattle.cqual_tool.specs.declared.status.Status.TheVariants.{PathsHold, PathBad}
 use Rattle.cqual_tool.specs.Statuses.{status_of, checked_status}
 use Rattle.cqual_tool.specs.Programs.{Judging}
-use Rattle.cqual_tool.specs.Outcome.{IsReport, IsRight, IsWrong, IsChecked, Holding, Failing, IsDecided}
+use Rattle.cqual_tool.specs.Words.{FileNames}
+use Rattle.cqual_tool.specs.Outcome.{annotated_unit, IsReport, IsRight, IsWrong, IsChecked, Holding, Failing, IsDecided}
 use Rattle.cqual_tool.proofs.Outcomes.{at_equal}
 
-judged : (file : List ℕ) (it : Judging) (accepted : Bool) (text : List ℕ) → IsJudged it.scene it.system accepted text
-    → IsReport file it (status_of accepted) text
-judged file it true text is = IsRight text is
-judged file it false text is = IsWrong text is
+judged : (named : FileNames) (it : Judging) (accepted : Bool) (text : List ℕ)
+    → IsJudgedWith it.scene it.system (annotated_unit named.annotated) accepted text → IsReport named it (status_of accepted) text
+judged named it true text is = IsRight text is
+judged named it false text is = IsWrong text is
 
-pub judged_as : (file : List ℕ) (it : Judging) (sys : System) (accepted : Bool) (status : Status) (text words : List ℕ)
-    → it.system ≡ sys → status ≡ status_of accepted → text ≡ words → IsJudged it.scene sys accepted words → IsReport file it status text
-judged_as file it sys accepted status text words system same spelled is =
-    at_equal (IsReport file it) status (status_of accepted) text words same spelled
-    (judged file it accepted words (subst (λ (s : System). IsJudged it.scene s accepted words) (sym system) is))
+pub judged_as : (named : FileNames) (it : Judging) (sys : System) (unit : Option ℕ) (accepted : Bool) (status : Status) (text words : List ℕ)
+    → it.system ≡ sys → unit ≡ annotated_unit named.annotated → status ≡ status_of accepted → text ≡ words
+    → IsJudgedWith it.scene sys unit accepted words → IsReport named it status text
+judged_as named it sys unit accepted status text words system which same spelled is =
+    at_equal (IsReport named it) status (status_of accepted) text words same spelled
+    (judged named it accepted words (subst (λ (u : Option ℕ). IsJudgedWith it.scene it.system u accepted words) which
+    (subst (λ (s : System). IsJudgedWith it.scene s unit accepted words) (sym system) is)))
 
 pub decided : (accepted : Bool) → IsDecided (status_of accepted)
 decided true = tt

@@ -1,5 +1,5 @@
 -- Answers and their outcomes.
-use Rattle.std.proofs.Common.{◌≡◌, inl, inr, ℕ, zero, suc, ◌<◌, ◌≤◌, List, [], ◌∷◌, ◌++◌, length, take, slice_get, Some, None, codes, IfSome, MatchOption, append_assoc, append-nil, sym, ◌∙◌, ap, subst}
+use Rattle.std.proofs.Common.{◌≡◌, inl, inr, ℕ, zero, suc, ◌<◌, ◌≤◌, List, [], ◌∷◌, ◌++◌, length, take, slice_get, Some, None, codes, IfSome, MatchOption, append_assoc, append-nil, refl, sym, ◌∙◌, ap, subst}
 use Rattle.std.specs.declared.option.Option.{Option}
 use Rattle.std.specs.declared.alloc.Global.{Global}
 use Rattle.std.specs.declared.vec.Vec.{Vec}
@@ -7,8 +7,9 @@ use Rattle.std.specs.Io.KnownBytes.{Appends}
 use Rattle.qual_base.specs.Outside.{content_of, Records}
 use Rattle.lattice_core.specs.View.{LatticeView}
 use Rattle.cqual_tool.specs.declared.status.Status.{Status}
-use Rattle.cqual_tool.specs.declared.status.Status.TheVariants.{Malformed, BadWords, WriteFault}
-use Rattle.cqual_tool.specs.Words.{FileNames, meaning_of}
+use Rattle.cqual_tool.specs.declared.status.Status.TheVariants.{Accepted, Rejected, PathsHold, PathBad, NotYet, Malformed, BadWords, ReadFault, WriteFault, NoMemory}
+use Rattle.cqual_words.specs.Words.{Task, meaning_of}
+use Rattle.cqual_tool.specs.Words.{FileNames}
 use Rattle.cqual_tool.specs.Texts.{malformed_line, usage_line}
 use Rattle.cqual_tool.specs.Sending.{AppendsFront, Sends}
 use Rattle.std.specs.Option.{option_map}
@@ -18,7 +19,7 @@ use Rattle.lattice_file.specs.Faults.{Reads, IsFileFault}
 use Rattle.lattice_file.specs.declared.reading.LatticeFileFault.{LatticeFileFault}
 use Rattle.lattice_file.specs.declared.reading.LatticeFileFault.TheVariants.{NoMemory as OutOfMemory}
 use Rattle.cqual_tool.specs.Faults.{lattice_line}
-use Rattle.cqual_tool.specs.Outcome.{WithoutMeaning, IsDecided, LatticesRead, LatticesFail, OfFiles, LatticeTooLarge, LatticeRefused, Outcome, WithMeaning, IsAnswer, RecordsAll, lattice_limit}
+use Rattle.cqual_tool.specs.Outcome.{WithoutMeaning, IsDecided, LatticesRead, LatticesFail, OfFiles, OfTask, LatticeTooLarge, LatticeRefused, Outcome, WithMeaning, IsAnswer, RecordsAll, lattice_limit}
 
 -- an outcome at equal statuses and texts
 pub at_equal : (Is : Status → List ℕ → Type 0) (one other : Status) (text same : List ℕ) → one ≡ other → text ≡ same → Is other same → Is one text
@@ -81,20 +82,20 @@ module _ (words : List (List ℕ)) (old new : Option (List ℕ)) (status given :
     | inr part ↦ other (sym part.0 ∙ is)
   ]
 
-  module _ (told : Option (List (List ℕ × List ℕ))) (named : FileNames) (meaning : meaning_of words ≡ Some named)
-      (outcome : IfSome told (λ all. OfFiles named (content_of all) status text)) where
+  module _ (told : Option (List (List ℕ × List ℕ))) (task : Task) (meaning : meaning_of words ≡ Some task)
+      (outcome : IfSome told (λ all. OfTask (content_of all) task status text)) where
     pub sent_all : IsAnswer given → IfSome told (λ all. (written : List ℕ) × Outcome words all given written × Appends old new written)
     sent_all is = elim sends [
       | inl whole ↦ when_told told outcome (λ all of.
           let Is : Status → Type 0 = λ s. Outcome words all s text in
-          (text, subst Is (sym whole.0) (WithMeaning named status text meaning of), whole.1))
+          (text, subst Is (sym whole.0) (WithMeaning task status text meaning of), whole.1))
       | inr part ↦ absurd (subst IsAnswer part.0 is)
     ]
 
     pub sent_front : given ≡ WriteFault → IfSome told (λ all. (s : Status) × (written : List ℕ) × Outcome words all s written × AppendsFront old new written)
     sent_front is = elim sends [
       | inl whole ↦ absurd (subst IsDecided (sym whole.0 ∙ is) decided)
-      | inr part ↦ when_told told outcome (λ all of. (status, text, WithMeaning named status text meaning of, part.1))
+      | inr part ↦ when_told told outcome (λ all of. (status, text, WithMeaning task status text meaning of, part.1))
     ]
 
 -- what is sent for words without a meaning
@@ -121,11 +122,11 @@ module _ (words : List (List ℕ)) (old new : Option (List ℕ)) (given : Status
   ]
 
 -- the meaning of words, as the code holds it
-pub meant : {A : Type 0} (words : List (List ℕ)) (names : A → FileNames) (found : Option A) (named : A) → option_map names found ≡ meaning_of words → found ≡ Some named →
+pub meant : {A : Type 0} (words : List (List ℕ)) (names : A → Task) (found : Option A) (named : A) → option_map names found ≡ meaning_of words → found ≡ Some named →
     meaning_of words ≡ Some (names named)
 meant words names found named is some = sym is ∙ ap (option_map names) some
 
-pub unmeant : {A : Type 0} (words : List (List ℕ)) (names : A → FileNames) (found : Option A) → option_map names found ≡ meaning_of words → found ≡ None → meaning_of words ≡ None
+pub unmeant : {A : Type 0} (words : List (List ℕ)) (names : A → Task) (found : Option A) → option_map names found ≡ meaning_of words → found ≡ None → meaning_of words ≡ None
 unmeant words names found is none = sym is ∙ ap (option_map names) none
 
 pub some_found : (size : ℕ) (content : List ℕ) (limit : ℕ) (found : Option (Vec ℕ Global)) (bytes : Vec ℕ Global) → MatchOption found (limit < size) (λ b. b.items ≡ content) → found ≡ Some bytes →
@@ -172,3 +173,16 @@ pub lattices_fail : (taken content : List ℕ) → taken ≡ content → length 
 lattices_fail taken content same short fault refused reason =
     let Refused : List ℕ → Type 0 = λ b. IsFileFault b fault in
     record { within = short; refused = subst Refused same refused; reason = reason }
+
+-- a count that did not rise
+pub complete : (status : Status) → (status ≡ ReadFault → ⊥) → (status ≡ WriteFault → ⊥) → (status ≡ NoMemory → ⊥) → IsAnswer status
+complete Accepted read write memory = tt
+complete Rejected read write memory = tt
+complete PathsHold read write memory = tt
+complete PathBad read write memory = tt
+complete NotYet read write memory = tt
+complete Malformed read write memory = tt
+complete BadWords read write memory = tt
+complete ReadFault read write memory = absurd (read refl)
+complete WriteFault read write memory = absurd (write refl)
+complete NoMemory read write memory = absurd (memory refl)

@@ -1,5 +1,5 @@
 -- What the tool answers and writes, for the words and the contents of the files.
-use Rattle.std.specs.Prelude.{◌≡◌, ◌≢◌, ℕ, true, false, ◌<◌, ◌≤◌, List, [], ◌∷◌, ◌++◌, length, slice_get, Some, None, codes, IfSome, Option}
+use Rattle.std.specs.Prelude.{◌≡◌, ◌≢◌, ℕ, zero, suc, Bool, true, false, ◌<◌, ◌≤◌, List, [], ◌∷◌, ◌++◌, length, slice_get, Some, None, codes, IfSome, Option}
 use Rattle.qual_base.specs.Outside.{content_of}
 use Rattle.qual_base.specs.Words.{MeansTheSame}
 use Rattle.lattice_core.specs.Names.{words_of}
@@ -29,14 +29,17 @@ use Rattle.cq_prelude.specs.declared.fault.PreludeFault.TheVariants.{NoMemory as
 use Rattle.flow_graph.specs.System.{System, IsWellOwned, most_constraints, most_variables}
 use Rattle.flow_graph.specs.Unfolding.{NamesElementsIn}
 use Rattle.annotate.specs.Texts.{Scene}
-use Rattle.annotate.specs.Reports.{IsJudged}
+use Rattle.annotate.specs.Reports.{IsJudgedWith, ErrorCount}
 use Rattle.report_checks.specs.declared.judging.Checked.TheVariants.{Hold, Bad}
 use Rattle.report_checks.specs.declared.judging.Code.{Code}
 use Rattle.report_checks.specs.Checks.{ComesTo, Refutes}
 use Rattle.report_checks.specs.Texts.{checked_text}
 use Rattle.cqual_tool.specs.declared.status.Status.{Status}
 use Rattle.cqual_tool.specs.declared.status.Status.TheVariants.{Accepted, Rejected, PathsHold, PathBad, NotYet, Malformed, BadWords, ReadFault, WriteFault, NoMemory}
-use Rattle.cqual_tool.specs.Words.{FileNames, meaning_of}
+use Rattle.cqual_words.specs.Words.{Task, Generate, meaning_of}
+use Rattle.generated_source.specs.Source.{generated_text, lattice_text}
+use Rattle.generated_source.specs.Summary.{summary_text}
+use Rattle.cqual_tool.specs.Words.{FileNames, names_of}
 use Rattle.cqual_tool.specs.Texts.{usage_line, not_yet_line, malformed_line}
 use Rattle.cqual_tool.specs.Faults.{lattice_line, lex_line}
 use Rattle.cqual_tool.specs.Syntax.{syntax_line}
@@ -143,12 +146,17 @@ pub record IsCounted (named : FileNames) (lattices : List LatticeView) (before :
 abbrev pub AreNamed : List LatticeView → System → Type 0
 AreNamed lattices sys = (n : ℕ) (view : LatticeView) → slice_get lattices n ≡ Some view → NamesElementsIn sys n view.order
 
+-- the unit of which the annotated source is asked for: 1 is the source
+abbrev pub annotated_unit : Bool → Option ℕ
+annotated_unit true = Some 1
+annotated_unit false = None
+
 -- The status and the whole text for the constraints of a program. Constraints whose flows leave their functions, or that name
 -- elements which there are not, are not judged.
-pub data IsReport (file : List ℕ) (it : Judging) : Status → List ℕ → Type 0 where
-  NotJudged : (IsWellOwned it.system → AreNamed it.scene.lattices it.system → ⊥) → IsReport file it NotYet (not_yet_line file)
-  IsRight : (text : List ℕ) → IsJudged it.scene it.system true text → IsReport file it Accepted text
-  IsWrong : (text : List ℕ) → IsJudged it.scene it.system false text → IsReport file it Rejected text
+pub data IsReport (named : FileNames) (it : Judging) : Status → List ℕ → Type 0 where
+  NotJudged : (IsWellOwned it.system → AreNamed it.scene.lattices it.system → ⊥) → IsReport named it NotYet (not_yet_line named.source)
+  IsRight : (text : List ℕ) → IsJudgedWith it.scene it.system (annotated_unit named.annotated) true text → IsReport named it Accepted text
+  IsWrong : (text : List ℕ) → IsJudgedWith it.scene it.system (annotated_unit named.annotated) false text → IsReport named it Rejected text
 
 -- The status and the whole text for a report that is checked over the constraints of a program. Where its paths hold, the program
 -- is not accepted.
@@ -160,7 +168,7 @@ pub data IsChecked (it : Judging) (bytes : List ℕ) : Status → List ℕ → T
 
 -- The status and the whole text for a program within the limits, by what is asked of it.
 pub data IsEnd (named : FileNames) (contents : Contents) (it : Judging) : Status → List ℕ → Type 0 where
-  Inferred : (status : Status) (text : List ℕ) → named.report ≡ None → IsReport named.source it status text → IsEnd named contents it status text
+  Inferred : (status : Status) (text : List ℕ) → named.report ≡ None → IsReport named it status text → IsEnd named contents it status text
   ReportTooLarge : (file : List ℕ) → named.report ≡ Some file → report_limit < length (contents file) →
       IsEnd named contents it Malformed (malformed_line file (codes "F2"))
   ReportChecked : (file : List ℕ) (status : Status) (text : List ℕ) → named.report ≡ Some file → length (contents file) ≤ report_limit →
@@ -192,11 +200,49 @@ pub data OfFiles (named : FileNames) (contents : Contents) : Status → List ℕ
   LatticeRead : (lattices : List LatticeView) (status : Status) (text : List ℕ) → LatticesRead (contents named.lattice) lattices →
       OfUnits named contents lattices status text → OfFiles named contents status text
 
+-- the names of the files that the tool makes itself
+abbrev pub made_names : FileNames
+made_names = record { lattice = codes "generated.q"; prelude = None; annotated = false; report = None; source = codes "generated.c" }
+
+abbrev pub sum_status : ℕ → Status
+sum_status zero = Accepted
+sum_status (suc errors) = Rejected
+
+-- The status and the whole text for the program of a source that the tool makes itself: the counts of its variables, its constraints,
+-- its call sites and its exceeded bounds.
+pub data IsSummed (number : ℕ) (it : Judging) : Status → List ℕ → Type 0 where
+  NotSummed : (IsWellOwned it.system → AreNamed it.scene.lattices it.system → ⊥) → IsSummed number it NotYet (not_yet_line made_names.source)
+  SummedUp : (errors : ℕ) → ErrorCount it.scene it.system (length it.system.constraints) errors →
+      IsSummed number it (sum_status errors) (summary_text number (record {
+        variables = length it.scene.positions;
+        constraints = length it.system.constraints;
+        sites = length it.system.sites;
+        errors = errors;
+      }))
+
+-- The status and the whole text for the source of a number that the tool makes itself, over a lattice file of its own.
+pub data OfMade (number : ℕ) : Status → List ℕ → Type 0 where
+  MadeLatticesRefused : (fault : LatticeFileFault) → LatticesFail lattice_text fault →
+      OfMade number Malformed (lattice_line made_names.lattice fault)
+  MadeTooLarge : source_limit < length (generated_text number) → OfMade number Malformed (malformed_line made_names.source (codes "F2"))
+  MadeRefused : (lattices : List LatticeView) (text : List ℕ) → LatticesRead lattice_text lattices →
+      IsRefused made_names lattices [] [] (generated_text number) text → OfMade number Malformed text
+  MadeRead : (lattices : List LatticeView) (it : UnitRead) (status : Status) (text : List ℕ) → LatticesRead lattice_text lattices →
+      IsCounted made_names lattices [] [] (generated_text number) it →
+      IsSummed number (judging_of made_names lattices [] (it ∷ [])) status text → OfMade number status text
+
+-- The status and the whole text for what is asked, by the bytes of each file.
+pub data OfTask (contents : Contents) (task : Task) : Status → List ℕ → Type 0 where
+  OfProgram : (named : FileNames) (status : Status) (text : List ℕ) → names_of task ≡ Some named → OfFiles named contents status text →
+      OfTask contents task status text
+  OfGenerated : (number : ℕ) (status : Status) (text : List ℕ) → task ≡ Generate number → OfMade number status text →
+      OfTask contents task status text
+
 -- The status and the whole text for the words and the files, of which each is a name and its bytes.
 pub data Outcome (words : List (List ℕ)) (files : List (List ℕ × List ℕ)) : Status → List ℕ → Type 0 where
   WithoutMeaning : meaning_of words ≡ None → Outcome words files BadWords usage_line
-  WithMeaning : (named : FileNames) (status : Status) (text : List ℕ) → meaning_of words ≡ Some named →
-      OfFiles named (content_of files) status text → Outcome words files status text
+  WithMeaning : (task : Task) (status : Status) (text : List ℕ) → meaning_of words ≡ Some task →
+      OfTask (content_of files) task status text → Outcome words files status text
 
 -- the answer is that of the words and the files: no read failed, no write did, and memory was found
 abbrev pub IsAnswer : Status → Type 0
@@ -257,7 +303,12 @@ pub data Starts (named : FileNames) (files : Option (List (List ℕ × List ℕ)
   ThenReport : (file : List ℕ) → named.report ≡ Some file → IfSome files (λ all. ProgramIsRead named (content_of all)) →
       Starts named files (named.lattice ∷ named_one named.prelude ++ named.source ∷ file ∷ [])
 
+-- the files that a task starts: a source that the tool makes itself starts none
+pub data TaskStarts (task : Task) (files : Option (List (List ℕ × List ℕ))) : List (List ℕ) → Type 0 where
+  InOrder : (named : FileNames) (names : List (List ℕ)) → names_of task ≡ Some named → Starts named files names → TaskStarts task files names
+  MadeAlone : (number : ℕ) → task ≡ Generate number → TaskStarts task files []
+
 -- words without a meaning start no file
 pub data StartsFor (words : List (List ℕ)) (files : Option (List (List ℕ × List ℕ))) : List (List ℕ) → Type 0 where
   NoFile : meaning_of words ≡ None → StartsFor words files []
-  InOrder : (named : FileNames) (names : List (List ℕ)) → meaning_of words ≡ Some named → Starts named files names → StartsFor words files names
+  ForTask : (task : Task) (names : List (List ℕ)) → meaning_of words ≡ Some task → TaskStarts task files names → StartsFor words files names

@@ -1,13 +1,14 @@
--- What the words of a command line mean.
-use Rattle.std.specs.Prelude.{ℕ, Bool, false, ◌&&◌, not, List, [], ◌∷◌, Option, Some, None, nat_eq, codes, if◌then◌else◌}
+-- The files that a task names, and what is to be written of their program.
+use Rattle.std.specs.Prelude.{ℕ, Bool, true, false, List, Option, Some, None}
 use Rattle.std.specs.Option.{option_map}
-use Rattle.std.specs.Str.{bytes_eq}
+use Rattle.cqual_words.specs.Words as words
 use Rattle.cqual_tool.specs.declared.words.Named.{Named}
 
--- the files that are named: where a report is, it is to be checked
+-- the files that are named: where a report is, it is to be checked; where none is, the source may be asked for with what is inferred
 pub record FileNames : Type 0 where
   pub lattice : List ℕ
   pub prelude : Option (List ℕ)
+  pub annotated : Bool
   pub report : Option (List ℕ)
   pub source : List ℕ
 
@@ -16,49 +17,23 @@ abbrev pub names_in : Named → FileNames
 names_in named = record {
   lattice = named.lattice.now;
   prelude = option_map (λ name. name.now) named.prelude;
+  annotated = named.annotated;
   report = option_map (λ name. name.now) named.report;
   source = named.source.now;
 }
 
--- a name of a file is not empty and does not begin with a dash
-abbrev pub is_file_name : List ℕ → Bool
-is_file_name [] = false
-is_file_name (b ∷ more) = not (nat_eq b 45)
+abbrev pub of_files : words.FileNames → Bool → Option (List ℕ) → FileNames
+of_files files annotated report = record {
+  lattice = files.lattice;
+  prelude = files.prelude;
+  annotated = annotated;
+  report = report;
+  source = files.source;
+}
 
-abbrev pub alone : List ℕ → List ℕ → FileNames
-alone l s = record { lattice = l; prelude = None; report = None; source = s }
-
--- two words that give a prelude, or a report
-abbrev pub with_option : List ℕ → List ℕ → List ℕ → List ℕ → Option FileNames
-with_option l option name s =
-    if bytes_eq option (codes "--prelude") then Some (record { lattice = l; prelude = Some name; report = None; source = s })
-    else (if bytes_eq option (codes "--check") then Some (record { lattice = l; prelude = None; report = Some name; source = s }) else None)
-
-abbrev pub of_three : List ℕ → List ℕ → List ℕ → Option FileNames
-of_three first l s = if bytes_eq first (codes "--lattice") && is_file_name l && is_file_name s then Some (alone l s) else None
-
-abbrev pub of_five : List ℕ → List ℕ → List ℕ → List ℕ → List ℕ → Option FileNames
-of_five first l second name s =
-    if bytes_eq first (codes "--lattice") && is_file_name l && is_file_name name && is_file_name s then with_option l second name s else None
-
-abbrev pub are_options : List ℕ → List ℕ → List ℕ → Bool
-are_options first second third =
-    bytes_eq first (codes "--lattice") && bytes_eq second (codes "--prelude") && bytes_eq third (codes "--check")
-
-abbrev pub of_seven : List ℕ → List ℕ → List ℕ → List ℕ → List ℕ → List ℕ → List ℕ → Option FileNames
-of_seven first l second p third r s =
-    if are_options first second third && is_file_name l && is_file_name p && is_file_name r && is_file_name s
-    then Some (record { lattice = l; prelude = Some p; report = Some r; source = s }) else None
-
-abbrev pub with_both : List (List ℕ) → Option FileNames
-with_both (first ∷ l ∷ second ∷ p ∷ third ∷ r ∷ s ∷ []) = of_seven first l second p third r s
-with_both words = None
-
-abbrev pub with_one : List (List ℕ) → Option FileNames
-with_one (first ∷ l ∷ second ∷ name ∷ s ∷ []) = of_five first l second name s
-with_one words = with_both words
-
--- `--lattice L [--prelude P] [--check R] SOURCE` has a meaning, and nothing else has one
-abbrev pub meaning_of : List (List ℕ) → Option FileNames
-meaning_of (first ∷ l ∷ s ∷ []) = of_three first l s
-meaning_of words = with_one words
+-- the files of a task; none where the tool makes the source itself
+abbrev pub names_of : words.Task → Option FileNames
+names_of (words.Infer files) = Some (of_files files false None)
+names_of (words.Annotate files) = Some (of_files files true None)
+names_of (words.Check files report) = Some (of_files files false (Some report))
+names_of (words.Generate number) = None

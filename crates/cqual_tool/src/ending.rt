@@ -11,6 +11,7 @@ ghost use Rattle.annotate.specs.Scenes.{Shows};
 ghost use Rattle.cqual_tool.specs.Statuses.{status_of, checked_status};
 ghost use Rattle.cqual_tool.specs.Words.{names_in as files_in};
 ghost use Rattle.cqual_tool.specs.Programs.{Judging, judging_of};
+ghost use Rattle.cqual_tool.specs.Outcome as rules;
 ghost use Rattle.cqual_tool.specs.Outcome.{IsChecked, IsDecided, IsEnd, IsReport, RecordsAll};
 ghost use Rattle.cqual_tool.specs.Preparing.{EndStarts, IsReady};
 
@@ -19,10 +20,10 @@ use crate::preparing::{Ready, texts};
 use crate::status::Status;
 use crate::taking::{REPORT_LIMIT, Stop, taken, too_large};
 use crate::words::Named;
-use annotate::{Judged, Scene, are_named, judge};
+use annotate::{Judged, Scene, are_named, judge_with};
 use flow_graph::{FlowGraph, is_well_owned};
 use lattice_core::Lattices;
-use qual_base::{Files, NoMemory};
+use qual_base::{Files, NoMemory, UnitNo};
 use report_checks::{Checked, judge_report, put_checked};
 use std::alloc::Global;
 
@@ -42,24 +43,36 @@ fn reported(judged: Judged) -> Answer
     }
 }
 
+/// The unit of which the annotated source is asked for.
+fn annotated_unit(annotated: bool) -> Option<UnitNo>
+    ensures { result ≡ rules.annotated_unit annotated }
+{
+    if annotated {
+        Some(UnitNo::new(1))
+    } else {
+        None
+    }
+}
+
 /// The answer for constraints and what the reports name of them. Each lattice is solved once.
 fn report(
     alloc: Global,
-    file: &str,
+    named: &Named<'_>,
     scene: &Scene<'_>,
     graph: &FlowGraph,
 ) -> Result<Answer, NoMemory>
     ensures report { IfOk result (λ answer. (it : Judging) → Shows scene.now it.scene →
-        it.system ≡ graph.now → IsReport file.now it answer.status answer.text.items) }
+        it.system ≡ graph.now →
+        IsReport (files_in named.now) it answer.status answer.text.items) }
     ensures decided { IfOk result (λ answer. IsDecided answer.status) }
 {
     if !is_well_owned(graph) {
-        return Ok(not_yet(alloc, file)?);
+        return Ok(not_yet(alloc, named.source)?);
     }
     if !are_named(scene.lattices, graph) {
-        return Ok(not_yet(alloc, file)?);
+        return Ok(not_yet(alloc, named.source)?);
     }
-    let judged = judge(alloc, scene, graph)?;
+    let judged = judge_with(alloc, scene, graph, annotated_unit(named.annotated))?;
     Ok(reported(judged))
 }
 
@@ -73,7 +86,7 @@ fn inferred(
     ensures report { (units : List UnitRead) (marks : List IndexMark) →
         units_of ready.now.sources.items ≡ units →
         IsGenerated units (program_in lattices.now marks units) ready.now.made →
-        IfOk result (λ answer. IsReport named.now.source.now
+        IfOk result (λ answer. IsReport (files_in named.now)
         (judging_of (files_in named.now) lattices.now marks units)
         answer.status answer.text.items) }
     ensures decided { IfOk result (λ answer. IsDecided answer.status) }
@@ -85,7 +98,7 @@ fn inferred(
         vars: ready.made.skeletons.vars(),
         listed: &ready.made.listed,
     };
-    report(alloc, named.source, &scene, &ready.made.graph)
+    report(alloc, named, &scene, &ready.made.graph)
 }
 
 /// The status of what a report comes to.

@@ -4,6 +4,7 @@
 mod answer;
 mod ending;
 mod faults;
+mod making;
 mod preludes;
 mod preparing;
 mod reading;

@@ -38,6 +38,17 @@ pub struct Earlier<'a> {
     pub prelude: Prelude,
 }
 
+/// No unit stands before the source. Takes no memory.
+pub fn nothing_before<'a>(alloc: Global) -> Earlier<'a>
+    ensures sources { result.sources.items ≡ [] }
+    ensures prelude { result.prelude ≡ [] }
+{
+    Earlier {
+        sources: Vec::new(alloc),
+        prelude: Prelude::new(alloc),
+    }
+}
+
 /// A program: its units in their order, and its constraints.
 #[derive(Drop)]
 pub struct Ready<'a> {

@@ -12,26 +12,14 @@ use crate::answer::Answer;
 use crate::ending::end;
 use crate::faults::lattice_refused;
 use crate::preludes::prelude_refused;
-use crate::preparing::{Earlier, Prepared, prepare};
+use crate::preparing::{Earlier, Prepared, nothing_before, prepare};
 use crate::taking::{LATTICE_LIMIT, SOURCE_LIMIT, Stop, taken, too_large};
 use crate::words::Named;
 use cq_prelude::{PreludeRead, read_prelude};
-use index_words::Prelude;
 use lattice_core::Lattices;
 use lattice_file::read_lattices;
 use qual_base::{Files, NoMemory};
 use std::alloc::Global;
-
-/// No unit stands before the source. Takes no memory.
-fn nothing_before<'a>(alloc: Global) -> Earlier<'a>
-    ensures sources { result.sources.items ≡ [] }
-    ensures prelude { result.prelude ≡ [] }
-{
-    Earlier {
-        sources: Vec::new(alloc),
-        prelude: Prelude::new(alloc),
-    }
-}
 
 /// A prelude stands before the source.
 fn prelude_before<'a>(alloc: Global, read: PreludeRead<'a>) -> Result<Earlier<'a>, NoMemory>

@@ -1,20 +1,26 @@
 //! The tool as one call.
 
-ghost use Rattle.std.specs.Prelude.{◌≡◌, ◌⊎◌, ℕ, List, IfSome, IsNone, None, Some, map};
+ghost use Rattle.std.specs.Prelude.{◌≡◌, ◌⊎◌, ℕ, List, IfOk, IfSome, IsErrOf, IsNone, None, Some, map};
 ghost use Rattle.std.specs.Prelude.{string_bytes, take};
 ghost use Rattle.std.specs.Io.KnownBytes.{Appends};
 ghost use Rattle.qual_base.specs.Counts.{GoesOn, Rose};
 ghost use Rattle.cqual_tool.specs.declared.status.Status.TheVariants as Statuses;
-ghost use Rattle.cqual_tool.specs.Words.{meaning_of};
+ghost use Rattle.cqual_words.specs.Asked.{AsksMade, task_of};
+ghost use Rattle.cqual_words.specs.Words.{meaning_of};
 ghost use Rattle.cqual_tool.specs.Texts.{usage_line};
 ghost use Rattle.cqual_tool.specs.Sending.{AppendsFront, Sends};
-ghost use Rattle.cqual_tool.specs.Outcome.{Outcome, IsAnswer, RecordsAll, StartsFor};
+ghost use Rattle.qual_base.specs.Outside.{content_of};
+ghost use Rattle.cqual_tool.specs.Outcome.{Outcome, IsAnswer, IsDecided, OfTask, RecordsAll};
+ghost use Rattle.cqual_tool.specs.Outcome.{StartsFor, TaskStarts};
 
+use crate::answer::Answer;
+use crate::making::made_answer;
 use crate::reading::answer;
 use crate::sending::send;
 use crate::status::Status;
 use crate::taking::Stop;
-use crate::words::meaning;
+use crate::words::of_files;
+use cqual_words::{Asked, meaning};
 use qual_base::{Files, Sink};
 use std::alloc::Global;
 
@@ -35,10 +41,37 @@ fn finish<O: Sink>(out: &mut O, status: Status, text: &[u8]) -> Status
     }
 }
 
+/// The answer for what is asked.
+fn answer_for<F: Files>(
+    alloc: Global,
+    asked: &Asked<'_>,
+    files: &mut F,
+) -> Result<Answer, Stop>
+    requires { AsksMade asked.now }
+    ensures outcome { IfOk result (λ answer. IfSome (F.contents files.old) (λ all.
+        OfTask (content_of all) (task_of asked.now) answer.status answer.text.items)) }
+    ensures decided { IfOk result (λ answer. IsDecided answer.status) }
+    ensures read_fault { IsErrOf result Stop.ReadFault →
+        Rose (F.faults files.old) (F.faults files.new) }
+    ensures count { GoesOn (F.faults files.old) (F.faults files.new) }
+    ensures started { (names : List (List ℕ)) × RecordsAll (F.started files.old)
+        (F.started files.new) names
+        × TaskStarts (task_of asked.now) (F.contents files.old) names }
+{
+    match asked {
+        Asked::Infer(names) => answer(alloc, &of_files(names, false, None), files),
+        Asked::Annotate(names) => answer(alloc, &of_files(names, true, None), files),
+        Asked::Check(names, report) => {
+            answer(alloc, &of_files(names, false, Some(*report)), files)
+        }
+        Asked::Generate(number) => Ok(made_answer(alloc, *number)?),
+    }
+}
+
 /// Reads the files that the words name, decides, and writes the whole text of the answer.
 ///
-/// The words are those after the program's name: `--lattice FILE [--prelude FILE] [--check REPORT] SOURCE`. Nothing is written
-/// before everything is decided.
+/// The words are those after the program's name: `--lattice FILE [--prelude FILE] [--annotate | --check REPORT] SOURCE` in any
+/// order, or `--generate N` alone, with N from 1 to 1000. Nothing is written before everything is decided.
 pub fn run<F: Files, O: Sink>(alloc: Global, words: &[String], files: &mut F, out: &mut O) -> Status
     // Where no read and no write failed and memory was found, the status and the bytes that were written are those of the
     // words and of the whole contents of the files.
@@ -62,19 +95,26 @@ pub fn run<F: Files, O: Sink>(alloc: Global, words: &[String], files: &mut F, ou
     ensures bad_words { result ≡ Statuses.BadWords →
         meaning_of (map string_bytes words.now) ≡ None }
     ensures no_meaning { meaning_of (map string_bytes words.now) ≡ None →
-        (result ≡ Statuses.BadWords) ⊎ (result ≡ Statuses.WriteFault) }
+        (result ≡ Statuses.BadWords) ⊎ ((result ≡ Statuses.WriteFault)
+        ⊎ (result ≡ Statuses.NoMemory)) }
     ensures started { (names : List (List ℕ))
         × RecordsAll (F.started files.old) (F.started files.new) names
         × StartsFor (map string_bytes words.now) (F.contents files.old) names }
     ensures reads { GoesOn (F.faults files.old) (F.faults files.new) }
     ensures writes { GoesOn (O.faults out.old) (O.faults out.new) }
+
+    // Where no read and no write failed, there is such an answer, or memory ran out.
+    ensures complete { (Rose (F.faults files.old) (F.faults files.new) → ⊥) →
+        (Rose (O.faults out.old) (O.faults out.new) → ⊥) →
+        (result ≡ Statuses.NoMemory → ⊥) → IsAnswer result }
 {
-    match meaning(words) {
-        Some(named) => match answer(alloc, &named, files) {
+    match meaning(alloc, words) {
+        Ok(Some(asked)) => match answer_for(alloc, &asked, files) {
             Ok(answer) => finish(out, answer.status, &answer.text),
             Err(Stop::ReadFault) => Status::ReadFault,
             Err(Stop::NoMemory) => Status::NoMemory,
         },
-        None => finish(out, Status::BadWords, USAGE),
+        Ok(None) => finish(out, Status::BadWords, USAGE),
+        Err(_) => Status::NoMemory,
     }
 }

@@ -1,0 +1,143 @@
+//! The source that the tool makes itself, and the sum of what is found in it.
+
+ghost use Rattle.std.specs.Prelude.{◌≡◌, ℕ, [], ◌∷◌, List, IfOk};
+ghost use Rattle.annotate.specs.Scenes.{Shows};
+ghost use Rattle.generated_source.specs.Source.{generated_text, lattice_text};
+ghost use Rattle.cqual_words.specs.Words.{IsMade};
+ghost use Rattle.cqual_tool.specs.Words.{names_in as files_in};
+ghost use Rattle.cqual_tool.specs.Programs.{Judging, judging_of};
+ghost use Rattle.cqual_tool.specs.Outcome as rules;
+ghost use Rattle.cqual_tool.specs.Outcome.{IsDecided, IsSummed, LatticesRead, OfMade};
+ghost use Rattle.cqual_tool.specs.Preparing.{IsReady};
+
+use crate::answer::{Answer, not_yet};
+use crate::faults::lattice_refused;
+use crate::preparing::{Prepared, Ready, nothing_before, prepare, texts};
+use crate::status::Status;
+use crate::taking::{SOURCE_LIMIT, too_large};
+use crate::words::Named;
+use annotate::{Scene, are_named, count_errors};
+use flow_graph::{FlowGraph, is_well_owned};
+use generated_source::{Counts, generated_source, lattice_bytes, put_summary};
+use lattice_core::Lattices;
+use lattice_file::read_lattices;
+use qual_base::NoMemory;
+use std::alloc::Global;
+
+/// The names of the lattice file and of the source.
+const LATTICE: &str = "generated.q";
+const SOURCE: &str = "generated.c";
+
+/// The names of what the tool makes itself.
+fn made_names() -> Named<'static>
+    ensures { files_in result ≡ rules.made_names }
+{
+    Named {
+        lattice: LATTICE,
+        prelude: None,
+        annotated: false,
+        report: None,
+        source: SOURCE,
+    }
+}
+
+/// The status for a number of exceeded bounds.
+fn status_for(errors: u32) -> Status
+    ensures { result ≡ rules.sum_status errors }
+{
+    match errors {
+        0 => Status::Accepted,
+        _ => Status::Rejected,
+    }
+}
+
+/// The sum of constraints. Each lattice is solved once.
+fn summed(
+    alloc: Global,
+    number: u32,
+    scene: &Scene<'_>,
+    graph: &FlowGraph,
+) -> Result<Answer, NoMemory>
+    ensures sum { IfOk result (λ answer. (it : Judging) → Shows scene.now it.scene →
+        it.system ≡ graph.now → IsSummed number it answer.status answer.text.items) }
+    ensures decided { IfOk result (λ answer. IsDecided answer.status) }
+{
+    if !is_well_owned(graph) {
+        return Ok(not_yet(alloc, SOURCE)?);
+    }
+    if !are_named(scene.lattices, graph) {
+        return Ok(not_yet(alloc, SOURCE)?);
+    }
+    let errors = count_errors(alloc, scene, graph)?;
+    let counts = Counts {
+        variables: scene.vars.count(),
+        constraints: graph.len(),
+        sites: graph.sites(),
+        errors,
+    };
+    let mut text = Vec::new(alloc);
+    put_summary(&mut text, number, &counts)?;
+    Ok(Answer {
+        status: status_for(errors),
+        text,
+    })
+}
+
+/// The sum of a program that was made of the source of a number.
+fn of_program(
+    alloc: Global,
+    number: u32,
+    lattices: &Lattices,
+    ready: &Ready<'_>,
+) -> Result<Answer, NoMemory>
+    ensures sum { (bytes : List ℕ) →
+        (is : IsReady rules.made_names lattices.now [] [] bytes ready.now) → IfOk result
+        (λ answer. IsSummed number (judging_of rules.made_names lattices.now [] (is.unit ∷ []))
+        answer.status answer.text.items) }
+    ensures decided { IfOk result (λ answer. IsDecided answer.status) }
+{
+    let named = made_names();
+    let units = texts(alloc, &named, &ready.sources)?;
+    let scene = Scene {
+        units: &units,
+        lattices,
+        vars: ready.made.skeletons.vars(),
+        listed: &ready.made.listed,
+    };
+    summed(alloc, number, &scene, &ready.made.graph)
+}
+
+/// The answer for the source of a number over its lattices.
+fn of_source(
+    alloc: Global,
+    number: u32,
+    lattices: &Lattices,
+    bytes: &[u8],
+) -> Result<Answer, NoMemory>
+    requires { bytes.now ≡ generated_text number }
+    ensures outcome { LatticesRead lattice_text lattices.now → IfOk result
+        (λ answer. OfMade number answer.status answer.text.items) }
+    ensures decided { IfOk result (λ answer. IsDecided answer.status) }
+{
+    if bytes.len() > SOURCE_LIMIT {
+        return too_large(alloc, SOURCE);
+    }
+    let named = made_names();
+    match prepare(alloc, &named, lattices, nothing_before(alloc), bytes)? {
+        Prepared::Refused(answer) => Ok(answer),
+        Prepared::Program(ready) => of_program(alloc, number, lattices, &ready),
+    }
+}
+
+/// The answer for the source of a number, which the tool makes itself, over a lattice file of its own. No file is read.
+pub fn made_answer(alloc: Global, number: u32) -> Result<Answer, NoMemory>
+    requires { IsMade number }
+    ensures outcome { IfOk result (λ answer. OfMade number answer.status answer.text.items) }
+    ensures decided { IfOk result (λ answer. IsDecided answer.status) }
+{
+    let source = generated_source(alloc, number)?;
+    match read_lattices(alloc, lattice_bytes()) {
+        Ok(lattices) => of_source(alloc, number, &lattices, &source),
+        Err(fault) => lattice_refused(alloc, LATTICE, &fault),
+    }
+}
