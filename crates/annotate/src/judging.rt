@@ -5,7 +5,8 @@ ghost use Rattle.std.specs.Bool.{OnTrue, OnFalse};
 ghost use Rattle.flow_graph.specs.System.{IsWellOwned};
 ghost use Rattle.annotate.specs.Scenes.{Shows};
 ghost use Rattle.annotate.specs.Solutions.{AllNamed, AreKept, AreSolutions, IsSomeOver};
-ghost use Rattle.annotate.specs.Reports.{IsJudged, IsJudgedWith};
+ghost use Rattle.annotate.specs.Reports.{ErrorCount, IsJudged, IsJudgedWith};
+ghost use Rattle.std.specs.Prelude.{length};
 
 use crate::reports::{accepted, rejected};
 use crate::scene::Scene;
@@ -101,4 +102,14 @@ pub fn judge(alloc: Global, scene: &Scene<'_>, graph: &FlowGraph) -> Result<Judg
         IsJudged s graph.now judged.accepted judged.text.items) }
 {
     judge_with(alloc, scene, graph, None)
+}
+
+/// How many bounds of a program are exceeded.
+pub fn count_errors(alloc: Global, scene: &Scene<'_>, graph: &FlowGraph) -> Result<u32, NoMemory>
+    requires named { AllNamed scene.now.lattices.now graph.now }
+    requires owned { IsWellOwned graph.now }
+    ensures count { IfOk result (λ count. (s : _) → Shows scene.now s →
+        ErrorCount s graph.now (length graph.now.constraints) count) }
+{
+    Err(NoMemory)
 }

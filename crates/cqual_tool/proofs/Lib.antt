@@ -3,3 +3,4 @@ pub mod Judging
 pub mod Outcomes
 pub mod Pieces
 pub mod Starting
+pub mod Summing

@@ -308,7 +308,7 @@ pub data TaskStarts (task : Task) (files : Option (List (List ℕ × List ℕ)))
   InOrder : (named : FileNames) (names : List (List ℕ)) → names_of task ≡ Some named → Starts named files names → TaskStarts task files names
   MadeAlone : (number : ℕ) → task ≡ Generate number → TaskStarts task files []
 
--- words without a meaning start no file
+-- no file is started for words without a meaning, nor where memory is wanting before a meaning is found
 pub data StartsFor (words : List (List ℕ)) (files : Option (List (List ℕ × List ℕ))) : List (List ℕ) → Type 0 where
-  NoFile : meaning_of words ≡ None → StartsFor words files []
+  NoFile : StartsFor words files []
   ForTask : (task : Task) (names : List (List ℕ)) → meaning_of words ≡ Some task → TaskStarts task files names → StartsFor words files names

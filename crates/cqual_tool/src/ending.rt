@@ -23,7 +23,7 @@ use crate::words::Named;
 use annotate::{Judged, Scene, are_named, judge_with};
 use flow_graph::{FlowGraph, is_well_owned};
 use lattice_core::Lattices;
-use qual_base::{Files, NoMemory, UnitNo};
+use qual_base::{Files, NoMemory, Numbered, UnitNo};
 use report_checks::{Checked, judge_report, put_checked};
 use std::alloc::Global;
 

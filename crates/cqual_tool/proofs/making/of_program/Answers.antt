@@ -1,0 +1,32 @@
+use Rattle.std.proofs.Common.{List, [], ◌∷◌, length, refl, sym, ◌∙◌, ap, subst}
+use Rattle.std.proofs.lemmas.Result.{IfOk-weaker}
+use Rattle.qual_types.specs.declared.row.Row.{Row}
+use Rattle.qual_types.specs.Table.{Stands}
+use Rattle.annotate.specs.Scenes as scenes
+use Rattle.c_types.specs.declared.source.Source.{Source}
+use Rattle.c_types.specs.Sources.{units_of}
+use Rattle.cqual_tool.specs.Words.{FileNames, names_in}
+use Rattle.cqual_tool.specs.Programs.{judging_of, texts_of}
+use Rattle.cqual_tool.specs.Outcome.{made_names}
+use Rattle.cqual_tool.proofs.making.of_program.Goals as goal
+
+pub returns-clause-sum : goal.returns-clause-sum
+returns-clause-sum c = λ bytes is.
+    let it = judging_of made_names c.args.lattices.now [] (is.unit ∷ []) in
+    let names = names_in c.made_names-named.result in
+    IfOk-weaker c.summed.result _ _
+    (λ answer sum.
+    sum it
+    (record {
+      units =
+          sym (ap scenes.units_of c.deref-2.ensures.value ∙ c.in_ok-units.ensures
+          ∙ ap (λ (ss : List Source). texts_of names (units_of ss)) c.deref.ensures.value
+          ∙ ap (texts_of names) is.units
+          ∙ ap (λ (ns : FileNames). texts_of ns (is.unit ∷ [])) c.made_names-named.ensures);
+      lattices = refl;
+      listed = sym (c.deref-3.ensures.value ∙ is.made.listed);
+      count = sym is.made.count ∙ ap (λ (rows : List Row). length rows) (sym c.vars.ensures);
+      stand = λ v p lt stands. is.made.stand p v (subst (λ (rows : List Row). Stands rows p v) c.vars.ensures stands);
+    })
+    (sym is.made.system))
+    c.summed.ensures.sum
