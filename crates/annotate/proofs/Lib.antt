@@ -5,3 +5,4 @@ mod LatticeLemmas
 mod SolutionLemmas
 mod ReportLemmas
 mod Annotating
+mod Counting

@@ -53,10 +53,15 @@ judged_alone scene sys accepted text (AcceptedWith _ report is spelled) =
     JudgedAccepted text (subst Is (sym (spelled ∙ append-nil report)) is)
 judged_alone scene sys accepted text (RejectedWith _ is) = JudgedRejected text is
 
+-- where some bound is exceeded, the program is not accepted
+pub over_is_refuted : (scene : Scene) (sys : System) (n : ℕ) → ExceededIsRefuted → IsOver scene sys n →
+    IsAccepted sys (orders_of scene.lattices) → ⊥
+over_is_refuted scene sys n law over accepted = law sys over.lattice over.order n over.exceeded (accepted over.lattice over.order over.there)
+
 pub rejected_report : (scene : Scene) (sys : System) (text begun errors : List ℕ) → ExceededIsRefuted → (n : ℕ) → IsOver scene sys n →
     begun ≡ line (codes "rejected") → text ≡ begun ++ errors → Errors scene sys (length sys.constraints) errors → IsRejectedReport scene sys text
 rejected_report scene sys text begun errors law n over begins is listed = record {
-  rejected = λ accepted. law sys over.lattice over.order n over.exceeded (accepted over.lattice over.order over.there);
+  rejected = over_is_refuted scene sys n law over;
   errors = errors;
   listed = listed;
   spelled = is ∙ ap (λ (t : List ℕ). t ++ errors) begins;

@@ -61,11 +61,11 @@ kept_next sys lattices solutions count view solution there found own below n v s
     by_order (inr (inl before)) = below n v s before v_there s_there
     by_order (inr (inr past)) = absurd (omega (arith, past, within))
 
--- what is answered of the first exceeded bound
-pub found_first : (E : ℕ → Type 0) (found : Option ℕ) → IfSome found E → is_some found ≡ true → (n : ℕ) × E n
-found_first E (Some n) is some = (n, is)
-found_first E None is some = absurd cc
+-- what is answered of something found, and of nothing
+pub found_is : {A : Type 0} (E : A → Type 0) (found : Option A) → IfSome found E → is_some found ≡ true → (a : A) × E a
+found_is E (Some a) is some = (a, is)
+found_is E None is some = absurd cc
 
-pub none_found_kept : (K : Type 0) (found : Option ℕ) → IfNone found K → is_some found ≡ false → K
-none_found_kept K (Some n) is none = absurd cc
-none_found_kept K None is none = is
+pub none_found : {A : Type 0} (K : Type 0) (found : Option A) → IfNone found K → is_some found ≡ false → K
+none_found K (Some a) is none = absurd cc
+none_found K None is none = is

@@ -90,6 +90,12 @@ pub data Errors (scene : Scene) (sys : System) : ℕ → List ℕ → Type 0 whe
   NoConstraint : Errors scene sys 0 []
   NextError : (number : ℕ) (text error : List ℕ) → Errors scene sys number text → IsErrorOf scene sys number error → Errors scene sys (number + 1) (text ++ error)
 
+-- how many of the constraints below a number are exceeded bounds
+pub data ErrorCount (scene : Scene) (sys : System) : ℕ → ℕ → Type 0 where
+  NoneBelow : ErrorCount scene sys 0 0
+  OneHolds : (number count : ℕ) → ErrorCount scene sys number count → (IsOver scene sys number → ⊥) → ErrorCount scene sys (number + 1) count
+  OneExceeds : (number count : ℕ) → ErrorCount scene sys number count → IsOver scene sys number → ErrorCount scene sys (number + 1) (count + 1)
+
 -- The rejected report: the program has no assignment at some call depth, and each exceeded bound has its error.
 pub record IsRejectedReport (scene : Scene) (sys : System) (text : List ℕ) : Type 0 where
   pub rejected : IsAccepted sys (orders_of scene.lattices) → ⊥

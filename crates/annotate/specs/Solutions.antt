@@ -13,7 +13,7 @@ use Rattle.annotate.specs.declared.listing.Listing.{Listing}
 use Rattle.annotate.specs.declared.solving.Solved.{Solved}
 use Rattle.annotate.specs.declared.scene.Scene.{Scene as Lent}
 use Rattle.annotate.specs.Texts.{Scene}
-use Rattle.annotate.specs.Reports.{IsListed, IsOver}
+use Rattle.annotate.specs.Reports.{IsListed, IsOver, ErrorCount}
 use Rattle.annotate.specs.Scenes.{Shows}
 
 -- each constant and bound of a lattice of the list names an element of it
@@ -66,3 +66,7 @@ pub record IsOverIn (lattices : List LatticeView) (sys : System) (of : Solved) (
 -- a bound of some lattice is exceeded
 abbrev pub IsSomeOver : Lent → System → Type 0
 IsSomeOver lent sys = (scene : Scene) → Shows lent scene → (n : ℕ) × IsOver scene sys n
+
+-- so many of the constraints below a number are exceeded bounds, in each scene that is what the code holds
+abbrev pub CountsOver : Lent → System → ℕ → ℕ → Type 0
+CountsOver lent sys number count = (scene : Scene) → Shows lent scene → ErrorCount scene sys number count

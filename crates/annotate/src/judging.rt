@@ -1,18 +1,22 @@
 //! Whether a program is accepted, and its report.
 
-ghost use Rattle.std.specs.Prelude.{◌≡◌, ◌<◌, ◌↔◌, ℕ, IfOk, IsTrue};
+ghost use Rattle.std.specs.Prelude.{◌≡◌, ◌<◌, ◌↔◌, ℕ, IfOk, IsTrue, length};
 ghost use Rattle.std.specs.Bool.{OnTrue, OnFalse};
 ghost use Rattle.flow_graph.specs.System.{IsWellOwned};
+ghost use Rattle.flow_graph.specs.Unfolding.{IsAccepted};
+ghost use Rattle.lattice_core.specs.View.{orders_of};
 ghost use Rattle.annotate.specs.Scenes.{Shows};
-ghost use Rattle.annotate.specs.Solutions.{AllNamed, AreKept, AreSolutions, IsSomeOver};
-ghost use Rattle.annotate.specs.Reports.{IsJudged, IsJudgedWith};
+ghost use Rattle.annotate.specs.Solutions.{AllNamed, AreKept, AreSolutions};
+ghost use Rattle.annotate.specs.Solutions.{CountsOver, IsSomeOver};
+ghost use Rattle.annotate.specs.Reports.{ErrorCount, IsJudged, IsJudgedWith};
 
-use crate::reports::{accepted, rejected};
+use crate::reports::{accepted, over_in, rejected};
 use crate::scene::Scene;
 use crate::solving::{Solved, solve_all, solved_of};
 use flow_graph::{FlowGraph, names_elements};
+use flow_laws::exceeded_is_refuted;
 use lattice_core::Lattices;
-use qual_base::{LatticeNo, NoMemory, UnitNo};
+use qual_base::{EdgeId, LatticeNo, NoMemory, Numbered, UnitNo};
 use std::alloc::Global;
 
 /// Whether a program is accepted, and its whole report.
@@ -101,4 +105,43 @@ pub fn judge(alloc: Global, scene: &Scene<'_>, graph: &FlowGraph) -> Result<Judg
         IsJudged s graph.now judged.accepted judged.text.items) }
 {
     judge_with(alloc, scene, graph, None)
+}
+
+/// How many constraints are exceeded bounds. Linear in the constraints, with at most 64 steps for each, and takes no memory.
+fn count_over(scene: &Scene<'_>, graph: &FlowGraph, solutions: &[Solved]) -> u32
+    requires named { AllNamed scene.now.lattices.now graph.now }
+    requires owned { IsWellOwned graph.now }
+    requires solutions { AreSolutions graph.now scene.now.lattices.now solutions.now }
+    ensures { CountsOver scene.now graph.now (length graph.now.constraints) result }
+{
+    let mut count = 0;
+    for n in 0..graph.len() {
+        if over_in(scene, graph, solutions, EdgeId::new(n)).is_some() {
+            count += 1;
+        }
+    }
+    count
+}
+
+/// How many bounds of a program are exceeded: 0 exactly where it is accepted, at most as many as it has constraints. Each
+/// lattice is solved once; beside that, linear in the constraints times the lattices.
+///
+/// `flow_graph::is_well_owned` and `are_named` test what is asked of the graph.
+pub fn count_errors(alloc: Global, scene: &Scene<'_>, graph: &FlowGraph) -> Result<u32, NoMemory>
+    requires named { AllNamed scene.now.lattices.now graph.now }
+    requires owned { IsWellOwned graph.now }
+    ensures count { IfOk result (λ count. (s : _) → Shows scene.now s →
+        ErrorCount s graph.now (length graph.now.constraints) count) }
+    ensures accepted { IfOk result (λ count. count ≡ 0 → (s : _) → Shows scene.now s →
+        IsAccepted graph.now (orders_of s.lattices)) }
+    ensures rejected { IfOk result (λ count. 0 < count → (s : _) → Shows scene.now s →
+        IsAccepted graph.now (orders_of s.lattices) → ⊥) }
+{
+    exceeded_is_refuted();
+    let solutions = solve_all(alloc, graph, scene.lattices)?;
+    // asked as `judge_with` asks it, so that none are counted exactly where that accepts
+    if !is_exceeded(scene, graph, &solutions) {
+        return Ok(0);
+    }
+    Ok(count_over(scene, graph, &solutions))
 }

@@ -1,7 +1,7 @@
 //! The two reports of a program.
 
 ghost use Rattle.std.specs.Prelude.{◌≡◌, ◌<◌, ◌++◌, ◌*◌, ◌≤◌, ◌^◌, ℕ, List, IfOk, OnOk};
-ghost use Rattle.std.specs.Prelude.{MatchOption, length, slice_get, true, Some};
+ghost use Rattle.std.specs.Prelude.{IfSome, IfNone, MatchOption, length, slice_get, true, Some};
 ghost use Rattle.flow_graph.specs.declared.constraint.Link.TheVariants.{Const, Bound};
 ghost use Rattle.flow_graph.specs.declared.proof.PathStep.TheVariants.{Take};
 ghost use Rattle.flow_graph.specs.PathProofs.{first_of};
@@ -159,6 +159,37 @@ fn put_exceeded(
     Ok(())
 }
 
+/// What was found of the lattice in which a constraint is an exceeded bound, if it is one. At most 64 steps.
+pub fn over_in<'a>(
+    scene: &Scene<'_>,
+    graph: &FlowGraph,
+    solutions: &'a [Solved],
+    number: EdgeId,
+) -> Option<&'a Solved>
+    requires named { AllNamed scene.now.lattices.now graph.now }
+    requires owned { IsWellOwned graph.now }
+    requires solutions { AreSolutions graph.now scene.now.lattices.now solutions.now }
+    requires number { number < length graph.now.constraints }
+    ensures found { IfSome result
+        (λ solved. IsOverIn scene.now.lattices.now graph.now solved.now number) }
+    ensures over { IfSome result
+        (λ solved. (s : _) → Shows scene.now s → IsOver s graph.now number) }
+    ensures none { IfNone result ((s : _) → Shows scene.now s → IsOver s graph.now number → ⊥) }
+{
+    let Some(lattice) = lattice_of(&graph.constraint(number)) else {
+        return None;
+    };
+    if lattice.number() >= scene.lattices.len() {
+        return None;
+    }
+    let solved = solved_of(solutions, lattice);
+    let named = scene.lattices.get(lattice);
+    match solved.solver.exceeded(graph, named, number) {
+        Some(_) => Some(solved),
+        None => None,
+    }
+}
+
 /// The error of a constraint, if it is an exceeded bound.
 fn put_error_of(
     alloc: Global,
@@ -175,16 +206,8 @@ fn put_error_of(
     ensures { OnOk result (WritesSome scene.now out.old.items out.new.items
         (λ s error. IsErrorOf s graph.now number error)) }
 {
-    let Some(lattice) = lattice_of(&graph.constraint(number)) else {
-        return Ok(());
-    };
-    if lattice.number() >= scene.lattices.len() {
-        return Ok(());
-    }
-    let solved = solved_of(solutions, lattice);
-    let named = scene.lattices.get(lattice);
-    match solved.solver.exceeded(graph, named, number) {
-        Some(_) => put_exceeded(alloc, out, scene, graph, solved, number),
+    match over_in(scene, graph, solutions, number) {
+        Some(solved) => put_exceeded(alloc, out, scene, graph, solved, number),
         None => Ok(()),
     }
 }

@@ -3,7 +3,7 @@ use Rattle.std.proofs.lemmas.Option.{slice_get_within}
 use Rattle.lattice_core.specs.View.{LatticeView}
 use Rattle.flow_graph.specs.Unfolding.{IsExceeded, NamesElementsIn}
 use Rattle.annotate.proofs.LatticeLemmas.{order_there}
-use Rattle.annotate.proofs.SolutionLemmas.{kept_next, none_found_kept, found_first}
+use Rattle.annotate.proofs.SolutionLemmas.{kept_next, none_found, found_is}
 use Rattle.annotate.proofs.judging.is_exceeded.Goals as goal
 
 pub first_exceeded-requires-clause-solved : goal.first_exceeded-requires-clause-solved
@@ -18,7 +18,7 @@ first_exceeded-requires-clause-named c =
 pub returns-then-is_some-clause-over : goal.returns-then-is_some-clause-over
 returns-then-is_some-clause-over c =
     let own = c.requires.solutions.each c.new-number.result c.solved_of-solved.result.now c.solved_of-solved.ensures in
-    let found = found_first _ c.first_exceeded.result (c.first_exceeded.ensures.first c.requires.owned) (sym c.is_some.ensures ∙ c.if-is_some.true) in
+    let found = found_is _ c.first_exceeded.result (c.first_exceeded.ensures.first c.requires.owned) (sym c.is_some.ensures ∙ c.if-is_some.true) in
     let In : ℕ → Type 0 = λ l. IsExceeded c.args.graph.now l c.get.result.now.order found.0 in
     λ s shows. (
       found.0,
@@ -33,7 +33,7 @@ returns-then-is_some-clause-over c =
 pub loop-n-preserved : goal.loop-n-preserved
 loop-n-preserved c =
     let number : c.new-number.result ≡ c.loop-n.n = c.new-number.ensures in
-    let kept = none_found_kept _ c.first_exceeded.result (c.first_exceeded.ensures.kept c.requires.owned) (sym c.is_some.ensures ∙ c.if-is_some.false) in
+    let kept = none_found _ c.first_exceeded.result (c.first_exceeded.ensures.kept c.requires.owned) (sym c.is_some.ensures ∙ c.if-is_some.false) in
     kept_next c.args.graph.now c.args.scene.now.lattices.now c.args.solutions.now c.loop-n.n c.get.result.now c.solved_of-solved.result.now (ap (slice_get c.args.scene.now.lattices.now) (sym number) ∙ c.get.ensures)
     (ap (slice_get c.args.solutions.now) (sym number) ∙ c.solved_of-solved.ensures) kept c.loop-n.invariant
 
