@@ -17,7 +17,8 @@ behind_least : (digits : List ℕ) (n : ℕ) → n ≤ number_behind n digits
 behind_least [] n = omega arith
 behind_least (c ∷ digits) n = let h = behind_least digits (n * 10 + (c - 48)) in omega arith
 
-behind_drop : (digits : List ℕ) (i n : ℕ) → i < length digits → number_behind n (drop i digits) ≡ number_behind (n * 10 + (get_or digits i 0 - 48)) (drop (i + 1) digits)
+behind_drop : (digits : List ℕ) (i n : ℕ) → i < length digits →
+    number_behind n (drop i digits) ≡ number_behind (n * 10 + (get_or digits i 0 - 48)) (drop (i + 1) digits)
 behind_drop digits i n lt = rw (add-one, drop-cons digits i 0 lt) refl
 
 pub goes_on : (digits : List ℕ) (i number next : ℕ) → AreReadTo digits i number → i < length digits →
@@ -36,9 +37,13 @@ stops digits i number n h lt none w =
     let within = w.within in
     none (All-get_or IsDigit digits i 0 lt w.numeral.decimal) (omega arith)
 
-pub ends : (digits : List ℕ) (i number : ℕ) → AreReadTo digits i number → length digits ≤ i → false ≡ (length digits == 0) → IsWritten digits number
+pub ends : (digits : List ℕ) (i number : ℕ) → AreReadTo digits i number → length digits ≤ i → false ≡ (length digits == 0) →
+    IsWritten digits number
 ends digits i number h le some = record {
-  numeral = record { some = λ is. false≢true (rw is at some); decimal = All-same IsDigit digits (take i digits) (sym (take_all i digits le)) h.decimal };
+  numeral = record {
+    some = λ is. false≢true (rw is at some);
+    decimal = All-same IsDigit digits (take i digits) (sym (take_all i digits le)) h.decimal;
+  };
   says = sym (sym (at_drop_all (number_behind number) digits i le) ∙ h.left);
   within = h.within;
 }

@@ -9,7 +9,8 @@ use Rattle.std.proofs.lemmas.List.Splits.{slice_split_at, slice_split_none, slic
 use Rattle.index_words.specs.Words.{AreDifferent, IsDigit, IsIndexWord, IsNumeral, group, most_index, number_of}
 use Rattle.cq_prelude.specs.Written.{Arranges, IsSetOf, IsWritten, SayAll, is_low_line}
 
-onto : (c : ℕ) (rest : List ℕ) (parts : List (List ℕ)) → flat_map group parts ≡ 95 ∷ rest → flat_map group (onto_first c parts) ≡ 95 ∷ c ∷ rest
+onto : (c : ℕ) (rest : List ℕ) (parts : List (List ℕ)) → flat_map group parts ≡ 95 ∷ rest →
+    flat_map group (onto_first c parts) ≡ 95 ∷ c ∷ rest
 onto c rest [] is = cc
 onto c rest (part ∷ parts) is = ap (λ (bytes : List ℕ). 95 ∷ c ∷ bytes) (cc)
 
@@ -18,18 +19,21 @@ flat : (bytes : List ℕ) → flat_map group (slice_split is_low_line bytes) ≡
 flat [] = refl
 flat (c ∷ bytes) = ⊎_elim
     (λ (same : (eqb c 95 ≡ true) × (c ≡ 95)). rw (slice_split-cons_yes is_low_line c bytes same.0, flat bytes, same.1) refl)
-    (λ (other : (eqb c 95 ≡ false) × (c ≢ 95)). rw (slice_split-cons_no is_low_line c bytes other.0) (onto c bytes (slice_split is_low_line bytes) (flat bytes)))
+    (λ (other : (eqb c 95 ≡ false) × (c ≢ 95)). rw (slice_split-cons_no is_low_line c bytes other.0)
+    (onto c bytes (slice_split is_low_line bytes) (flat bytes)))
     (eqb_tells c 95)
 
 no_low_line : (digits : List ℕ) → IsNumeral digits → All (λ c. is_low_line c ≡ false) digits
 no_low_line digits h = All-weaker IsDigit (λ c. is_low_line c ≡ false) (λ c is. ne_eqb c 95 (λ same. omega arith)) digits h.decimal
 
 -- groups of digits are the parts again
-cut : (digits : List ℕ) (groups : List (List ℕ)) → IsNumeral digits → All IsNumeral groups → slice_split is_low_line (digits ++ flat_map group groups) ≡ digits ∷ groups
+cut : (digits : List ℕ) (groups : List (List ℕ)) → IsNumeral digits → All IsNumeral groups →
+    slice_split is_low_line (digits ++ flat_map group groups) ≡ digits ∷ groups
 cut digits [] h all = rw append-nil (slice_split_none is_low_line digits (no_low_line digits h))
 cut digits (more ∷ groups) h all =
     slice_split_at is_low_line digits 95 (more ++ flat_map group groups) (no_low_line digits h) refl
-    ∙ ap (λ (parts : List (List ℕ)). digits ∷ parts) (cut more groups (All-head IsNumeral more groups all) (All-tail IsNumeral more groups all))
+    ∙ ap (λ (parts : List (List ℕ)). digits ∷ parts)
+    (cut more groups (All-head IsNumeral more groups all) (All-tail IsNumeral more groups all))
 
 numerals : (groups : List (List ℕ)) (numbers : List ℕ) → AllZip IsWritten groups numbers → All IsNumeral groups
 numerals [] [] h = All-nil IsNumeral
@@ -63,37 +67,47 @@ is_word bytes numbers h different = record {
   different = different;
 }
 
-written : (groups : List (List ℕ)) → All IsNumeral groups → All (λ n. n ≤ most_index) (map number_of groups) → AllZip IsWritten groups (map number_of groups)
+written : (groups : List (List ℕ)) → All IsNumeral groups → All (λ n. n ≤ most_index) (map number_of groups) →
+    AllZip IsWritten groups (map number_of groups)
 written [] all low = tt
 written (g ∷ gs) all low = (
-  record { numeral = All-head IsNumeral g gs all; says = refl; within = All-head (λ n. n ≤ most_index) (number_of g) (map number_of gs) low },
+  record {
+    numeral = All-head IsNumeral g gs all;
+    says = refl;
+    within = All-head (λ n. n ≤ most_index) (number_of g) (map number_of gs) low;
+  },
   written gs (All-tail IsNumeral g gs all) (All-tail (λ n. n ≤ most_index) (number_of g) (map number_of gs) low),
 )
 
 -- what an index word is spelled with
 pub parts_of : (bytes numbers : List ℕ) (h : IsIndexWord bytes numbers) → (rest : List ℕ) × (bytes ≡ 36 ∷ 95 ∷ rest) × SayAll rest numbers
 parts_of bytes numbers h = parts_from h.groups h.some h.numerals h.spelled h.numbers_are h.within where
-  parts_from : (groups : List (List ℕ)) → groups ≢ [] → All IsNumeral groups → bytes ≡ 36 ∷ flat_map group groups → numbers ≡ map number_of groups → All (λ n. n ≤ most_index) numbers →
+  parts_from : (groups : List (List ℕ)) → groups ≢ [] → All IsNumeral groups → bytes ≡ 36 ∷ flat_map group groups →
+      numbers ≡ map number_of groups → All (λ n. n ≤ most_index) numbers →
       (rest : List ℕ) × (bytes ≡ 36 ∷ 95 ∷ rest) × SayAll rest numbers
   parts_from [] some all spelled is low = absurd (some refl)
   parts_from (g ∷ gs) some all spelled is low = (
     g ++ flat_map group gs,
     spelled,
     subst (λ (ns : List ℕ). SayAll (g ++ flat_map group gs) ns) (sym is)
-        (subst (λ (parts : List (List ℕ)). AllZip IsWritten parts (map number_of (g ∷ gs))) (sym (cut g gs (All-head IsNumeral g gs all) (All-tail IsNumeral g gs all)))
+        (subst (λ (parts : List (List ℕ)). AllZip IsWritten parts (map number_of (g ∷ gs)))
+        (sym (cut g gs (All-head IsNumeral g gs all) (All-tail IsNumeral g gs all)))
         (written (g ∷ gs) all (subst (All (λ n. n ≤ most_index)) is low))),
   )
 
-pub more_written : (groups : List (List ℕ)) (numbers : List ℕ) (i : ℕ) (g : List ℕ) (n : ℕ) → i < length groups → g ≡ get_or groups i g → AllZip IsWritten (take i groups) numbers → IsWritten g n →
+pub more_written : (groups : List (List ℕ)) (numbers : List ℕ) (i : ℕ) (g : List ℕ) (n : ℕ) → i < length groups → g ≡ get_or groups i g →
+    AllZip IsWritten (take i groups) numbers → IsWritten g n →
     AllZip IsWritten (take (suc i) groups) (numbers ++ n ∷ [])
 more_written [] numbers i g n lt is all one = absurd (omega arith)
 more_written (first ∷ groups) [] zero g n lt is all one = (subst (λ (digits : List ℕ). IsWritten digits n) is one, tt)
 more_written (first ∷ groups) (m ∷ numbers) zero g n lt is all one = absurd all
 more_written (first ∷ groups) [] (suc i) g n lt is all one = absurd all
-more_written (first ∷ groups) (m ∷ numbers) (suc i) g n lt is all one = (all.0, more_written groups numbers i g n (omega arith) is all.1 one)
+more_written (first ∷ groups) (m ∷ numbers) (suc i) g n lt is all one =
+    (all.0, more_written groups numbers i g n (omega arith) is all.1 one)
 
 -- each group says a number
-pub one_written : (groups : List (List ℕ)) (numbers : List ℕ) (i : ℕ) (g : List ℕ) → AllZip IsWritten groups numbers → i < length groups → g ≡ get_or groups i g → (n : ℕ) × IsWritten g n
+pub one_written : (groups : List (List ℕ)) (numbers : List ℕ) (i : ℕ) (g : List ℕ) → AllZip IsWritten groups numbers → i < length groups →
+    g ≡ get_or groups i g → (n : ℕ) × IsWritten g n
 one_written [] numbers i g all lt is = absurd (omega arith)
 one_written (first ∷ groups) [] i g all lt is = absurd all
 one_written (first ∷ groups) (m ∷ numbers) zero g all lt is = (m, subst (λ (digits : List ℕ). IsWritten digits m) (sym is) all.0)
@@ -106,7 +120,8 @@ says_of bytes rest numbers is h =
     let same : parts.0 ≡ rest = let begun = parts.1 in cc in
     subst (λ (behind : List ℕ). SayAll behind numbers) same parts.2
 
-pub says_different : (bytes rest ours theirs : List ℕ) → bytes ≡ 36 ∷ 95 ∷ rest → SayAll rest ours → IsIndexWord bytes theirs → AreDifferent ours
+pub says_different : (bytes rest ours theirs : List ℕ) → bytes ≡ 36 ∷ 95 ∷ rest → SayAll rest ours → IsIndexWord bytes theirs →
+    AreDifferent ours
 says_different bytes rest ours theirs is h word =
     subst AreDifferent (numbers_are _ theirs (says_of bytes rest theirs is word) ∙ sym (numbers_are _ ours h)) word.different
 

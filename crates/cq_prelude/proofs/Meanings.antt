@@ -1,5 +1,5 @@
 -- Tokens that bytes spell, where words mean the same by other lists.
-use Rattle.std.proofs.Common.{◌≡◌, ℕ, List, drop, take, sym, ◌∙◌}
+use Rattle.std.proofs.Common.{ℕ, List, drop, take, sym, ◌∙◌}
 use Rattle.qual_base.specs.Words.{MeansTheSame}
 use Rattle.c_words.specs.declared.kinds.TokenKind.{TokenKind}
 use Rattle.c_words.specs.declared.kinds.TokenKind.TheVariants.{Name, Keyword, Number, Char, Text, Punct, Qual, Index, End}
@@ -7,7 +7,8 @@ use Rattle.c_lexer.specs.declared.token.Token.{Token}
 use Rattle.c_lexer.specs.declared.places.Mark.{Mark}
 use Rattle.c_lexer.specs.Reading.{Front, IsKind, Meanings, Reaches, Spells, begins, skips, takes}
 
-kind_by : (unit : ℕ) (words others : Meanings) → MeansTheSame words others → (names : List (List ℕ)) (bytes : List ℕ) (kind : TokenKind) → IsKind unit words names bytes kind → IsKind unit others names bytes kind
+kind_by : (unit : ℕ) (words others : Meanings) → MeansTheSame words others → (names : List (List ℕ)) (bytes : List ℕ) (kind : TokenKind) →
+    IsKind unit words names bytes kind → IsKind unit others names bytes kind
 kind_by unit words others same names bytes (Name id) h = h
 kind_by unit words others same names bytes (Keyword word) h = h
 kind_by unit words others same names bytes Number h = h
@@ -18,9 +19,11 @@ kind_by unit words others same names bytes (Qual lattice elem) h = (h.0, h.1, sy
 kind_by unit words others same names bytes Index h = h
 kind_by unit words others same names bytes End h = h
 
-reached_by : (unit : ℕ) (words others : Meanings) → MeansTheSame words others → (bytes : List ℕ) (front : Front) → Reaches unit words bytes front → Reaches unit others bytes front
+reached_by : (unit : ℕ) (words others : Meanings) → MeansTheSame words others → (bytes : List ℕ) (front : Front) →
+    Reaches unit words bytes front → Reaches unit others bytes front
 reached_by unit words others same bytes _ begins = begins
-reached_by unit words others same bytes _ (skips old new before step) = skips old new (reached_by unit words others same bytes old before) step
+reached_by unit words others same bytes _ (skips old new before step) =
+    skips old new (reached_by unit words others same bytes old before) step
 reached_by unit words others same bytes _ (takes old new before step) =
     takes old new (reached_by unit words others same bytes old before) (record {
       n = step.n;
@@ -35,7 +38,8 @@ reached_by unit words others same bytes _ (takes old new before step) =
       marks = step.marks;
     })
 
-pub spelled_by : (unit : ℕ) (words others : Meanings) → MeansTheSame words others → (bytes : List ℕ) (tokens : List Token) (names : List (List ℕ)) (marks : List Mark) →
+pub spelled_by : (unit : ℕ) (words others : Meanings) → MeansTheSame words others →
+    (bytes : List ℕ) (tokens : List Token) (names : List (List ℕ)) (marks : List Mark) →
     Spells unit words bytes tokens names marks → Spells unit others bytes tokens names marks
 spelled_by unit words others same bytes tokens names marks h = record {
   front = h.front;

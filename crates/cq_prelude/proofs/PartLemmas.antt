@@ -13,4 +13,5 @@ append_nil xs = append-nil xs
 pub pending_push : (parts : List Part) (part : Part) → pending (parts ++ part ∷ []) ≡ in_part part ++ pending parts
 unfolding pending
 pending_push [] part = sym (append-nil (in_part part))
-pending_push (other ∷ parts) part = ap (λ (tokens : List ℕ). tokens ++ in_part other) (pending_push parts part) ∙ append_assoc (in_part part) (pending parts) (in_part other)
+pending_push (other ∷ parts) part = ap (λ (tokens : List ℕ). tokens ++ in_part other) (pending_push parts part)
+    ∙ append_assoc (in_part part) (pending parts) (in_part other)

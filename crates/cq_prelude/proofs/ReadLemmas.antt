@@ -1,7 +1,6 @@
 -- What is read of a prelude, and why bytes are none.
 use Rattle.std.proofs.Common.{◌≡◌, ◌≢◌, ℕ, List, [], ◌∷◌, Option, zero, suc, refl, sym, ap, ◌∙◌, subst, arith, All, Contains}
 use Rattle.std.specs.Prelude.{codes}
-use Rattle.qual_base.specs.Words.{meaning_of}
 use Rattle.c_lexer.specs.Reading.{Meanings, Spells}
 use Rattle.c_lexer.specs.Refusals.{IsRefusal}
 use Rattle.c_lexer.specs.Tokens.{Lexed, NamesKeywords}
@@ -31,18 +30,21 @@ use Rattle.cq_prelude.specs.declared.fault.PreludeFault.{PreludeFault}
 use Rattle.cq_prelude.specs.declared.fault.PreludeFault.TheVariants.{BadIndex, HasBody, Lex, NoMemory, Parse, Shape}
 use Rattle.cq_prelude.proofs.Meanings.{spelled_by}
 
-pub sound_alone : (source : Source) → IsWellFormed (lexemes_of source.tokens) (items_of source.unit) → All IsSound (sources_of (source ∷ []))
+pub sound_alone : (source : Source) → IsWellFormed (lexemes_of source.tokens) (items_of source.unit) →
+    All IsSound (sources_of (source ∷ []))
 sound_alone source h zero d lt = (lexemes_of source.tokens, h.rules)
 sound_alone source h (suc k) d lt = absurd (omega arith)
 
-pub lex_refusal : (words : Meanings) (bytes : List ℕ) (fault : LexFault) → IsRefusal 0 words bytes fault → IsFaultOf words bytes (placed_lex fault)
+pub lex_refusal : (words : Meanings) (bytes : List ℕ) (fault : LexFault) → IsRefusal 0 words bytes fault →
+    IsFaultOf words bytes (placed_lex fault)
 lex_refusal words bytes (BadByte spot) h = (h, λ same. (cc))
 lex_refusal words bytes (Unended spot) h = (h, λ same. (cc))
 lex_refusal words bytes (UnknownQualifier spot) h = (h, λ same. (cc))
 lex_refusal words bytes NoRoom h = tt
 
 -- the tokens of unit 0 that bytes spell, with the words that are asked
-spells : (words : Meanings) (bytes : List ℕ) (lexed : Lexed) → Lexes words bytes lexed → (names : List (List ℕ)) × Spells 0 words bytes lexed.tokens names lexed.marks
+spells : (words : Meanings) (bytes : List ℕ) (lexed : Lexed) → Lexes words bytes lexed →
+    (names : List (List ℕ)) × Spells 0 words bytes lexed.tokens names lexed.marks
 spells words bytes lexed h =
     let spelled = rw (h.unit, h.bytes_are) at h.marks.spelled in
     (spelled.0, spelled_by 0 h.marks.words words h.marks.mean bytes lexed.tokens spelled.0 lexed.marks spelled.1)
@@ -51,14 +53,17 @@ abbrev made : ℕ → List ℕ → List Token → List Mark → Option (ℕ × �
 made unit bytes tokens marks constant volatile restrict =
     record { unit = unit; bytes = bytes; tokens = tokens; marks = marks; constant = constant; volatile = volatile; restrict = restrict }
 
-same : (one other : Lexed) → one.unit ≡ other.unit → one.bytes ≡ other.bytes → one.tokens ≡ other.tokens → one.marks ≡ other.marks → one.constant ≡ other.constant → one.volatile ≡ other.volatile →
-    one.restrict ≡ other.restrict → one ≡ other
+same : (one other : Lexed) → one.unit ≡ other.unit → one.bytes ≡ other.bytes → one.tokens ≡ other.tokens → one.marks ≡ other.marks →
+    one.constant ≡ other.constant → one.volatile ≡ other.volatile → one.restrict ≡ other.restrict → one ≡ other
 same one other unit bytes tokens marks constant volatile restrict =
-    let parts : made one.unit one.bytes one.tokens one.marks one.constant one.volatile one.restrict ≡ made other.unit other.bytes other.tokens other.marks other.constant other.volatile other.restrict = cc in
+    let parts : made one.unit one.bytes one.tokens one.marks one.constant one.volatile one.restrict
+    ≡ made other.unit other.bytes other.tokens other.marks other.constant other.volatile other.restrict = cc in
     parts
 
-pub same_lexed : (words : Meanings) (bytes : List ℕ) (one other : Lexed) → one.unit ≡ 0 → one.bytes ≡ bytes → NamesKeywords words one → Lexes words bytes other →
-    ((tokens : List Token) (names : List (List ℕ)) (marks : List Mark) → Spells 0 words bytes tokens names marks → (one.tokens ≡ tokens) × (one.marks ≡ marks)) → one ≡ other
+pub same_lexed : (words : Meanings) (bytes : List ℕ) (one other : Lexed) → one.unit ≡ 0 → one.bytes ≡ bytes → NamesKeywords words one →
+    Lexes words bytes other →
+    ((tokens : List Token) (names : List (List ℕ)) (marks : List Mark) → Spells 0 words bytes tokens names marks →
+    (one.tokens ≡ tokens) × (one.marks ≡ marks)) → one ≡ other
 same_lexed words bytes one other unit bytes_are keywords h only =
     let spelled = spells words bytes other h in
     let read = only other.tokens spelled.0 other.marks spelled.1 in
@@ -68,10 +73,13 @@ same_lexed words bytes one other unit bytes_are keywords h only =
     (keywords.restrict ∙ sym (h.marks.mean (codes "restrict")) ∙ sym h.marks.keywords.restrict)
 
 pub lex_only : (words : Meanings) (bytes : List ℕ) (lexed : Lexed) (fault : LexFault) → Lexes words bytes lexed →
-    ((tokens : List Token) (names : List (List ℕ)) (marks : List Mark) → Spells 0 words bytes tokens names marks → fault ≡ NoRoom) → placed_lex fault ≡ NoMemory
-lex_only words bytes lexed fault h only = let spelled = spells words bytes lexed h in ap placed_lex (only lexed.tokens spelled.0 lexed.marks spelled.1)
+    ((tokens : List Token) (names : List (List ℕ)) (marks : List Mark) → Spells 0 words bytes tokens names marks → fault ≡ NoRoom) →
+    placed_lex fault ≡ NoMemory
+lex_only words bytes lexed fault h only =
+    let spelled = spells words bytes lexed h in ap placed_lex (only lexed.tokens spelled.0 lexed.marks spelled.1)
 
-pub parse_fault : (words : Meanings) (bytes : List ℕ) (lexed : Lexed) (fault : ParseFault) → Lexes words bytes lexed → (fault ≢ OutOfRoom → (items : List Item) → IsWellFormed (lexemes_of lexed) items → ⊥) →
+pub parse_fault : (words : Meanings) (bytes : List ℕ) (lexed : Lexed) (fault : ParseFault) → Lexes words bytes lexed →
+    (fault ≢ OutOfRoom → (items : List Item) → IsWellFormed (lexemes_of lexed) items → ⊥) →
     IsFaultOf words bytes (placed_parse lexed fault (refused_at fault))
 parse_fault words bytes lexed (Syntax token) h none = (lexed, h, λ same. (cc), none (λ same. (cc)), refl)
 parse_fault words bytes lexed (TooDeep token) h none = (lexed, h, λ same. (cc), none (λ same. (cc)), refl)
@@ -80,7 +88,9 @@ parse_fault words bytes lexed (BadMix token) h none = (lexed, h, λ same. (cc), 
 parse_fault words bytes lexed (BadTarget token) h none = (lexed, h, λ same. (cc), none (λ same. (cc)), refl)
 parse_fault words bytes lexed OutOfRoom h none = tt
 
-parse_only : (lexed : Lexed) (fault : ParseFault) (items : List Item) → (fault ≢ OutOfRoom → (items : List Item) → IsWellFormed (lexemes_of lexed) items → ⊥) → IsWellFormed (lexemes_of lexed) items →
+parse_only : (lexed : Lexed) (fault : ParseFault) (items : List Item) →
+    (fault ≢ OutOfRoom → (items : List Item) → IsWellFormed (lexemes_of lexed) items → ⊥) →
+    IsWellFormed (lexemes_of lexed) items →
     placed_parse lexed fault (refused_at fault) ≡ NoMemory
 parse_only lexed (Syntax token) items none h = absurd (none (λ same. (cc)) items h)
 parse_only lexed (TooDeep token) items none h = absurd (none (λ same. (cc)) items h)
@@ -89,7 +99,8 @@ parse_only lexed (BadMix token) items none h = absurd (none (λ same. (cc)) item
 parse_only lexed (BadTarget token) items none h = absurd (none (λ same. (cc)) items h)
 parse_only lexed OutOfRoom items none h = refl
 
-pub unit_fault : (words : Meanings) (bytes : List ℕ) (it : UnitRead) (fault : PreludeFault) → Parses words bytes it → IsFaultIn it fault → IsFaultOf words bytes fault
+pub unit_fault : (words : Meanings) (bytes : List ℕ) (it : UnitRead) (fault : PreludeFault) → Parses words bytes it → IsFaultIn it fault →
+    IsFaultOf words bytes fault
 unit_fault words bytes it (Lex fault) parses h = absurd h
 unit_fault words bytes it (Parse fault spot) parses h = absurd h
 unit_fault words bytes it (HasBody spot) parses h = (it, h.0, parses, h.1, h.2)
@@ -111,7 +122,8 @@ no_shape it (shapes.DefinedTwice unit token) spot none h = none_first _ _ none h
 no_shape it (shapes.TypeTooLarge unit token) spot none h = none_first _ _ none h.first
 no_shape it shapes.NoMemory spot none h = h.reason refl
 
-unit_only : (it : UnitRead) (fault : PreludeFault) → NoneFails it.lexed it.items → HasNoFault (sources_in (it ∷ [])) → IsFaultIn it fault → fault ≡ NoMemory
+unit_only : (it : UnitRead) (fault : PreludeFault) → NoneFails it.lexed it.items → HasNoFault (sources_in (it ∷ [])) → IsFaultIn it fault →
+    fault ≡ NoMemory
 unit_only it (Lex fault) rules none h = absurd h
 unit_only it (Parse fault spot) rules none h = absurd h
 unit_only it (HasBody spot) obeys none h = absurd (obeys has_body h.0 h.1.fails)
@@ -123,17 +135,21 @@ abbrev read_unit : Lexed → List Item → UnitRead
 read_unit lexed items = record { lexed = lexed; items = items }
 
 -- a prelude is the unit that is read
-pub unit_is : (words : Meanings) (bytes : List ℕ) (it : UnitRead) (marks : List IndexMark) (lexed : Lexed) (items : List Item) → lexed ≡ it.lexed →
-    ((others : List Item) → IsWellFormed (lexemes_of lexed) others → items ≡ others) → IsPrelude words bytes it marks → read_unit lexed items ≡ it
+pub unit_is : (words : Meanings) (bytes : List ℕ) (it : UnitRead) (marks : List IndexMark) (lexed : Lexed) (items : List Item) →
+    lexed ≡ it.lexed → ((others : List Item) → IsWellFormed (lexemes_of lexed) others → items ≡ others) →
+    IsPrelude words bytes it marks → read_unit lexed items ≡ it
 unit_is words bytes it marks lexed items same only h =
     let parsed = only it.items (subst (λ (tokens : Lexed). IsWellFormed (lexemes_of tokens) it.items) (sym same) h.parses.formed) in
     let parts : read_unit lexed items ≡ read_unit it.lexed it.items = cc in
     parts
 
-pub memory_only : (words : Meanings) (bytes : List ℕ) (it : UnitRead) (marks : List IndexMark) (read : UnitRead) (fault : PreludeFault) → read ≡ it → IsPrelude words bytes it marks → IsFaultIn read fault → fault ≡ NoMemory
-memory_only words bytes it marks read fault same h fails = unit_only it fault h.rules h.shaped (subst (λ (unit : UnitRead). IsFaultIn unit fault) same fails)
+pub memory_only : (words : Meanings) (bytes : List ℕ) (it : UnitRead) (marks : List IndexMark) (read : UnitRead) (fault : PreludeFault) →
+    read ≡ it → IsPrelude words bytes it marks → IsFaultIn read fault → fault ≡ NoMemory
+memory_only words bytes it marks read fault same h fails =
+    unit_only it fault h.rules h.shaped (subst (λ (unit : UnitRead). IsFaultIn unit fault) same fails)
 
-pub not_parsed : (words : Meanings) (bytes : List ℕ) (it : UnitRead) (marks : List IndexMark) (lexed : Lexed) (fault : ParseFault) → lexed ≡ it.lexed →
-    (fault ≢ OutOfRoom → (items : List Item) → IsWellFormed (lexemes_of lexed) items → ⊥) → IsPrelude words bytes it marks → placed_parse lexed fault (refused_at fault) ≡ NoMemory
+pub not_parsed : (words : Meanings) (bytes : List ℕ) (it : UnitRead) (marks : List IndexMark) (lexed : Lexed) (fault : ParseFault) →
+    lexed ≡ it.lexed → (fault ≢ OutOfRoom → (items : List Item) → IsWellFormed (lexemes_of lexed) items → ⊥) →
+    IsPrelude words bytes it marks → placed_parse lexed fault (refused_at fault) ≡ NoMemory
 not_parsed words bytes it marks lexed fault same none h =
     parse_only lexed fault it.items none (subst (λ (tokens : Lexed). IsWellFormed (lexemes_of tokens) it.items) (sym same) h.parses.formed)

@@ -1,15 +1,12 @@
 -- The first token at which a rule fails.
-use Rattle.std.proofs.Common.{◌≡◌, ℕ, ◌<◌, ◌≤◌, ◌⊎◌, Bool, true, false, ltb, cond, List, [], ◌∷◌, length, get_or, Option, None, Some, option_map, slice_get, zero, suc, refl, sym, ap, ◌∙◌, subst, ⊎_elim, inl, inr, arith, Contains}
+use Rattle.std.proofs.Common.{◌≡◌, ℕ, ◌<◌, ◌≤◌, ◌⊎◌, Bool, true, false, ltb, List, [], ◌∷◌, length, Option, None, Some, zero, suc, refl, sym, ◌∙◌, subst, ⊎_elim, inl, inr, arith, Contains}
 use Rattle.std.proofs.lemmas.Bool.{cases_Bool, cases_lt, ltb-true, ltb-false}
 use Rattle.std.proofs.lemmas.Option.{slice_get_past}
-use Rattle.std.proofs.lemmas.Bool.Decides.{nat_tests}
-use Rattle.std.proofs.lemmas.List.Elements.{Contains-append_left, Contains-append_cases}
-use Rattle.c_lexer.specs.declared.token.Token.{Token}
 use Rattle.c_lexer.specs.Tokens.{Lexed}
 use Rattle.c_tree.specs.Unit.{Item}
 use Rattle.index_words.specs.Marks.{IndexMark}
 use Rattle.cq_prelude.specs.Least.{least_behind, least_with}
-use Rattle.cq_prelude.specs.Marking.{AreFlags, AreMarkedTo, IsBad, IsFirstBad, IsRuleFault, first_fault, is_marked, with_body}
+use Rattle.cq_prelude.specs.Marking.{AreFlags, AreMarkedTo, IsBad, IsFirstBad, IsRuleFault, first_fault, with_body}
 use Rattle.cq_prelude.specs.Placing.{bodies, index_places}
 use Rattle.cq_prelude.specs.Rules.{AreMarks, Fails, IsFirst, IsIndex, IsRight, NoneFails, Rule, bad_index, has_body}
 use Rattle.cq_prelude.specs.declared.rules.RuleFault.TheVariants.{BadIndex, HasBody, NoMemory}
@@ -30,14 +27,23 @@ cases_of : (token : ℕ) (tokens : List ℕ) (x : ℕ) → Contains (token ∷ t
 cases_of token tokens x (zero, lt, is) = inl is
 cases_of token tokens x (suc k, lt, is) = inr (k, omega arith, is)
 
-lesser_is : (best token : ℕ) → (least_with (Some best) token ≤ best) × (least_with (Some best) token ≤ token) × ((least_with (Some best) token ≡ best) ⊎ (least_with (Some best) token ≡ token))
+lesser_is : (best token : ℕ) → (least_with (Some best) token ≤ best) × (least_with (Some best) token ≤ token)
+    × ((least_with (Some best) token ≡ best) ⊎ (least_with (Some best) token ≡ token))
 lesser_is best token = ⊎_elim
     (λ (lt : ltb best token ≡ true). rw lt (omega arith, omega (arith, ltb-true best token lt), inl refl))
     (λ (ge : ltb best token ≡ false). rw ge (omega (arith, ltb-false best token ge), omega arith, inr refl))
     (cases_Bool (ltb best token))
 
 least_is : (best : ℕ) (tokens : List ℕ) → (found : ℕ) × (least_behind (Some best) tokens ≡ Some found) × IsLeast (best ∷ tokens) found
-least_is best [] = (best, refl, record { one = first_of best []; least = λ other has. ⊎_elim (λ (is : best ≡ other). omega arith) (λ (none : Contains [] other). absurd (omega (arith, none.1))) (cases_of best [] other has) })
+least_is best [] = (
+  best,
+  refl,
+  record {
+    one = first_of best [];
+    least = λ other has. ⊎_elim (λ (is : best ≡ other). omega arith)
+        (λ (none : Contains [] other). absurd (omega (arith, none.1))) (cases_of best [] other has);
+  },
+)
 least_is best (token ∷ tokens) =
     let lesser = lesser_is best token in
     let next = least_is (least_with (Some best) token) tokens in (
@@ -46,8 +52,10 @@ least_is best (token ∷ tokens) =
       record {
         one = ⊎_elim
             (λ (is : least_with (Some best) token ≡ next.0). ⊎_elim
-            (λ (first : least_with (Some best) token ≡ best). subst (Contains (best ∷ token ∷ tokens)) (sym first ∙ is) (first_of best (token ∷ tokens)))
-            (λ (second : least_with (Some best) token ≡ token). subst (Contains (best ∷ token ∷ tokens)) (sym second ∙ is) (behind best (token ∷ tokens) token (first_of token tokens)))
+            (λ (first : least_with (Some best) token ≡ best).
+            subst (Contains (best ∷ token ∷ tokens)) (sym first ∙ is) (first_of best (token ∷ tokens)))
+            (λ (second : least_with (Some best) token ≡ token).
+            subst (Contains (best ∷ token ∷ tokens)) (sym second ∙ is) (behind best (token ∷ tokens) token (first_of token tokens)))
             lesser.2)
             (λ (has : Contains tokens next.0). behind best (token ∷ tokens) next.0 (behind token tokens next.0 has))
             (cases_of _ tokens next.0 next.2.one);
@@ -63,7 +71,8 @@ least_is best (token ∷ tokens) =
 
 found_is : (tokens : List ℕ) (found : ℕ) → least_behind None tokens ≡ Some found → IsLeast tokens found
 found_is [] found is = absurd (cc)
-found_is (token ∷ tokens) found is = let h = least_is token tokens in let same : h.0 ≡ found = let e = h.1 in cc in subst (IsLeast (token ∷ tokens)) same h.2
+found_is (token ∷ tokens) found is =
+    let h = least_is token tokens in let same : h.0 ≡ found = let e = h.1 in cc in subst (IsLeast (token ∷ tokens)) same h.2
 
 none_is : (tokens : List ℕ) → least_behind None tokens ≡ None → tokens ≡ []
 none_is [] is = refl
@@ -71,47 +80,62 @@ none_is (token ∷ tokens) is = let h = least_is token tokens in let e = h.1 in 
 
 module _ (lexed : Lexed) (items : List Item) (flags : List Bool) (flagged : AreFlags (length lexed.tokens) (index_places items) flags) where
   is_there : (token : ℕ) → IsIndex lexed token → token < length lexed.tokens
-  is_there token is = ⊎_elim (λ (lt : token < length lexed.tokens). lt) (λ (le : length lexed.tokens ≤ token). absurd (past token le is)) (cases_lt token (length lexed.tokens)) where
-    past : (token : ℕ) → length lexed.tokens ≤ token → IsIndex lexed token → ⊥
-    past token le is = let none = slice_get_past lexed.tokens token le in let h = rw none at is in cc
+  is_there token is = ⊎_elim (λ (lt : token < length lexed.tokens). lt) (λ (le : length lexed.tokens ≤ token). absurd (past token le is))
+      (cases_lt token (length lexed.tokens)) where
+        past : (token : ℕ) → length lexed.tokens ≤ token → IsIndex lexed token → ⊥
+        past token le is = let none = slice_get_past lexed.tokens token le in let h = rw none at is in cc
 
-  right_before : (end : ℕ) (marks : List IndexMark) → AreMarkedTo lexed flags end marks → (token : ℕ) → token < end → IsIndex lexed token → IsRight lexed items token
+  right_before : (end : ℕ) (marks : List IndexMark) → AreMarkedTo lexed flags end marks → (token : ℕ) → token < end → IsIndex lexed token →
+      IsRight lexed items token
   right_before end marks h token lt is = record {
     set = _;
     placed = (flagged.tell token (is_there token is)).0 (h.placed token lt is);
     says = h.said token lt is;
   }
 
-  all_right : (marks : List IndexMark) → AreMarkedTo lexed flags (length lexed.tokens) marks → (token : ℕ) → Fails lexed items bad_index token → ⊥
+  all_right : (marks : List IndexMark) → AreMarkedTo lexed flags (length lexed.tokens) marks → (token : ℕ) →
+      Fails lexed items bad_index token → ⊥
   all_right marks h token fails = fails.1 (right_before (length lexed.tokens) marks h token (is_there token fails.0) fails.0)
 
   bad_fails : (token : ℕ) → IsBad lexed flags token → Fails lexed items bad_index token
-  bad_fails token bad = (bad.index, λ right. bad.wrong ((flagged.tell token (is_there token bad.index)).1 right.placed) right.set right.says)
+  bad_fails token bad =
+      (bad.index, λ right. bad.wrong ((flagged.tell token (is_there token bad.index)).1 right.placed) right.set right.says)
 
-  none_below : (end : ℕ) (marks : List IndexMark) → AreMarkedTo lexed flags end marks → (token : ℕ) → Fails lexed items bad_index token → end ≤ token
-  none_below end marks h token fails = ⊎_elim (λ (lt : token < end). absurd (fails.1 (right_before end marks h token lt fails.0))) (λ (le : end ≤ token). le) (cases_lt token end)
+  none_below : (end : ℕ) (marks : List IndexMark) → AreMarkedTo lexed flags end marks → (token : ℕ) → Fails lexed items bad_index token →
+      end ≤ token
+  none_below end marks h token fails = ⊎_elim (λ (lt : token < end). absurd (fails.1 (right_before end marks h token lt fails.0)))
+      (λ (le : end ≤ token). le) (cases_lt token end)
 
-  pub none_fails : (body : Option ℕ) (marks : List IndexMark) → body ≡ least_behind None (bodies items) → body ≡ None → AreMarkedTo lexed flags (length lexed.tokens) marks → NoneFails lexed items
-  none_fails body marks least none h has_body token fails = let empty = none_is (bodies items) (sym least ∙ none) in let has = subst (λ (tokens : List ℕ). Contains tokens token) empty fails in absurd (omega (arith, has.1))
+  pub none_fails : (body : Option ℕ) (marks : List IndexMark) → body ≡ least_behind None (bodies items) → body ≡ None →
+      AreMarkedTo lexed flags (length lexed.tokens) marks → NoneFails lexed items
+  none_fails body marks least none h has_body token fails = let empty = none_is (bodies items) (sym least ∙ none) in
+      let has = subst (λ (tokens : List ℕ). Contains tokens token) empty fails in absurd (omega (arith, has.1))
   none_fails body marks least none h bad_index token fails = all_right marks h token fails
 
   pub are_marks : (marks : List IndexMark) → AreMarkedTo lexed flags (length lexed.tokens) marks → AreMarks lexed marks
   are_marks marks h = record { said = λ token is. h.said token (is_there token is) is; only = h.only }
 
-  pub body_is_first : (body : Option ℕ) (opening : ℕ) (marks : List IndexMark) → body ≡ least_behind None (bodies items) → body ≡ Some opening → AreMarkedTo lexed flags (length lexed.tokens) marks →
+  pub body_is_first : (body : Option ℕ) (opening : ℕ) (marks : List IndexMark) → body ≡ least_behind None (bodies items) →
+      body ≡ Some opening → AreMarkedTo lexed flags (length lexed.tokens) marks →
       IsFirst lexed items has_body opening
-  body_is_first body opening marks least some h = record { fails = (found_is (bodies items) opening (sym least ∙ some)).one; none_before = before } where
+  body_is_first body opening marks least some h = record {
+    fails = (found_is (bodies items) opening (sym least ∙ some)).one;
+    none_before = before;
+  } where
     before : (other : Rule) (earlier : ℕ) → Fails lexed items other earlier → opening ≤ earlier
     before has_body earlier fails = (found_is (bodies items) opening (sym least ∙ some)).least earlier fails
     before bad_index earlier fails = absurd (all_right marks h earlier fails)
 
-  first_is : (body : Option ℕ) (at : ℕ) (marks : List IndexMark) → body ≡ least_behind None (bodies items) → AreMarkedTo lexed flags at marks → IsBad lexed flags at → IsRuleFault lexed items (first_fault body at)
+  first_is : (body : Option ℕ) (at : ℕ) (marks : List IndexMark) → body ≡ least_behind None (bodies items) →
+      AreMarkedTo lexed flags at marks → IsBad lexed flags at → IsRuleFault lexed items (first_fault body at)
   first_is None at marks none h bad = record { fails = bad_fails at bad; none_before = before } where
     before : (other : Rule) (earlier : ℕ) → Fails lexed items other earlier → at ≤ earlier
-    before has_body earlier fails = let empty = none_is (bodies items) (sym none) in let has = subst (λ (tokens : List ℕ). Contains tokens earlier) empty fails in absurd (omega (arith, has.1))
+    before has_body earlier fails = let empty = none_is (bodies items) (sym none) in
+        let has = subst (λ (tokens : List ℕ). Contains tokens earlier) empty fails in absurd (omega (arith, has.1))
     before bad_index earlier fails = none_below at marks h earlier fails
   first_is (Some opening) at marks some h bad = ⊎_elim
-      (λ (lt : ltb opening at ≡ true). rw lt (record { fails = (found_is (bodies items) opening (sym some)).one; none_before = before_body (ltb-true opening at lt) }))
+      (λ (lt : ltb opening at ≡ true).
+      rw lt (record { fails = (found_is (bodies items) opening (sym some)).one; none_before = before_body (ltb-true opening at lt) }))
       (λ (ge : ltb opening at ≡ false). rw ge (record { fails = bad_fails at bad; none_before = before_word (ltb-false opening at ge) }))
       (cases_Bool (ltb opening at)) where
         before_body : opening < at → (other : Rule) (earlier : ℕ) → Fails lexed items other earlier → opening ≤ earlier
@@ -122,7 +146,8 @@ module _ (lexed : Lexed) (items : List Item) (flags : List Bool) (flagged : AreF
         before_word le has_body earlier fails = let least = (found_is (bodies items) opening (sym some)).least earlier fails in omega arith
         before_word le bad_index earlier fails = none_below at marks h earlier fails
 
-  pub with_body_is : (body : Option ℕ) (fault : RuleFault) → body ≡ least_behind None (bodies items) → IsFirstBad lexed flags fault → IsRuleFault lexed items (with_body body fault)
+  pub with_body_is : (body : Option ℕ) (fault : RuleFault) → body ≡ least_behind None (bodies items) → IsFirstBad lexed flags fault →
+      IsRuleFault lexed items (with_body body fault)
   with_body_is body (HasBody token) least h = absurd h
   with_body_is body (BadIndex token) least h = first_is body token h.0 least h.1 h.2
   with_body_is body NoMemory least h = tt

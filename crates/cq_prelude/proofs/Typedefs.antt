@@ -6,7 +6,8 @@ use Rattle.c_tree.specs.Specifiers.{storage_words}
 use Rattle.cq_prelude.specs.Placing.{has_typedef}
 use Rattle.cq_prelude.specs.Words.{is_typedef_word}
 
-pub typedef_more : (w : SpecWord) (ws : SpecWords) → has_typedef (storage_words (more_words w ws)) ≡ (if is_typedef_word w then true else has_typedef (storage_words ws))
+pub typedef_more : (w : SpecWord) (ws : SpecWords) → has_typedef
+    (storage_words (more_words w ws)) ≡ (if is_typedef_word w then true else has_typedef (storage_words ws))
 typedef_more (storage word) ws = refl
 typedef_more (thread token) ws = refl
 typedef_more (inline_word token) ws = refl

@@ -1,5 +1,5 @@
 -- What is answered of bytes that are no prelude, step by step.
-use Rattle.std.specs.Prelude.{◌≡◌, ◌≢◌, ℕ, List, [], ◌∷◌, Option, None, Some, IfSome, Result, Ok, Err}
+use Rattle.std.specs.Prelude.{◌≡◌, ◌≢◌, ℕ, [], ◌∷◌, Option, None, Some, IfSome, Result, Ok, Err}
 use Rattle.qual_base.specs.declared.places.Spot.{Spot}
 use Rattle.c_lexer.specs.Tokens.{Lexed}
 use Rattle.c_lexer.specs.declared.lexing.LexFault.{LexFault}

@@ -5,4 +5,5 @@ use Rattle.cq_prelude.specs.Placing.{bodies}
 use Rattle.cq_prelude.proofs.placing.first_body.Given as goal
 
 abbrev pub invariant-loop-item : goal.invariant-loop-item
-invariant-loop-item l = least_behind l.best (bodies (map item_of (drop l.item-index l.items))) ≡ least_behind None (bodies (map item_of l.items))
+invariant-loop-item l =
+    least_behind l.best (bodies (map item_of (drop l.item-index l.items))) ≡ least_behind None (bodies (map item_of l.items))

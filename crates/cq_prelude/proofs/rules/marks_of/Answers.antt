@@ -11,13 +11,16 @@ returns-in-Ok-clause-rules c =
     let flagged = rw (c.len.ensures, c.as_slice.ensures.value, c.in_ok-found.ensures) at c.in_ok-flags.ensures in
     let marked = rw c.as_slice-3.ensures.value at c.in-Ok.ensures.all in
     let least = rw c.as_slice-2.ensures.value at c.first_body-body.ensures in
-    IfOk-weaker c.unless_body.result _ _ (λ it h. none_fails _ (items_of c.args.unit.now) _ flagged c.first_body-body.result _ least h.1 marked) c.unless_body.ensures.none
+    IfOk-weaker c.unless_body.result _ _
+    (λ it h. none_fails _ (items_of c.args.unit.now) _ flagged c.first_body-body.result _ least h.1 marked) c.unless_body.ensures.none
 
 pub returns-in-Ok-clause-marks : goal.returns-in-Ok-clause-marks
 returns-in-Ok-clause-marks c =
     let flagged = rw (c.len.ensures, c.as_slice.ensures.value, c.in_ok-found.ensures) at c.in_ok-flags.ensures in
     let marked = rw c.as_slice-3.ensures.value at c.in-Ok.ensures.all in
-    IfOk-weaker c.unless_body.result _ _ (λ it h. subst (AreMarks c.args.tokens.now) (sym h.0) (are_marks _ (items_of c.args.unit.now) _ flagged _ marked)) c.unless_body.ensures.none
+    IfOk-weaker c.unless_body.result _ _
+    (λ it h. subst (AreMarks c.args.tokens.now) (sym h.0)
+    (are_marks _ (items_of c.args.unit.now) _ flagged _ marked)) c.unless_body.ensures.none
 
 pub returns-in-Ok-clause-first : goal.returns-in-Ok-clause-first
 returns-in-Ok-clause-first c =
@@ -25,7 +28,8 @@ returns-in-Ok-clause-first c =
     let marked = rw c.as_slice-3.ensures.value at c.in-Ok.ensures.all in
     let least = rw c.as_slice-2.ensures.value at c.first_body-body.ensures in
     IfErr-weaker c.unless_body.result _ _
-    (λ fault h. subst (IsRuleFault c.args.tokens.now (items_of c.args.unit.now)) (sym h.2) (body_is_first _ (items_of c.args.unit.now) _ flagged c.first_body-body.result h.0 _ least h.1 marked))
+    (λ fault h. subst (IsRuleFault c.args.tokens.now (items_of c.args.unit.now)) (sym h.2)
+    (body_is_first _ (items_of c.args.unit.now) _ flagged c.first_body-body.result h.0 _ least h.1 marked))
     c.unless_body.ensures.some
 
 pub returns-clause-first : goal.returns-clause-first

@@ -9,4 +9,5 @@ returns-then-are_ascending-clause-some c =
 pub returns-else-are_ascending-clause-none : goal.returns-else-are_ascending-clause-none
 returns-else-are_ascending-clause-none c _ h =
     c.are_ascending.ensures.no c.if-are_ascending.false
-    (rw c.as_slice.ensures.value (rises _ (IsNonDecreasingBy-from_sort (λ x. x) _ c.in_ok-sort.ensures.sorted) (permuted _ _ c.in_ok-sort.ensures.permutation h)))
+    (rw c.as_slice.ensures.value
+    (rises _ (IsNonDecreasingBy-from_sort (λ x. x) _ c.in_ok-sort.ensures.sorted) (permuted _ _ c.in_ok-sort.ensures.permutation h)))

@@ -10,7 +10,8 @@ returns-in_default-clause-none c _ word h = let parts = parts_of _ word h in c.b
 pub returns-in-Some-2-clause-some : goal.returns-in-Some-2-clause-some
 returns-in-Some-2-clause-some c =
     let says = rw c.in-Some-2.is at c.in_ok-numbers.ensures.some in
-    IfOk-weaker c.ascending.result _ _ (λ found h. IfSome_then found h (λ set arranged. set_of _ _ _ _ c.in-Some.ensures.some says arranged)) c.ascending.ensures.some
+    IfOk-weaker c.ascending.result _ _
+    (λ found h. IfSome_then found h (λ set arranged. set_of _ _ _ _ c.in-Some.ensures.some says arranged)) c.ascending.ensures.some
 
 pub returns-in-Some-2-clause-none : goal.returns-in-Some-2-clause-none
 returns-in-Some-2-clause-none c none word h =
