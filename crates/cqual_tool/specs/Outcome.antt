@@ -27,7 +27,7 @@ use Rattle.cq_prelude.specs.Preludes.{IsPrelude, IsFaultOf}
 use Rattle.cq_prelude.specs.declared.fault.PreludeFault.{PreludeFault}
 use Rattle.cq_prelude.specs.declared.fault.PreludeFault.TheVariants.{NoMemory as OutOfSpace}
 use Rattle.flow_graph.specs.System.{System, IsWellOwned, most_constraints, most_variables}
-use Rattle.flow_graph.specs.Unfolding.{NamesElementsIn}
+use Rattle.flow_graph.specs.Unfolding.{IsAccepted, NamesElementsIn}
 use Rattle.annotate.specs.Texts.{Scene}
 use Rattle.annotate.specs.Reports.{IsJudgedWith, ErrorCount}
 use Rattle.report_checks.specs.declared.judging.Checked.TheVariants.{Hold, Bad}
@@ -209,10 +209,12 @@ sum_status zero = Accepted
 sum_status (suc errors) = Rejected
 
 -- The status and the whole text for the program of a source that the tool makes itself: the counts of its variables, its constraints,
--- its call sites and its exceeded bounds.
+-- its call sites and its exceeded bounds. It is accepted exactly where there are none of these.
 pub data IsSummed (number : ℕ) (it : Judging) : Status → List ℕ → Type 0 where
   NotSummed : (IsWellOwned it.system → AreNamed it.scene.lattices it.system → ⊥) → IsSummed number it NotYet (not_yet_line made_names.source)
   SummedUp : (errors : ℕ) → ErrorCount it.scene it.system (length it.system.constraints) errors →
+      (errors ≡ 0 → IsAccepted it.system (orders_of it.scene.lattices)) →
+      (0 < errors → IsAccepted it.system (orders_of it.scene.lattices) → ⊥) →
       IsSummed number it (sum_status errors) (summary_text number (record {
         variables = length it.scene.positions;
         constraints = length it.system.constraints;

@@ -26,6 +26,7 @@ use std::alloc::Global;
 
 /// The names of the lattice file and of the source.
 const LATTICE: &str = "generated.q";
+
 const SOURCE: &str = "generated.c";
 
 /// The names of what the tool makes itself.

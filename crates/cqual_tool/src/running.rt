@@ -42,11 +42,7 @@ fn finish<O: Sink>(out: &mut O, status: Status, text: &[u8]) -> Status
 }
 
 /// The answer for what is asked.
-fn answer_for<F: Files>(
-    alloc: Global,
-    asked: &Asked<'_>,
-    files: &mut F,
-) -> Result<Answer, Stop>
+fn answer_for<F: Files>(alloc: Global, asked: &Asked<'_>, files: &mut F) -> Result<Answer, Stop>
     requires { AsksMade asked.now }
     ensures outcome { IfOk result (λ answer. IfSome (F.contents files.old) (λ all.
         OfTask (content_of all) (task_of asked.now) answer.status answer.text.items)) }

@@ -19,11 +19,7 @@ pub struct Named<'a> {
 }
 
 /// The files of words, with what is to be written.
-pub fn of_files<'a>(
-    files: &FileWords<'a>,
-    annotated: bool,
-    report: Option<&'a str>,
-) -> Named<'a>
+pub fn of_files<'a>(files: &FileWords<'a>, annotated: bool, report: Option<&'a str>) -> Named<'a>
     ensures { names_in result ≡ rules.of_files (asked.names_in files.now) annotated
         (option_map (λ name. name.now) report.entry) }
 {
