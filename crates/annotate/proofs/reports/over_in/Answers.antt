@@ -49,7 +49,8 @@ returns-in-None-clause-none c =
     λ s shows over.
     let there : slice_get s.lattices c.in-Some.lattice ≡ Some c.get-named.result.now =
     ap (λ (ls : List LatticeView). slice_get ls c.in-Some.lattice) shows.lattices ∙ c.get-named.ensures in
+    let at = order_there s.lattices c.in-Some.lattice c.get-named.result.now there in
     let exceeded = same_over s c.args.graph.now c.args.number c.constraint.result c.in-Some.ensures.0 c.in-Some.lattice c.in-Some.ensures.1
-    c.get-named.result.now.order c.constraint.ensures.there c.in-Some.ensures.2 (order_there s.lattices c.in-Some.lattice c.get-named.result.now there) over in
+    c.get-named.result.now.order c.constraint.ensures.there c.in-Some.ensures.2 at over in
     let found : false ≡ true = (c.in-None.ensures.exceeded c.requires.owned).1 (subst In (sym own.lattice_is) exceeded) in
     absurd cc
