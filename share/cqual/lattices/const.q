@@ -1,4 +1,4 @@
-/* The `const` of C, inferred: which locations are written to, and which may be declared `const`.
+/* The `const` of C, inferred: which locations are `const`, by their declarations or by what flows, and must not be written to.
 
    Its elements stand at the level of references, that is of the locations that hold values, and not at that of the
    values. `write = yes` says that each location that is assigned to has to be at or below `$nonconst`; a location that
