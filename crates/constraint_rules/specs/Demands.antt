@@ -8,14 +8,14 @@ use Rattle.c_tree.specs.Unit.{Item, function_item, decl_item, asm_item, semi_ite
 use Rattle.type_table.specs.Types.{CType, pointer}
 use Rattle.qual_types.specs.declared.look.Kind.TheVariants as kinds
 use Rattle.qual_types.specs.Skel.{Skel, flat, ref, fun, root, param_at}
-use Rattle.flow_rules.specs.Lists.{equal, unsmash}
+use Rattle.flow_rules.specs.Lists.{equal}
 use Rattle.name_rules.specs.Spellings.{Named}
 use Rattle.name_rules.specs.Uses.{use_at, type_named_at}
 use Rattle.type_rules.specs.Tokens.{first_word, declared_name, is_bare}
 use Rattle.type_rules.specs.Shapes.{is_zero}
 use Rattle.constraint_rules.specs.Values.{val}
 use Rattle.row_rules.specs.Annotations.{further, parameters, write_bounds}
-use Rattle.row_rules.specs.Rows.{RowKind, annotating_place, annotating_some, assigned, behind_known, cast_demand, chosen, computed, dereferenced, first_alone, flowing, initialised, next_of_struct, own_skeleton, param_kind, passed, prefixed, returned, row_at, row_of_name, started, use_demand}
+use Rattle.row_rules.specs.Rows.{RowKind, annotating_place, annotating_some, assigned, behind_known, cast_demand, chosen, computed, dereferenced, first_alone, flowing, initialised, next_of_struct, own_skeleton, param_kind, passed, prefixed, returned, row_at, row_of_name, started, taken, use_demand}
 use Rattle.row_rules.specs.Vals.{contents, member_of, member_skel, own, struct_of, value}
 use Rattle.row_rules.specs.Worlds.{World, all_lattices, at, in_all, span}
 
@@ -37,6 +37,7 @@ item_skel w (flat v (kinds.Struct n)) is_first next no_desigs = next_of_struct w
 item_skel w (flat v (kinds.Struct n)) is_first next (more_desigs d ds) = Some (desigs_skel w (flat v (kinds.Struct n)) (more_desigs d ds))
 item_skel w (flat v kinds.Base) is_first next ds = first_alone is_first (flat v kinds.Base)
 item_skel w (flat v kinds.Void) is_first next ds = first_alone is_first (flat v kinds.Void)
+item_skel w (flat v kinds.Nothing) is_first next ds = None
 item_skel w (fun v ps r e) is_first next ds = None
 
 -- the next member behind an item
@@ -101,7 +102,7 @@ abbrev mutual
   demand w (paren opening e closing) = demand w e
   demand w (statement_expr opening opening2 items closing closing2) = block_items_demand w items
   demand w (va_arg keyword opening e separator ws d closing) = demand w e ++ (words_demand w ws ++ (some_declr_demand w row_of_name d
-      ++ (annotating_some w (type_of_name w ws) (own w keyword) ++ in_all w (where_is w (va_arg keyword opening e separator ws d closing)) (unsmash (root (value (val w e))) (own w keyword)))))
+      ++ (annotating_some w (type_of_name w ws) (own w keyword) ++ taken w (value (val w e)) (own w keyword) (where_is w (va_arg keyword opening e separator ws d closing)))))
   demand w (va_start keyword opening e separator e2 closing) = demand w e ++ (demand w e2 ++ started w w.own (value (val w e)) (where_is w (va_start keyword opening e separator e2 closing)))
   demand w (va_copy keyword opening e separator e2 closing) = demand w e ++ (demand w e2
       ++ flowing (zero_at w e2) (value (val w e2)) (value (val w e)) (all_lattices w) (where_is w (va_copy keyword opening e separator e2 closing)))

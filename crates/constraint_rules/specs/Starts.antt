@@ -12,7 +12,7 @@ use Rattle.name_rules.specs.Values.{value}
 use Rattle.name_rules.specs.Uses.{use_at, type_named_at, text_type}
 use Rattle.type_rules.specs.Tokens.{first_word, declared_name, is_bare}
 use Rattle.type_rules.specs.Shapes.{is_zero, shape_of}
-use Rattle.row_rules.specs.Starting.{Around, Having, Start, declared_function, fresh, fresh_where, had_name, having, is_fresh_binary, is_fresh_prefix, is_some_pointer, name_start, quiet, some_fresh, some_place, use_start, with_skeleton, without_skeleton}
+use Rattle.row_rules.specs.Starting.{Around, Having, Start, declared_function, fresh, fresh_where, had_name, having_where, is_fresh_binary, is_fresh_prefix, is_some_pointer, name_start, quiet, some_fresh, some_place, use_start, of_function, with_skeleton, without_skeleton}
 
 abbrev pub type_at : Around → SpecWords → Option CType
 type_at a ws = type_named_at a.names.type_names (place a.spelling (first_word ws))
@@ -142,7 +142,7 @@ abbrev mutual
   mem_declrs_starts a (more_mem_declrs attrs d ds) = mem_declr_starts a d ++ mem_declrs_starts a ds
 
   pub mem_declr_starts : Around → MemDeclr → List Start
-  mem_declr_starts a (named d width attrs) = declr_starts a with_skeleton false d ++ some_value_starts a width
+  mem_declr_starts a (named d width attrs) = declr_starts a with_skeleton without_skeleton d ++ some_value_starts a width
   mem_declr_starts a (unnamed colon e attrs) = expr_starts (quiet a) e
 
   pub some_value_starts : Around → SomeValue → List Start
@@ -157,13 +157,13 @@ abbrev mutual
   enumerators_starts a no_enumerators = []
   enumerators_starts a (more_enumerators name attrs number es) = some_value_starts a number ++ enumerators_starts a es
 
-  -- a declarator, whose name has a skeleton or none; `own`: the parameters directly around the name belong to a function
-  pub declr_starts : Around → Having → Bool → Declr → List Start
+  -- a declarator, whose name has a skeleton or none; `own`: what the parameters directly around the name have
+  pub declr_starts : Around → Having → Having → Declr → List Start
   declr_starts a h own (pointer star words d) = declr_starts a h own d
   declr_starts a h own (declr_name token name) = had_name h a token
   declr_starts a h own (declr_paren opening attrs d closing) = declr_starts a h own d
   declr_starts a h own (array d opening words size closing) = declr_starts a h own d ++ some_size_starts a size
-  declr_starts a h own (params d opening ps dots closing) = declr_starts a h own d ++ params_starts a (having (own && is_bare d)) ps
+  declr_starts a h own (params d opening ps dots closing) = declr_starts a h own d ++ params_starts a (having_where (is_bare d) own) ps
   declr_starts a h own (abs_pointer star words d) = some_declr_starts a h d
   declr_starts a h own (abs_paren opening attrs d closing) = declr_starts a h own d
   declr_starts a h own (abs_array d opening words size closing) = some_declr_starts a h d ++ some_size_starts a size
@@ -172,7 +172,7 @@ abbrev mutual
   -- of a type name too, whose declarator has no name
   pub some_declr_starts : Around → Having → SomeDeclr → List Start
   some_declr_starts a h no_declr = []
-  some_declr_starts a h (some_declr d) = declr_starts a h false d
+  some_declr_starts a h (some_declr d) = declr_starts a h without_skeleton d
 
   pub some_size_starts : Around → SomeSize → List Start
   some_size_starts a no_size = []
@@ -211,7 +211,7 @@ abbrev mutual
 
   pub init_declrs_starts : Around → InitDeclrs → List Start
   init_declrs_starts a no_init_declrs = []
-  init_declrs_starts a (more_init_declrs attrs d asm_label attrs2 init ds) = declr_starts a with_skeleton false d ++ (some_init_starts a init ++ init_declrs_starts a ds)
+  init_declrs_starts a (more_init_declrs attrs d asm_label attrs2 init ds) = declr_starts a with_skeleton without_skeleton d ++ (some_init_starts a init ++ init_declrs_starts a ds)
 
   pub declaration_starts : Around → Declaration → List Start
   declaration_starts a (declaration exts ws ds semi) = words_starts a ws ++ init_declrs_starts a ds
@@ -257,7 +257,7 @@ abbrev mutual
 -- at file scope a fresh skeleton belongs to nobody
 abbrev pub item_starts : Spelling → Names → Item → List Start
 item_starts u s (function_item exts ws d attrs opening items closing) =
-    words_starts (around u s None) ws ++ (declr_starts (around u s None) with_skeleton true d ++ block_items_starts (around u s (declared_function u s (declared_name d))) items) where
+    words_starts (around u s None) ws ++ (declr_starts (around u s None) with_skeleton (of_function (declared_function u s (declared_name d))) d ++ block_items_starts (around u s (declared_function u s (declared_name d))) items) where
       around : Spelling → Names → Option Place → Around
       around u s f = record { spelling = u; names = s; enclosing = f; is_quiet = false }
 item_starts u s (decl_item d) = decl_starts (record { spelling = u; names = s; enclosing = None; is_quiet = false }) d

@@ -11,7 +11,7 @@ use Rattle.qual_types.specs.declared.row.Node.TheVariants as nodes
 use Rattle.qual_types.specs.declared.row.Place.{Place}
 use Rattle.qual_types.specs.declared.row.Place.TheVariants.{OfNobody, OfFunction, Inside, Param, Result, Ellipsis}
 use Rattle.qual_types.specs.declared.row.Row.{Row}
-use Rattle.qual_types.specs.Skel.{Skel, flat, ref, fun, Skels, no_skels, more_skels, numbered_ellipsis}
+use Rattle.qual_types.specs.Skel.{Skel, flat, ref, fun, Skels, no_skels, more_skels, no_skeleton, numbered_ellipsis}
 
 -- the constructor around a part, and the step from there
 abbrev pub above : Place → Option (ℕ × Step)
@@ -55,9 +55,9 @@ pub record Seen : Type 0 where
   pub params : Skels
   pub ellipsis : Option ℕ
 
--- past the table there is a base type of variable 0
+-- past the table there is no skeleton
 abbrev pub nothing : Seen
-nothing = record { tree = flat 0 kinds.Base; params = no_skels; ellipsis = None }
+nothing = record { tree = no_skeleton; params = no_skels; ellipsis = None }
 
 abbrev pub seen_at : List Seen → ℕ → Seen
 seen_at all n = unwrap_or (slice_get all n) nothing

@@ -2,7 +2,7 @@
 use Rattle.std.specs.Prelude.{ℕ, zero, suc, ◌+◌, Bool, true, false, List, [], ◌∷◌, ◌++◌, Option, Some, None, option_and_then}
 use Rattle.type_table.specs.Types.{Words, CType, base, void, struct, pointer, function, CTypes, no_types, more_types, size, sizes}
 use Rattle.qual_types.specs.declared.look.Kind.{Kind}
-use Rattle.qual_types.specs.declared.look.Kind.TheVariants.{Base, Void, Struct}
+use Rattle.qual_types.specs.declared.look.Kind.TheVariants.{Base, Void, Struct, Nothing}
 use Rattle.qual_types.specs.declared.position.Step.{Step}
 use Rattle.qual_types.specs.declared.position.Step.TheVariants as steps
 
@@ -16,6 +16,10 @@ mutual
   pub data Skels : Type 0 where
     no_skels : Skels
     more_skels : Skel → Skels → Skels
+
+-- what stands for the skeleton of what has none
+abbrev pub no_skeleton : Skel
+no_skeleton = flat 0 Nothing
 
 abbrev pub root : Skel → ℕ
 root (flat v k) = v

@@ -8,6 +8,8 @@ pub enum Kind {
     Base,
     Void,
     Struct(StructId),
+    /// Of what has no skeleton: nothing flows from it or into it.
+    Nothing,
 }
 
 /// A constructor with its variable, and its parts by their numbers.

@@ -143,14 +143,14 @@ impl VarTable {
         }
     }
 
-    /// A skeleton, one level deep; past the table there are base types of variable 0. Constant time.
+    /// A skeleton, one level deep; past the table there is none. Constant time.
     pub fn look(&self, at: SkelId) -> Look
         ensures shown { looked self.now result ≡ skel_of self.now at }
         ensures low { IsLook (length self.now) at result }
     {
         match self.row(at) {
             Some(row) => self.look_at(at, row.node),
-            None => Look::Flat(VarId::new(0), Kind::Base),
+            None => Look::Flat(VarId::new(0), Kind::Nothing),
         }
     }
 

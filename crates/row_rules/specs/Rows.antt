@@ -8,18 +8,18 @@ use Rattle.flow_graph.specs.declared.constraint.Constraint.{Constraint}
 use Rattle.type_table.specs.Types.{CType, pointer}
 use Rattle.qual_types.specs.Skel.{Skel, root, param_at}
 use Rattle.flow_rules.specs.declared.arrow.Arrow.TheVariants.{Flow}
-use Rattle.flow_rules.specs.Lists.{flow, equal, cross, smash}
+use Rattle.flow_rules.specs.Lists.{flow, equal, cross, smash, unsmash}
 use Rattle.name_rules.specs.Spellings.{Place, Named}
 use Rattle.name_rules.specs.Scopes.{Role, typedef_role, object_role, function_role, parameter_role, field_role, enumerator_role, Declared, declared_at, Use, means, called, missing, Known, Own, is_place}
 use Rattle.name_rules.specs.Values.{is_additive, own_of, own_number}
 use Rattle.row_rules.specs.Annotations.{annotating, deref_bounds, further, parameters, uncut, write_bounds}
 use Rattle.row_rules.specs.Indexing.{indexing}
-use Rattle.row_rules.specs.Vals.{Val, contents, is_fun, is_ref, is_void, own, result, value}
+use Rattle.row_rules.specs.Vals.{Val, contents, is_empty, is_fun, is_nothing, is_ref, own, result, value}
 use Rattle.row_rules.specs.Worlds.{World, all_lattices, at, constraints, in_all, site_number, skeleton, span, word_span}
 
--- An expression's value flows into a skeleton: nothing where it is a zero, or where either is void.
+-- An expression's value flows into a skeleton: nothing where it is a zero, or where either is void or is no skeleton.
 abbrev pub flowing : Bool → Skel → Skel → ℕ → Span → List Constraint
-flowing is_zero a t lattices where_ = if is_zero || (is_void a || is_void t) then [] else constraints lattices where_ (flow Flow true a t)
+flowing is_zero a t lattices where_ = if is_zero || (is_empty a || is_empty t) then [] else constraints lattices where_ (flow Flow true a t)
 
 -- what is dereferenced is bounded, but where it points to a function
 abbrev pub dereferenced : World → Skel → Span → List Constraint
@@ -70,7 +70,7 @@ prefixed w p is_zero e t where_ = []
 abbrev pub passed : World → Bool → Skel → Option Skel → Option ℕ → Span → List Constraint
 passed w is_zero a (Some t) e where_ = flowing is_zero a t (all_lattices w) where_
 passed w is_zero a None None where_ = []
-passed w is_zero a None (Some e) where_ = if is_zero || is_void a then [] else in_all w where_ (smash a e)
+passed w is_zero a None (Some e) where_ = if is_zero || is_empty a then [] else in_all w where_ (smash a e)
 
 -- a function's name: its signature, crossed with the instance here
 abbrev pub instance : World → ℕ → Place → Role → List Constraint
@@ -108,7 +108,8 @@ annotating_name w d = annotating w (pointer [] d.type) (skeleton w d.at)
 -- a further declaration is as the first
 abbrev pub tied_to_first : World → Declared → List Constraint
 tied_to_first w d =
-    if is_place d.first d.at then [] else in_all w (word_span d.at) (equal Flow true (skeleton w d.first) (skeleton w d.at))
+    if is_place d.first d.at || (is_nothing (skeleton w d.first) || is_nothing (skeleton w d.at)) then []
+    else in_all w (word_span d.at) (equal Flow true (skeleton w d.first) (skeleton w d.at))
 
 -- a declared name: its annotations, what its index words say, and that it is as the first
 abbrev pub name_row : World → Declared → List Constraint
@@ -129,7 +130,8 @@ some_declared_row w (Some d) = declared_row w d d.role
 -- a parameter of a function: its annotations, and what the function is given flows into it
 abbrev pub into_param : World → Option Skel → Declared → List Constraint
 into_param w None d = []
-into_param w (Some s) d = in_all w (word_span d.at) (flow Flow true s (contents (skeleton w d.at)))
+into_param w (Some s) d =
+    if is_nothing (contents (skeleton w d.at)) then [] else in_all w (word_span d.at) (flow Flow true s (contents (skeleton w d.at)))
 
 abbrev pub param_row : World → Skel → ℕ → Option Declared → List Constraint
 param_row w own i None = []
@@ -157,12 +159,16 @@ abbrev pub returned : World → Option Skel → Bool → Skel → Span → List 
 returned w None is_zero a where_ = []
 returned w (Some own) is_zero a where_ = flowing is_zero a (result own) (all_lattices w) where_
 
+-- what is taken from a list of further arguments has what stands for all of them
+abbrev pub taken : World → Skel → Skel → Span → List Constraint
+taken w list t where_ = if is_nothing list || is_nothing t then [] else in_all w where_ (unsmash (root list) t)
+
 abbrev pub started : World → Option Skel → Skel → Span → List Constraint
 started w None list where_ = []
 started w (Some own) list where_ = begun w (further own) list where_ where
   begun : World → Option ℕ → Skel → Span → List Constraint
   begun w None list where_ = []
-  begun w (Some e) list where_ = in_all w where_ (Le e (root list) ∷ [])
+  begun w (Some e) list where_ = if is_nothing list then [] else in_all w where_ (Le e (root list) ∷ [])
 
 -- initialisers: what an item initialises
 

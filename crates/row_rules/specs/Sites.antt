@@ -5,8 +5,8 @@ use Rattle.qual_base.specs.declared.places.Owner.TheVariants.{Nobody, Function}
 use Rattle.flow_graph.specs.declared.constraint.Site.{Site}
 use Rattle.type_table.specs.Types.{size}
 use Rattle.name_rules.specs.Spellings.{Place}
-use Rattle.name_rules.specs.Scopes.{Role, typedef_role, object_role, function_role, parameter_role, field_role, enumerator_role, Declared, Names, is_place}
-use Rattle.row_rules.specs.Starting.{Start}
+use Rattle.name_rules.specs.Scopes.{Declared, Names, is_place}
+use Rattle.row_rules.specs.Starting.{Start, is_function_role}
 use Rattle.row_rules.specs.Worlds.{number_among}
 
 -- how many variables there are
@@ -19,14 +19,6 @@ variables_among (start ∷ starts) = size start.type + variables_among starts
 abbrev pub has_place : List Place → Place → Bool
 has_place [] p = false
 has_place (q ∷ places) p = if is_place q p then true else has_place places p
-
-abbrev pub is_function_role : Role → Bool
-is_function_role function_role = true
-is_function_role typedef_role = false
-is_function_role object_role = false
-is_function_role (parameter_role i) = false
-is_function_role (field_role n i) = false
-is_function_role enumerator_role = false
 
 abbrev pub is_first_function : List Place → Declared → Bool
 is_first_function bodies d = if is_place d.at d.first then (if is_function_role d.role then true else has_place bodies d.at) else false

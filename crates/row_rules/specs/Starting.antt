@@ -32,24 +32,45 @@ abbrev pub some_fresh : Around → ℕ → Option CType → List Start
 some_fresh a token None = []
 some_fresh a token (Some t) = fresh a token t
 
+abbrev pub is_function_role : Role → Bool
+is_function_role function_role = true
+is_function_role typedef_role = false
+is_function_role object_role = false
+is_function_role (parameter_role i) = false
+is_function_role (field_role n i) = false
+is_function_role enumerator_role = false
+
+abbrev pub is_some_function : Option Declared → Bool
+is_some_function None = false
+is_some_function (Some d) = is_function_role d.role
+
+abbrev pub owned_there : Option Place → Option Place → Option Place
+owned_there None f = None
+owned_there (Some p) f = f
+
+-- The function that a declared name belongs to: what was first declared as a function to that, other names to the function around
+-- them, and what is nobody's to none.
+abbrev pub owner_there : Names → Option Place → Declared → Option Place
+owner_there s f d = owned_there d.owner (if is_some_function (declared_at s.declared d.first) then Some d.first else f)
+
 -- a name's skeleton is a place of its type
-abbrev pub named_start : Declared → List Start
-named_start d = record { at = d.at; type = pointer [] d.type; owner = d.owner; calls = None } ∷ []
+abbrev pub named_start : Names → Option Place → Declared → List Start
+named_start s f d = record { at = d.at; type = pointer [] d.type; owner = owner_there s f d; calls = None } ∷ []
 
-abbrev pub declared_start : Declared → Role → List Start
-declared_start d typedef_role = []
-declared_start d object_role = named_start d
-declared_start d function_role = named_start d
-declared_start d (parameter_role i) = named_start d
-declared_start d (field_role n i) = named_start d
-declared_start d enumerator_role = []
+abbrev pub declared_start : Names → Option Place → Declared → Role → List Start
+declared_start s f d typedef_role = []
+declared_start s f d object_role = named_start s f d
+declared_start s f d function_role = named_start s f d
+declared_start s f d (parameter_role i) = named_start s f d
+declared_start s f d (field_role n i) = named_start s f d
+declared_start s f d enumerator_role = []
 
-abbrev pub some_declared_start : Option Declared → List Start
-some_declared_start None = []
-some_declared_start (Some d) = declared_start d d.role
+abbrev pub some_declared_start : Names → Option Place → Option Declared → List Start
+some_declared_start s f None = []
+some_declared_start s f (Some d) = declared_start s f d d.role
 
 abbrev pub name_start : Around → ℕ → List Start
-name_start a token = some_declared_start (declared_at a.names.declared (place a.spelling token))
+name_start a token = some_declared_start a.names a.enclosing (declared_at a.names.declared (place a.spelling token))
 
 -- a name in an expression: a function's name is an instance of it
 abbrev pub instance : Around → ℕ → Place → CType → List Start
@@ -100,17 +121,20 @@ abbrev pub fresh_where : Bool → List Start → List Start
 fresh_where true starts = starts
 fresh_where false starts = []
 
--- parameters that belong to a function with a body have skeletons
+-- The names of declarators have skeletons, those of parameters only where these are a function's own; they belong to it.
 pub data Having : Type 0 where
   with_skeleton : Having
+  of_function : Option Place → Having
   without_skeleton : Having
 
-abbrev pub having : Bool → Having
-having true = with_skeleton
-having false = without_skeleton
+-- parameters directly around the name are a function's own
+abbrev pub having_where : Bool → Having → Having
+having_where true own = own
+having_where false own = without_skeleton
 
 abbrev pub had_name : Having → Around → ℕ → List Start
 had_name with_skeleton a token = name_start a token
+had_name (of_function f) a token = name_start (record a { enclosing = f }) token
 had_name without_skeleton a token = []
 
 abbrev pub first_of : Option Declared → Option Place

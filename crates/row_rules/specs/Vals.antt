@@ -4,7 +4,7 @@ use Rattle.std.specs.Prelude.{ℕ, Bool, true, false, Option, None, Some, if◌t
 use Rattle.c_words.specs.declared.kinds.Punct.{Punct}
 use Rattle.c_words.specs.declared.kinds.Punct.TheVariants as signs
 use Rattle.qual_types.specs.declared.look.Kind.TheVariants as kinds
-use Rattle.qual_types.specs.Skel.{Skel, flat, ref, fun}
+use Rattle.qual_types.specs.Skel.{Skel, flat, ref, fun, no_skeleton}
 use Rattle.name_rules.specs.Spellings.{Place}
 use Rattle.name_rules.specs.Scopes.{Role, typedef_role, object_role, function_role, parameter_role, field_role, enumerator_role, Declared, declared_at, Use, means, called, missing, Known, body_of}
 use Rattle.name_rules.specs.Values.{is_additive, member_in}
@@ -47,12 +47,22 @@ is_fun (ref v s) = false
 is_fun (flat v k) = false
 is_fun (fun v ps r e) = true
 
-abbrev pub is_void : Skel → Bool
-is_void (flat v kinds.Void) = true
-is_void (flat v kinds.Base) = false
-is_void (flat v (kinds.Struct n)) = false
-is_void (ref v s) = false
-is_void (fun v ps r e) = false
+abbrev pub is_nothing : Skel → Bool
+is_nothing (flat v kinds.Nothing) = true
+is_nothing (flat v kinds.Void) = false
+is_nothing (flat v kinds.Base) = false
+is_nothing (flat v (kinds.Struct n)) = false
+is_nothing (ref v s) = false
+is_nothing (fun v ps r e) = false
+
+-- a void, or what has no skeleton: its value flows nowhere, and nothing flows into it
+abbrev pub is_empty : Skel → Bool
+is_empty (flat v kinds.Nothing) = true
+is_empty (flat v kinds.Void) = true
+is_empty (flat v kinds.Base) = false
+is_empty (flat v (kinds.Struct n)) = false
+is_empty (ref v s) = false
+is_empty (fun v ps r e) = false
 
 abbrev pub result : Skel → Skel
 result (fun v ps r e) = r
@@ -63,6 +73,7 @@ abbrev pub struct_of : Skel → Option ℕ
 struct_of (flat v (kinds.Struct n)) = Some n
 struct_of (flat v kinds.Base) = None
 struct_of (flat v kinds.Void) = None
+struct_of (flat v kinds.Nothing) = None
 struct_of (ref v s) = None
 struct_of (fun v ps r e) = None
 
@@ -71,7 +82,7 @@ member_of w None name = None
 member_of w (Some n) name = member_in (body_of w.names.aggregates n) (w.spelling.key name)
 
 abbrev pub known_skeleton : World → Option Known → Skel
-known_skeleton w None = flat 0 kinds.Base
+known_skeleton w None = no_skeleton
 known_skeleton w (Some it) = skeleton w it.at
 
 -- a member's skeleton is that of its declaration: all objects of a struct share it
@@ -104,13 +115,13 @@ used_by_role w token p (parameter_role i) = a_place (skeleton w p)
 used_by_role w token p (field_role n i) = a_place (skeleton w p)
 
 abbrev pub used_some : World → ℕ → Option Declared → Val
-used_some w token None = a_place (flat 0 kinds.Base)
+used_some w token None = a_place no_skeleton
 used_some w token (Some d) = used_by_role w token d.at d.role
 
 abbrev pub used : World → ℕ → Use → Val
 used w token (means p) = used_some w token (declared_at w.names.declared p)
 used w token called = a_place (skeleton w (at w token))
-used w token missing = a_place (flat 0 kinds.Base)
+used w token missing = a_place no_skeleton
 
 module _ (w : World) where
   -- the fresh skeleton at a token

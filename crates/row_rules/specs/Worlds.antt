@@ -6,8 +6,7 @@ use Rattle.lattice_core.specs.View.{LatticeView}
 use Rattle.flow_graph.specs.declared.constraint.Link.{Link}
 use Rattle.flow_graph.specs.declared.constraint.Constraint.{Constraint}
 use Rattle.type_table.specs.Types.{size}
-use Rattle.qual_types.specs.declared.look.Kind.TheVariants as kinds
-use Rattle.qual_types.specs.Skel.{Skel, flat, numbered}
+use Rattle.qual_types.specs.Skel.{Skel, no_skeleton, numbered}
 use Rattle.name_rules.specs.Spellings.{Place, Spelling, place}
 use Rattle.name_rules.specs.Scopes.{Names, is_place}
 use Rattle.row_rules.specs.Starting.{Start}
@@ -39,7 +38,7 @@ abbrev pub at : World → ℕ → Place
 at w token = place w.spelling token
 
 abbrev pub skeleton_among : List Numbered → Place → Skel
-skeleton_among [] p = flat 0 kinds.Base
+skeleton_among [] p = no_skeleton
 skeleton_among (it ∷ others) p = if is_place it.start.at p then numbered it.start.type it.first else skeleton_among others p
 
 abbrev pub skeleton : World → Place → Skel

@@ -16,12 +16,11 @@ use Rattle.tape_ops.specs.declared.statement.StmtOp.{StmtOp}
 use Rattle.tape_ops.specs.declared.statement.StmtOp.TheVariants as stmts
 use Rattle.name_rules.specs.Uses.{use_at}
 use Rattle.qual_types.specs.Skel.{Skel, root, param_at}
-use Rattle.flow_rules.specs.Lists.{unsmash}
 use Rattle.shape_steps.specs.State.{declared_last}
-use Rattle.row_rules.specs.Worlds.{World, at, all_lattices, span, in_all}
+use Rattle.row_rules.specs.Worlds.{World, at, all_lattices, span}
 use Rattle.row_rules.specs.Annotations.{parameters, further, write_bounds}
 use Rattle.row_rules.specs.Vals.{contents, is_ref, own}
-use Rattle.row_rules.specs.Rows.{flowing, dereferenced, assigned, computed, chosen, prefixed, passed, use_demand, annotating_some, annotating_place, cast_demand, RowKind, no_row, row_of_name, row_of_param, row_at, returned, started}
+use Rattle.row_rules.specs.Rows.{flowing, dereferenced, assigned, computed, chosen, prefixed, passed, use_demand, annotating_some, annotating_place, cast_demand, RowKind, no_row, row_of_name, row_of_param, row_at, returned, started, taken}
 use Rattle.row_rules.specs.Worlds.{skeleton}
 use Rattle.row_steps.specs.Rounds.{Naming, a_name, own_param, other_param, naming, is_quiet}
 use Rattle.row_steps.specs.State.{Operand, State, first_operand, val_of_operand, is_zero_operand, type_of_operand, val_at, value_at, is_zero_at, type_at, operands_below, first_braces}
@@ -86,7 +85,7 @@ form_row w st (forms.Sizeof token) = []
 form_row w st (forms.StmtExpr has_value token) = []
 form_row w st (forms.VaArg token last) =
     annotating_some w (type_at 0 st) (own w token)
-    ++ in_all w (span w token last) (unsmash (root (value_at 1 st)) (own w token))
+    ++ taken w (value_at 1 st) (own w token) (span w token last)
 form_row w st (forms.VaStart token last) =
     started w (function_skeleton w st.rounds.body) (value_at 1 st) (span w token last)
 form_row w st (forms.VaCopy token last) =

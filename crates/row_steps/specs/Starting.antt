@@ -18,7 +18,7 @@ use Rattle.name_rules.specs.Scopes.{Names, declared_at}
 use Rattle.name_rules.specs.Uses.{use_at, text_type}
 use Rattle.shape_steps.specs.State.{State, nothing, value_at, is_zero_at, type_at, shape_at, type_of_operand, first_operand, operands_below}
 use Rattle.shape_steps.specs.Steps.{step, expr_step}
-use Rattle.row_rules.specs.Starting.{Start, Around, fresh, some_fresh, name_start, use_start, some_place, is_some_pointer, is_fresh_binary, is_fresh_prefix, fresh_where, Having, with_skeleton, without_skeleton, had_name, first_of}
+use Rattle.row_rules.specs.Starting.{Start, Around, fresh, some_fresh, name_start, use_start, some_place, is_some_pointer, is_fresh_binary, is_fresh_prefix, fresh_where, Having, with_skeleton, of_function, without_skeleton, had_name, first_of}
 use Rattle.row_steps.specs.Rounds.{Naming, a_name, own_param, other_param, Rounds, file, is_quiet, naming, left, round_step}
 
 -- the function that was first declared where the name at a token was
@@ -30,10 +30,10 @@ abbrev pub around : Spelling → Names → Rounds → Around
 around u s r = record { spelling = u; names = s; enclosing = function_at u s r.body; is_quiet = is_quiet r }
 
 -- parameters of functions without a body have no skeleton
-abbrev pub naming_has : Naming → Having
-naming_has a_name = with_skeleton
-naming_has (own_param f n) = with_skeleton
-naming_has other_param = without_skeleton
+abbrev pub naming_has : Spelling → Names → Naming → Having
+naming_has u s a_name = with_skeleton
+naming_has u s (own_param f n) = of_function (function_at u s f)
+naming_has u s other_param = without_skeleton
 
 abbrev pub expr_op_starts : Spelling → Names → State → Rounds → ExprOp → List Start
 expr_op_starts u s st r (exprs.Name is_called token name) = use_start (around u s r) token (use_at s.uses (place u token))
@@ -100,7 +100,7 @@ spec_op_starts u s r (specs.UnnamedMember token) = name_start (around u s r) tok
 spec_op_starts u s r specs.SpecsEnd = []
 
 abbrev pub declr_op_starts : Spelling → Names → Rounds → DeclrOp → List Start
-declr_op_starts u s r (declrs.DeclName token name) = had_name (naming_has (naming r)) (around u s r) token
+declr_op_starts u s r (declrs.DeclName token name) = had_name (naming_has u s (naming r)) (around u s r) token
 declr_op_starts u s r (declrs.ParamsBegin is_own) = []
 declr_op_starts u s r declrs.Param = []
 declr_op_starts u s r declrs.ParamsEnd = []

@@ -1,8 +1,7 @@
 -- The stacks by which the skeletons of operands are found along a tape.
 use Rattle.std.specs.Prelude.{ℕ, Bool, false, List, [], ◌∷◌, length, drop, take, reverse, ◌-◌, Option, None}
 use Rattle.type_table.specs.Types.{CType}
-use Rattle.qual_types.specs.declared.look.Kind.TheVariants as kinds
-use Rattle.qual_types.specs.Skel.{Skel, flat}
+use Rattle.qual_types.specs.Skel.{Skel, no_skeleton}
 use Rattle.shape_steps.specs.State.{OpenDeclaration}
 use Rattle.row_rules.specs.Vals.{Val, a_place, value}
 use Rattle.row_steps.specs.Rounds.{Rounds, file}
@@ -43,7 +42,7 @@ nothing =
       bases = [];
       braces = [];
       leaves = [];
-      literal = flat 0 kinds.Base;
+      literal = no_skeleton;
       declarations = [];
       rounds = file;
       passed = 0;
@@ -55,7 +54,7 @@ first_operand (it ∷ others) = it
 
 abbrev pub val_of_operand : Operand → Val
 val_of_operand (expression v is_zero) = v
-val_of_operand (named_type t) = a_place (flat 0 kinds.Base)
+val_of_operand (named_type t) = a_place no_skeleton
 
 abbrev pub is_zero_operand : Operand → Bool
 is_zero_operand (expression v is_zero) = is_zero

@@ -35,6 +35,7 @@ item_target w (flat v (kinds.Struct n)) is_first next None = next_of_struct w n 
 item_target w (flat v (kinds.Struct n)) is_first next (Some named) = Some named
 item_target w (flat v kinds.Base) is_first next named = first_alone is_first (flat v kinds.Base)
 item_target w (flat v kinds.Void) is_first next named = first_alone is_first (flat v kinds.Void)
+item_target w (flat v kinds.Nothing) is_first next named = None
 item_target w (fun v ps r e) is_first next named = None
 
 -- what the next item initialises

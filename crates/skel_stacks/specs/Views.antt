@@ -4,8 +4,7 @@ use Rattle.type_table.specs.declared.row.Row.{Row}
 use Rattle.type_table.specs.Types.{CType}
 use Rattle.type_table.specs.Rows.{type_of}
 use Rattle.qual_types.specs.declared.row.Row as variables
-use Rattle.qual_types.specs.declared.look.Kind.TheVariants as kinds
-use Rattle.qual_types.specs.Skel.{Skel, flat}
+use Rattle.qual_types.specs.Skel.{Skel, no_skeleton}
 use Rattle.qual_types.specs.Rows.{skel_of}
 use Rattle.shape_stacks.specs.Views.{open_as}
 use Rattle.row_steps.specs.State as states
@@ -44,7 +43,7 @@ braces_in t (braces.Listed skel is_first next named) =
 
 -- before the first compound literal its skeleton is that of no type
 abbrev pub literal_in : Tables → Option ℕ → Skel
-literal_in t None = flat 0 kinds.Base
+literal_in t None = no_skeleton
 literal_in t (Some n) = skel_in t n
 
 abbrev pub state_in : Tables → Stacked → states.State
