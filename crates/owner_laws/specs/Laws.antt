@@ -8,7 +8,7 @@ use Rattle.flow_rules.specs.Owners.{AllOwned, AllLead}
 use Rattle.name_rules.specs.Spellings.{Place}
 use Rattle.row_rules.specs.Starting.{Start}
 use Rattle.row_rules.specs.Worlds.{Numbered, numbered_from, number_among}
-use Rattle.row_rules.specs.Sites.{has_place, owner_by, owners_among, site_places, sites_among}
+use Rattle.row_rules.specs.Sites.{AreDifferent, owner_by, owners_among, site_places, sites_among}
 
 -- the owner of each variable, as a system has it
 abbrev pub owner_among : List Place → List Start → ℕ → Owner
@@ -22,11 +22,6 @@ abbrev pub SkeletonsAreOwned : Type 0
 SkeletonsAreOwned =
     (functions : List Place) (starts : List Start) (it : Numbered) → Contains (numbered_from 0 starts) it
     → AllOwned (owner_among functions starts) (owner_by functions it.start.owner) (nodes (skeleton_of it))
-
--- no two of these places are one
-abbrev pub AreDifferent : List Place → Type 0
-AreDifferent [] = Unit {0}
-AreDifferent (p ∷ places) = (has_place places p ≡ false) × AreDifferent places
 
 -- The flows between a function's skeleton, which is its own, and an instance of it lead from the owner of the instance to the
 -- function and back, at the site that has the number of the instance's place.

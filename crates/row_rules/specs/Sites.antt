@@ -1,5 +1,5 @@
 -- Functions by numbers, call sites, and the owner of each variable, from where skeletons begin.
-use Rattle.std.specs.Prelude.{ℕ, ◌+◌, Bool, true, false, List, [], ◌∷◌, ◌++◌, replicate, Option, None, Some, if◌then◌else◌}
+use Rattle.std.specs.Prelude.{◌≡◌, ℕ, ◌+◌, Bool, true, false, List, [], ◌∷◌, ◌++◌, replicate, Option, None, Some, if◌then◌else◌}
 use Rattle.qual_base.specs.declared.places.Owner.{Owner}
 use Rattle.qual_base.specs.declared.places.Owner.TheVariants.{Nobody, Function}
 use Rattle.flow_graph.specs.declared.constraint.Site.{Site}
@@ -19,6 +19,11 @@ variables_among (start ∷ starts) = size start.type + variables_among starts
 abbrev pub has_place : List Place → Place → Bool
 has_place [] p = false
 has_place (q ∷ places) p = if is_place q p then true else has_place places p
+
+-- no two of these places are one
+abbrev pub AreDifferent : List Place → Type 0
+AreDifferent [] = Unit {0}
+AreDifferent (p ∷ places) = (has_place places p ≡ false) × AreDifferent places
 
 abbrev pub is_first_function : List Place → Declared → Bool
 is_first_function bodies d = if is_place d.at d.first then (if is_function_role d.role then true else has_place bodies d.at) else false

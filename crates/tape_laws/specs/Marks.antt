@@ -1,5 +1,5 @@
 -- What is begun along a tape and not at its end: declarations, lists of parameters, bodies, scopes, and what is quiet.
-use Rattle.std.specs.Prelude.{◌≡◌, Bool, true, false, List, [], ◌∷◌, Option, None, Some, if◌then◌else◌}
+use Rattle.std.specs.Prelude.{◌≡◌, ℕ, nat_eq, Bool, true, false, List, [], ◌∷◌, Option, None, Some, if◌then◌else◌}
 use Rattle.tape_ops.specs.declared.op.Op.{Op}
 use Rattle.tape_ops.specs.declared.op.Op.TheVariants as ops
 use Rattle.tape_ops.specs.declared.form.FormOp.{FormOp}
@@ -10,12 +10,14 @@ use Rattle.tape_ops.specs.declared.declarator.DeclrOp.{DeclrOp}
 use Rattle.tape_ops.specs.declared.declarator.DeclrOp.TheVariants as declrs
 use Rattle.tape_ops.specs.declared.statement.StmtOp.{StmtOp}
 use Rattle.tape_ops.specs.declared.statement.StmtOp.TheVariants as stmts
-use Rattle.c_tree.specs.Unit.{Item}
-use Rattle.c_tape.specs.Tape.{tape_of}
+use Rattle.c_tree.specs.Tree.{Declr, pointer, declr_name, declr_paren, array, params, abs_pointer, abs_paren, abs_array, abs_params, SomeDeclr, no_declr, some_declr}
+use Rattle.c_tree.specs.Unit.{Item, function_item, decl_item, asm_item, semi_item, declares_function}
+use Rattle.c_tape.specs.Tape.{item_tape}
 
 pub data Mark : Type 0 where
-  -- a declaration, from the end of its specifiers on
-  in_declaration : Mark
+  -- a declaration, from the end of its specifiers on: the tokens of the name that is read, where there is one, and of the name
+  -- that was declared last, and whether the own parameters of a function are behind us
+  in_declaration : Option ℕ → Option ℕ → Bool → Mark
   -- a list of parameters; whether they are a function's own
   in_params : Bool → Mark
   -- the body of a struct, a union or an enum
@@ -30,10 +32,16 @@ abbrev pub is_open : List Mark → Bool
 is_open [] = true
 is_open (in_scope ∷ marks) = true
 is_open (in_body ∷ marks) = true
-is_open (in_declaration ∷ marks) = false
+is_open (in_declaration n d own ∷ marks) = false
 is_open (in_params own ∷ marks) = false
 is_open (in_tag ∷ marks) = false
 is_open (in_quiet ∷ marks) = false
+
+-- both are the same token
+abbrev pub is_token : Option ℕ → Option ℕ → Bool
+is_token None t = false
+is_token (Some n) None = false
+is_token (Some n) (Some m) = nat_eq n m
 
 abbrev pub quiet_ended : List Mark → Option (List Mark)
 quiet_ended (in_quiet ∷ marks) = Some marks
@@ -48,44 +56,46 @@ scope_ended (in_scope ∷ marks) = Some marks
 scope_ended marks = None
 
 abbrev pub params_ended : List Mark → Option (List Mark)
-params_ended (in_params own ∷ marks) = Some marks
+params_ended (in_params true ∷ (in_declaration n d own ∷ marks)) = Some (in_declaration n d true ∷ marks)
+params_ended (in_params false ∷ (in_declaration n d own ∷ marks)) = Some (in_declaration n d own ∷ marks)
 params_ended marks = None
 
 abbrev pub body_ended : List Mark → Option (List Mark)
-body_ended (in_body ∷ marks) = Some marks
+body_ended (in_body ∷ (in_declaration n d own ∷ marks)) = Some (in_declaration n d false ∷ marks)
 body_ended marks = None
 
 abbrev pub declaration_ended : List Mark → Option (List Mark)
-declaration_ended (in_declaration ∷ marks) = Some marks
+declaration_ended (in_declaration n d own ∷ marks) = Some marks
 declaration_ended marks = None
 
--- in a declaration
-abbrev pub declaring : List Mark → Option (List Mark)
-declaring (in_declaration ∷ marks) = Some (in_declaration ∷ marks)
-declaring marks = None
+abbrev pub named : ℕ → List Mark → Option (List Mark)
+named token (in_declaration n d own ∷ marks) = Some (in_declaration (Some token) d own ∷ marks)
+named token marks = None
 
--- a function's own parameters are in a declaration of the file
-abbrev pub params_begun : Bool → List Mark → Option (List Mark)
-params_begun false (in_declaration ∷ marks) = Some (in_params false ∷ in_declaration ∷ marks)
-params_begun true (in_declaration ∷ []) = Some (in_params true ∷ in_declaration ∷ [])
-params_begun own marks = None
+-- a function's own parameters are in a declaration of the file, behind its name, which is the one at this token
+abbrev pub params_begun : Option ℕ → Bool → List Mark → Option (List Mark)
+params_begun t false (in_declaration n d own ∷ marks) = Some (in_params false ∷ (in_declaration n d own ∷ marks))
+params_begun t true (in_declaration n d own ∷ []) =
+    if is_token n t then Some (in_params true ∷ (in_declaration n d own ∷ [])) else None
+params_begun t own marks = None
 
 abbrev pub param_ended : List Mark → Option (List Mark)
-param_ended (in_declaration ∷ (in_params own ∷ marks)) = Some (in_params own ∷ marks)
+param_ended (in_declaration n d b ∷ (in_params own ∷ marks)) = Some (in_params own ∷ marks)
 param_ended marks = None
 
 abbrev pub declared : List Mark → Option (List Mark)
-declared (in_declaration ∷ marks) = if is_open marks then Some (in_declaration ∷ marks) else None
+declared (in_declaration n d own ∷ marks) = if is_open marks then Some (in_declaration None n own ∷ marks) else None
 declared marks = None
 
 abbrev pub member_declared : List Mark → Option (List Mark)
-member_declared (in_declaration ∷ (in_tag ∷ marks)) = Some (in_declaration ∷ (in_tag ∷ marks))
+member_declared (in_declaration n d own ∷ (in_tag ∷ marks)) = Some (in_declaration None d own ∷ (in_tag ∷ marks))
 member_declared marks = None
 
--- the body of a function is in a declaration of the file
-abbrev pub body_begun : List Mark → Option (List Mark)
-body_begun (in_declaration ∷ []) = Some (in_body ∷ in_declaration ∷ [])
-body_begun marks = None
+-- the body of a function is in a declaration of the file, behind the function's own parameters, and its name was declared last
+abbrev pub body_begun : Option ℕ → List Mark → Option (List Mark)
+body_begun t (in_declaration n d true ∷ []) =
+    if is_token d t then Some (in_body ∷ (in_declaration n d true ∷ [])) else None
+body_begun t marks = None
 
 abbrev pub form_turn : List Mark → FormOp → Option (List Mark)
 form_turn marks (forms.Cast token last) = Some marks
@@ -110,46 +120,78 @@ spec_turn marks (specs.Untagged kind token) = Some (in_tag ∷ marks)
 spec_turn marks specs.BodyEnd = tag_ended marks
 spec_turn marks (specs.Enumerator token name) = Some marks
 spec_turn marks (specs.UnnamedMember token) = Some marks
-spec_turn marks specs.SpecsEnd = Some (in_declaration ∷ marks)
+spec_turn marks specs.SpecsEnd = Some (in_declaration None None false ∷ marks)
 
-abbrev pub declr_turn : List Mark → DeclrOp → Option (List Mark)
-declr_turn marks (declrs.DeclName token name) = declaring marks
-declr_turn marks (declrs.ParamsBegin is_own) = params_begun is_own marks
-declr_turn marks declrs.Param = param_ended marks
-declr_turn marks declrs.ParamsEnd = params_ended marks
-declr_turn marks declrs.Pointer = Some marks
-declr_turn marks declrs.Array = Some marks
-declr_turn marks (declrs.Function has_ellipsis) = Some marks
-declr_turn marks declrs.Declare = declared marks
-declr_turn marks declrs.Member = member_declared marks
-declr_turn marks (declrs.TypeName first) = declaration_ended marks
-declr_turn marks declrs.DeclarationEnd = declaration_ended marks
+abbrev pub declr_turn : Option ℕ → List Mark → DeclrOp → Option (List Mark)
+declr_turn t marks (declrs.DeclName token name) = named token marks
+declr_turn t marks (declrs.ParamsBegin is_own) = params_begun t is_own marks
+declr_turn t marks declrs.Param = param_ended marks
+declr_turn t marks declrs.ParamsEnd = params_ended marks
+declr_turn t marks declrs.Pointer = Some marks
+declr_turn t marks declrs.Array = Some marks
+declr_turn t marks (declrs.Function has_ellipsis) = Some marks
+declr_turn t marks declrs.Declare = declared marks
+declr_turn t marks declrs.Member = member_declared marks
+declr_turn t marks (declrs.TypeName first) = declaration_ended marks
+declr_turn t marks declrs.DeclarationEnd = declaration_ended marks
 
-abbrev pub stmt_turn : List Mark → StmtOp → Option (List Mark)
-stmt_turn marks stmts.Quiet = Some (in_quiet ∷ marks)
-stmt_turn marks stmts.Loud = quiet_ended marks
-stmt_turn marks stmts.Pop = Some marks
-stmt_turn marks (stmts.Return token last) = Some marks
-stmt_turn marks stmts.Enter = Some (in_scope ∷ marks)
-stmt_turn marks stmts.Leave = scope_ended marks
-stmt_turn marks stmts.FunctionBody = body_begun marks
-stmt_turn marks stmts.FunctionEnd = body_ended marks
+abbrev pub stmt_turn : Option ℕ → List Mark → StmtOp → Option (List Mark)
+stmt_turn t marks stmts.Quiet = Some (in_quiet ∷ marks)
+stmt_turn t marks stmts.Loud = quiet_ended marks
+stmt_turn t marks stmts.Pop = Some marks
+stmt_turn t marks (stmts.Return token last) = Some marks
+stmt_turn t marks stmts.Enter = Some (in_scope ∷ marks)
+stmt_turn t marks stmts.Leave = scope_ended marks
+stmt_turn t marks stmts.FunctionBody = body_begun t marks
+stmt_turn t marks stmts.FunctionEnd = body_ended marks
 
--- what is begun behind an op, by what is before it; none where the op ends or needs what is not there
-abbrev pub turn : List Mark → Op → Option (List Mark)
-turn marks (ops.Expr op) = Some marks
-turn marks (ops.Form op) = form_turn marks op
-turn marks (ops.Init op) = Some marks
-turn marks (ops.Spec op) = spec_turn marks op
-turn marks (ops.Declr op) = declr_turn marks op
-turn marks (ops.Stmt op) = stmt_turn marks op
+-- What is begun behind an op, by what is before it; none where the op ends or needs what is not there. Own parameters and a body
+-- are those of the function whose name is at the token `t`.
+abbrev pub turn : Option ℕ → List Mark → Op → Option (List Mark)
+turn t marks (ops.Expr op) = Some marks
+turn t marks (ops.Form op) = form_turn marks op
+turn t marks (ops.Init op) = Some marks
+turn t marks (ops.Spec op) = spec_turn marks op
+turn t marks (ops.Declr op) = declr_turn t marks op
+turn t marks (ops.Stmt op) = stmt_turn t marks op
 
 -- a tape whose ops each end what is begun last, from these marks to those
-abbrev pub IsBracketed : List Mark → List Op → List Mark → Type 0
-IsBracketed marks [] behind = marks ≡ behind
-IsBracketed marks (op ∷ tape) behind =
-    (next : List Mark) × (turn marks op ≡ Some next) × IsBracketed next tape behind
+abbrev pub IsBracketed : Option ℕ → List Mark → List Op → List Mark → Type 0
+IsBracketed t marks [] behind = marks ≡ behind
+IsBracketed t marks (op ∷ tape) behind =
+    (next : List Mark) × (turn t marks op ≡ Some next) × IsBracketed t next tape behind
 
--- the tape of a unit ends all that it begins, each behind what is begun in it
-abbrev pub UnitsAreBracketed : Type 0
-UnitsAreBracketed = (items : List Item) → IsBracketed [] (tape_of items) []
+-- the token of a declarator's name
+abbrev mutual
+  pub name_token : Declr → Option ℕ
+  name_token (pointer star words d) = name_token d
+  name_token (declr_name token name) = Some token
+  name_token (declr_paren opening attrs d closing) = name_token d
+  name_token (array d opening words size closing) = name_token d
+  name_token (params d opening ps dots closing) = name_token d
+  name_token (abs_pointer star words d) = some_name_token d
+  name_token (abs_paren opening attrs d closing) = name_token d
+  name_token (abs_array d opening words size closing) = some_name_token d
+  name_token (abs_params d opening ps dots closing) = some_name_token d
+
+  pub some_name_token : SomeDeclr → Option ℕ
+  some_name_token no_declr = None
+  some_name_token (some_declr d) = name_token d
+
+-- of the function that an item is
+abbrev pub function_token : Item → Option ℕ
+function_token (function_item exts ws d attrs opening items closing) = name_token d
+function_token (decl_item d) = None
+function_token (asm_item keyword group semi) = None
+function_token (semi_item semi) = None
+
+-- the declarator of a function declares one
+abbrev pub DeclaresIts : Item → Type 0
+DeclaresIts (function_item exts ws d attrs opening items closing) = declares_function d ≡ true
+DeclaresIts (decl_item d) = Unit {0}
+DeclaresIts (asm_item keyword group semi) = Unit {0}
+DeclaresIts (semi_item semi) = Unit {0}
+
+-- the tape of an item ends all that it begins, each behind what is begun in it
+abbrev pub ItemsAreBracketed : Type 0
+ItemsAreBracketed = (item : Item) → DeclaresIts item → IsBracketed (function_token item) [] (item_tape item) []

@@ -3,4 +3,4 @@
 
 mod laws;
 
-pub use laws::units_are_bracketed;
+pub use laws::items_are_bracketed;

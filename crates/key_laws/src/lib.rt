@@ -1,0 +1,6 @@
+//! Laws of the tokens at which the ops of a tape stand.
+#![tactic(auto)]
+
+mod laws;
+
+pub use laws::keys_differ;
