@@ -1,5 +1,5 @@
 -- The constraints of each form fit where the skeletons of its parts belong to one owner or to nobody.
-use Rattle.std.proofs.Common.{◌≡◌, ℕ, suc, Bool, true, false, List, [], ◌∷◌, ◌++◌, Option, None, Some, refl}
+use Rattle.std.proofs.Common.{◌≡◌, ◌⊎◌, inl, inr, ℕ, suc, Bool, true, false, List, [], ◌∷◌, ◌++◌, Option, None, Some, refl}
 use Rattle.std.specs.Prelude.{◌&&◌, ◌||◌, ◌^◌, nat_eq, if◌then◌else◌}
 use Rattle.c_words.specs.declared.kinds.Punct.{Punct}
 use Rattle.c_words.specs.declared.kinds.Punct.TheVariants as signs
@@ -9,23 +9,24 @@ use Rattle.lattice_core.specs.declared.Entry.{Entry}
 use Rattle.lattice_core.specs.declared.Sign.{Sign}
 use Rattle.lattice_core.specs.declared.Sign.TheVariants as kinds_of_sign
 use Rattle.lattice_core.specs.View.{LatticeView}
-use Rattle.flow_graph.specs.declared.constraint.Link.TheVariants.{Bound}
+use Rattle.flow_graph.specs.declared.constraint.Link.TheVariants.{Bound, Le}
 use Rattle.flow_graph.specs.declared.constraint.Constraint.{Constraint}
 use Rattle.flow_graph.specs.System.{System, owner_of}
 use Rattle.type_table.specs.Types.{CType, pointer}
+use Rattle.qual_types.specs.declared.look.Kind.TheVariants as kinds
 use Rattle.qual_types.specs.Skel.{Skel, nodes, root, flat, ref, fun, all_nodes, param_at}
 use Rattle.flow_rules.specs.declared.arrow.Arrow.TheVariants.{Flow}
-use Rattle.flow_rules.specs.Lists.{flow, smash, equal}
+use Rattle.flow_rules.specs.Lists.{flow, smash, unsmash, equal}
 use Rattle.flow_rules.specs.Owners.{IsIn, AllIn, AllStay}
-use Rattle.row_rules.specs.Worlds.{World, all_lattices, constraint, word_span, skeleton}
+use Rattle.row_rules.specs.Worlds.{World, all_lattices, constraint, constraints, word_span, skeleton}
 use Rattle.row_rules.specs.Annotations.{Annotation, entry_at, signed, links_of_entry, alone, marked, annotation_constraints, annotated, annotating, bounds_of, bounds_from, write_bounds, deref_bounds, uncut, parameters}
-use Rattle.row_rules.specs.Vals.{Val, contents, is_fun, is_ref, is_void, result, value, read}
-use Rattle.row_rules.specs.Rows.{flowing, dereferenced, is_plus_or_minus, assigned, is_logical, prefixed, passed, cast_demand, returned, annotating_name, name_row, into_param, param_row, started, tied_to_first}
+use Rattle.row_rules.specs.Vals.{Val, contents, is_empty, is_fun, is_nothing, is_ref, result, value, read}
+use Rattle.row_rules.specs.Rows.{flowing, dereferenced, is_plus_or_minus, assigned, is_logical, prefixed, passed, cast_demand, returned, annotating_name, name_row, into_param, param_row, started, taken, tied_to_first}
 use Rattle.row_rules.specs.Indexing.{indexing}
 use Rattle.name_rules.specs.Values.{is_additive}
 use Rattle.name_rules.specs.Scopes.{Declared, is_place}
 use Rattle.owner_laws.specs.Fitting.{AllFit}
-use Rattle.owner_laws.specs.Rows.{Inside, SomeInside, SomeIn, RowsFit}
+use Rattle.owner_laws.specs.Rows.{Inside, SomeInside, SomeIn, PartsInside, AllPartsInside, RowsFit}
 use Rattle.owner_laws.proofs.Fitting.{lists_fit, staying_fits, parts_stay, back}
 use Rattle.owner_laws.proofs.Indexing.{indexing_fits, root_in}
 
@@ -37,11 +38,56 @@ pub record Flows : Type 0 where
       AllIn own owner (nodes b) → AllStay own owner (equal Flow true a b)
   pub smashed : (own : ℕ → Owner) (owner : Owner) (a : Skel) (e : ℕ) → AllIn own owner (nodes a) → IsIn own owner e →
       AllStay own owner (smash a e)
+  pub unsmashed : (own : ℕ → Owner) (owner : Owner) (e : ℕ) (b : Skel) → IsIn own owner e → AllIn own owner (nodes b) →
+      AllStay own owner (unsmash e b)
+
+-- what is no skeleton
+
+nothing_is_empty : (s : Skel) → is_nothing s ≡ true → is_empty s ≡ true
+nothing_is_empty (flat v kinds.Nothing) e = refl
+nothing_is_empty (flat v kinds.Void) e = absurd cc
+nothing_is_empty (flat v kinds.Base) e = absurd cc
+nothing_is_empty (flat v (kinds.Struct n)) e = absurd cc
+nothing_is_empty (ref v s) e = absurd cc
+nothing_is_empty (fun v ps r e) is = absurd cc
+
+-- a case of three tests that is left out
+either_true : (a b c : Bool) → (b ≡ true) ⊎ (c ≡ true) → (a || (b || c)) ≡ true
+either_true true b c h = refl
+either_true false true c h = refl
+either_true false false c (inl e) = absurd cc
+either_true false false c (inr e) = e
+
+last_true : (a b : Bool) → b ≡ true → (a || b) ≡ true
+last_true true b e = refl
+last_true false b e = e
+
+parts_of_nothing : (sys : System) (owner : Owner) (s : Skel) → is_nothing s ≡ true → PartsInside sys owner s
+parts_of_nothing sys owner (flat v k) e =
+    record { contents_in = inl e; read_in = inl e; result_in = inl e; param_in = λ n q is. absurd cc }
+parts_of_nothing sys owner (ref v s) e = absurd cc
+parts_of_nothing sys owner (fun v ps r e) is = absurd cc
+
+pub parts_inside : AllPartsInside
+parts_inside sys owner s (inl e) = parts_of_nothing sys owner s e
+parts_inside sys owner s (inr h) =
+    let parts = parts_stay (owner_of sys) owner s h in
+    record {
+      contents_in = inr parts.contents_in;
+      read_in = inr parts.read_in;
+      result_in = inr parts.result_in;
+      param_in = λ n q e. inr (parts.param_in n q e);
+    }
 
 module _ (sys : System) where
   none_where : (b : Bool) (cs : List Constraint) → AllFit sys cs → AllFit sys (if b then [] else cs)
   none_where true cs h = tt
   none_where false cs h = h
+
+  none_or : (b : Bool) (cs : List Constraint) → (b ≡ true) ⊎ AllFit sys cs → AllFit sys (if b then [] else cs)
+  none_or true cs h = tt
+  none_or false cs (inl e) = absurd cc
+  none_or false cs (inr h) = h
 
   -- bounds
 
@@ -98,14 +144,20 @@ module _ (law : Flows) (sys : System) (owner : Owner) (w : World) where
   flowing_fits : (zero : Bool) (a t : Skel) (lattices : ℕ) (where_ : Span) → Inside sys owner a →
       Inside sys owner t → AllFit sys (flowing zero a t lattices where_)
   flowing_fits zero a t lattices where_ h k =
-      none_where sys (zero || (is_void a || is_void t)) _
-      (staying_fits sys owner lattices where_ (flow Flow true a t) (law.stay (owner_of sys) owner a t h k))
+      none_or sys (zero || (is_empty a || is_empty t)) (constraints lattices where_ (flow Flow true a t)) (by h k)
+    where
+      by : Inside sys owner a → Inside sys owner t → ((zero || (is_empty a || is_empty t)) ≡ true)
+          ⊎ AllFit sys (constraints lattices where_ (flow Flow true a t))
+      by (inl e) k = inl (either_true zero (is_empty a) (is_empty t) (inl (nothing_is_empty a e)))
+      by (inr h) (inl e) = inl (either_true zero (is_empty a) (is_empty t) (inr (nothing_is_empty t e)))
+      by (inr h) (inr k) =
+          inr (staying_fits sys owner lattices where_ (flow Flow true a t) (law.stay (owner_of sys) owner a t h k))
 
   value_inside : (e : Val) → Inside sys owner e.skel → Inside sys owner (value e)
   value_inside e h = by e.is_place
     where
       by : (b : Bool) → Inside sys owner (if b then read e.skel else e.skel)
-      by true = (parts_stay (owner_of sys) owner e.skel h).read_in
+      by true = (parts_inside sys owner e.skel h).read_in
       by false = h
 
   assigned_fits : (p : Punct) (zero : Bool) (a b : Skel) (where_ : Span) → Inside sys owner a →
@@ -114,7 +166,7 @@ module _ (law : Flows) (sys : System) (owner : Owner) (w : World) where
       lists_fit sys (write_bounds w (root a) where_) _ (writes_fit sys w (root a) where_)
       (none_where sys (is_plus_or_minus p && is_ref (contents a)) _
       (flowing_fits zero b (contents a) (all_lattices w) where_ k
-      (parts_stay (owner_of sys) owner a h).contents_in))
+      (parts_inside sys owner a h).contents_in))
 
   both_flow : (first last : Bool) (a b t : Skel) (where_ : Span) → Inside sys owner a → Inside sys owner b →
       Inside sys owner t →
@@ -141,14 +193,19 @@ module _ (law : Flows) (sys : System) (owner : Owner) (w : World) where
   passed_fits zero a (Some t) e where_ h k l = flowing_fits zero a t (all_lattices w) where_ h k
   passed_fits zero a None None where_ h k l = tt
   passed_fits zero a None (Some e) where_ h k l =
-      none_where sys (zero || is_void a) _
-      (staying_fits sys owner (all_lattices w) where_ (smash a e) (law.smashed (owner_of sys) owner a e h l))
+      none_or sys (zero || is_empty a) (constraints (all_lattices w) where_ (smash a e)) (by h)
+    where
+      by : Inside sys owner a →
+          ((zero || is_empty a) ≡ true) ⊎ AllFit sys (constraints (all_lattices w) where_ (smash a e))
+      by (inl is) = inl (last_true zero (is_empty a) (nothing_is_empty a is))
+      by (inr h) =
+          inr (staying_fits sys owner (all_lattices w) where_ (smash a e) (law.smashed (owner_of sys) owner a e h l))
 
   returned_fits : (f : Option Skel) (zero : Bool) (a : Skel) (where_ : Span) → SomeInside sys owner f →
       Inside sys owner a → AllFit sys (returned w f zero a where_)
   returned_fits None zero a where_ h k = tt
   returned_fits (Some f) zero a where_ h k =
-      flowing_fits zero a (result f) (all_lattices w) where_ k (parts_stay (owner_of sys) owner f h).result_in
+      flowing_fits zero a (result f) (all_lattices w) where_ k (parts_inside sys owner f h).result_in
 
   cast_fits : (t : Option CType) (zero : Bool) (a s : Skel) (where_ : Span) → Inside sys owner a →
       Inside sys owner s → AllFit sys (cast_demand w t zero a s where_)
@@ -160,32 +217,74 @@ module _ (law : Flows) (sys : System) (owner : Owner) (w : World) where
 
   -- names
 
+  -- a skeleton of one variable stays in the owner of that
+  indexed_nothing_fit : (t : CType) (s : Skel) → is_nothing s ≡ true → AllFit sys (indexing w t s)
+  indexed_nothing_fit t (flat v k) e = indexing_fits sys (owner_of sys v) w t (flat v k) (inl refl, tt)
+  indexed_nothing_fit t (ref v s) e = absurd cc
+  indexed_nothing_fit t (fun v ps r e) is = absurd cc
+
+  indexed_fit : (t : CType) (s : Skel) → Inside sys owner s → AllFit sys (indexing w t s)
+  indexed_fit t s (inl e) = indexed_nothing_fit t s e
+  indexed_fit t s (inr h) = indexing_fits sys owner w t s h
+
+  tied_fit : (d : Declared) → Inside sys owner (skeleton w d.first) → Inside sys owner (skeleton w d.at) →
+      AllFit sys (tied_to_first w d)
+  tied_fit d h k =
+      none_or sys (is_place d.first d.at || (is_nothing (skeleton w d.first) || is_nothing (skeleton w d.at)))
+      (constraints (all_lattices w) (word_span d.at) (equal Flow true (skeleton w d.first) (skeleton w d.at))) (by h k)
+    where
+      by : Inside sys owner (skeleton w d.first) → Inside sys owner (skeleton w d.at) →
+          ((is_place d.first d.at || (is_nothing (skeleton w d.first) || is_nothing (skeleton w d.at))) ≡ true)
+          ⊎ AllFit sys
+          (constraints (all_lattices w) (word_span d.at) (equal Flow true (skeleton w d.first) (skeleton w d.at)))
+      by (inl e) k =
+          inl (either_true (is_place d.first d.at) (is_nothing (skeleton w d.first)) (is_nothing (skeleton w d.at)) (inl e))
+      by (inr h) (inl e) =
+          inl (either_true (is_place d.first d.at) (is_nothing (skeleton w d.first)) (is_nothing (skeleton w d.at)) (inr e))
+      by (inr h) (inr k) =
+          inr (staying_fits sys owner (all_lattices w) (word_span d.at)
+          (equal Flow true (skeleton w d.first) (skeleton w d.at))
+          (law.made_equal (owner_of sys) owner (skeleton w d.first) (skeleton w d.at) h k))
+
   name_fits : (d : Declared) → Inside sys owner (skeleton w d.first) → Inside sys owner (skeleton w d.at) →
       AllFit sys (name_row w d)
   name_fits d h k =
       lists_fit sys (annotating_name w d) _ (annotations_fit sys w (annotated w (pointer [] d.type) (skeleton w d.at)))
       (lists_fit sys (indexing w (pointer [] d.type) (skeleton w d.at)) (tied_to_first w d)
-      (indexing_fits sys owner w (pointer [] d.type) (skeleton w d.at) k)
-      (none_where sys (is_place d.first d.at) _
-      (staying_fits sys owner (all_lattices w) (word_span d.at)
-      (equal Flow true (skeleton w d.first) (skeleton w d.at))
-      (law.made_equal (owner_of sys) owner (skeleton w d.first) (skeleton w d.at) h k))))
+      (indexed_fit (pointer [] d.type) (skeleton w d.at) k) (tied_fit d h k))
 
-  into_param_fits : (t : Option Skel) (d : Declared) → ((s : Skel) → t ≡ Some s → Inside sys owner s) →
-      Inside sys owner (skeleton w d.at) → AllFit sys (into_param w t d)
+  into_param_fits : (t : Option Skel) (d : Declared) →
+      ((s : Skel) → t ≡ Some s → AllIn (owner_of sys) owner (nodes s)) → Inside sys owner (skeleton w d.at) →
+      AllFit sys (into_param w t d)
   into_param_fits None d h k = tt
   into_param_fits (Some s) d h k =
-      staying_fits sys owner (all_lattices w) (word_span d.at) (flow Flow true s (contents (skeleton w d.at)))
-      (law.stay (owner_of sys) owner s (contents (skeleton w d.at)) (h s refl)
-      (parts_stay (owner_of sys) owner (skeleton w d.at) k).contents_in)
+      none_or sys (is_nothing t) (constraints (all_lattices w) (word_span d.at) (flow Flow true s t))
+      (by (parts_inside sys owner (skeleton w d.at) k).contents_in)
+    where
+      t : Skel
+      t = contents (skeleton w d.at)
+
+      by : Inside sys owner t →
+          (is_nothing t ≡ true) ⊎ AllFit sys (constraints (all_lattices w) (word_span d.at) (flow Flow true s t))
+      by (inl e) = inl e
+      by (inr k) =
+          inr (staying_fits sys owner (all_lattices w) (word_span d.at) (flow Flow true s t)
+          (law.stay (owner_of sys) owner s t (h s refl) k))
+
+  -- parameters of what is no skeleton are none
+  params_in : (f : Skel) (n : ℕ) → Inside sys owner f → (s : Skel) → param_at (parameters f) n ≡ Some s →
+      AllIn (owner_of sys) owner (nodes s)
+  params_in (flat v k) n h s e = absurd cc
+  params_in (ref v t) n h s e = absurd cc
+  params_in (fun v ps r o) n (inl is) s e = absurd cc
+  params_in (fun v ps r o) n (inr h) s e = (parts_stay (owner_of sys) owner (fun v ps r o) h).param_in n s e
 
   param_fits : (f : Skel) (n : ℕ) (d : Declared) → Inside sys owner f → Inside sys owner (skeleton w d.at) →
       AllFit sys (param_row w f n (Some d))
   param_fits f n d h k =
       lists_fit sys (annotating_name w d) (into_param w (param_at (parameters f) n) d)
       (annotations_fit sys w (annotated w (pointer [] d.type) (skeleton w d.at)))
-      (into_param_fits (param_at (parameters f) n) d
-      (λ s e. (parts_stay (owner_of sys) owner f h).param_in n s e) k)
+      (into_param_fits (param_at (parameters f) n) d (params_in f n h) k)
 
   -- further arguments
 
@@ -195,10 +294,30 @@ module _ (law : Flows) (sys : System) (owner : Owner) (w : World) where
   started_fits (Some (flat v it)) list where_ h k = tt
   started_fits (Some (ref v s)) list where_ h k = tt
   started_fits (Some (fun v ps r None)) list where_ h k = tt
-  started_fits (Some (fun v ps r (Some e))) list where_ h k =
+  started_fits (Some (fun v ps r (Some e))) list where_ (inl is) k = absurd cc
+  started_fits (Some (fun v ps r (Some e))) list where_ (inr h) (inl is) = none_or sys (is_nothing list) _ (inl is)
+  started_fits (Some (fun v ps r (Some e))) list where_ (inr h) (inr k) =
       let all : AllIn (owner_of sys) owner (nodes r ++ e ∷ []) =
       back (owner_of sys) owner (all_nodes ps) (nodes r ++ e ∷ []) h.1 in
-      (record { owner = owner; from = (back (owner_of sys) owner (nodes r) (e ∷ []) all).0; to = root_in (owner_of sys) owner list k }, tt)
+      none_where sys (is_nothing list) (constraints (all_lattices w) where_ (Le e (root list) ∷ []))
+      (record {
+        owner = owner;
+        from = (back (owner_of sys) owner (nodes r) (e ∷ []) all).0;
+        to = root_in (owner_of sys) owner list k;
+      }, tt)
+
+  taken_fits : (list t : Skel) (where_ : Span) → Inside sys owner list → Inside sys owner t →
+      AllFit sys (taken w list t where_)
+  taken_fits list t where_ h k =
+      none_or sys (is_nothing list || is_nothing t) (constraints (all_lattices w) where_ (unsmash (root list) t)) (by h k)
+    where
+      by : Inside sys owner list → Inside sys owner t → ((is_nothing list || is_nothing t) ≡ true)
+          ⊎ AllFit sys (constraints (all_lattices w) where_ (unsmash (root list) t))
+      by (inl e) k = inl (either_true false (is_nothing list) (is_nothing t) (inl e))
+      by (inr h) (inl e) = inl (last_true (is_nothing list) (is_nothing t) e)
+      by (inr h) (inr k) =
+          inr (staying_fits sys owner (all_lattices w) where_ (unsmash (root list) t)
+          (law.unsmashed (owner_of sys) owner (root list) t (root_in (owner_of sys) owner list h) k))
 
 pub rows_fit : Flows → RowsFit
 rows_fit law sys owner w = record {
@@ -219,4 +338,5 @@ rows_fit law sys owner w = record {
   name = name_fits law sys owner w;
   parameter = param_fits law sys owner w;
   start_of_list = started_fits law sys owner w;
+  next_of_list = taken_fits law sys owner w;
 }

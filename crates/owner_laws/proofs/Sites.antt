@@ -13,8 +13,8 @@ use Rattle.name_rules.specs.Spellings.{Place}
 use Rattle.name_rules.specs.Scopes.{is_place}
 use Rattle.row_rules.specs.Starting.{Start}
 use Rattle.row_rules.specs.Worlds.{Numbered, numbered_from, number_among}
-use Rattle.row_rules.specs.Sites.{has_place, owner_by, site_of, sites_among, place_of, site_places}
-use Rattle.owner_laws.specs.Laws.{owner_among, skeleton_of, AreDifferent, CallsLead}
+use Rattle.row_rules.specs.Sites.{AreDifferent, has_place, owner_by, site_of, sites_among, place_of, site_places}
+use Rattle.owner_laws.specs.Laws.{owner_among, skeleton_of, CallsLead}
 use Rattle.owner_laws.proofs.Intervals.{skeletons_are_owned}
 
 -- places

@@ -1,5 +1,5 @@
 -- Whose the variables of skeletons are, and where calls lead.
-use Rattle.std.specs.Prelude.{◌≡◌, ℕ, false, Contains, List, [], ◌∷◌, slice_get, Some, unwrap_or}
+use Rattle.std.specs.Prelude.{◌≡◌, ℕ, Contains, List, slice_get, Some, unwrap_or}
 use Rattle.qual_base.specs.declared.places.Owner.{Owner}
 use Rattle.qual_base.specs.declared.places.Owner.TheVariants.{Nobody, Function}
 use Rattle.qual_types.specs.Skel.{Skel, nodes, numbered}

@@ -1,27 +1,36 @@
 -- The constraints of each form fit where the skeletons of its parts belong to one owner or to nobody.
-use Rattle.std.specs.Prelude.{◌≡◌, ℕ, Bool, List, Option, None, Some}
+use Rattle.std.specs.Prelude.{◌≡◌, ◌⊎◌, ℕ, Bool, true, List, Option, None, Some}
 use Rattle.c_words.specs.declared.kinds.Punct.{Punct}
 use Rattle.qual_base.specs.declared.places.Owner.{Owner}
 use Rattle.qual_base.specs.declared.places.Span.{Span}
 use Rattle.flow_graph.specs.declared.constraint.Constraint.{Constraint}
 use Rattle.flow_graph.specs.System.{System, owner_of}
 use Rattle.type_table.specs.Types.{CType}
-use Rattle.qual_types.specs.Skel.{Skel, nodes}
+use Rattle.qual_types.specs.Skel.{Skel, nodes, param_at}
 use Rattle.flow_rules.specs.Owners.{IsIn, AllIn}
 use Rattle.name_rules.specs.Spellings.{Place}
 use Rattle.name_rules.specs.Scopes.{function_role, Declared}
 use Rattle.row_rules.specs.Starting.{Start}
 use Rattle.row_rules.specs.Worlds.{World, at, numbered_from, skeleton}
-use Rattle.row_rules.specs.Sites.{owners_among, site_places, sites_among}
-use Rattle.row_rules.specs.Annotations.{annotating, write_bounds}
-use Rattle.row_rules.specs.Vals.{Val}
-use Rattle.row_rules.specs.Rows.{dereferenced, assigned, computed, chosen, prefixed, passed, instance, cast_demand, returned, flowing, name_row, param_row, started}
+use Rattle.row_rules.specs.Sites.{AreDifferent, owners_among, site_places, sites_among}
+use Rattle.row_rules.specs.Annotations.{annotating, parameters, write_bounds}
+use Rattle.row_rules.specs.Vals.{Val, contents, is_nothing, read, result}
+use Rattle.row_rules.specs.Rows.{dereferenced, assigned, computed, chosen, prefixed, passed, instance, cast_demand, returned, flowing, name_row, param_row, started, taken}
 use Rattle.owner_laws.specs.Fitting.{AllFit, start_at}
-use Rattle.owner_laws.specs.Laws.{AreDifferent}
 
--- all variables of a skeleton belong to the owner or to nobody
+-- it is no skeleton, or all of its variables belong to the owner or to nobody
 abbrev pub Inside : System → Owner → Skel → Type 0
-Inside sys owner s = AllIn (owner_of sys) owner (nodes s)
+Inside sys owner s = (is_nothing s ≡ true) ⊎ AllIn (owner_of sys) owner (nodes s)
+
+-- what is in a skeleton is inside where it is
+pub record PartsInside (sys : System) (owner : Owner) (s : Skel) : Type 0 where
+  pub contents_in : Inside sys owner (contents s)
+  pub read_in : Inside sys owner (read s)
+  pub result_in : Inside sys owner (result s)
+  pub param_in : (n : ℕ) (q : Skel) → param_at (parameters s) n ≡ Some q → Inside sys owner q
+
+abbrev pub AllPartsInside : Type 0
+AllPartsInside = (sys : System) (owner : Owner) (s : Skel) → Inside sys owner s → PartsInside sys owner s
 
 abbrev pub SomeInside : System → Owner → Option Skel → Type 0
 SomeInside sys owner None = Unit {0}
@@ -57,6 +66,8 @@ pub record RowsOf (sys : System) (owner : Owner) (w : World) : Type 0 where
       AllFit sys (param_row w f n (Some d))
   pub start_of_list : (f : Option Skel) (list : Skel) (where_ : Span) → SomeInside sys owner f →
       Inside sys owner list → AllFit sys (started w f list where_)
+  pub next_of_list : (list t : Skel) (where_ : Span) → Inside sys owner list → Inside sys owner t →
+      AllFit sys (taken w list t where_)
 
 abbrev pub RowsFit : Type 0
 RowsFit = (sys : System) (owner : Owner) (w : World) → RowsOf sys owner w

@@ -1,9 +1,9 @@
 //! Laws of the owners of variables.
 
 ghost use Rattle.owner_laws.specs.Belonging.{MeaningsBelong, ChangesKeep, AnotherComes, UnitsBelong};
-ghost use Rattle.owner_laws.specs.Fitting.{FittingIsWellOwned, ListsFit, StayingFits, LeadingFits, SkeletonsAtAreOwned, AllPartsStay};
+ghost use Rattle.owner_laws.specs.Fitting.{FittingIsWellOwned, ListsFit, StayingFits, LeadingFits, SkeletonsAtAreOwned};
 ghost use Rattle.owner_laws.specs.Laws.{SkeletonsAreOwned, CallsLead};
-ghost use Rattle.owner_laws.specs.Rows.{RowsFit, InstancesFit};
+ghost use Rattle.owner_laws.specs.Rows.{AllPartsInside, RowsFit, InstancesFit};
 
 use flow_rules::{crossings_lead, flows_stay};
 
@@ -37,9 +37,9 @@ pub fn changes_keep()
 {}
 
 /// Where all variables of a skeleton belong to one owner or to nobody, so do those of what is in
-/// it.
+/// it; what is in no skeleton is none.
 pub fn parts_stay()
-    ensures { AllPartsStay }
+    ensures { AllPartsInside }
 {}
 
 /// A system is well owned where each of its constraints fits. Flows that stay in one function fit,

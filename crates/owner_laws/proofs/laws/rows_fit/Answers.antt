@@ -6,4 +6,5 @@ returns c = rows_fit (record {
   stay = c.flows_stay.ensures.flow;
   made_equal = c.flows_stay.ensures.equate;
   smashed = c.flows_stay.ensures.smash;
+  unsmashed = c.flows_stay.ensures.unsmash;
 })
