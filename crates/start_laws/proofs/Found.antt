@@ -57,10 +57,14 @@ found_append k (op ∷ xs) ys st r =
     (found k (behind k (step k.spelling k.names st op) xs)
     (rounds_behind k (step k.spelling k.names st op) (round_step st.declarations r op) xs) ys))
 
+-- what names of declarators have there
+abbrev pub has_at : Over → Rounds → Having
+has_at k r = naming_has k.spelling k.names (naming r)
+
 -- From any state, where names of declarators have skeletons or none, these skeletons begin along a tape, by what is around
 -- it; behind it the same is around.
 pub record Finds (k : Over) (h : Having) (tape : List Op) (f : Around → List Start) : Type 0 where
-  pub finds : (st : State) (r : Rounds) → naming_has (naming r) ≡ h → found k st r tape ≡ f (at k r)
+  pub finds : (st : State) (r : Rounds) → has_at k r ≡ h → found k st r tape ≡ f (at k r)
   pub stays : (st : State) (r : Rounds) → rounds_behind k st r tape ≡ r
 
 pub nothing : {k : Over} {h : Having} → Finds k h [] (λ a. [])
@@ -109,7 +113,7 @@ without {k} {h} {xs} {f} op p none stay =
 
 -- one op
 pub one : {k : Over} {h : Having} (op : Op) (g : Around → List Start) →
-    ((st : State) (r : Rounds) → naming_has (naming r) ≡ h → starts_at k st r op ≡ g (at k r)) →
+    ((st : State) (r : Rounds) → has_at k r ≡ h → starts_at k st r op ≡ g (at k r)) →
     ((ds : List OpenDeclaration) (r : Rounds) → round_step ds r op ≡ r) → Finds k h (op ∷ []) g
 one {k} op g begin stay = record {
   finds = λ st r e. append-nil (starts_at k st r op) ∙ begin st r e;
@@ -127,7 +131,7 @@ pub enclosed : {k : Over} {h within : Having} {tape : List Op} {f : Around → L
     (into : Rounds → Rounds) (inside : Around → Around) (g : Around → List Start) →
     ((st : State) (r : Rounds) → starts_at k st r opening ≡ []) →
     ((st : State) (r : Rounds) → round_step st.declarations r opening ≡ into r) →
-    ((r : Rounds) → naming_has (naming (into r)) ≡ within) → ((r : Rounds) → at k (into r) ≡ inside (at k r)) →
+    ((r : Rounds) → has_at k (into r) ≡ within) → ((r : Rounds) → at k (into r) ≡ inside (at k r)) →
     ((st : State) (r : Rounds) → starts_at k st (into r) closing ≡ g (at k r)) →
     ((ds : List OpenDeclaration) (r : Rounds) → round_step ds (into r) closing ≡ r) → Finds k within tape f →
     Finds k h (opening ∷ (tape ++ closing ∷ [])) (λ a. f (inside a) ++ g a)
@@ -161,7 +165,7 @@ pub around_tape : {k : Over} {h within : Having} {tape : List Op} {f : Around �
     (into : Rounds → Rounds) (inside : Around → Around) →
     ((st : State) (r : Rounds) → starts_at k st r opening ≡ []) →
     ((st : State) (r : Rounds) → round_step st.declarations r opening ≡ into r) →
-    ((r : Rounds) → naming_has (naming (into r)) ≡ within) → ((r : Rounds) → at k (into r) ≡ inside (at k r)) →
+    ((r : Rounds) → has_at k (into r) ≡ within) → ((r : Rounds) → at k (into r) ≡ inside (at k r)) →
     ((st : State) (r : Rounds) → starts_at k st (into r) closing ≡ []) →
     ((ds : List OpenDeclaration) (r : Rounds) → round_step ds (into r) closing ≡ r) → Finds k within tape f →
     Finds k h (opening ∷ (tape ++ closing ∷ [])) (λ a. f (inside a))

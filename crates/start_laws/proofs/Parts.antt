@@ -13,20 +13,21 @@ use Rattle.tape_ops.specs.declared.expression.ExprOp.TheVariants as exprs
 use Rattle.tape_ops.specs.declared.form.FormOp.TheVariants as forms
 use Rattle.tape_ops.specs.declared.declarator.DeclrOp.TheVariants as declrs
 use Rattle.tape_ops.specs.declared.initialiser.InitOp.TheVariants as inits
-use Rattle.c_tree.specs.Tree.{Expr, operation, Operator, comma, assign, cond, binary, no_expr, some_expr, SpecWords, SomeDeclr, InitList, Params}
+use Rattle.c_tree.specs.Tree.{Expr, operation, Operator, comma, assign, cond, binary, no_expr, some_expr, SpecWords, Declr, SomeDeclr, InitList, Params}
 use Rattle.c_tree.specs.Ends.{first_token, last_token}
 use Rattle.c_tape.specs.Tests.{says_none}
 use Rattle.c_tape.specs.Tape.{expr_tape, middle_tape, type_name_with, body_tape, in_scope, quietly, spec, params_with, params_tape, list_tape, rule_of_list, init}
 use Rattle.type_table.specs.Types.{CType, base}
 use Rattle.name_rules.specs.Values.{value}
 use Rattle.type_rules.specs.Shapes.{shape_of, is_zero}
-use Rattle.shape_steps.specs.State.{State, OpenDeclaration}
-use Rattle.row_rules.specs.Starting.{Start, Around, Having, with_skeleton, having, quiet, fresh, some_fresh, fresh_where, some_place, is_some_pointer, is_fresh_binary}
+use Rattle.type_rules.specs.Tokens.{declared_name}
+use Rattle.shape_steps.specs.State.{State, OpenDeclaration, opened}
+use Rattle.row_rules.specs.Starting.{Start, Around, Having, with_skeleton, of_function, without_skeleton, quiet, fresh, some_fresh, fresh_where, some_place, is_some_pointer, is_fresh_binary}
 use Rattle.row_steps.specs.Rounds.{Naming, a_name, own_param, other_param, Rounds, is_quiet, with_round, entered, silenced, left, next_naming, params_naming, round_step}
-use Rattle.row_steps.specs.Starting.{naming_has}
-use Rattle.constraint_rules.specs.Starts.{expr_starts, some_expr_starts, params_starts, type_at}
-use Rattle.start_laws.proofs.Found.{Over, at, behind, starts_at, found, rounds_behind, found_append, rounds_append, Finds, join, same, followed, without, enclosed, around_tape, silent, of_three, of_four}
-use Rattle.start_laws.proofs.States.{operands_left, cast_type, va_arg_type, literal_type, type_name_tape}
+use Rattle.row_steps.specs.Starting.{function_at, naming_has}
+use Rattle.constraint_rules.specs.Starts.{declr_starts, expr_starts, some_expr_starts, params_starts, type_at}
+use Rattle.start_laws.proofs.Found.{Over, at, behind, starts_at, found, rounds_behind, found_append, rounds_append, has_at, Finds, join, same, followed, without, enclosed, around_tape, silent, of_three, of_four}
+use Rattle.start_laws.proofs.States.{declaring, token_of, operands_left, cast_type, va_arg_type, literal_type, type_name_tape}
 use Rattle.start_laws.proofs.Idle.{none_said, list_none}
 
 -- what is around a tape
@@ -170,7 +171,7 @@ module _ (k : Over) where
 
 -- along the tape of parameters, of which each has a number
 pub record FindsParams (k : Over) (h : Having) (tape : List Op) (f : Around → List Start) : Type 0 where
-  pub finds : (st : State) (r : Rounds) (n : Naming) (q : Bool) → naming_has n ≡ h →
+  pub finds : (st : State) (r : Rounds) (n : Naming) (q : Bool) → naming_has k.spelling k.names n ≡ h →
       found k st (with_round n q r) tape ≡ f (at k (with_round n q r))
   pub ends : (st : State) (r : Rounds) (n : Naming) (q : Bool) →
       left (rounds_behind k st (with_round n q r) tape) ≡ r
@@ -178,10 +179,11 @@ pub record FindsParams (k : Over) (h : Having) (tape : List Op) (f : Around → 
 pub no_param : {k : Over} {h : Having} → FindsParams k h [] (λ a. [])
 no_param = record { finds = λ st r n q e. refl; ends = λ st r n q. refl }
 
-next_has : (n : Naming) → naming_has (next_naming n) ≡ naming_has n
-next_has a_name = refl
-next_has (own_param f n) = refl
-next_has other_param = refl
+next_has : (k : Over) (n : Naming) →
+    naming_has k.spelling k.names (next_naming n) ≡ naming_has k.spelling k.names n
+next_has k a_name = refl
+next_has k (own_param f n) = refl
+next_has k other_param = refl
 
 pub one_param : {k : Over} {h : Having} {xs ys : List Op} {f g : Around → List Start} → Finds k h xs f →
     FindsParams k h ys g → FindsParams k h (xs ++ ops.Declr declrs.Param ∷ [] ++ ys) (λ a. f a ++ g a)
@@ -194,7 +196,7 @@ one_param {k} {h} {xs} {ys} {f} {g} p q = record {
       ++ found k (behind k st (xs ++ ops.Declr declrs.Param ∷ [])) (with_round (next_naming n) b r) ys)
       (before st r n b e)
       ∙ ap (λ (starts : List Start). f (at k (with_round n b r)) ++ starts)
-      (q.finds (behind k st (xs ++ ops.Declr declrs.Param ∷ [])) r (next_naming n) b (next_has n ∙ e))));
+      (q.finds (behind k st (xs ++ ops.Declr declrs.Param ∷ [])) r (next_naming n) b (next_has k n ∙ e))));
   ends = λ st r n b.
       ap left (rounds_append k (xs ++ ops.Declr declrs.Param ∷ []) ys st (with_round n b r)
       ∙ ap (λ (it : Rounds). rounds_behind k (behind k st (xs ++ ops.Declr declrs.Param ∷ [])) it ys)
@@ -207,7 +209,7 @@ one_param {k} {h} {xs} {ys} {f} {g} p q = record {
       ∙ ap (λ (it : Rounds). round_step (behind k st xs).declarations it (ops.Declr declrs.Param))
       (p.stays st (with_round n b r))
 
-  before : (st : State) (r : Rounds) (n : Naming) (b : Bool) → naming_has n ≡ h →
+  before : (st : State) (r : Rounds) (n : Naming) (b : Bool) → naming_has k.spelling k.names n ≡ h →
       found k st (with_round n b r) (xs ++ ops.Declr declrs.Param ∷ []) ≡ f (at k (with_round n b r))
   before st r n b e = found_append k xs (ops.Declr declrs.Param ∷ []) st (with_round n b r)
       ∙ (append-nil (found k st (with_round n b r) xs) ∙ p.finds st (with_round n b r) e)
@@ -230,25 +232,65 @@ listed {k} true tape empty p = record {
 }
 listed false tape empty p = p
 
-params_have : (own : Bool) (ds : List OpenDeclaration) → naming_has (params_naming own ds) ≡ having own
-params_have true ds = refl
-params_have false ds = refl
+-- from a state in whose declaration these parameters have that
+pub params_found : {k : Over} {h : Having} (own : Bool) (ps : Params) →
+    FindsParams k h (params_tape ps) (λ a. params_starts a h ps) → (st : State) (r : Rounds) →
+    naming_has k.spelling k.names (params_naming own st.declarations) ≡ h →
+    found k st r (params_with own (says_none ps) (params_tape ps)) ≡ params_starts (at k r) h ps
+params_found {k} {h} own ps p st r e =
+    found_append k list (ops.Declr declrs.ParamsEnd ∷ []) st begun
+    ∙ (append-nil (found k st begun list) ∙ it.finds st r (params_naming own st.declarations) (is_quiet r) e)
+  where
+    list : List Op
+    list = if says_none ps then [] else params_tape ps
 
-pub params_with_find : {k : Over} {h : Having} (own : Bool) (ps : Params) →
-    FindsParams k (having own) (params_tape ps) (λ a. params_starts a (having own) ps) →
-    Finds k h (params_with own (says_none ps) (params_tape ps)) (λ a. params_starts a (having own) ps)
-params_with_find {k} own ps p = record {
-  finds = λ st r e. found_append k list (ops.Declr declrs.ParamsEnd ∷ []) st (begun st r)
-      ∙ (append-nil (found k st (begun st r) list)
-      ∙ it.finds st r (params_naming own st.declarations) (is_quiet r) (params_have own st.declarations));
-  stays = λ st r. rounds_append k list (ops.Declr declrs.ParamsEnd ∷ []) st (begun st r)
-      ∙ it.ends st r (params_naming own st.declarations) (is_quiet r);
-} where
-  list : List Op
-  list = if says_none ps then [] else params_tape ps
+    it : FindsParams k h list (λ a. params_starts a h ps)
+    it = listed (says_none ps) (params_tape ps) (λ none a. none_said a h ps none) p
 
-  it : FindsParams k (having own) list (λ a. params_starts a (having own) ps)
-  it = listed (says_none ps) (params_tape ps) (λ e a. none_said a (having own) ps e) p
+    begun : Rounds
+    begun = with_round (params_naming own st.declarations) (is_quiet r) r
 
-  begun : State → Rounds → Rounds
-  begun st r = with_round (params_naming own st.declarations) (is_quiet r) r
+pub params_stay : {k : Over} {h : Having} (own : Bool) (ps : Params) →
+    FindsParams k h (params_tape ps) (λ a. params_starts a h ps) → (st : State) (r : Rounds) →
+    rounds_behind k st r (params_with own (says_none ps) (params_tape ps)) ≡ r
+params_stay {k} {h} own ps p st r =
+    rounds_append k list (ops.Declr declrs.ParamsEnd ∷ []) st
+    (with_round (params_naming own st.declarations) (is_quiet r) r)
+    ∙ it.ends st r (params_naming own st.declarations) (is_quiet r)
+  where
+    list : List Op
+    list = if says_none ps then [] else params_tape ps
+
+    it : FindsParams k h list (λ a. params_starts a h ps)
+    it = listed (says_none ps) (params_tape ps) (λ none a. none_said a h ps none) p
+
+-- parameters that are no function's own
+pub params_with_find : {k : Over} {h : Having} (ps : Params) →
+    FindsParams k without_skeleton (params_tape ps) (λ a. params_starts a without_skeleton ps) →
+    Finds k h (params_with false (says_none ps) (params_tape ps)) (λ a. params_starts a without_skeleton ps)
+params_with_find ps p =
+    record { finds = λ st r e. params_found false ps p st r refl; stays = λ st r. params_stay false ps p st r }
+
+-- A function's declarator, from a declaration of which no declarator was read: its own parameters belong to the function.
+abbrev pub own_of : Over → Declr → Having
+own_of k d = of_function (function_at k.spelling k.names (token_of (declared_name d)))
+
+pub record OwnFinds (k : Over) (h own : Having) (tape : List Op) (d : Declr) : Type 0 where
+  pub finds : (declared : Option ℕ) (st : State) (r : Rounds) → has_at k r ≡ h →
+      found k (declaring None declared st) r tape ≡ declr_starts (at k r) h own d
+  pub stays : (declared : Option ℕ) (st : State) (r : Rounds) → rounds_behind k (declaring None declared st) r tape ≡ r
+
+-- behind the specifiers
+pub own_behind : {k : Over} {h own : Having} {xs tape : List Op} {f : Around → List Start} {d : Declr} →
+    Finds k h xs f → ((st : State) → behind k st xs ≡ opened st) → OwnFinds k h own tape d →
+    Finds k h (xs ++ tape) (λ a. f a ++ declr_starts a h own d)
+own_behind {k} {xs = xs} {tape = tape} {f = f} p left q = record {
+  finds = λ st r e. found_append k xs tape st r
+      ∙ (ap (λ (b : Rounds). found k st r xs ++ found k (behind k st xs) b tape) (p.stays st r)
+      ∙ (ap (λ (starts : List Start). starts ++ found k (behind k st xs) r tape) (p.finds st r e)
+      ∙ ap (λ (starts : List Start). f (at k r) ++ starts)
+      (ap (λ (it : State). found k it r tape) (left st) ∙ q.finds None st r e)));
+  stays = λ st r. rounds_append k xs tape st r
+      ∙ (ap (λ (b : Rounds). rounds_behind k (behind k st xs) b tape) (p.stays st r)
+      ∙ (ap (λ (it : State). rounds_behind k it r tape) (left st) ∙ q.stays None st r));
+}

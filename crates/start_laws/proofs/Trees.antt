@@ -1,5 +1,5 @@
 -- Where skeletons begin along the tape of each part of a tree: by cases on the tree.
-use Rattle.std.proofs.Common.{◌≡◌, ℕ, Bool, true, false, List, [], ◌∷◌, ◌++◌, Option, None, Some, refl, ap}
+use Rattle.std.proofs.Common.{◌≡◌, ℕ, Bool, true, false, List, [], ◌∷◌, ◌++◌, Option, None, Some, refl, sym, ◌∙◌, ap}
 use Rattle.std.specs.Prelude.{not, ◌&&◌, if◌then◌else◌}
 use Rattle.c_syntax.specs.declared.parts.Identifier.{Identifier}
 use Rattle.tape_ops.specs.declared.op.Op.{Op}
@@ -15,17 +15,22 @@ use Rattle.tape_ops.specs.declared.statement.StmtOp.TheVariants as stmts
 use Rattle.c_tree.specs.Tree.{Expr, operation, cast, prefix, sizeof_value, sizeof_type, extension, index, call, dot, arrow, post, compound, name_use, number_use, char_use, text_use, paren, statement_expr, va_arg, va_start, va_copy, offset, Operator, comma, assign, cond, binary, SomeExpr, no_expr, some_expr, Exprs, no_exprs, more_exprs, SpecWords, no_words, more_words, SpecWord, storage, thread, inline_word, noreturn, qualifier, basic, struct_type, enum_type, typedef_name, attribute, SomeBody, no_body, some_body, StructItems, no_struct_items, more_struct_items, StructItem, member, member_semi, member_assert, MemDeclrs, no_mem_declrs, more_mem_declrs, MemDeclr, named, unnamed, SomeValue, no_value, some_value, EnumType, enum_of, no_enum_body, some_enum_body, Enumerators, no_enumerators, more_enumerators, Declr, pointer, declr_name, declr_paren, array, params, abs_pointer, abs_paren, abs_array, abs_params, SomeDeclr, no_declr, some_declr, SomeSize, no_size, some_size, ArraySize, size_value, size_star, Params, no_params, more_params, Init, init_value, init_braced, InitList, init_list, InitItems, no_init_items, more_init_items, Desigs, no_desigs, more_desigs, Desig, member_desig, index_desig, SomeInit, no_init, some_init, InitDeclrs, no_init_declrs, more_init_declrs, Declaration, declaration, Decl, decl_declaration, decl_assert, BlockItems, no_block_items, more_block_items, BlockItem, block_decl, block_stmt, Stmt, block, expr_stmt, attr_stmt, label, case_stmt, default_stmt, if_stmt, switch_stmt, while_stmt, do_stmt, for_stmt, goto_stmt, continue_stmt, break_stmt, return_stmt, asm_stmt, SomeElse, no_else, some_else, ForStart, start_declaration, start_value}
 use Rattle.c_tree.specs.Firsts.{qual_token, first_word}
 use Rattle.c_tree.specs.Ends.{first_token, last_token, first_text}
-use Rattle.c_tape.specs.Tests.{is_void, tag_kind, declares_tag, is_name, is_end}
+use Rattle.c_tape.specs.Tests.{is_void, tag_kind, declares_tag, is_name, says_none, is_end}
 use Rattle.c_tape.specs.Tests as tape_tests
-use Rattle.c_tape.specs.Tape.{count, expr_tape, middle_tape, some_expr_tape, exprs_tape, dropped_tape, steps_tape, words_tape, word_tape, struct_tape, struct_items_tape, struct_item_tape, members_tape, mem_declrs_tape, mem_declr_tape, some_value_tape, unnamed_tape, unnamed_word_tape, enum_tape, enumerators_tape, some_declr_tape, contents, some_contents, some_size_tape, size_tape, params_tape, init_tape, list_tape, init_items_tape, indices_tape, index_tape, some_init_tape, init_declrs_tape, declaration_tape, decl_tape, block_items_tape, block_item_tape, stmt_tape, some_else_tape, for_start_tape}
+use Rattle.c_tape.specs.Tape.{count, params_with, params_tape, some_size_tape, expr_tape, middle_tape, some_expr_tape, exprs_tape, dropped_tape, steps_tape, words_tape, word_tape, struct_tape, struct_items_tape, struct_item_tape, members_tape, mem_declrs_tape, mem_declr_tape, some_value_tape, unnamed_tape, unnamed_word_tape, enum_tape, enumerators_tape, some_declr_tape, contents, some_contents, some_size_tape, size_tape, params_tape, init_tape, list_tape, init_items_tape, indices_tape, index_tape, some_init_tape, init_declrs_tape, declaration_tape, decl_tape, block_items_tape, block_item_tape, stmt_tape, some_else_tape, for_start_tape}
 use Rattle.type_table.specs.Types.{base, void, pointer as pointer_type}
 use Rattle.name_rules.specs.Spellings.{place}
 use Rattle.name_rules.specs.Uses.{use_at, text_type}
-use Rattle.row_rules.specs.Starting.{Start, Around, Having, with_skeleton, without_skeleton, having, had_name, name_start, use_start, quiet, fresh, fresh_where, is_fresh_prefix}
+use Rattle.row_rules.specs.Starting.{Start, Around, Having, with_skeleton, without_skeleton, having_where, had_name, name_start, use_start, quiet, fresh, fresh_where, is_fresh_prefix}
+use Rattle.row_steps.specs.Rounds.{Rounds, params_naming}
+use Rattle.row_steps.specs.Starting.{naming_has}
+use Rattle.type_rules.specs.Tokens.{declared_name, is_bare}
+use Rattle.shape_steps.specs.State.{State}
 use Rattle.constraint_rules.specs.Starts.{unnamed_start, unnamed_starts, ends_in_value, expr_starts, some_expr_starts, exprs_starts, words_starts, word_starts, some_body_starts, struct_items_starts, struct_item_starts, members_starts, mem_declrs_starts, mem_declr_starts, some_value_starts, enum_starts, enumerators_starts, declr_starts, some_declr_starts, some_size_starts, array_size_starts, params_starts, init_starts, init_list_starts, init_items_starts, desigs_starts, desig_starts, some_init_starts, init_declrs_starts, declaration_starts, decl_starts, block_items_starts, block_item_starts, stmt_starts, some_else_starts, for_start_starts}
-use Rattle.start_laws.proofs.Found.{Over, at, Finds, nothing, join, same, followed, without, one, idle, silent, of_three, of_four}
+use Rattle.start_laws.proofs.Found.{Over, at, behind, found, rounds_behind, found_append, rounds_append, has_at, Finds, nothing, join, same, followed, without, one, idle, silent, of_three, of_four}
 use Rattle.start_laws.proofs.Idle.{pieces_plain, tag_none, arguments_none, list_none, same_bare, same_end}
-use Rattle.start_laws.proofs.Parts.{scoped, quietly_finds, sizeof_finds, offset_finds, body_finds, type_name_finds, middle_starts, operation_finds, cast_finds, va_arg_finds, literal_finds, FindsParams, no_param, one_param, params_grouped, params_with_find}
+use Rattle.start_laws.proofs.States.{declaring, token_of, contents_left}
+use Rattle.start_laws.proofs.Parts.{scoped, quietly_finds, sizeof_finds, offset_finds, body_finds, type_name_finds, middle_starts, operation_finds, cast_finds, va_arg_finds, literal_finds, FindsParams, no_param, one_param, params_grouped, params_found, params_stay, params_with_find, own_of, OwnFinds}
 
 -- the steps of an offset, where nothing is fresh
 abbrev steps_starts : Around → Desigs → List Start
@@ -39,7 +44,27 @@ quiet_steps a (more_desigs (member_desig before name) ds) = quiet_steps a ds
 quiet_steps a (more_desigs (index_desig opening e closing) ds) =
     ap (λ (starts : List Start). expr_starts (quiet a) e ++ starts) (quiet_steps a ds)
 
+none_have : (bare : Bool) → having_where bare without_skeleton ≡ without_skeleton
+none_have true = refl
+none_have false = refl
+
+-- what stands directly around the name of a function
+abbrev own_params : Declr → Params → List Op
+own_params d ps = params_with (is_name d) (says_none ps) (params_tape ps)
+
+own_have : (k : Over) (d : Declr) (bare : Bool) (n : Option ℕ) (st : State) →
+    naming_has k.spelling k.names (params_naming bare (declaring (token_of (declared_name d)) n st).declarations)
+    ≡ having_where bare (own_of k d)
+own_have k d true n st = refl
+own_have k d false n st = refl
+
 module _ (k : Over) where
+  name_finds : (token name : ℕ) (h : Having) →
+      Finds k h (ops.Declr (declrs.DeclName token name) ∷ []) (λ a. had_name h a token)
+  name_finds token name h =
+      one (ops.Declr (declrs.DeclName token name)) (λ a. had_name h a token)
+      (λ st r e. ap (λ (has : Having). had_name has (at k r) token) e) (λ ds r. refl)
+
   -- members without a declarator
 
   unnamed_word_finds : (word : SpecWord) →
@@ -233,7 +258,7 @@ module _ (k : Over) where
     mem_declr_finds : (d : MemDeclr) → Finds k with_skeleton (mem_declr_tape d) (λ a. mem_declr_starts a d)
     mem_declr_finds (named d width attrs) =
         join (without (ops.Declr declrs.Member)
-        (silent (contents_find d false with_skeleton) ((pieces_plain k d).none with_skeleton)) (λ st r. refl)
+        (silent (contents_find d with_skeleton) ((pieces_plain k d).none with_skeleton)) (λ st r. refl)
         (λ ds r. refl)) (some_value_finds width)
     mem_declr_finds (unnamed colon e attrs) = quietly_finds (expr_finds e false)
 
@@ -255,36 +280,86 @@ module _ (k : Over) where
 
     -- declarators
 
-    pub contents_find : (d : Declr) → (own : Bool) (h : Having) →
-        Finds k h (contents own d) (λ a. declr_starts a h own d)
-    contents_find (pointer star words d) own h = contents_find d own h
-    contents_find (declr_name token name) own h =
-        one (ops.Declr (declrs.DeclName token name)) (λ a. had_name h a token)
-        (λ st r e. ap (λ (has : Having). had_name has (at k r) token) e) (λ ds r. refl)
-    contents_find (declr_paren opening attrs d closing) own h = contents_find d own h
-    contents_find (array d opening words size closing) own h =
-        join (contents_find d own h) (some_size_finds size h)
-    contents_find (params d opening ps dots closing) own h =
-        same (join (contents_find d own h)
-        (params_with_find (own && is_name d) ps (params_find ps (having (own && is_name d)))))
-        (λ r. ap (λ (b : Bool). declr_starts (at k r) h own d ++ params_starts (at k r) (having (own && b)) ps)
-        (same_bare d))
-    contents_find (abs_pointer star words d) own h = some_contents_find d h
-    contents_find (abs_paren opening attrs d closing) own h = contents_find d own h
-    contents_find (abs_array d opening words size closing) own h =
-        join (some_contents_find d h) (some_size_finds size h)
-    contents_find (abs_params d opening ps dots closing) own h =
-        join (some_contents_find d h) (params_with_find false ps (params_find ps without_skeleton))
+    contents_find : (d : Declr) → (h : Having) →
+        Finds k h (contents false d) (λ a. declr_starts a h without_skeleton d)
+    contents_find (pointer star words d) h = contents_find d h
+    contents_find (declr_name token name) h = name_finds token name h
+    contents_find (declr_paren opening attrs d closing) h = contents_find d h
+    contents_find (array d opening words size closing) h = join (contents_find d h) (some_size_finds size h)
+    contents_find (params d opening ps dots closing) h =
+        same (join (contents_find d h) (params_with_find ps (params_find ps without_skeleton)))
+        (λ r. ap (λ (has : Having). declr_starts (at k r) h without_skeleton d ++ params_starts (at k r) has ps)
+        (sym (none_have (is_bare d))))
+    contents_find (abs_pointer star words d) h = some_contents_find d h
+    contents_find (abs_paren opening attrs d closing) h = contents_find d h
+    contents_find (abs_array d opening words size closing) h = join (some_contents_find d h) (some_size_finds size h)
+    contents_find (abs_params d opening ps dots closing) h =
+        join (some_contents_find d h) (params_with_find ps (params_find ps without_skeleton))
+
+    -- the declarator of a function, whose own parameters have what is given
+    pub own_contents_find : (d : Declr) → (h : Having) → OwnFinds k h (own_of k d) (contents true d) d
+    own_contents_find (pointer star words d) h =
+        let it = own_contents_find d h in record { finds = it.finds; stays = it.stays }
+    own_contents_find (declr_name token name) h =
+        let it = name_finds token name h in
+        record { finds = λ n st r e. it.finds (declaring None n st) r e; stays = λ n st r. refl }
+    own_contents_find (declr_paren opening attrs d closing) h =
+        let it = own_contents_find d h in record { finds = it.finds; stays = it.stays }
+    own_contents_find (array d opening words size closing) h =
+        let it = own_contents_find d h in let others = some_size_finds size h in
+        record {
+          finds = λ n st r e. found_append k (contents true d) (some_size_tape size) (declaring None n st) r
+              ∙ (ap (λ (b : Rounds). found k (declaring None n st) r (contents true d)
+              ++ found k (behind k (declaring None n st) (contents true d)) b (some_size_tape size)) (it.stays n st r)
+              ∙ (ap (λ (starts : List Start). starts
+              ++ found k (behind k (declaring None n st) (contents true d)) r (some_size_tape size)) (it.finds n st r e)
+              ∙ ap (λ (starts : List Start). declr_starts (at k r) h (own_of k d) d ++ starts)
+              (others.finds (behind k (declaring None n st) (contents true d)) r e)));
+          stays = λ n st r. rounds_append k (contents true d) (some_size_tape size) (declaring None n st) r
+              ∙ (ap (λ (b : Rounds). rounds_behind k (behind k (declaring None n st) (contents true d)) b
+              (some_size_tape size)) (it.stays n st r)
+              ∙ others.stays (behind k (declaring None n st) (contents true d)) r);
+        }
+    own_contents_find (params d opening ps dots closing) h =
+        let it = own_contents_find d h in
+        record {
+          finds = λ n st r e. found_append k (contents true d) (own_params d ps) (declaring None n st) r
+              ∙ (ap (λ (b : Rounds). found k (declaring None n st) r (contents true d)
+              ++ found k (behind k (declaring None n st) (contents true d)) b (own_params d ps)) (it.stays n st r)
+              ∙ (ap (λ (starts : List Start). starts
+              ++ found k (behind k (declaring None n st) (contents true d)) r (own_params d ps)) (it.finds n st r e)
+              ∙ ap (λ (starts : List Start). declr_starts (at k r) h (own_of k d) d ++ starts)
+              (ap (λ (b : State). found k b r (own_params d ps)) (contents_left k d true n st)
+              ∙ (params_found (is_name d) ps (params_find ps (having_where (is_name d) (own_of k d)))
+              (declaring (token_of (declared_name d)) n st) r (own_have k d (is_name d) n st)
+              ∙ ap (λ (b : Bool). params_starts (at k r) (having_where b (own_of k d)) ps) (same_bare d)))));
+          stays = λ n st r. rounds_append k (contents true d) (own_params d ps) (declaring None n st) r
+              ∙ (ap (λ (b : Rounds). rounds_behind k (behind k (declaring None n st) (contents true d)) b
+              (own_params d ps)) (it.stays n st r)
+              ∙ params_stay (is_name d) ps (params_find ps (having_where (is_name d) (own_of k d)))
+              (behind k (declaring None n st) (contents true d)) r);
+        }
+    own_contents_find (abs_pointer star words d) h =
+        let it = some_contents_find d h in
+        record { finds = λ n st r e. it.finds (declaring None n st) r e; stays = λ n st r. it.stays (declaring None n st) r }
+    own_contents_find (abs_paren opening attrs d closing) h =
+        let it = own_contents_find d h in record { finds = it.finds; stays = it.stays }
+    own_contents_find (abs_array d opening words size closing) h =
+        let it = join (some_contents_find d h) (some_size_finds size h) in
+        record { finds = λ n st r e. it.finds (declaring None n st) r e; stays = λ n st r. it.stays (declaring None n st) r }
+    own_contents_find (abs_params d opening ps dots closing) h =
+        let it = join (some_contents_find d h) (params_with_find ps (params_find ps without_skeleton)) in
+        record { finds = λ n st r e. it.finds (declaring None n st) r e; stays = λ n st r. it.stays (declaring None n st) r }
 
     some_contents_find : (d : SomeDeclr) → (h : Having) →
         Finds k h (some_contents d) (λ a. some_declr_starts a h d)
     some_contents_find no_declr h = nothing
-    some_contents_find (some_declr d) h = contents_find d false h
+    some_contents_find (some_declr d) h = contents_find d h
 
     some_declr_finds : (d : SomeDeclr) → (h : Having) →
         Finds k h (some_declr_tape d) (λ a. some_declr_starts a h d)
     some_declr_finds no_declr h = nothing
-    some_declr_finds (some_declr d) h = silent (contents_find d false h) ((pieces_plain k d).none h)
+    some_declr_finds (some_declr d) h = silent (contents_find d h) ((pieces_plain k d).none h)
 
     some_size_finds : (size : SomeSize) → (h : Having) →
         Finds k h (some_size_tape size) (λ a. some_size_starts a size)
@@ -343,10 +418,10 @@ module _ (k : Over) where
         Finds k with_skeleton (init_declrs_tape ds) (λ a. init_declrs_starts a ds)
     init_declrs_find no_init_declrs = nothing
     init_declrs_find (more_init_declrs attrs d asm_label attrs2 i ds) =
-        of_three (λ a. declr_starts a with_skeleton false d) (λ a. some_init_starts a i)
+        of_three (λ a. declr_starts a with_skeleton without_skeleton d) (λ a. some_init_starts a i)
         (λ a. init_declrs_starts a ds)
         (join (join (without (ops.Declr declrs.Declare)
-        (silent (contents_find d false with_skeleton) ((pieces_plain k d).none with_skeleton)) (λ st r. refl)
+        (silent (contents_find d with_skeleton) ((pieces_plain k d).none with_skeleton)) (λ st r. refl)
         (λ ds r. refl)) (some_init_finds i)) (init_declrs_find ds))
 
     declaration_finds : (d : Declaration) → Finds k with_skeleton (declaration_tape d) (λ a. declaration_starts a d)

@@ -16,7 +16,7 @@ use Rattle.type_rules.specs.Tokens.{declared_name}
 use Rattle.type_rules.specs.Program.{Source, names_of}
 use Rattle.shape_steps.specs.State.{State, nothing as no_operands, declared_last, opened}
 use Rattle.shape_laws.specs.Laws.{ShapesAreLeft}
-use Rattle.row_rules.specs.Starting.{Start, with_skeleton, declared_function}
+use Rattle.row_rules.specs.Starting.{Start, with_skeleton, of_function, declared_function}
 use Rattle.row_steps.specs.Rounds.{Rounds, file}
 use Rattle.row_steps.specs.Starting.{function_at}
 use Rattle.constraint_rules.specs.Starts.{words_starts, declr_starts, block_items_starts, item_starts, items_starts}
@@ -25,7 +25,8 @@ use Rattle.start_laws.specs.Laws.{StartsAreFound, found_on, StartsOfProgramAreFo
 use Rattle.start_laws.proofs.Found.{Over, at, behind, found, rounds_behind, run_append, found_append, rounds_append, Finds, join, without, silent}
 use Rattle.start_laws.proofs.States.{token_of, words_left, contents_left}
 use Rattle.start_laws.proofs.Idle.{pieces_plain}
-use Rattle.start_laws.proofs.Trees.{words_find, contents_find, decl_finds, block_items_find}
+use Rattle.start_laws.proofs.Parts.{own_of, own_behind}
+use Rattle.start_laws.proofs.Trees.{words_find, own_contents_find, decl_finds, block_items_find}
 
 -- from file scope to file scope
 record FindsAtFile (k : Over) (tape : List Op) (starts : List Start) : Type 0 where
@@ -45,13 +46,16 @@ module _ (k : Over) where
   head_tape : SpecWords → Declr → List Op
   head_tape ws d = specs_with (words_tape false ws) ++ contents true d ++ pieces d ++ declr declrs.Declare
 
+  specs_left : (ws : SpecWords) (st : State) → behind k st (specs_with (words_tape false ws)) ≡ opened st
+  specs_left ws st = run_append k (words_tape false ws) (spec specs.SpecsEnd) st ∙ ap opened (words_left k ws st)
+
   head_finds : (ws : SpecWords) (d : Declr) →
-      Finds k with_skeleton (head_tape ws d) (λ a. words_starts a ws ++ declr_starts a with_skeleton true d)
+      Finds k with_skeleton (head_tape ws d) (λ a. words_starts a ws ++ declr_starts a with_skeleton (own_of k d) d)
   unfolding head_tape
   head_finds ws d =
       without (ops.Declr declrs.Declare)
-      (silent (join (without (ops.Spec specs.SpecsEnd) (words_find k ws false with_skeleton) (λ st r. refl)
-      (λ ds r. refl)) (contents_find k d true with_skeleton)) ((pieces_plain k d).none with_skeleton))
+      (silent (own_behind (without (ops.Spec specs.SpecsEnd) (words_find k ws false with_skeleton) (λ st r. refl)
+      (λ ds r. refl)) (specs_left ws) (own_contents_find k d with_skeleton)) ((pieces_plain k d).none with_skeleton))
       (λ st r. refl) (λ ds r. refl)
 
   head_left : (ws : SpecWords) (d : Declr) (st : State) →
@@ -64,9 +68,7 @@ module _ (k : Over) where
       (run_append k (specs_with (words_tape false ws) ++ contents true d) (pieces d) st
       ∙ ((pieces_plain k d).left (behind k st (specs_with (words_tape false ws) ++ contents true d))
       ∙ (run_append k (specs_with (words_tape false ws)) (contents true d) st
-      ∙ (ap (λ (it : State). behind k it (contents true d))
-      (run_append k (words_tape false ws) (spec specs.SpecsEnd) st ∙ ap opened (words_left k ws st))
-      ∙ contents_left k d true None st)))))
+      ∙ (ap (λ (it : State). behind k it (contents true d)) (specs_left ws st) ∙ contents_left k d true None st)))))
 
   -- a body behind the declarator of its function
 
@@ -74,7 +76,7 @@ module _ (k : Over) where
   opened_tape ws d = head_tape ws d ++ stmt stmts.FunctionBody
 
   opened_finds : (ws : SpecWords) (d : Declr) (st : State) → found k st file (opened_tape ws d) ≡
-      words_starts (at k file) ws ++ declr_starts (at k file) with_skeleton true d
+      words_starts (at k file) ws ++ declr_starts (at k file) with_skeleton (own_of k d) d
   unfolding opened_tape
   opened_finds ws d st =
       found_append k (head_tape ws d) (stmt stmts.FunctionBody) st file
@@ -94,7 +96,7 @@ module _ (k : Over) where
 
   filled_finds : (ws : SpecWords) (d : Declr) (items : BlockItems) (st : State) →
       found k st file (filled_tape ws d items) ≡
-      (words_starts (at k file) ws ++ declr_starts (at k file) with_skeleton true d)
+      (words_starts (at k file) ws ++ declr_starts (at k file) with_skeleton (own_of k d) d)
       ++ block_items_starts (at k (body_of (token_of (declared_name d)))) items
   unfolding filled_tape
   filled_finds ws d items st =
@@ -105,7 +107,7 @@ module _ (k : Over) where
       ++ found k (behind k st (opened_tape ws d)) (body_of (token_of (declared_name d)))
       (block_items_tape false items)) (opened_finds ws d st)
       ∙ ap (λ (starts : List Start).
-      (words_starts (at k file) ws ++ declr_starts (at k file) with_skeleton true d) ++ starts)
+      (words_starts (at k file) ws ++ declr_starts (at k file) with_skeleton (own_of k d) d) ++ starts)
       ((block_items_find k items false).finds (behind k st (opened_tape ws d))
       (body_of (token_of (declared_name d))) refl)))
 
@@ -148,9 +150,9 @@ module _ (k : Over) where
   unfolding filled_tape opened_tape head_tape
   function_finds exts ws d attrs opening items closing =
       said (ended (filled_tape ws d items) (filled_finds ws d items) (filled_inside ws d items))
-      (append_assoc (words_starts (at k file) ws) (declr_starts (at k file) with_skeleton true d)
+      (append_assoc (words_starts (at k file) ws) (declr_starts (at k file) with_skeleton (own_of k d) d)
       (block_items_starts (at k (body_of (token_of (declared_name d)))) items)
-      ∙ ap (λ (f : Option Place). words_starts (at k file) ws ++ (declr_starts (at k file) with_skeleton true d
+      ∙ ap (λ (f : Option Place). words_starts (at k file) ws ++ (declr_starts (at k file) with_skeleton (of_function f) d
       ++ block_items_starts (record (at k file) { enclosing = f }) items))
       (same_function k.spelling k.names (declared_name d)))
 
