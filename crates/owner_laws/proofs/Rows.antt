@@ -299,12 +299,14 @@ module _ (law : Flows) (sys : System) (owner : Owner) (w : World) where
   started_fits (Some (fun v ps r (Some e))) list where_ (inr h) (inr k) =
       let all : AllIn (owner_of sys) owner (nodes r ++ e ∷ []) =
       back (owner_of sys) owner (all_nodes ps) (nodes r ++ e ∷ []) h.1 in
-      none_where sys (is_nothing list) (constraints (all_lattices w) where_ (Le e (root list) ∷ []))
-      (record {
-        owner = owner;
-        from = (back (owner_of sys) owner (nodes r) (e ∷ []) all).0;
-        to = root_in (owner_of sys) owner list k;
-      }, tt)
+      none_where sys (is_nothing list) (constraints (all_lattices w) where_ (Le e (root list) ∷ [])) (
+        record {
+          owner = owner;
+          from = (back (owner_of sys) owner (nodes r) (e ∷ []) all).0;
+          to = root_in (owner_of sys) owner list k;
+        },
+        tt,
+      )
 
   taken_fits : (list t : Skel) (where_ : Span) → Inside sys owner list → Inside sys owner t →
       AllFit sys (taken w list t where_)
