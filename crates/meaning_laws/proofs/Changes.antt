@@ -34,6 +34,7 @@ all_first_more ds d (x ∷ xs) h k = (
   record {
     first = h.0.first;
     there = at_more ds (d ∷ []) x.first h.0.first h.0.there;
+    is_first = h.0.is_first;
     same_owner = h.0.same_owner;
   },
   all_first_more ds d xs h.1 k,
@@ -145,7 +146,7 @@ module _ (s : Names) (at : Place) (role : Role) (t : CType) (own : Option Place)
   new_declared : AreFirst s → AreFirst (declaring at role at t own s)
   new_declared h =
       more s (made at role at t own s) h
-      (record { first = made at role at t own s; there = new_there; same_owner = refl })
+      (record { first = made at role at t own s; there = new_there; is_first = refl; same_owner = refl })
 
   new_first : (role ≡ function_role → own ≡ Some at) → IsFirst (declaring at role at t own s).declared at
   new_first itself = record {
@@ -178,6 +179,7 @@ further_declared s at role p t own differ first h =
     more s (made at role p t own s) h (record {
       first = first.it;
       there = at_more s.declared (made at role p t own s ∷ []) p first.it first.there;
+      is_first = first.is_first;
       same_owner = sym (other_owner s at p own
           (last_is_new s.declared (made at role p t own s) differ) first);
     })

@@ -19,10 +19,11 @@ pub record IsFirst (ds : List Declared) (p : Place) : Type 0 where
   pub is_first : it.first ≡ p
   pub is_itself : it.role ≡ function_role → it.owner ≡ Some p
 
--- the first declaration of the thing belongs where this one does
+-- the first declaration of the thing, which is its own first one, belongs where this one does
 pub record HasFirst (ds : List Declared) (d : Declared) : Type 0 where
   pub first : Declared
   pub there : declared_at ds d.first ≡ Some first
+  pub is_first : first.first ≡ d.first
   pub same_owner : first.owner ≡ d.owner
 
 -- at the place something is declared that belongs to nobody

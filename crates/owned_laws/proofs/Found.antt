@@ -6,19 +6,17 @@ use Rattle.qual_base.specs.declared.places.Owner.TheVariants.{Nobody}
 use Rattle.flow_graph.specs.declared.constraint.Constraint.{Constraint}
 use Rattle.flow_graph.specs.System.{System}
 use Rattle.type_table.specs.Types.{size}
-use Rattle.qual_types.specs.declared.look.Kind.TheVariants as kinds
-use Rattle.qual_types.specs.Skel.{Skel, flat, nodes, numbered}
-use Rattle.flow_rules.specs.Lists.{unsmash}
-use Rattle.flow_rules.specs.Owners.{IsIn, AllIn, AllOwned, AllStay}
+use Rattle.qual_types.specs.Skel.{Skel, no_skeleton, nodes, numbered}
+use Rattle.flow_rules.specs.Owners.{AllIn, AllOwned}
 use Rattle.name_rules.specs.Spellings.{Place}
 use Rattle.name_rules.specs.Scopes.{is_place}
 use Rattle.row_rules.specs.Starting.{Start}
 use Rattle.row_rules.specs.Worlds.{World, Numbered, numbered_from, skeleton_among, skeleton}
 use Rattle.row_rules.specs.Sites.{owner_by}
 use Rattle.owner_laws.specs.Belonging.{IsOwn}
-use Rattle.owner_laws.specs.Fitting.{ListsFit, StayingFits, start_at, SkeletonsAtAreOwned, AllPartsStay}
+use Rattle.owner_laws.specs.Fitting.{ListsFit, start_at, SkeletonsAtAreOwned}
 use Rattle.owner_laws.specs.Laws.{owner_among}
-use Rattle.owner_laws.specs.Rows.{Inside, RowsFit, InstancesFit, system_with}
+use Rattle.owner_laws.specs.Rows.{AllPartsInside, Inside, RowsFit, InstancesFit, system_with}
 use Rattle.owned_laws.specs.Around.{BeginsIn, Settled}
 
 -- the laws that this stands on
@@ -26,11 +24,8 @@ pub record Laws : Type 0 where
   pub rows : RowsFit
   pub instances : InstancesFit
   pub lists : ListsFit
-  pub flows : StayingFits
-  pub parts : AllPartsStay
+  pub parts : AllPartsInside
   pub found : SkeletonsAtAreOwned
-  pub unsmashed : (own : ℕ → Owner) (owner : Owner) (e : ℕ) (b : Skel) → IsIn own owner e →
-      AllIn own owner (nodes b) → AllStay own owner (unsmash e b)
 
 owned_in : (own : ℕ → Owner) (o owner : Owner) (vs : List ℕ) → (o ≡ owner) ⊎ (o ≡ Nobody) → AllOwned own o vs →
     AllIn own owner vs
@@ -39,13 +34,13 @@ owned_in own o owner (v ∷ vs) (inl e) h = (inl (h.0 ∙ e), owned_in own o own
 owned_in own o owner (v ∷ vs) (inr e) h = (inr (h.0 ∙ e), owned_in own o owner vs (inr e) h.1)
 
 none_at : (starts : List Start) (n : ℕ) (p : Place) → start_at starts p ≡ None →
-    skeleton_among (numbered_from n starts) p ≡ flat 0 kinds.Base
+    skeleton_among (numbered_from n starts) p ≡ no_skeleton
 none_at [] n p e = refl
 none_at (head ∷ starts) n p e = by (is_place head.at p) e (none_at starts (n + size head.type) p)
   where
     by : (b : Bool) → (if b then Some head else start_at starts p) ≡ None →
-        (start_at starts p ≡ None → skeleton_among (numbered_from (n + size head.type) starts) p ≡ flat 0 kinds.Base) →
-        (if b then numbered head.type n else skeleton_among (numbered_from (n + size head.type) starts) p) ≡ flat 0 kinds.Base
+        (start_at starts p ≡ None → skeleton_among (numbered_from (n + size head.type) starts) p ≡ no_skeleton) →
+        (if b then numbered head.type n else skeleton_among (numbered_from (n + size head.type) starts) p) ≡ no_skeleton
     by true e more = absurd cc
     by false e more = more e
 
@@ -69,7 +64,7 @@ pub record Setting : Type 0 where
   pub constraints : List Constraint
   pub world : World
   pub function : Option Place
-  pub settled : Settled functions starts world
+  pub settled : Settled starts world
 
 module _ (k : Setting) where
   abbrev pub sys : System
@@ -78,25 +73,25 @@ module _ (k : Setting) where
   abbrev pub owner : Owner
   owner = owner_by k.functions k.function
 
-  -- belongs to the function or to nobody
+  -- is none, or belongs to the function or to nobody
   abbrev pub In : Skel → Type 0
   In s = Inside sys owner s
 
   abbrev pub Begins : Place → Type 0
   Begins p = BeginsIn k.starts k.function p
 
-  pub base_in : In (flat 0 kinds.Base)
-  base_in = (inr k.settled.nothing_is_nobodys, tt)
+  pub none_in : In no_skeleton
+  none_in = inl refl
 
   among_in : (p : Place) → Begins p → In (skeleton_among (numbered_from 0 k.starts) p)
   among_in p h = by (start_at k.starts p) refl
     where
       by : (o : Option Start) → start_at k.starts p ≡ o → In (skeleton_among (numbered_from 0 k.starts) p)
-      by None e = subst In (sym (none_at k.starts 0 p e)) base_in
+      by None e = subst In (sym (none_at k.starts 0 p e)) none_in
       by (Some it) e =
-          owned_in (owner_among k.functions k.starts) (owner_by k.functions it.owner) owner
+          inr (owned_in (owner_among k.functions k.starts) (owner_by k.functions it.owner) owner
           (nodes (skeleton_among (numbered_from 0 k.starts) p)) (own_owner k.functions k.function it.owner (h it e))
-          (k.law.found k.functions k.starts p it e)
+          (k.law.found k.functions k.starts p it e))
 
   pub skeleton_in : (p : Place) → Begins p → In (skeleton k.world p)
   skeleton_in p h =

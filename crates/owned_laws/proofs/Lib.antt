@@ -1,10 +1,3 @@
-mod Apart
-mod Begin
-mod Belonging
-mod Fits
 mod Found
-mod Functions
-mod Places
 mod Stacks
 mod Steps
-mod Whole

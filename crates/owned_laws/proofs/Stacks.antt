@@ -1,13 +1,13 @@
 -- The skeletons on the stacks of a tape belong to the function around, or to nobody.
-use Rattle.std.proofs.Common.{◌≡◌, ℕ, zero, suc, Bool, true, false, List, [], ◌∷◌, ◌++◌, drop, take, reverse, slice_get, Option, None, Some, refl, sym, subst}
+use Rattle.std.proofs.Common.{◌≡◌, inl, inr, ℕ, zero, suc, Bool, true, false, List, [], ◌∷◌, ◌++◌, drop, take, reverse, slice_get, Option, None, Some, refl, sym, subst}
 use Rattle.std.specs.Prelude.{if◌then◌else◌}
 use Rattle.std.proofs.lemmas.List.{reverse-append}
 use Rattle.c_words.specs.declared.kinds.Punct.{Punct}
 use Rattle.c_words.specs.declared.kinds.Punct.TheVariants as signs
 use Rattle.flow_graph.specs.System.{owner_of}
 use Rattle.qual_types.specs.declared.look.Kind.TheVariants as kinds
-use Rattle.qual_types.specs.Skel.{Skel, flat, ref, fun, root, nodes, all_nodes, of_some}
-use Rattle.flow_rules.specs.Owners.{IsIn, AllIn}
+use Rattle.qual_types.specs.Skel.{Skel, flat, ref, fun, nodes, all_nodes, of_some}
+use Rattle.flow_rules.specs.Owners.{AllIn}
 use Rattle.name_rules.specs.Scopes.{Role, typedef_role, object_role, function_role, parameter_role, field_role, enumerator_role, Declared, declared_at, Use, means, called, missing, Own, Known, body_of}
 use Rattle.name_rules.specs.Values.{is_additive, member_in, own_of, own_number}
 use Rattle.row_rules.specs.Worlds.{at, skeleton}
@@ -20,7 +20,7 @@ use Rattle.row_steps.specs.OpRows.{function_skeleton}
 use Rattle.shape_steps.specs.State.{changed, without_innermost}
 use Rattle.owner_laws.specs.Rows.{SomeInside, SomeIn}
 use Rattle.owned_laws.specs.Around.{MeantFits, SomeMeantFits, UseFits, FunctionFits, InitFits, FirstInitFits, SomeInitFits, InitialisedFits}
-use Rattle.owned_laws.proofs.Found.{Setting, sys, owner, In, Begins, base_in, skeleton_in, nobodys_in}
+use Rattle.owned_laws.proofs.Found.{Setting, sys, owner, In, Begins, none_in, skeleton_in, nobodys_in}
 
 module _ (k : Setting) where
   abbrev pub SomeSkelIn : Option Skel → Type 0
@@ -29,22 +29,17 @@ module _ (k : Setting) where
   -- parts
 
   pub contents_in : (s : Skel) → In k s → In k (contents s)
-  contents_in s h = (k.law.parts (owner_of (sys k)) (owner k) s h).contents_in
+  contents_in s h = (k.law.parts (sys k) (owner k) s h).contents_in
 
   pub result_in : (s : Skel) → In k s → In k (result s)
-  result_in s h = (k.law.parts (owner_of (sys k)) (owner k) s h).result_in
+  result_in s h = (k.law.parts (sys k) (owner k) s h).result_in
 
   pub value_in : (v : Val) → In k v.skel → In k (value v)
   value_in v h = by v.is_place
     where
       by : (b : Bool) → In k (if b then read v.skel else v.skel)
-      by true = (k.law.parts (owner_of (sys k)) (owner k) v.skel h).read_in
+      by true = (k.law.parts (sys k) (owner k) v.skel h).read_in
       by false = h
-
-  pub root_in : (s : Skel) → In k s → IsIn (owner_of (sys k)) (owner k) (root s)
-  root_in (flat v kind) h = h.0
-  root_in (ref v s) h = h.0
-  root_in (fun v ps r e) h = h.0
 
   behind : (xs ys : List ℕ) → AllIn (owner_of (sys k)) (owner k) (xs ++ ys) → AllIn (owner_of (sys k)) (owner k) ys
   behind [] ys h = h
@@ -57,7 +52,8 @@ module _ (k : Setting) where
   pub further_in : (s : Skel) → In k s → SomeIn (sys k) (owner k) (further s)
   further_in (flat v kind) h = tt
   further_in (ref v s) h = tt
-  further_in (fun v ps r e) h =
+  further_in (fun v ps r e) (inl is) = absurd cc
+  further_in (fun v ps r e) (inr h) =
       some_variable_in e (behind (nodes r) (of_some e) (behind (all_nodes ps) (nodes r ++ of_some e) h.1))
 
   pub own_in : (token : ℕ) → Begins k (at k.world token) → In k (own k.world token)
@@ -104,24 +100,24 @@ module _ (k : Setting) where
 
   some_used_in : (quiet : Bool) (token : ℕ) (d : Option Declared) →
       SomeMeantFits k.world k.starts k.function quiet token d → In k (used_some k.world token d).skel
-  some_used_in quiet token None h = base_in k
+  some_used_in quiet token None h = none_in k
   some_used_in quiet token (Some d) h = role_in quiet token d d.role h
 
   pub used_in : (quiet : Bool) (token : ℕ) (use_ : Use) → UseFits k.world k.starts k.function quiet token use_ →
       In k (used k.world token use_).skel
   used_in quiet token (means p) h = some_used_in quiet token (declared_at k.world.names.declared p) h
   used_in quiet token called h = own_in token h
-  used_in quiet token missing h = base_in k
+  used_in quiet token missing h = none_in k
 
   -- members
 
   known_in : (found : Option Known) → ((it : Known) → found ≡ Some it → In k (skeleton k.world it.at)) →
       In k (known_skeleton k.world found)
-  known_in None h = base_in k
+  known_in None h = none_in k
   known_in (Some it) h = h it refl
 
   member_of_in : (n : Option ℕ) (name : ℕ) → In k (known_skeleton k.world (member_of k.world n name))
-  member_of_in None name = base_in k
+  member_of_in None name = none_in k
   member_of_in (Some n) name =
       known_in (member_in (body_of k.world.names.aggregates n) (k.world.spelling.key name))
       (λ it e. nobodys_in k it.at (k.settled.members.known n (k.world.spelling.key name) it e))
@@ -209,7 +205,7 @@ module _ (k : Setting) where
 
   val_of_in : (it : Operand) → OperandIn it → In k (val_of_operand it).skel
   val_of_in (expression v is_zero) h = h
-  val_of_in (named_type t) h = base_in k
+  val_of_in (named_type t) h = none_in k
 
   pub first_val_in : (xs : List Operand) → OperandsIn xs → In k (val_of_operand (first_operand xs)).skel
   first_val_in xs h = val_of_in (first_operand xs) (first_in xs h)
@@ -243,11 +239,13 @@ module _ (k : Setting) where
 
   item_target_in : (t : Skel) (is_first : Bool) (next : ℕ) (named : Option Skel) → In k t → SomeSkelIn named →
       SomeSkelIn (item_target k.world t is_first next named)
-  item_target_in (ref v s) is_first next named h l = h.1
+  item_target_in (ref v s) is_first next named (inl is) l = absurd cc
+  item_target_in (ref v s) is_first next named (inr h) l = inr h.1
   item_target_in (flat v (kinds.Struct n)) is_first next None h l = next_in n next
   item_target_in (flat v (kinds.Struct n)) is_first next (Some named) h l = l
   item_target_in (flat v kinds.Base) is_first next named h l = alone_in is_first (flat v kinds.Base) h
   item_target_in (flat v kinds.Void) is_first next named h l = alone_in is_first (flat v kinds.Void) h
+  item_target_in (flat v kinds.Nothing) is_first next named h l = tt
   item_target_in (fun v ps r e) is_first next named h l = tt
 
   pub target_in_in : (it : Braces) → BracesIn it → SomeSkelIn (target_in k.world it)

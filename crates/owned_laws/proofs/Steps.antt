@@ -1,5 +1,5 @@
 -- Each op of a tape whose look-ups stay in the function around keeps its stacks in it, and its constraints fit.
-use Rattle.std.proofs.Common.{◌≡◌, ℕ, suc, ◌+◌, Bool, true, false, List, [], ◌∷◌, drop, Option, None, Some, refl, subst}
+use Rattle.std.proofs.Common.{◌≡◌, inl, inr, ℕ, suc, ◌+◌, Bool, true, false, List, [], ◌∷◌, drop, Option, None, Some, refl, subst}
 use Rattle.std.specs.Prelude.{take, if◌then◌else◌}
 use Rattle.qual_base.specs.declared.places.Span.{Span}
 use Rattle.flow_graph.specs.System.{owner_of}
@@ -38,7 +38,7 @@ use Rattle.owner_laws.specs.Fitting.{AllFit}
 use Rattle.owner_laws.specs.Rows.{RowsOf}
 use Rattle.owned_laws.specs.Around.{MeantFits, SomeMeantFits, UseFits, DeclaredFits, ParamFits, FunctionFits, NamingFits, ExprFits, FormFits, InitOpFits, DeclrFits, StmtFits, OpFits}
 use Rattle.owned_laws.specs.Tapes.{OpsFit}
-use Rattle.owned_laws.proofs.Found.{Setting, sys, owner, In, Begins, base_in, skeleton_in}
+use Rattle.owned_laws.proofs.Found.{Setting, sys, owner, In, Begins, none_in, skeleton_in}
 use Rattle.owned_laws.proofs.Stacks.{SomeSkelIn, contents_in, result_in, value_in, root_in, further_in, own_in, either_in, branch_in, binary_in, prefix_in, used_in, member_skel_in, initialised_in, function_in, OperandIn, OperandsIn, drop_in, take_in, reverse_in, first_val_in, first_value_in, AllBracesIn, first_braces_in, others_in, changed_in, target_in_in, list_of_in, with_member_in, with_index_in, with_item_in}
 
 -- all skeletons that are kept
@@ -359,7 +359,7 @@ module _ (k : Setting) where
 
   arg_in : (f : Skel) (n : ℕ) → In k f → (t : Option Skel) → param_at (parameters f) n ≡ t → SomeSkelIn k t
   arg_in f n h None e = tt
-  arg_in f n h (Some t) e = (k.law.parts (owner_of (sys k)) (owner k) f h).param_in n t e
+  arg_in f n h (Some t) e = (k.law.parts (sys k) (owner k) f h).param_in n t e
 
   expr_fits : (st : State) (op : ExprOp) → is_quiet st.rounds ≡ false → StacksIn k st →
       ExprFits w k.starts k.function st op → AllFit (sys k) (expr_row w st op)
@@ -408,10 +408,7 @@ module _ (k : Setting) where
   form_fits st (forms.VaArg token last) h b fit =
       k.law.lists (sys k) (annotating_some w (type_at 0 st) (own w token)) _
       (annotating_some_fits (type_at 0 st) (own w token))
-      (k.law.flows (sys k) (owner k) (all_lattices w) (span w token last)
-      (unsmash (root (value_at 1 st)) (own w token))
-      (k.law.unsmashed (owner_of (sys k)) (owner k) (root (value_at 1 st)) (own w token)
-      (root_in k (value_at 1 st) (value_at_in 1 st h)) (own_in k token fit)))
+      (rows.next_of_list (value_at 1 st) (own w token) (span w token last) (value_at_in 1 st h) (own_in k token fit))
   form_fits st (forms.VaStart token last) h b fit =
       rows.start_of_list (function_skeleton w st.rounds.body) (value_at 1 st) (span w token last)
       (function_in k st.rounds.body b) (value_at_in 1 st h)
@@ -468,13 +465,14 @@ module _ (k : Setting) where
   some_declared_fits None h = tt
   some_declared_fits (Some d) h = declared_fits d d.role (name_fits d h.0 h.1 h.2)
 
-  param_fits : (f : Skel) (n : ℕ) (d : Option Declared) → In k f → ParamFits k.starts k.function d →
+  param_fits : (f : Skel) (n : ℕ) (d : Option Declared) → In k f → ParamFits w k.starts k.function d →
       AllFit (sys k) (param_row w f n d)
   param_fits f n None h l = tt
-  param_fits f n (Some d) h l = rows.parameter f n d h (skeleton_in k d.at l)
+  param_fits f n (Some d) h (inl e) = rows.parameter f n d h (inl e)
+  param_fits f n (Some d) h (inr l) = rows.parameter f n d h (inr (skeleton_in k d.at l))
 
   some_param_fits : (f : Option Skel) (n token : ℕ) → SomeSkelIn k f →
-      ParamFits k.starts k.function (declared_at w.names.declared (at w token)) →
+      ParamFits w k.starts k.function (declared_at w.names.declared (at w token)) →
       AllFit (sys k) (row_at w (some_param_row f n) token)
   some_param_fits None n token h l = tt
   some_param_fits (Some f) n token h l = param_fits f n (declared_at w.names.declared (at w token)) h l
@@ -537,4 +535,4 @@ module _ (k : Setting) where
       (tape_fits tape (step w st op) (step_in st op h fit.0) (step_body st op b fit.0) fit.1)
 
   pub nothing_in : StacksIn k nothing
-  nothing_in = record { operands = tt; leaves = tt; braces = tt; literal = base_in k }
+  nothing_in = record { operands = tt; leaves = tt; braces = tt; literal = none_in k }

@@ -1,7 +1,6 @@
 -- What must hold at each op of a tape, that its constraints stay in the function around it: that the skeletons which it looks up
 -- belong to that function or to nobody.
-use Rattle.std.specs.Prelude.{◌≡◌, ℕ, Bool, false, List, slice_get, Option, None, Some}
-use Rattle.qual_base.specs.declared.places.Owner.TheVariants.{Nobody}
+use Rattle.std.specs.Prelude.{◌≡◌, ◌⊎◌, ℕ, Bool, true, false, List, slice_get, Option, None, Some}
 use Rattle.tape_ops.specs.declared.op.Op.{Op}
 use Rattle.tape_ops.specs.declared.op.Op.TheVariants as ops
 use Rattle.tape_ops.specs.declared.expression.ExprOp.{ExprOp}
@@ -19,14 +18,13 @@ use Rattle.name_rules.specs.Scopes.{Role, typedef_role, object_role, function_ro
 use Rattle.name_rules.specs.Uses.{use_at}
 use Rattle.name_rules.specs.Values.{member_in, own_of}
 use Rattle.shape_steps.specs.State.{declared_last}
-use Rattle.row_rules.specs.Starting.{Start}
+use Rattle.row_rules.specs.Starting.{Start, is_some_function}
 use Rattle.row_rules.specs.Worlds.{World, at}
-use Rattle.row_rules.specs.Sites.{site_places}
+use Rattle.row_rules.specs.Sites.{AreDifferent, site_places}
 use Rattle.row_steps.specs.Rounds.{Naming, a_name, own_param, other_param, naming, is_quiet}
 use Rattle.row_steps.specs.State.{State}
 use Rattle.owner_laws.specs.Belonging.{IsOwn}
 use Rattle.owner_laws.specs.Fitting.{start_at}
-use Rattle.owner_laws.specs.Laws.{owner_among, AreDifferent}
 use Rattle.owner_laws.specs.Rows.{KnowsStarts, IsInstance}
 
 -- no skeleton begins at the place, or one of the function or of nobody
@@ -58,9 +56,11 @@ abbrev pub DeclaredFits : List Start → Option Declared → Type 0
 DeclaredFits starts None = Unit {0}
 DeclaredFits starts (Some d) = (g : Option Place) × BeginsIn starts g d.first × BeginsIn starts g d.at
 
-abbrev pub ParamFits : List Start → Option Place → Option Declared → Type 0
-ParamFits starts f None = Unit {0}
-ParamFits starts f (Some d) = BeginsIn starts f d.at
+-- what was first declared as a function is no parameter
+abbrev pub ParamFits : World → List Start → Option Place → Option Declared → Type 0
+ParamFits w starts f None = Unit {0}
+ParamFits w starts f (Some d) =
+    (is_some_function (declared_at w.names.declared d.first) ≡ true) ⊎ BeginsIn starts f d.at
 
 -- the function whose name is at a token
 abbrev pub FunctionFits : World → List Start → Option Place → Option ℕ → Type 0
@@ -70,7 +70,7 @@ FunctionFits w starts f (Some token) = BeginsIn starts f (at w token)
 abbrev pub NamingFits : World → List Start → Option Place → ℕ → Naming → Type 0
 NamingFits w starts f token a_name = DeclaredFits starts (declared_at w.names.declared (at w token))
 NamingFits w starts f token (own_param g n) =
-    FunctionFits w starts f g × ParamFits starts f (declared_at w.names.declared (at w token))
+    FunctionFits w starts f g × ParamFits w starts f (declared_at w.names.declared (at w token))
 NamingFits w starts f token other_param = Unit {0}
 
 -- what an initialiser initialises, by what was declared first of it
@@ -176,10 +176,8 @@ pub record MembersFit (starts : List Start) (s : Names) : Type 0 where
       BeginsIn starts None it.at
   pub own : (n i : ℕ) (it : Own) → slice_get (own_of s.aggregates n) i ≡ Some it → BeginsIn starts None it.at
 
--- Of the skeletons of a world: no two instances of functions are at one place, and variable 0, which stands for what has no
--- skeleton, is nobody's.
-pub record Settled (functions : List Place) (starts : List Start) (w : World) : Type 0 where
+-- of the skeletons of a world: no two instances of functions are at one place
+pub record Settled (starts : List Start) (w : World) : Type 0 where
   pub knows : KnowsStarts w starts
   pub sites_differ : AreDifferent (site_places starts)
-  pub nothing_is_nobodys : owner_among functions starts 0 ≡ Nobody
   pub members : MembersFit starts w.names

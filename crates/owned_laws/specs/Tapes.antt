@@ -20,5 +20,5 @@ OpsFit w starts f st (op ∷ tape) = OpFits w starts f st op × OpsFit w starts 
 abbrev pub TapesFit : Type 0
 TapesFit =
     (functions : List Place) (starts : List Start) (cs : List Constraint) (w : World) (f : Option Place)
-    (tape : List Op) → Settled functions starts w → OpsFit w starts f nothing tape
+    (tape : List Op) → Settled starts w → OpsFit w starts f nothing tape
     → AllFit (system_with functions starts cs) (unit_rows w tape)

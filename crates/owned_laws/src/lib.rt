@@ -3,4 +3,4 @@
 
 mod laws;
 
-pub use laws::{owned_where_places_differ, steps_keep, tapes_fit};
+pub use laws::tapes_fit;

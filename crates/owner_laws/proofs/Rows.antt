@@ -18,13 +18,14 @@ use Rattle.qual_types.specs.Skel.{Skel, nodes, root, flat, ref, fun, all_nodes, 
 use Rattle.flow_rules.specs.declared.arrow.Arrow.TheVariants.{Flow}
 use Rattle.flow_rules.specs.Lists.{flow, smash, unsmash, equal}
 use Rattle.flow_rules.specs.Owners.{IsIn, AllIn, AllStay}
+use Rattle.row_rules.specs.Starting.{is_some_function}
 use Rattle.row_rules.specs.Worlds.{World, all_lattices, constraint, constraints, word_span, skeleton}
 use Rattle.row_rules.specs.Annotations.{Annotation, entry_at, signed, links_of_entry, alone, marked, annotation_constraints, annotated, annotating, bounds_of, bounds_from, write_bounds, deref_bounds, uncut, parameters}
 use Rattle.row_rules.specs.Vals.{Val, contents, is_empty, is_fun, is_nothing, is_ref, result, value, read}
 use Rattle.row_rules.specs.Rows.{flowing, dereferenced, is_plus_or_minus, assigned, is_logical, prefixed, passed, cast_demand, returned, annotating_name, name_row, into_param, param_row, started, taken, tied_to_first}
 use Rattle.row_rules.specs.Indexing.{indexing}
 use Rattle.name_rules.specs.Values.{is_additive}
-use Rattle.name_rules.specs.Scopes.{Declared, is_place}
+use Rattle.name_rules.specs.Scopes.{Declared, declared_at, is_place}
 use Rattle.owner_laws.specs.Fitting.{AllFit}
 use Rattle.owner_laws.specs.Rows.{Inside, SomeInside, SomeIn, PartsInside, AllPartsInside, RowsFit}
 use Rattle.owner_laws.proofs.Fitting.{lists_fit, staying_fits, parts_stay, back}
@@ -57,6 +58,10 @@ either_true true b c h = refl
 either_true false true c h = refl
 either_true false false c (inl e) = absurd cc
 either_true false false c (inr e) = e
+
+first_true : (a b : Bool) → a ≡ true → (a || b) ≡ true
+first_true true b e = refl
+first_true false b e = absurd cc
 
 last_true : (a b : Bool) → b ≡ true → (a || b) ≡ true
 last_true true b e = refl
@@ -253,23 +258,31 @@ module _ (law : Flows) (sys : System) (owner : Owner) (w : World) where
       (lists_fit sys (indexing w (pointer [] d.type) (skeleton w d.at)) (tied_to_first w d)
       (indexed_fit (pointer [] d.type) (skeleton w d.at) k) (tied_fit d h k))
 
+  abbrev HasPlace : Declared → Type 0
+  HasPlace d = (is_some_function (declared_at w.names.declared d.first) ≡ true) ⊎ Inside sys owner (skeleton w d.at)
+
   into_param_fits : (t : Option Skel) (d : Declared) →
-      ((s : Skel) → t ≡ Some s → AllIn (owner_of sys) owner (nodes s)) → Inside sys owner (skeleton w d.at) →
-      AllFit sys (into_param w t d)
+      ((s : Skel) → t ≡ Some s → AllIn (owner_of sys) owner (nodes s)) → HasPlace d → AllFit sys (into_param w t d)
   into_param_fits None d h k = tt
   into_param_fits (Some s) d h k =
-      none_or sys (is_nothing t) (constraints (all_lattices w) (word_span d.at) (flow Flow true s t))
-      (by (parts_inside sys owner (skeleton w d.at) k).contents_in)
+      none_or sys (is_some_function (declared_at w.names.declared d.first) || is_nothing t)
+      (constraints (all_lattices w) (word_span d.at) (flow Flow true s t)) (by k)
     where
       t : Skel
       t = contents (skeleton w d.at)
 
-      by : Inside sys owner t →
-          (is_nothing t ≡ true) ⊎ AllFit sys (constraints (all_lattices w) (word_span d.at) (flow Flow true s t))
-      by (inl e) = inl e
-      by (inr k) =
+      placed : Inside sys owner t →
+          ((is_some_function (declared_at w.names.declared d.first) || is_nothing t) ≡ true)
+          ⊎ AllFit sys (constraints (all_lattices w) (word_span d.at) (flow Flow true s t))
+      placed (inl e) = inl (last_true (is_some_function (declared_at w.names.declared d.first)) (is_nothing t) e)
+      placed (inr k) =
           inr (staying_fits sys owner (all_lattices w) (word_span d.at) (flow Flow true s t)
           (law.stay (owner_of sys) owner s t (h s refl) k))
+
+      by : HasPlace d → ((is_some_function (declared_at w.names.declared d.first) || is_nothing t) ≡ true)
+          ⊎ AllFit sys (constraints (all_lattices w) (word_span d.at) (flow Flow true s t))
+      by (inl e) = inl (first_true (is_some_function (declared_at w.names.declared d.first)) (is_nothing t) e)
+      by (inr k) = placed (parts_inside sys owner (skeleton w d.at) k).contents_in
 
   -- parameters of what is no skeleton are none
   params_in : (f : Skel) (n : ℕ) → Inside sys owner f → (s : Skel) → param_at (parameters f) n ≡ Some s →
@@ -279,7 +292,7 @@ module _ (law : Flows) (sys : System) (owner : Owner) (w : World) where
   params_in (fun v ps r o) n (inl is) s e = absurd cc
   params_in (fun v ps r o) n (inr h) s e = (parts_stay (owner_of sys) owner (fun v ps r o) h).param_in n s e
 
-  param_fits : (f : Skel) (n : ℕ) (d : Declared) → Inside sys owner f → Inside sys owner (skeleton w d.at) →
+  param_fits : (f : Skel) (n : ℕ) (d : Declared) → Inside sys owner f → HasPlace d →
       AllFit sys (param_row w f n (Some d))
   param_fits f n d h k =
       lists_fit sys (annotating_name w d) (into_param w (param_at (parameters f) n) d)

@@ -9,8 +9,8 @@ use Rattle.type_table.specs.Types.{CType}
 use Rattle.qual_types.specs.Skel.{Skel, nodes, param_at}
 use Rattle.flow_rules.specs.Owners.{IsIn, AllIn}
 use Rattle.name_rules.specs.Spellings.{Place}
-use Rattle.name_rules.specs.Scopes.{function_role, Declared}
-use Rattle.row_rules.specs.Starting.{Start}
+use Rattle.name_rules.specs.Scopes.{function_role, Declared, declared_at}
+use Rattle.row_rules.specs.Starting.{Start, is_some_function}
 use Rattle.row_rules.specs.Worlds.{World, at, numbered_from, skeleton}
 use Rattle.row_rules.specs.Sites.{AreDifferent, owners_among, site_places, sites_among}
 use Rattle.row_rules.specs.Annotations.{annotating, parameters, write_bounds}
@@ -62,7 +62,8 @@ pub record RowsOf (sys : System) (owner : Owner) (w : World) : Type 0 where
       Inside sys owner t → AllFit sys (flowing zero a t lattices where_)
   pub name : (d : Declared) → Inside sys owner (skeleton w d.first) → Inside sys owner (skeleton w d.at) →
       AllFit sys (name_row w d)
-  pub parameter : (f : Skel) (n : ℕ) (d : Declared) → Inside sys owner f → Inside sys owner (skeleton w d.at) →
+  pub parameter : (f : Skel) (n : ℕ) (d : Declared) → Inside sys owner f →
+      (is_some_function (declared_at w.names.declared d.first) ≡ true) ⊎ Inside sys owner (skeleton w d.at) →
       AllFit sys (param_row w f n (Some d))
   pub start_of_list : (f : Option Skel) (list : Skel) (where_ : Span) → SomeInside sys owner f →
       Inside sys owner list → AllFit sys (started w f list where_)

@@ -14,6 +14,7 @@ use Rattle.name_rules.specs.Scopes.{Role, typedef_role, object_role, function_ro
 use Rattle.name_rules.specs.Values.{is_additive, own_of, own_number}
 use Rattle.row_rules.specs.Annotations.{annotating, deref_bounds, further, parameters, uncut, write_bounds}
 use Rattle.row_rules.specs.Indexing.{indexing}
+use Rattle.row_rules.specs.Starting.{is_some_function}
 use Rattle.row_rules.specs.Vals.{Val, contents, is_empty, is_fun, is_nothing, is_ref, own, result, value}
 use Rattle.row_rules.specs.Worlds.{World, all_lattices, at, constraints, in_all, site_number, skeleton, span, word_span}
 
@@ -127,11 +128,12 @@ abbrev pub some_declared_row : World → Option Declared → List Constraint
 some_declared_row w None = []
 some_declared_row w (Some d) = declared_row w d d.role
 
--- a parameter of a function: its annotations, and what the function is given flows into it
+-- A parameter of a function: its annotations, and what the function is given flows into it. What was first declared as a function
+-- is none.
 abbrev pub into_param : World → Option Skel → Declared → List Constraint
 into_param w None d = []
 into_param w (Some s) d =
-    if is_nothing (contents (skeleton w d.at)) then [] else in_all w (word_span d.at) (flow Flow true s (contents (skeleton w d.at)))
+    if is_some_function (declared_at w.names.declared d.first) || is_nothing (contents (skeleton w d.at)) then [] else in_all w (word_span d.at) (flow Flow true s (contents (skeleton w d.at)))
 
 abbrev pub param_row : World → Skel → ℕ → Option Declared → List Constraint
 param_row w own i None = []

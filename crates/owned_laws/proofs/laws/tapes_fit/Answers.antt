@@ -11,10 +11,8 @@ returns c functions starts cs w f tape settled fits = tape_fits k tape nothing (
       rows = c.rows_fit.ensures;
       instances = c.instances_fit.ensures;
       lists = c.fitting_is_well_owned.ensures.lists;
-      flows = c.fitting_is_well_owned.ensures.flows;
       parts = c.parts_stay.ensures;
       found = c.skeletons_are_owned.ensures.found;
-      unsmashed = c.flows_stay.ensures.unsmash;
     }
 
     k : Setting
