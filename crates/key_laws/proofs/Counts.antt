@@ -47,17 +47,21 @@ module _ {n : ℕ} where
   mute e = record { none = ap (λ key. added n key + 0) e }
 
   pub mutes : {xs ys : List Op} → IsMute n xs → IsMute n ys → IsMute n (xs ++ ys)
-  mutes {xs} {ys} p q = record { none = (let e = counted_append n xs ys in let a = p.none in let b = q.none in omega (arith, e, a, b)) }
+  mutes {xs} {ys} p q =
+      record { none = (let e = counted_append n xs ys in let a = p.none in let b = q.none in omega (arith, e, a, b)) }
 
   pub own : {op : Op} {token : ℕ} → op_key op ≡ Some token → StandsAt n (op ∷ []) token
-  own {op} {token} e = record { one = (let one : counted n (op ∷ []) ≡ added n (Some token) + 0 = ap (λ key. added n key + 0) e in
-      omega (arith, one)) }
+  own {op} {token} e = record {
+    one = (let one : counted n (op ∷ []) ≡ added n (Some token) + 0 = ap (λ key. added n key + 0) e in
+        omega (arith, one));
+  }
 
   pub nothing : {k : List Lexeme} → Covers n [] k k
   nothing = record { most = omega arith }
 
   pub join : {xs ys : List Op} {t m k : List Lexeme} → Covers n xs t m → Covers n ys m k → Covers n (xs ++ ys) t k
-  join {xs} {ys} p q = record { most = (let e = counted_append n xs ys in let a = p.most in let b = q.most in omega (arith, e, a, b)) }
+  join {xs} {ys} p q =
+      record { most = (let e = counted_append n xs ys in let a = p.most in let b = q.most in omega (arith, e, a, b)) }
 
   -- a token of no op
   pub skip : {xs : List Op} {it : Lexeme} {t k : List Lexeme} → Covers n xs t k → Covers n xs (it ∷ t) k
@@ -70,21 +74,28 @@ module _ {n : ℕ} where
 
   -- ops without a key
   pub then_mute : {xs ys : List Op} {t k : List Lexeme} → Covers n xs t k → IsMute n ys → Covers n (xs ++ ys) t k
-  then_mute {xs} {ys} p q = record { most = (let e = counted_append n xs ys in let a = p.most in let b = q.none in omega (arith, e, a, b)) }
+  then_mute {xs} {ys} p q =
+      record { most = (let e = counted_append n xs ys in let a = p.most in let b = q.none in omega (arith, e, a, b)) }
 
   pub mute_then : {xs ys : List Op} {t k : List Lexeme} → IsMute n xs → Covers n ys t k → Covers n (xs ++ ys) t k
-  mute_then {xs} {ys} p q = record { most = (let e = counted_append n xs ys in let a = q.most in let b = p.none in omega (arith, e, a, b)) }
+  mute_then {xs} {ys} p q =
+      record { most = (let e = counted_append n xs ys in let a = q.most in let b = p.none in omega (arith, e, a, b)) }
 
   -- an op at the first token, behind what it stands on
-  pub keyed : {it : Lexeme} {xs ys : List Op} {t k : List Lexeme} → Covers n xs t k → StandsAt n ys it.at → Covers n (xs ++ ys) (it ∷ t) k
-  keyed {xs = xs} {ys = ys} p q = record { most = (let e = counted_append n xs ys in let a = p.most in let b = q.one in omega (arith, e, a, b)) }
+  pub keyed : {it : Lexeme} {xs ys : List Op} {t k : List Lexeme} → Covers n xs t k → StandsAt n ys it.at →
+      Covers n (xs ++ ys) (it ∷ t) k
+  keyed {xs = xs} {ys = ys} p q =
+      record { most = (let e = counted_append n xs ys in let a = p.most in let b = q.one in omega (arith, e, a, b)) }
 
   -- an op at the token behind its first operand
   pub between : {it : Lexeme} {xs ys zs ws : List Op} {t l m k : List Lexeme} → Covers n xs t (it ∷ l) → Covers n ys l m →
       Covers n zs m k → StandsAt n ws it.at → Covers n (xs ++ ys ++ zs ++ ws) t k
-  between {xs = xs} {ys = ys} {zs = zs} {ws = ws} p q r s = record { most = (
-      let u = counted_append n (xs ++ ys ++ zs) ws in let v = counted_append n (xs ++ ys) zs in let w = counted_append n xs ys in
-      let a = p.most in let b = q.most in let c = r.most in let d = s.one in omega (arith, u, v, w, a, b, c, d)) }
+  between {xs = xs} {ys = ys} {zs = zs} {ws = ws} p q r s = record {
+    most = (
+        let u = counted_append n (xs ++ ys ++ zs) ws in let v = counted_append n (xs ++ ys) zs in
+        let w = counted_append n xs ys in
+        let a = p.most in let b = q.most in let c = r.most in let d = s.one in omega (arith, u, v, w, a, b, c, d));
+  }
 
   -- tokens of no op behind
   pub past : {xs : List Op} {t m k : List Lexeme} → Covers n xs t m → Covers n [] m k → Covers n xs t k
@@ -106,8 +117,10 @@ module _ {n : ℕ} where
 
   pub side_by_side : {xs us ys vs : List Op} {t m k : List Lexeme} → CoversBoth n xs us t m → CoversBoth n ys vs m k →
       CoversBoth n (xs ++ ys) (us ++ vs) t k
-  side_by_side {xs} {us} {ys} {vs} p q = record { both = (let e = counted_append n xs ys in let f = counted_append n us vs in
-      let a = p.both in let b = q.both in omega (arith, e, f, a, b)) }
+  side_by_side {xs} {us} {ys} {vs} p q = record {
+    both = (let e = counted_append n xs ys in let f = counted_append n us vs in
+        let a = p.both in let b = q.both in omega (arith, e, f, a, b));
+  }
 
   -- the second tape is one op at the first token
   pub keyed_beside : {it : Lexeme} {xs us : List Op} {t k : List Lexeme} → Covers n xs t k → StandsAt n us it.at →
@@ -115,5 +128,7 @@ module _ {n : ℕ} where
   keyed_beside p q = record { both = (let a = p.most in let b = q.one in omega (arith, a, b)) }
 
   pub one_by_one : {xs us ms : List Op} {t k : List Lexeme} → CoversBoth n xs us t k → IsMute n ms → Covers n (xs ++ ms ++ us) t k
-  one_by_one {xs} {us} {ms} p q = record { most = (let e = counted_append n (xs ++ ms) us in let f = counted_append n xs ms in
-      let a = p.both in let b = q.none in omega (arith, e, f, a, b)) }
+  one_by_one {xs} {us} {ms} p q = record {
+    most = (let e = counted_append n (xs ++ ms) us in let f = counted_append n xs ms in
+        let a = p.both in let b = q.none in omega (arith, e, f, a, b));
+  }

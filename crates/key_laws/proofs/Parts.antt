@@ -1,5 +1,5 @@
 -- Parts of tapes whose ops have no keys, and parts of texts whose tokens are of no op.
-use Rattle.std.proofs.Common.{Bool, true, false, List, [], ◌∷◌, ◌++◌, ℕ, Option, None, Some, refl}
+use Rattle.std.proofs.Common.{Bool, true, false, List, [], ◌∷◌, ℕ, Option, None, Some, refl}
 use Rattle.std.specs.Prelude.{if◌then◌else◌}
 use Rattle.c_words.specs.declared.kinds.Punct.{Punct}
 use Rattle.c_syntax.specs.declared.parts.Identifier.{Identifier}
@@ -21,7 +21,7 @@ use Rattle.c_tree.specs.declared.lexeme.Lexeme.{Lexeme}
 use Rattle.c_tree.specs.Tree.{Exprs, no_exprs, more_exprs, Declr, pointer, declr_name, declr_paren, array, params, abs_pointer, abs_paren, abs_array, abs_params, SomeDeclr, no_declr, some_declr, Init, init_value, init_braced, InitList, init_list, InitItems, no_init_items, more_init_items, Desigs, no_desigs, more_desigs, Desig, member_desig, index_desig, Dots}
 use Rattle.c_tree.specs.Text.{some_sign_text, tag_text, words_text, extensions_text, texts_text, group_text, tokens_between, attr_text, attrs_text, label_text, assert_text, qual_text, quals_text, pointer_words_text, array_words_text, dots_text}
 use Rattle.c_tape.specs.Tape.{quals_tape, pointer_word_tape, pointer_words_tape, array_word_tape, array_words_tape, dots_tape, pieces, some_pieces, desig_tape, desigs_tape, rule, rule_of_list, rule_of_items, arguments, tag_tape, body_tape, quietly, in_scope, specs_with, type_name_with, params_with, spec}
-use Rattle.key_laws.proofs.Counts.{Covers, CoversBoth, first_of, IsMute, empty, mute, mutes, nothing, join, skip, skips, then_mute, mute_then, text_only}
+use Rattle.key_laws.proofs.Counts.{Covers, CoversBoth, first_of, IsMute, empty, mute, mutes, join, skip, skips, then_mute, mute_then, text_only}
 
 module _ {n : ℕ} where
   -- ops without keys
@@ -157,7 +157,8 @@ module _ {n : ℕ} where
     pub attr_skip : (attr : Attr) {xs : List Op} {t k : List Lexeme} → Covers n xs t k → Covers n xs (attr_text all attr t) k
     attr_skip attr h = skip (group_skip attr.group h)
 
-    pub attrs_skip : (attrs : List Attr) {xs : List Op} {t k : List Lexeme} → Covers n xs t k → Covers n xs (attrs_text all attrs t) k
+    pub attrs_skip : (attrs : List Attr) {xs : List Op} {t k : List Lexeme} → Covers n xs t k →
+        Covers n xs (attrs_text all attrs t) k
     attrs_skip [] h = h
     attrs_skip (attr ∷ attrs) h = attr_skip attr (attrs_skip attrs h)
 
@@ -190,6 +191,7 @@ module _ {n : ℕ} where
     array_words_skip (array_words.Static token ∷ words) h = skip (array_words_skip words h)
     array_words_skip (array_words.Qual q ∷ words) h = qual_skip q (array_words_skip words h)
 
-    pub dots_skip : (dots : Option Dots) {xs : List Op} {t k : List Lexeme} → Covers n xs t k → Covers n xs (dots_text all dots t) k
+    pub dots_skip : (dots : Option Dots) {xs : List Op} {t k : List Lexeme} → Covers n xs t k →
+        Covers n xs (dots_text all dots t) k
     dots_skip None h = h
     dots_skip (Some dots) h = skip (quals_skip dots.quals (skip h))

@@ -1,5 +1,6 @@
 -- Each number is the key of no more ops of a tree's tape than there are tokens of it in the tree's text.
 use Rattle.std.proofs.Common.{◌≢◌, All, Bool, true, false, List, [], ◌∷◌, ◌++◌, ℕ, Option, None, Some, refl}
+use Rattle.std.proofs.lemmas.List.Elements.{All-head, All-tail}
 use Rattle.std.specs.Prelude.{if◌then◌else◌}
 use Rattle.c_words.specs.declared.kinds.Punct.{Punct}
 use Rattle.c_words.specs.declared.kinds.Punct.TheVariants.{Colon, Comma, Equal}
@@ -15,9 +16,9 @@ use Rattle.c_tree.specs.WellFormed.{IsExpr, IsMiddle, IsSomeExpr, AreArguments, 
 use Rattle.c_tree.specs.Unit.{Item, function_item, decl_item, asm_item, semi_item, IsItem, item_text, items_text}
 use Rattle.c_tree.specs.Ends.{first_token, last_token, first_text}
 use Rattle.c_tree.specs.Firsts.{first_word}
-use Rattle.c_tape.specs.Tests.{is_void, tag_kind, says_none, is_name}
+use Rattle.c_tape.specs.Tests.{is_void, tag_kind, says_none}
 use Rattle.c_tape.specs.Tape.{expr, expr_tape, operator_tape, middle_tape, some_expr_tape, exprs_tape, dropped_tape, steps_tape, step_tape, words_tape, word_tape, unnamed_tape, unnamed_word_tape, specs_with, struct_tape, struct_items_tape, struct_item_tape, members_tape, mem_declrs_tape, mem_declr_tape, some_value_tape, enum_tape, enum_body_tape, enumerators_tape, some_declr_tape, contents, some_contents, some_size_tape, size_tape, params_tape, init_tape, list_tape, init_items_tape, indices_tape, index_tape, some_init_tape, declared_init_tape, init_declrs_tape, declaration_tape, decl_tape, block_items_tape, block_item_tape, stmt_tape, some_else_tape, for_start_tape, return_tape, item_tape, tape_of}
-use Rattle.key_laws.proofs.Counts.{Covers, CoversBoth, nothing, join, skip, mute, own, then_mute, mute_then, keyed, between, past, ends, alone, first_of, side_by_side, keyed_beside, one_by_one}
+use Rattle.key_laws.proofs.Counts.{Covers, CoversBoth, nothing, join, skip, mute, own, then_mute, mute_then, keyed, between, past, ends, alone, side_by_side, keyed_beside, one_by_one}
 use Rattle.key_laws.proofs.Parts.{pieces_mute, rule_list_mute, arguments_mute, tag_mute, body_mute, void_mute, quiet_covers, scope_covers, specs_cover, type_name_covers, params_cover, some_sign_skip, tag_skip, words_skip, extensions_skip, texts_skip, group_skip, attr_skip, attrs_skip, label_skip, assert_skip, qual_skip, pointer_words_skip, array_words_skip, dots_skip}
 
 type_words : (all : List Lexeme) (ws : SpecWords) → AreTypeWords all ws → AreSpecWords all ws
@@ -33,20 +34,24 @@ direct_is all no_declr h = tt
 direct_is all (some_declr d) h = h.0
 
 module _ {n : ℕ} (all : List Lexeme) where
-  texts_cover : (texts : List ℕ) → texts ≢ [] → {k : List Lexeme} → Covers n (expr (exprs.Text (first_text texts))) (texts_text texts k) k
+  texts_cover : (texts : List ℕ) → texts ≢ [] → {k : List Lexeme} →
+      Covers n (expr (exprs.Text (first_text texts))) (texts_text texts k) k
   texts_cover [] h = absurd (h refl)
   texts_cover (token ∷ tokens) h = keyed (texts_skip tokens nothing) (own refl)
 
-  either : (b : Bool) {xs ys : List Op} {t k : List Lexeme} → Covers n xs t k → Covers n ys t k → Covers n (if b then xs else ys) t k
+  either : (b : Bool) {xs ys : List Op} {t k : List Lexeme} → Covers n xs t k → Covers n ys t k →
+      Covers n (if b then xs else ys) t k
   either true p q = p
   either false p q = q
 
   mutual
-    expr_covers : (e : Expr) → IsExpr all e → (called : Bool) → {k : List Lexeme} → Covers n (expr_tape called e) (expr_text all e k) k
+    expr_covers : (e : Expr) → IsExpr all e → (called : Bool) → {k : List Lexeme} →
+        Covers n (expr_tape called e) (expr_text all e k) k
     expr_covers (operation e op token e2) h called =
         operator_covers op h.3 token (first_token e) (last_token e2) (expr_covers e h.0 false) (expr_covers e2 h.1 false)
     expr_covers (cast opening ws d closing e) h called =
-        keyed (join (type_name_covers (first_word ws) (words_cover ws (type_words all ws h.1) false) (some_declr_covers d (abstract_is all d h.2)))
+        keyed (join (type_name_covers (first_word ws) (words_cover ws (type_words all ws h.1) false) (some_declr_covers d
+        (abstract_is all d h.2)))
         (skip (expr_covers e h.3 false))) (own refl)
     expr_covers (prefix token p e) h called = keyed (expr_covers e h.0 false) (own refl)
     expr_covers (sizeof_value word e) h called = keyed (mute_then (mute refl) (expr_covers e h.0 false)) (own refl)
@@ -59,11 +64,14 @@ module _ {n : ℕ} (all : List Lexeme) where
     expr_covers (call e opening es closing) h called =
         then_mute (then_mute (ends (join (expr_covers e h.0 true) (skip (exprs_cover es h.1)))) (arguments_mute es)) (mute refl)
     expr_covers (dot e token name) h called = then_mute (ends (ends (expr_covers e h.0 false))) (mute refl)
-    expr_covers (arrow e token name) h called = then_mute (then_mute (ends (ends (expr_covers e h.0 false))) (mute refl)) (mute refl)
+    expr_covers (arrow e token name) h called =
+        then_mute (then_mute (ends (ends (expr_covers e h.0 false))) (mute refl)) (mute refl)
     expr_covers (post e token p) h called = then_mute (ends (expr_covers e h.0 false)) (mute refl)
     expr_covers (compound opening ws d closing list) h called =
-        then_mute (then_mute (keyed (join (then_mute (type_name_covers (first_word ws) (words_cover ws (type_words all ws h.1) false)
-        (some_declr_covers d (abstract_is all d h.2))) (mute refl)) (skip (list_covers list h.3))) (own refl)) (rule_list_mute list)) (mute refl)
+        then_mute (then_mute (keyed (join (then_mute (type_name_covers (first_word ws) (words_cover ws
+        (type_words all ws h.1) false)
+        (some_declr_covers d (abstract_is all d h.2))) (mute refl)) (skip (list_covers list h.3))) (own refl))
+        (rule_list_mute list)) (mute refl)
     expr_covers (name_use token name) h called = keyed nothing (own refl)
     expr_covers (number_use token) h called = keyed nothing (own refl)
     expr_covers (char_use token) h called = keyed nothing (own refl)
@@ -92,7 +100,8 @@ module _ {n : ℕ} (all : List Lexeme) where
     operator_covers (cond middle colon) h token first last p q = between p (some_expr_covers middle h) (skip q) (own refl)
     operator_covers (binary sign) h token first last p q = between p nothing q (own refl)
 
-    some_expr_covers : (e : SomeExpr) → IsSomeExpr all e → {k : List Lexeme} → Covers n (some_expr_tape e) (some_expr_text all e k) k
+    some_expr_covers : (e : SomeExpr) → IsSomeExpr all e → {k : List Lexeme} →
+        Covers n (some_expr_tape e) (some_expr_text all e k) k
     some_expr_covers no_expr h = nothing
     some_expr_covers (some_expr e) h = expr_covers e h false
 
@@ -100,7 +109,8 @@ module _ {n : ℕ} (all : List Lexeme) where
     exprs_cover no_exprs h = nothing
     exprs_cover (more_exprs e es) h = join (expr_covers e h.0 false) (other_exprs_cover es h.2)
 
-    other_exprs_cover : (es : Exprs) → AreArguments all es → {k : List Lexeme} → Covers n (exprs_tape es) (other_exprs_text all es k) k
+    other_exprs_cover : (es : Exprs) → AreArguments all es → {k : List Lexeme} →
+        Covers n (exprs_tape es) (other_exprs_text all es k) k
     other_exprs_cover no_exprs h = nothing
     other_exprs_cover (more_exprs e es) h = skip (join (expr_covers e h.0 false) (other_exprs_cover es h.2))
 
@@ -140,7 +150,8 @@ module _ {n : ℕ} (all : List Lexeme) where
     word_covers (typedef_name name) h is_alone = alone (then_mute (skip nothing) (mute refl))
     word_covers (attribute attr) h is_alone = alone (attr_skip all attr nothing)
 
-    struct_covers : (body : SomeBody) → IsBody all body → (is_alone : Bool) (kind : TagKind) (keyword : ℕ) (tag : Option Identifier) →
+    struct_covers : (body : SomeBody) → IsBody all body →
+        (is_alone : Bool) (kind : TagKind) (keyword : ℕ) (tag : Option Identifier) →
         {k : List Lexeme} → Covers n (struct_tape is_alone kind keyword tag body) (some_body_text all body k) k
     struct_covers no_body h is_alone kind keyword tag = then_mute nothing (tag_mute is_alone kind tag)
     struct_covers (some_body opening items closing) h is_alone kind keyword tag =
@@ -172,11 +183,14 @@ module _ {n : ℕ} (all : List Lexeme) where
     other_mem_declrs_cover (more_mem_declrs attrs d ds) h =
         skip (attrs_skip all attrs (join (mem_declr_covers d h.1) (other_mem_declrs_cover ds h.2)))
 
-    mem_declr_covers : (d : MemDeclr) → IsMemDeclr all d → {k : List Lexeme} → Covers n (mem_declr_tape d) (mem_declr_text all d k) k
+    mem_declr_covers : (d : MemDeclr) → IsMemDeclr all d → {k : List Lexeme} →
+        Covers n (mem_declr_tape d) (mem_declr_text all d k) k
     mem_declr_covers (named d width attrs) h =
-        past (join (then_mute (then_mute (contents_cover d h.0 false) (pieces_mute d)) (mute refl)) (some_value_covers width h.2 Colon))
+        past (join (then_mute (then_mute (contents_cover d h.0 false) (pieces_mute d)) (mute refl))
+        (some_value_covers width h.2 Colon))
         (attrs_skip all attrs nothing)
-    mem_declr_covers (unnamed colon e attrs) h = quiet_covers (skip (past (expr_covers e h.0 false) (attrs_skip all attrs nothing)))
+    mem_declr_covers (unnamed colon e attrs) h =
+        quiet_covers (skip (past (expr_covers e h.0 false) (attrs_skip all attrs nothing)))
 
     some_value_covers : (value : SomeValue) → IsSomeValue all value → (sign : Punct) → {k : List Lexeme} →
         Covers n (some_value_tape value) (some_value_text all sign value k) k
@@ -184,7 +198,8 @@ module _ {n : ℕ} (all : List Lexeme) where
     some_value_covers (some_value token e) h sign = quiet_covers (skip (expr_covers e h.0 false))
 
     enum_covers : (e : EnumType) → IsEnum all e → {k : List Lexeme} → Covers n (enum_tape e) (enum_type_text all e k) k
-    enum_covers (enum_of keyword attrs tag body) h = skip (attrs_skip all attrs (tag_skip tag (enum_body_covers body h.2 keyword tag)))
+    enum_covers (enum_of keyword attrs tag body) h =
+        skip (attrs_skip all attrs (tag_skip tag (enum_body_covers body h.2 keyword tag)))
 
     enum_body_covers : (body : SomeEnumBody) → IsEnumBody all body → (keyword : ℕ) (tag : Option Identifier) → {k : List Lexeme} →
         Covers n (enum_body_tape keyword tag body) (some_enum_body_text all body k) k
@@ -207,14 +222,17 @@ module _ {n : ℕ} (all : List Lexeme) where
 
     -- declarators
 
-    some_declr_covers : (d : SomeDeclr) → IsSomeDeclr all d → {k : List Lexeme} → Covers n (some_declr_tape d) (some_declr_text all d k) k
+    some_declr_covers : (d : SomeDeclr) → IsSomeDeclr all d → {k : List Lexeme} →
+        Covers n (some_declr_tape d) (some_declr_text all d k) k
     some_declr_covers no_declr h = nothing
     some_declr_covers (some_declr d) h = then_mute (contents_cover d h false) (pieces_mute d)
 
-    contents_cover : (d : Declr) → IsDeclr all d → (is_own : Bool) → {k : List Lexeme} → Covers n (contents is_own d) (declr_text all d k) k
+    contents_cover : (d : Declr) → IsDeclr all d → (is_own : Bool) → {k : List Lexeme} →
+        Covers n (contents is_own d) (declr_text all d k) k
     contents_cover (pointer star words d) h is_own = skip (pointer_words_skip all words (contents_cover d h.1 is_own))
     contents_cover (declr_name token name) h is_own = keyed nothing (own refl)
-    contents_cover (declr_paren opening attrs d closing) h is_own = skip (attrs_skip all attrs (ends (contents_cover d h.1 is_own)))
+    contents_cover (declr_paren opening attrs d closing) h is_own =
+        skip (attrs_skip all attrs (ends (contents_cover d h.1 is_own)))
     contents_cover (array d opening words size closing) h is_own =
         join (contents_cover d h.0 is_own) (skip (array_words_skip all words (ends (some_size_covers size h.4))))
     contents_cover (params d opening ps dots closing) h is_own =
@@ -229,25 +247,30 @@ module _ {n : ℕ} (all : List Lexeme) where
         join (some_contents_cover d (direct_is all d h.0)) (skip (past (params_cover false (says_none ps) (params_go ps h.1))
         (dots_skip all dots (skip nothing))))
 
-    some_contents_cover : (d : SomeDeclr) → IsSomeDeclr all d → {k : List Lexeme} → Covers n (some_contents d) (some_declr_text all d k) k
+    some_contents_cover : (d : SomeDeclr) → IsSomeDeclr all d → {k : List Lexeme} →
+        Covers n (some_contents d) (some_declr_text all d k) k
     some_contents_cover no_declr h = nothing
     some_contents_cover (some_declr d) h = contents_cover d h false
 
-    some_size_covers : (size : SomeSize) → IsSize all size → {k : List Lexeme} → Covers n (some_size_tape size) (some_size_text all size k) k
+    some_size_covers : (size : SomeSize) → IsSize all size → {k : List Lexeme} →
+        Covers n (some_size_tape size) (some_size_text all size k) k
     some_size_covers no_size h = nothing
     some_size_covers (some_size size) h = size_covers size h
 
-    size_covers : (size : ArraySize) → IsArraySize all size → {k : List Lexeme} → Covers n (size_tape size) (array_size_text all size k) k
+    size_covers : (size : ArraySize) → IsArraySize all size → {k : List Lexeme} →
+        Covers n (size_tape size) (array_size_text all size k) k
     size_covers (size_value e) h = quiet_covers (expr_covers e h.0 false)
     size_covers (size_star token) h = skip nothing
 
     params_go : (ps : Params) → AreParams all ps → {k : List Lexeme} → Covers n (params_tape ps) (params_text all ps k) k
     params_go no_params h = nothing
     params_go (more_params ws d attrs ps) h =
-        join (then_mute (join (specs_cover (words_cover ws h.1 false)) (past (some_declr_covers d h.2) (attrs_skip all attrs nothing)))
+        join (then_mute (join (specs_cover (words_cover ws h.1 false)) (past (some_declr_covers d h.2)
+        (attrs_skip all attrs nothing)))
         (mute refl)) (other_params_go ps h.5)
 
-    other_params_go : (ps : Params) → AreParams all ps → {k : List Lexeme} → Covers n (params_tape ps) (other_params_text all ps k) k
+    other_params_go : (ps : Params) → AreParams all ps → {k : List Lexeme} →
+        Covers n (params_tape ps) (other_params_text all ps k) k
     other_params_go no_params h = nothing
     other_params_go (more_params ws d attrs ps) h =
         skip (join (then_mute (join (specs_cover (words_cover ws h.1 false)) (past (some_declr_covers d h.2)
@@ -259,7 +282,8 @@ module _ {n : ℕ} (all : List Lexeme) where
     init_covers (init_value e) h = expr_covers e h.0 false
     init_covers (init_braced list) h = list_covers list h
 
-    list_covers : (list : InitList) → IsInitList all list → {k : List Lexeme} → Covers n (list_tape list) (init_list_text all list k) k
+    list_covers : (list : InitList) → IsInitList all list → {k : List Lexeme} →
+        Covers n (list_tape list) (init_list_text all list k) k
     list_covers (init_list opening items last closing) h =
         skip (past (init_items_cover items h.0) (some_sign_skip Comma last (skip nothing)))
 
@@ -273,7 +297,8 @@ module _ {n : ℕ} (all : List Lexeme) where
         Covers n (init_items_tape items) (other_init_items_text all items k) k
     other_init_items_cover no_init_items h = nothing
     other_init_items_cover (more_init_items ds equal i items) h =
-        skip (join (join (indices_cover ds h.0) (some_sign_skip Equal equal (init_covers i h.2))) (other_init_items_cover items h.3))
+        skip (join (join (indices_cover ds h.0) (some_sign_skip Equal equal (init_covers i h.2)))
+        (other_init_items_cover items h.3))
 
     indices_cover : (ds : Desigs) → AreDesigs all ds → {k : List Lexeme} → Covers n (indices_tape ds) (desigs_text all ds k) k
     indices_cover no_desigs h = nothing
@@ -283,14 +308,16 @@ module _ {n : ℕ} (all : List Lexeme) where
     index_covers (member_desig before name) h = skip (skip nothing)
     index_covers (index_desig opening e closing) h = quiet_covers (skip (ends (expr_covers e h.0 false)))
 
-    some_init_covers : (i : SomeInit) → IsSomeInit all i → {k : List Lexeme} → Covers n (some_init_tape i) (some_init_text all i k) k
+    some_init_covers : (i : SomeInit) → IsSomeInit all i → {k : List Lexeme} →
+        Covers n (some_init_tape i) (some_init_text all i k) k
     some_init_covers no_init h = nothing
     some_init_covers (some_init equal i) h = skip (declared_init_covers i h)
 
     declared_init_covers : (i : Init) → IsInit all i → {k : List Lexeme} → Covers n (declared_init_tape i) (init_text all i k) k
     declared_init_covers (init_value e) h = then_mute (expr_covers e h.0 false) (mute refl)
     declared_init_covers (init_braced list) h =
-        then_mute (then_mute (then_mute (mute_then (mute refl) (list_covers list h)) (mute refl)) (rule_list_mute list)) (mute refl)
+        then_mute (then_mute (then_mute (mute_then (mute refl) (list_covers list h)) (mute refl)) (rule_list_mute list))
+        (mute refl)
 
     -- declarations and statements
 
@@ -311,7 +338,8 @@ module _ {n : ℕ} (all : List Lexeme) where
     declaration_covers : (d : Declaration) → IsDeclaration all d → {k : List Lexeme} →
         Covers n (declaration_tape d) (declaration_text all d k) k
     declaration_covers (declaration extensions ws ds semi) h =
-        extensions_skip extensions (then_mute (ends (join (specs_cover (words_cover ws h.1 _)) (init_declrs_cover ds h.3))) (mute refl))
+        extensions_skip extensions (then_mute (ends (join (specs_cover (words_cover ws h.1 _)) (init_declrs_cover ds h.3)))
+        (mute refl))
 
     decl_covers : (d : Decl) → IsDecl all d → {k : List Lexeme} → Covers n (decl_tape d) (decl_text all d k) k
     decl_covers (decl_declaration d) h = declaration_covers d h
@@ -320,14 +348,16 @@ module _ {n : ℕ} (all : List Lexeme) where
     block_items_cover : (items : BlockItems) → AreBlockItems all items → (kept : Bool) → {k : List Lexeme} →
         Covers n (block_items_tape kept items) (block_items_text all items k) k
     block_items_cover no_block_items h kept = nothing
-    block_items_cover (more_block_items item items) h kept = join (block_item_covers item h.0 _) (block_items_cover items h.1 kept)
+    block_items_cover (more_block_items item items) h kept =
+        join (block_item_covers item h.0 _) (block_items_cover items h.1 kept)
 
     block_item_covers : (item : BlockItem) → IsBlockItem all item → (kept : Bool) → {k : List Lexeme} →
         Covers n (block_item_tape kept item) (block_item_text all item k) k
     block_item_covers (block_decl d) h kept = decl_covers d h
     block_item_covers (block_stmt s) h kept = stmt_covers s h kept
 
-    stmt_covers : (s : Stmt) → IsStmt all s → (kept : Bool) → {k : List Lexeme} → Covers n (stmt_tape kept s) (stmt_text all s k) k
+    stmt_covers : (s : Stmt) → IsStmt all s → (kept : Bool) → {k : List Lexeme} →
+        Covers n (stmt_tape kept s) (stmt_text all s k) k
     stmt_covers (block opening items closing) h kept = scope_covers (skip (ends (block_items_cover items h false)))
     stmt_covers (expr_stmt e semi) h kept = ends (either kept (some_expr_covers e h) (dropped_covers e h))
     stmt_covers (attr_stmt attrs semi) h kept = attrs_skip all attrs (skip nothing)
@@ -339,11 +369,14 @@ module _ {n : ℕ} (all : List Lexeme) where
         scope_covers (skip (skip (join (join (then_mute (expr_covers e h.0 false) (mute refl))
         (skip (scope_covers (stmt_covers s h.1 false)))) (some_else_covers other s h.2))))
     stmt_covers (switch_stmt keyword opening e closing s) h kept =
-        scope_covers (skip (skip (join (then_mute (expr_covers e h.0 false) (mute refl)) (skip (scope_covers (stmt_covers s h.1 false))))))
+        scope_covers (skip (skip (join (then_mute (expr_covers e h.0 false) (mute refl)) (skip (scope_covers
+        (stmt_covers s h.1 false))))))
     stmt_covers (while_stmt keyword opening e closing s) h kept =
-        scope_covers (skip (skip (join (then_mute (expr_covers e h.0 false) (mute refl)) (skip (scope_covers (stmt_covers s h.1 false))))))
+        scope_covers (skip (skip (join (then_mute (expr_covers e h.0 false) (mute refl)) (skip (scope_covers
+        (stmt_covers s h.1 false))))))
     stmt_covers (do_stmt keyword s keyword2 opening e closing semi) h kept =
-        scope_covers (then_mute (skip (join (scope_covers (stmt_covers s h.0 false)) (skip (skip (ends (ends (expr_covers e h.1 false)))))))
+        scope_covers (then_mute (skip (join (scope_covers (stmt_covers s h.0 false)) (skip (skip (ends (ends
+        (expr_covers e h.1 false)))))))
         (mute refl))
     stmt_covers (for_stmt keyword opening start e semi e2 closing s) h kept =
         scope_covers (skip (skip (join (join (join (for_start_covers start h.0) (dropped_covers e h.1))
@@ -371,13 +404,16 @@ module _ {n : ℕ} (all : List Lexeme) where
 
   item_covers : (item : Item) → IsItem all item → {k : List Lexeme} → Covers n (item_tape item) (item_text all item k) k
   item_covers (function_item extensions ws d attrs opening items closing) h =
-      extensions_skip extensions (then_mute (then_mute (join (then_mute (then_mute (then_mute (join (specs_cover (words_cover ws h.1 false))
+      extensions_skip extensions (then_mute (then_mute (join (then_mute (then_mute (then_mute (join (specs_cover
+      (words_cover ws h.1 false))
       (contents_cover d h.3 true)) (pieces_mute d)) (mute refl)) (mute refl))
       (attrs_skip all attrs (skip (ends (block_items_cover items h.6 false))))) (mute refl)) (mute refl))
   item_covers (decl_item d) h = decl_covers d h
   item_covers (asm_item keyword group semi) h = skip (group_skip all group (skip nothing))
   item_covers (semi_item semi) h = skip nothing
 
-  pub items_cover : (items : List Item) → All (IsItem all) items → {k : List Lexeme} → Covers n (tape_of items) (items_text all items k) k
-  items_cover [] h = nothing
-  items_cover (item ∷ items) h = ?
+  pub items_cover : (items : List Item) → All (IsItem all) items → (k : List Lexeme) →
+      Covers n (tape_of items) (items_text all items k) k
+  items_cover [] h k = nothing
+  items_cover (item ∷ items) h k =
+      join (item_covers item (All-head (IsItem all) item items h)) (items_cover items (All-tail (IsItem all) item items h) k)
