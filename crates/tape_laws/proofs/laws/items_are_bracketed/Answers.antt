@@ -1,5 +1,5 @@
-use Rattle.tape_laws.proofs.Trees.{units_are_bracketed}
-use Rattle.tape_laws.proofs.laws.units_are_bracketed.Goals as goal
+use Rattle.tape_laws.proofs.Trees.{items_are_bracketed}
+use Rattle.tape_laws.proofs.laws.items_are_bracketed.Goals as goal
 
 pub returns : goal.returns
-returns c = units_are_bracketed
+returns c = items_are_bracketed
