@@ -1,14 +1,15 @@
 //! The system of a prelude and a source.
 
-ghost use Rattle.std.specs.Prelude.{◌≡◌, ◌<◌, ◌≤◌, length, map, IfOk, OnOk, IsErrOf};
-ghost use Rattle.flow_graph.specs.System.{most_constraints, most_variables};
+ghost use Rattle.std.specs.Prelude.{◌≡◌, ◌<◌, ◌≤◌, All, length, map, IfOk, OnOk, IsErrOf};
+ghost use Rattle.flow_graph.specs.System.{IsWellOwned, most_constraints, most_variables};
 ghost use Rattle.name_laws.specs.NameLaws.{tape_of_source};
 ghost use Rattle.type_rules.specs.Program.{names_of};
 ghost use Rattle.unit_shapes.specs.Views.{names_in};
 ghost use Rattle.unit_starts.specs.Views.{start_in};
 ghost use Rattle.unit_types.specs.Resolved.{tapes_of};
 ghost use Rattle.c_types.specs.Sources.{sources_of, units_of};
-ghost use Rattle.constraint_rules.specs.Systems.{starts_of, system_of};
+ghost use Rattle.constraint_rules.specs.Systems.{AreNamed, starts_of, system_of};
+ghost use Rattle.key_laws.specs.Differing.{IsRead, UnitsDiffer};
 ghost use Rattle.constraint_gen.specs.Programs.{positions_in, program_in};
 ghost use Rattle.constraint_gen.specs.Generating.{IsGenerated, IsMade};
 
@@ -18,6 +19,8 @@ use c_types::{Program, Source};
 use flow_graph::FlowGraph;
 use index_words::Prelude;
 use lattice_core::Lattices;
+use element_laws::elements_are_named;
+use owned_laws::systems_are_owned;
 use position_laws::{positions_are_counted, positions_stand};
 use qual_base::VarId;
 use row_laws::constraints_are_found;
@@ -84,6 +87,9 @@ fn system(
 /// variables are not too many. Time is linear in the tokens and the units, in the variables and in the constraints, but for growth,
 /// for what is looked for among the members of structs, and for the number of sources at each skeleton. Memory is linear in the
 /// tokens, the units, the variables and the constraints.
+///
+/// No flow joins two functions but by the calls of a site, and each constant and bound names an element of its lattice: the system
+/// is one that can be solved.
 pub fn generate(
     alloc: Global,
     sources: &[Source],
@@ -91,11 +97,15 @@ pub fn generate(
     prelude: &Prelude,
     lattices: &Lattices,
 ) -> Result<Generated, GenerateFault>
+    requires read { All IsRead (sources_of sources.now) }
+    requires units { UnitsDiffer (sources_of sources.now) }
     requires names { names_in program.now.rows program.now.names
         ≡ names_of (sources_of sources.now) }
     requires tapes { tapes_of program.now.units ≡ map tape_of_source (sources_of sources.now) }
     ensures made { IfOk result (IsGenerated (units_of sources.now)
         (program_in lattices.now prelude.now (units_of sources.now))) }
+    ensures owned { IfOk result (λ it. IsWellOwned it.graph) }
+    ensures named { IfOk result (λ it. AreNamed lattices.now it.graph) }
     ensures few_variables { OnOk result (length (positions_in
         (program_in lattices.now prelude.now (units_of sources.now))) ≤ most_variables) }
     ensures few_constraints { OnOk result (length (system_of
@@ -112,6 +122,9 @@ pub fn generate(
         (program_in lattices.now prelude.now (units_of sources.now))).constraints }
 {
     positions_are_counted();
+    systems_are_owned();
+    elements_are_named();
+    lattices.law();
     let UnitSystem {
         starts,
         skeletons,

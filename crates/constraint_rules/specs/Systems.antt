@@ -1,8 +1,9 @@
 -- The system of a program: the constraints of its units one behind the other, its call sites, and the owner of each variable.
-use Rattle.std.specs.Prelude.{ℕ, List, [], ◌∷◌, ◌++◌, Option, None}
+use Rattle.std.specs.Prelude.{◌≡◌, ℕ, List, [], ◌∷◌, ◌++◌, slice_get, Option, None, Some}
 use Rattle.lattice_core.specs.View.{LatticeView}
 use Rattle.flow_graph.specs.declared.constraint.Constraint.{Constraint}
 use Rattle.flow_graph.specs.System.{System}
+use Rattle.flow_graph.specs.Unfolding.{NamesElementsIn}
 use Rattle.name_rules.specs.Spellings.{Place}
 use Rattle.name_rules.specs.Scopes.{Names}
 use Rattle.type_rules.specs.Program.{Source, names_of}
@@ -45,6 +46,11 @@ world_of p it = record {
 abbrev pub demands_among : Program → List Source → List Constraint
 demands_among p [] = []
 demands_among p (it ∷ sources) = items_demand (world_of p it) it.items ++ demands_among p sources
+
+-- each constant and bound of a lattice names an element of it
+abbrev pub AreNamed : List LatticeView → System → Type 0
+AreNamed lattices sys =
+    (n : ℕ) (view : LatticeView) → slice_get lattices n ≡ Some view → NamesElementsIn sys n view.order
 
 abbrev pub system_of : Program → System
 system_of p = record {
