@@ -1,3 +1,9 @@
+mod Apart
+mod Begin
+mod Contexts
 mod Found
+mod Functions
+mod Places
 mod Stacks
 mod Steps
+mod Turns

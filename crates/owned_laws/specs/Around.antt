@@ -23,9 +23,12 @@ use Rattle.row_rules.specs.Worlds.{World, at}
 use Rattle.row_rules.specs.Sites.{AreDifferent, site_places}
 use Rattle.row_steps.specs.Rounds.{Naming, a_name, own_param, other_param, naming, is_quiet}
 use Rattle.row_steps.specs.State.{State}
-use Rattle.owner_laws.specs.Belonging.{IsOwn}
 use Rattle.owner_laws.specs.Fitting.{start_at}
 use Rattle.owner_laws.specs.Rows.{KnowsStarts, IsInstance}
+
+-- nobody's, or of the function
+abbrev pub IsOwn : Option Place → Option Place → Type 0
+IsOwn f own = (own ≡ None) ⊎ (own ≡ f)
 
 -- no skeleton begins at the place, or one of the function or of nobody
 abbrev pub BeginsIn : List Start → Option Place → Place → Type 0

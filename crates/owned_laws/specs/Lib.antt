@@ -1,2 +1,5 @@
 pub mod Around
+pub mod Contexts
+pub mod Names
+pub mod Programs
 pub mod Tapes

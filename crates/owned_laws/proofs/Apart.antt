@@ -1,0 +1,524 @@
+-- Declarations are at different places, and at no token of an expression, where the places at which skeletons may begin differ.
+use Rattle.std.proofs.Common.{◌≡◌, ◌⊎◌, inl, inr, ℕ, Bool, true, false, List, [], ◌∷◌, ◌++◌, map, length, Option, None, Some, refl, sym, ◌∙◌, ap, subst, append_assoc, append-nil}
+use Rattle.std.specs.Prelude.{◌||◌, if◌then◌else◌}
+use Rattle.std.specs.List.{last_or}
+use Rattle.c_words.specs.declared.kinds.Keyword.{Keyword}
+use Rattle.c_words.specs.declared.kinds.Keyword.TheVariants as keywords
+use Rattle.tape_ops.specs.declared.op.Op.{Op}
+use Rattle.tape_ops.specs.declared.op.Op.TheVariants as ops
+use Rattle.tape_ops.specs.declared.specifier.SpecOp.{SpecOp}
+use Rattle.tape_ops.specs.declared.specifier.SpecOp.TheVariants as specs
+use Rattle.tape_ops.specs.declared.declarator.DeclrOp.{DeclrOp}
+use Rattle.tape_ops.specs.declared.declarator.DeclrOp.TheVariants as declrs
+use Rattle.tape_ops.specs.declared.statement.StmtOp.{StmtOp}
+use Rattle.tape_ops.specs.declared.statement.StmtOp.TheVariants as stmts
+use Rattle.type_table.specs.Types.{CType}
+use Rattle.name_rules.specs.Spellings.{Spelling, Place, place, Named}
+use Rattle.name_rules.specs.Scopes.{object_role, Declared, declared_at, Names, is_place, is_at_file, body_of, has_body, sized}
+use Rattle.name_rules.specs.Pieces.{is_function, decayed}
+use Rattle.name_rules.specs.Declaring.{tag_used, untagged, declared_here, declared_thing, declared_typedef, declared_some, declared_param, declared_member, has_word}
+use Rattle.name_rules.specs.Units.{no_names, unit_begun}
+use Rattle.name_steps.specs.State.{OpenDeclaration, State, no_declaration, innermost_or, with_innermost, without_innermost, with_names}
+use Rattle.name_steps.specs.Steps.{declaration, body, parameters, expression_step, specifier_step, declarator_step, statement_step, step, run}
+use Rattle.name_steps.specs.Units.{tapes_named}
+use Rattle.name_laws.specs.NameLaws.{tape_of_source}
+use Rattle.c_tape.specs.Tape.{tape_of}
+use Rattle.type_rules.specs.Program.{Source}
+use Rattle.row_rules.specs.Sites.{AreDifferent, has_place}
+use Rattle.meaning_laws.specs.Meanings.{Differ}
+use Rattle.key_laws.specs.Keys.{fresh_key, op_key, spec_key, declr_key, key_place, key_places, KeyIsApart, KeysAreApart}
+use Rattle.key_laws.specs.Differing.{keys_among}
+use Rattle.owned_laws.specs.Programs.{AllApart}
+use Rattle.owned_laws.proofs.Places.{place_itself, place_is, has_not, has_not_left, has_not_right, has_left, has_right, has_itself, differ_before}
+use Rattle.owned_laws.proofs.Functions.{names, names_kept, used_same, begun_same, keep_same, entered_same, expr_declarations, expr_names}
+
+-- places
+
+not_same : (p q : Place) (xs : List Place) → has_place xs p ≡ true → has_place xs q ≡ false → is_place p q ≡ false
+not_same p q xs h k = by (is_place p q) (place_is p q)
+  where
+    by : (b : Bool) → (b ≡ true → p ≡ q) → b ≡ false
+    by true is =
+        let there : has_place xs q ≡ true = subst (λ (x : Place). has_place xs x ≡ true) (is refl) h in absurd cc
+    by false is = refl
+
+last_or_before : (xs : List Place) (p q : Place) → has_place (xs ++ p ∷ []) q ≡ true →
+    (has_place xs q ≡ true) ⊎ (p ≡ q)
+last_or_before [] p q e = by (is_place p q) (place_is p q) e
+  where
+    by : (b : Bool) → (b ≡ true → p ≡ q) → (if b then true else false) ≡ true → (false ≡ true) ⊎ (p ≡ q)
+    by true is e = inr (is refl)
+    by false is e = absurd cc
+last_or_before (x ∷ xs) p q e = by (is_place x q) e (last_or_before xs p q)
+  where
+    by : (b : Bool) → (if b then true else has_place (xs ++ p ∷ []) q) ≡ true →
+        (has_place (xs ++ p ∷ []) q ≡ true → (has_place xs q ≡ true) ⊎ (p ≡ q)) →
+        ((if b then true else has_place xs q) ≡ true) ⊎ (p ≡ q)
+    by true e next = inl refl
+    by false e next = next e
+
+pub other_way : (p q : Place) → is_place p q ≡ false → is_place q p ≡ false
+other_way p q e = by (is_place q p) (place_is q p)
+  where
+    by : (b : Bool) → (b ≡ true → q ≡ p) → b ≡ false
+    by true is =
+        let same : is_place p q ≡ true = subst (λ (r : Place). is_place p r ≡ true) (sym (is refl)) (place_itself p) in
+        absurd cc
+    by false is = refl
+
+tail_has : (p q : Place) (xs : List Place) → has_place xs q ≡ true → has_place (p ∷ xs) q ≡ true
+tail_has p q xs e = by (is_place p q)
+  where
+    by : (b : Bool) → (if b then true else has_place xs q) ≡ true
+    by true = refl
+    by false = e
+
+tail_has_not : (p q : Place) (xs : List Place) → has_place (p ∷ xs) q ≡ false → has_place xs q ≡ false
+tail_has_not p q xs e = by (is_place p q) e
+  where
+    by : (b : Bool) → (if b then true else has_place xs q) ≡ false → has_place xs q ≡ false
+    by true e = absurd cc
+    by false e = e
+
+head_has_not : (p q : Place) (xs : List Place) → is_place p q ≡ false → has_place xs q ≡ false →
+    has_place (p ∷ xs) q ≡ false
+head_has_not p q xs e k = ap (λ (b : Bool). if b then true else has_place xs q) e ∙ k
+
+-- declarations
+
+pub none_more : (ds : List Declared) (d : Declared) (q : Place) → declared_at ds q ≡ None → is_place d.at q ≡ false →
+    declared_at (ds ++ d ∷ []) q ≡ None
+none_more [] d q e k = ap (λ (b : Bool). if b then Some d else None) k
+none_more (x ∷ ds) d q e k = by (is_place x.at q) e (λ h. none_more ds d q h k)
+  where
+    by : (b : Bool) → (if b then Some x else declared_at ds q) ≡ None →
+        (declared_at ds q ≡ None → declared_at (ds ++ d ∷ []) q ≡ None) →
+        (if b then Some x else declared_at (ds ++ d ∷ []) q) ≡ None
+    by true e next = absurd cc
+    by false e next = next e
+
+pub not_head : (x : Declared) (ds : List Declared) (q : Place) → declared_at (x ∷ ds) q ≡ None → is_place x.at q ≡ false
+not_head x ds q e = by (is_place x.at q) e
+  where
+    by : (b : Bool) → (if b then Some x else declared_at ds q) ≡ None → b ≡ false
+    by true e = absurd cc
+    by false e = refl
+
+pub not_tail : (x : Declared) (ds : List Declared) (q : Place) → declared_at (x ∷ ds) q ≡ None → declared_at ds q ≡ None
+not_tail x ds q e = by (is_place x.at q) e
+  where
+    by : (b : Bool) → (if b then Some x else declared_at ds q) ≡ None → declared_at ds q ≡ None
+    by true e = absurd cc
+    by false e = e
+
+differ_more : (ds : List Declared) (d : Declared) → Differ ds → declared_at ds d.at ≡ None → Differ (ds ++ d ∷ [])
+differ_more [] d h e = (refl, tt)
+differ_more (x ∷ ds) d h e =
+    (none_more ds d x.at h.0 (other_way x.at d.at (not_head x ds d.at e)), differ_more ds d h.1 (not_tail x ds d.at e))
+
+-- What is declared and what is read of names, by the places of ops so far, and by those of them that expressions have.
+pub record Kept (keys fresh : List Place) (ds : List Declared) (opens : List Place) : Type 0 where
+  pub differ : Differ ds
+  pub covered : (p : Place) → has_place keys p ≡ false → declared_at ds p ≡ None
+  pub apart : AreDifferent opens
+  pub new : (p : Place) → has_place opens p ≡ true → declared_at ds p ≡ None
+  pub known : (p : Place) → has_place keys p ≡ false → has_place opens p ≡ false
+  pub within : (p : Place) → has_place keys p ≡ false → has_place fresh p ≡ false
+  pub fresh_declared : (p : Place) → has_place fresh p ≡ true → declared_at ds p ≡ None
+  pub fresh_open : (p : Place) → has_place fresh p ≡ true → has_place opens p ≡ false
+
+module _ {keys fresh : List Place} {ds : List Declared} where
+  with_fresh : {opens : List Place} (p : Place) → has_place keys p ≡ false → Kept keys fresh ds opens →
+      Kept (keys ++ p ∷ []) (fresh ++ p ∷ []) ds opens
+  with_fresh {opens} p none h = record {
+    differ = h.differ;
+    covered = λ q e. h.covered q (has_not_left keys (p ∷ []) q e);
+    apart = h.apart;
+    new = h.new;
+    known = λ q e. h.known q (has_not_left keys (p ∷ []) q e);
+    within = λ q e. has_not fresh (p ∷ []) q (h.within q (has_not_left keys (p ∷ []) q e))
+        (has_not_right keys (p ∷ []) q e);
+    fresh_declared = λ q e. declared q (last_or_before fresh p q e);
+    fresh_open = λ q e. open_ q (last_or_before fresh p q e);
+  } where
+    declared : (q : Place) → (has_place fresh q ≡ true) ⊎ (p ≡ q) → declared_at ds q ≡ None
+    declared q (inl e) = h.fresh_declared q e
+    declared q (inr e) = subst (λ (x : Place). declared_at ds x ≡ None) e (h.covered p none)
+
+    open_ : (q : Place) → (has_place fresh q ≡ true) ⊎ (p ≡ q) → has_place opens q ≡ false
+    open_ q (inl e) = h.fresh_open q e
+    open_ q (inr e) = subst (λ (x : Place). has_place opens x ≡ false) e (h.known p none)
+
+  with_open : {opens : List Place} (p : Place) → has_place keys p ≡ false → Kept keys fresh ds opens →
+      Kept (keys ++ p ∷ []) fresh ds (p ∷ opens)
+  with_open {opens} p none h = record {
+    differ = h.differ;
+    covered = λ q e. h.covered q (has_not_left keys (p ∷ []) q e);
+    apart = (h.known p none, h.apart);
+    new = λ q e. new q (is_place p q) (place_is p q) e;
+    known = λ q e. head_has_not p q opens (not_same p q (p ∷ []) (has_itself p []) (has_not_right keys (p ∷ []) q e))
+        (h.known q (has_not_left keys (p ∷ []) q e));
+    within = λ q e. h.within q (has_not_left keys (p ∷ []) q e);
+    fresh_declared = h.fresh_declared;
+    fresh_open = λ q e. head_has_not p q opens (other_way q p (not_same q p fresh e (h.within p none)))
+        (h.fresh_open q e);
+  } where
+    new : (q : Place) (b : Bool) → (b ≡ true → p ≡ q) → (if b then true else has_place opens q) ≡ true →
+        declared_at ds q ≡ None
+    new q true is e = subst (λ (x : Place). declared_at ds x ≡ None) (is refl) (h.covered p none)
+    new q false is e = h.new q e
+
+  without_open : {opens : List Place} (p : Place) → Kept keys fresh ds (p ∷ opens) → Kept keys fresh ds opens
+  without_open {opens} p h = record {
+    differ = h.differ;
+    covered = h.covered;
+    apart = h.apart.1;
+    new = λ q e. h.new q (tail_has p q opens e);
+    known = λ q e. tail_has_not p q opens (h.known q e);
+    within = h.within;
+    fresh_declared = h.fresh_declared;
+    fresh_open = λ q e. tail_has_not p q opens (h.fresh_open q e);
+  }
+
+  none_open : {opens : List Place} → Kept keys fresh ds opens → Kept keys fresh ds []
+  none_open h = record {
+    differ = h.differ;
+    covered = h.covered;
+    apart = tt;
+    new = λ q e. absurd cc;
+    known = λ q e. refl;
+    within = h.within;
+    fresh_declared = h.fresh_declared;
+    fresh_open = λ q e. refl;
+  }
+
+  with_declared : {opens : List Place} (d : Declared) → Kept keys fresh ds (d.at ∷ opens) →
+      Kept keys fresh (ds ++ d ∷ []) opens
+  with_declared {opens} d h = record {
+    differ = differ_more ds d h.differ (h.new d.at (has_itself d.at opens));
+    covered = λ q e. none_more ds d q (h.covered q e)
+        (not_same d.at q (d.at ∷ []) (has_itself d.at []) (head_not q (h.known q e)));
+    apart = h.apart.1;
+    new = λ q e. none_more ds d q (h.new q (tail_has d.at q opens e))
+        (other_way q d.at (not_same q d.at opens e h.apart.0));
+    known = λ q e. tail_has_not d.at q opens (h.known q e);
+    within = h.within;
+    fresh_declared = λ q e. none_more ds d q (h.fresh_declared q e)
+        (not_same d.at q (d.at ∷ []) (has_itself d.at []) (head_not q (h.fresh_open q e)));
+    fresh_open = λ q e. tail_has_not d.at q opens (h.fresh_open q e);
+  } where
+    head_not : (q : Place) → has_place (d.at ∷ opens) q ≡ false → has_place (d.at ∷ []) q ≡ false
+    head_not q e = by (is_place d.at q) e
+      where
+        by : (b : Bool) → (if b then true else has_place opens q) ≡ false → (if b then true else false) ≡ false
+        by true e = absurd cc
+        by false e = refl
+
+-- names that are read
+
+abbrev opened : Spelling → List (Option Named) → List Place
+opened u [] = []
+opened u (None ∷ xs) = opened u xs
+opened u (Some it ∷ xs) = place u it.token ∷ opened u xs
+
+module _ (u : Spelling) where
+  abbrev Holds : List Place → List Place → State → Type 0
+  Holds keys fresh st = Kept keys fresh st.names.declared (opened u (names st.declarations))
+
+  plain : {keys fresh : List Place} {ds : List Declared} {opens : List Place} → Kept keys fresh ds opens →
+      Kept (keys ++ []) (fresh ++ []) ds opens
+  plain {keys} {fresh} {ds} {opens} h =
+      subst (λ (xs : List Place). Kept xs (fresh ++ []) ds opens) (sym (append-nil keys))
+      (subst (λ (xs : List Place). Kept keys xs ds opens) (sym (append-nil fresh)) h)
+
+  -- no key, and this has no fresh one
+  only : {fresh more : List Place} {ds : List Declared} {opens : List Place} → Kept more fresh ds opens →
+      Kept more (fresh ++ []) ds opens
+  only {fresh} {more} {ds} {opens} h =
+      subst (λ (xs : List Place). Kept more xs ds opens) (sym (append-nil fresh)) h
+
+  fresh_key_kept : {keys fresh : List Place} {ds : List Declared} {opens : List Place} (key : Option ℕ) →
+      ((token : ℕ) → key ≡ Some token → has_place keys (place u token) ≡ false) → Kept keys fresh ds opens →
+      Kept (keys ++ key_place u key) (fresh ++ key_place u key) ds opens
+  fresh_key_kept None none h = plain h
+  fresh_key_kept (Some token) none h = with_fresh (place u token) (none token refl) h
+
+  module _ {keys fresh : List Place} (st : State) (h : Holds keys fresh st) where
+    abbrev ds : List OpenDeclaration
+    ds = st.declarations
+
+    -- the innermost declaration without its name
+    top_gone : (xs : List OpenDeclaration) → Kept keys fresh st.names.declared (opened u (names xs)) →
+        Kept keys fresh st.names.declared (opened u (names (without_innermost xs)))
+    top_gone [] k = k
+    top_gone (x ∷ xs) k = by x.name k
+      where
+        by : (name : Option Named) → Kept keys fresh st.names.declared (opened u (name ∷ names xs)) →
+            Kept keys fresh st.names.declared (opened u (names xs))
+        by None k = k
+        by (Some it) k = without_open (place u it.token) k
+
+    top_unnamed : (xs : List OpenDeclaration) (d : OpenDeclaration) → d.name ≡ None →
+        Kept keys fresh st.names.declared (opened u (names (without_innermost xs))) →
+        Kept keys fresh st.names.declared (opened u (names (with_innermost d xs)))
+    top_unnamed [] d e k = k
+    top_unnamed (x ∷ xs) d e k =
+        subst (λ (name : Option Named). Kept keys fresh st.names.declared (opened u (name ∷ names xs))) (sym e) k
+
+    -- what the innermost declaration's name, where it has one, adds to the declarations
+    abbrev Adds : Option Named → List Declared → Type 0
+    Adds None new = new ≡ st.names.declared
+    Adds (Some it) new = (d : Declared) × (d.at ≡ place u it.token) × (new ≡ st.names.declared ++ d ∷ [])
+
+    closing : (xs : List OpenDeclaration) (new : List Declared) → Adds (innermost_or no_declaration xs).name new →
+        Kept keys fresh st.names.declared (opened u (names xs)) →
+        Kept keys fresh new (opened u (names (without_innermost xs)))
+    closing [] new a k = subst (λ (it : List Declared). Kept keys fresh it []) (sym a) k
+    closing (x ∷ xs) new a k = by x.name a k
+      where
+        by : (name : Option Named) → Adds name new → Kept keys fresh st.names.declared (opened u (name ∷ names xs)) →
+            Kept keys fresh new (opened u (names xs))
+        by None a k = subst (λ (it : List Declared). Kept keys fresh it (opened u (names xs))) (sym a) k
+        by (Some it) a k =
+            subst (λ (new : List Declared). Kept keys fresh new (opened u (names xs))) (sym a.2)
+            (with_declared a.0 (subst (λ (p : Place). Kept keys fresh st.names.declared (p ∷ opened u (names xs)))
+            (sym a.1) k))
+
+    adds_some : (it : Option Named) (words : List Keyword) (t : CType) →
+        Adds it (declared_some u it words t st.names).declared
+    adds_some None words t = refl
+    adds_some (Some it) words t =
+        by (has_word keywords.Typedef words) (is_at_file old || (is_function t || has_word keywords.Extern words))
+      where
+        old : Names
+        old = sized (place u it.token) t st.names
+
+        own : Option Place
+        own = if has_word keywords.Static words then None else old.enclosing
+
+        by : (b c : Bool) → Adds (Some it) (if b then declared_typedef (place u it.token) (u.key it.name) t old
+            else if c then declared_thing (place u it.token) (u.key it.name) t old
+            else declared_here (place u it.token) (u.key it.name) object_role t own old).declared
+        by true c = (_, refl, refl)
+        by false true = (_, refl, refl)
+        by false false = (_, refl, refl)
+
+    adds_param : (it : Option Named) (i : ℕ) (own : Option Place) (t : CType) →
+        Adds it (declared_param u it i own t st.names).declared
+    adds_param None i own t = refl
+    adds_param (Some it) i own t = (_, refl, refl)
+
+    adds_member : (it : Option Named) (number : ℕ) (t : CType) →
+        Adds it (declared_member u it number t st.names).declared
+    adds_member None number t = refl
+    adds_member (Some it) number t = (_, refl, refl)
+
+    unnamed_top : (xs : List OpenDeclaration) (d : OpenDeclaration) (new : List Declared) → d.name ≡ None →
+        Kept keys fresh new (opened u (names (without_innermost xs))) →
+        Kept keys fresh new (opened u (names (with_innermost d xs)))
+    unnamed_top [] d new e k = k
+    unnamed_top (x ∷ xs) d new e k =
+        subst (λ (name : Option Named). Kept keys fresh new (opened u (name ∷ names xs))) (sym e) k
+
+    same_names : (new : List Declared) → new ≡ st.names.declared → Kept keys fresh new (opened u (names ds))
+    same_names new e = subst (λ (it : List Declared). Kept keys fresh it (opened u (names ds))) (sym e) h
+
+    at_key : (token : ℕ) (d : Declared) → d.at ≡ place u token → has_place keys (place u token) ≡ false →
+        Kept (keys ++ place u token ∷ []) (fresh ++ []) (st.names.declared ++ d ∷ []) (opened u (names ds))
+    at_key token d at none =
+        only (with_declared d (subst (λ (p : Place). Kept (keys ++ place u token ∷ []) fresh st.names.declared
+        (p ∷ opened u (names ds))) (sym at) (with_open (place u token) none h)))
+
+    abbrev NoKey : Option ℕ → Type 0
+    NoKey key = (token : ℕ) → key ≡ Some token → has_place keys (place u token) ≡ false
+
+    abbrev Next : Option ℕ → State → Type 0
+    Next key next =
+        Kept (keys ++ key_place u key) (fresh ++ []) next.names.declared (opened u (names next.declarations))
+
+    spec_kept : (op : SpecOp) → NoKey (spec_key op) → Next (spec_key op) (specifier_step u st op)
+    spec_kept (specs.Word token) none = plain h
+    spec_kept (specs.Storage keyword) none = plain h
+    spec_kept specs.Void none = plain h
+    spec_kept (specs.Typedef token name) none = plain h
+    spec_kept (specs.TagUse kind token name) none = plain (same_names _ (used_same u false kind token name st.names))
+    spec_kept (specs.TagAlone kind token name) none = plain (same_names _ (used_same u true kind token name st.names))
+    spec_kept (specs.TagBody kind token name) none =
+        plain (same_names _ (begun_same (has_body (body_of (tag_used u true kind token name st.names).names.aggregates
+        (tag_used u true kind token name st.names).number)) (place u token) kind
+        (tag_used u true kind token name st.names) ∙ used_same u true kind token name st.names))
+    spec_kept (specs.Untagged kind token) none =
+        plain (same_names _ (begun_same (has_body (body_of (untagged (place u token) kind st.names).names.aggregates
+        (untagged (place u token) kind st.names).number)) (place u token) kind
+        (untagged (place u token) kind st.names)))
+    spec_kept specs.BodyEnd none = plain h
+    spec_kept (specs.Enumerator token name) none = at_key token _ refl (none token refl)
+    spec_kept (specs.UnnamedMember token) none = at_key token _ refl (none token refl)
+    spec_kept specs.SpecsEnd none = plain h
+
+    name_kept : (token name : ℕ) → has_place keys (place u token) ≡ false → (xs : List OpenDeclaration) →
+        Kept keys fresh st.names.declared (opened u (names (without_innermost xs))) →
+        Kept (keys ++ place u token ∷ []) fresh st.names.declared
+        (opened u (names (with_innermost (record (innermost_or no_declaration xs) {
+          name = Some (record { token = token; name = name });
+        }) xs)))
+    name_kept token name none [] k = without_open (place u token) (with_open (place u token) none k)
+    name_kept token name none (x ∷ xs) k = with_open (place u token) none k
+
+    kept_name : (t : CType) →
+        Kept keys fresh st.names.declared
+        (opened u (names (with_innermost (record (innermost_or no_declaration ds) { declared = t }) ds)))
+    kept_name t =
+        subst (λ (xs : List (Option Named)). Kept keys fresh st.names.declared (opened u xs)) (sym (names_kept ds t)) h
+
+    declr_kept : (op : DeclrOp) → NoKey (declr_key op) → Next (declr_key op) (declarator_step u st op)
+    declr_kept (declrs.DeclName token name) none = only (name_kept token name (none token refl) ds (top_gone ds h))
+    declr_kept (declrs.ParamsBegin is_own) none = plain h
+    declr_kept declrs.Param none =
+        plain (closing ds _ (adds_param (declaration st).name (length (parameters st).types) (parameters st).own
+        (decayed (declaration st).declared)) h)
+    declr_kept declrs.ParamsEnd none = plain (same_names _ (keep_same (parameters st).own st.names))
+    declr_kept declrs.Pointer none = plain (kept_name _)
+    declr_kept declrs.Array none = plain (kept_name _)
+    declr_kept (declrs.Function has_ellipsis) none = plain (kept_name _)
+    declr_kept declrs.Declare none =
+        plain (unnamed_top ds (record (declaration st) { name = None; declared = (declaration st).type }) _ refl
+        (closing ds _ (adds_some (declaration st).name (declaration st).storage (declaration st).declared) h))
+    declr_kept declrs.Member none =
+        plain (unnamed_top ds (record (declaration st) { name = None; declared = (declaration st).type }) _ refl
+        (closing ds _ (adds_member (declaration st).name (body st).members_of (declaration st).declared) h))
+    declr_kept (declrs.TypeName first) none = plain (top_gone ds h)
+    declr_kept declrs.DeclarationEnd none = plain (top_gone ds h)
+
+    stmt_kept : (op : StmtOp) → Next None (statement_step u st op)
+    stmt_kept stmts.Quiet = plain h
+    stmt_kept stmts.Loud = plain h
+    stmt_kept stmts.Pop = plain h
+    stmt_kept (stmts.Return token last) = plain h
+    stmt_kept stmts.Enter = plain h
+    stmt_kept stmts.Leave = plain h
+    stmt_kept stmts.FunctionBody = plain (same_names _ (entered_same (last_or None st.names.declared) st.names))
+    stmt_kept stmts.FunctionEnd = plain h
+
+    op_kept : (op : Op) → NoKey (op_key op) →
+        Kept (keys ++ key_place u (op_key op)) (fresh ++ key_place u (fresh_key op)) (step u st op).names.declared
+        (opened u (names (step u st op).declarations))
+    op_kept (ops.Expr op) none =
+        fresh_key_kept (op_key (ops.Expr op)) none
+        (subst (λ (xs : List OpenDeclaration). Kept keys fresh (expression_step u st op).names.declared
+        (opened u (names xs))) (sym (expr_declarations u st op)) (same_names _ (expr_names u st op)))
+    op_kept (ops.Form op) none = fresh_key_kept (op_key (ops.Form op)) none h
+    op_kept (ops.Init op) none = fresh_key_kept (op_key (ops.Init op)) none h
+    op_kept (ops.Spec op) none = spec_kept op none
+    op_kept (ops.Declr op) none = declr_kept op none
+    op_kept (ops.Stmt op) none = stmt_kept op
+
+  abbrev fresh_places : List Op → List Place
+  fresh_places [] = []
+  fresh_places (op ∷ tape) = key_place u (fresh_key op) ++ fresh_places tape
+
+  key_is_new : (keys qs : List Place) (key : Option ℕ) → AreDifferent (keys ++ (key_place u key ++ qs)) →
+      (token : ℕ) → key ≡ Some token → has_place keys (place u token) ≡ false
+  key_is_new keys qs None d token e = absurd cc
+  key_is_new keys qs (Some t) d token e =
+      let same : t ≡ token = cc in
+      subst (λ (n : ℕ). has_place keys (place u n) ≡ false) same
+      (differ_before keys (place u t ∷ qs) (place u t) d (has_itself (place u t) qs))
+
+  tape_kept : (tape : List Op) (keys fresh rest : List Place) (st : State) → Holds keys fresh st →
+      AreDifferent (keys ++ (key_places u tape ++ rest)) →
+      Kept (keys ++ key_places u tape) (fresh ++ fresh_places tape) (run u tape st).names.declared []
+  tape_kept [] keys fresh rest st h d = plain (none_open h)
+  tape_kept (op ∷ tape) keys fresh rest st h d =
+      subst (λ (xs : List Place). Kept xs (fresh ++ (key_place u (fresh_key op) ++ fresh_places tape))
+      (run u tape (step u st op)).names.declared []) (append_assoc keys key (key_places u tape))
+      (subst (λ (xs : List Place). Kept ((keys ++ key) ++ key_places u tape) xs
+      (run u tape (step u st op)).names.declared []) (append_assoc fresh (key_place u (fresh_key op)) (fresh_places tape))
+      (tape_kept tape (keys ++ key) (fresh ++ key_place u (fresh_key op)) rest (step u st op)
+      (op_kept st h op (key_is_new keys (key_places u tape ++ rest) (op_key op) one))
+      (subst AreDifferent (sym (append_assoc keys key (key_places u tape ++ rest))) one)))
+    where
+      key : List Place
+      key = key_place u (op_key op)
+
+      one : AreDifferent (keys ++ (key ++ (key_places u tape ++ rest)))
+      one = subst (λ (xs : List Place). AreDifferent (keys ++ xs)) (append_assoc key (key_places u tape) rest) d
+
+  apart_along : (s : Names) (tape : List Op) →
+      ((p : Place) → has_place (fresh_places tape) p ≡ true → declared_at s.declared p ≡ None) → KeysAreApart u s tape
+  apart_along s [] h = tt
+  apart_along s (op ∷ tape) h = (
+    by (fresh_key op) (λ p e. h p (has_left (key_place u (fresh_key op)) (fresh_places tape) p e)),
+    apart_along s tape (λ p e. h p (has_right (key_place u (fresh_key op)) (fresh_places tape) p e)),
+  )
+    where
+      by : (key : Option ℕ) →
+          ((p : Place) → has_place (key_place u key) p ≡ true → declared_at s.declared p ≡ None) → KeyIsApart u s key
+      by None k = tt
+      by (Some token) k = k (place u token) (has_itself (place u token) [])
+
+-- units
+
+abbrev fresh_among : List Source → List Place
+fresh_among [] = []
+fresh_among (it ∷ sources) = fresh_places it.spelling (tape_of it.items) ++ fresh_among sources
+
+sources_kept : (sources : List Source) (keys fresh : List Place) (s : Names) → Kept keys fresh s.declared [] →
+    AreDifferent (keys ++ keys_among sources) →
+    Kept (keys ++ keys_among sources) (fresh ++ fresh_among sources)
+    (tapes_named (map tape_of_source sources) s).declared []
+sources_kept [] keys fresh s h d =
+    subst (λ (xs : List Place). Kept xs (fresh ++ []) s.declared []) (sym (append-nil keys))
+    (subst (λ (xs : List Place). Kept keys xs s.declared []) (sym (append-nil fresh)) h)
+sources_kept (it ∷ sources) keys fresh s h d =
+    subst (λ (xs : List Place). Kept xs (fresh ++ (fresh_places u (tape_of it.items) ++ fresh_among sources))
+    (tapes_named (map tape_of_source sources) next).declared [])
+    (append_assoc keys (key_places u (tape_of it.items)) (keys_among sources))
+    (subst (λ (xs : List Place). Kept ((keys ++ key_places u (tape_of it.items)) ++ keys_among sources) xs
+    (tapes_named (map tape_of_source sources) next).declared [])
+    (append_assoc fresh (fresh_places u (tape_of it.items)) (fresh_among sources))
+    (sources_kept sources (keys ++ key_places u (tape_of it.items)) (fresh ++ fresh_places u (tape_of it.items)) next
+    (tape_kept u (tape_of it.items) keys fresh (keys_among sources) (with_names (unit_begun s)) h d)
+    (subst AreDifferent (sym (append_assoc keys (key_places u (tape_of it.items)) (keys_among sources))) d)))
+  where
+    u : Spelling
+    u = it.spelling
+
+    next : Names
+    next = (run u (tape_of it.items) (with_names (unit_begun s))).names
+
+nothing_kept : Kept [] [] [] []
+nothing_kept = record {
+  differ = tt;
+  covered = λ p e. refl;
+  apart = tt;
+  new = λ p e. refl;
+  known = λ p e. refl;
+  within = λ p e. refl;
+  fresh_declared = λ p e. refl;
+  fresh_open = λ p e. refl;
+}
+
+all_apart : (s : Names) (sources : List Source) →
+    ((p : Place) → has_place (fresh_among sources) p ≡ true → declared_at s.declared p ≡ None) → AllApart s sources
+all_apart s [] h = tt
+all_apart s (it ∷ sources) h = (
+  apart_along it.spelling s (tape_of it.items)
+      (λ p e. h p (has_left (fresh_places it.spelling (tape_of it.items)) (fresh_among sources) p e)),
+  all_apart s sources
+      (λ p e. h p (has_right (fresh_places it.spelling (tape_of it.items)) (fresh_among sources) p e)),
+)
+
+-- behind all units
+module _ (sources : List Source) (s : Names) (differ : AreDifferent (keys_among sources))
+    (named : tapes_named (map tape_of_source sources) no_names ≡ s) where
+  whole : Kept (keys_among sources) (fresh_among sources) s.declared []
+  whole =
+      subst (λ (it : Names). Kept (keys_among sources) (fresh_among sources) it.declared []) named
+      (sources_kept sources [] [] no_names nothing_kept differ)
+
+  pub declared_differ : Differ s.declared
+  declared_differ = whole.differ
+
+  pub names_apart : AllApart s sources
+  names_apart = all_apart s sources whole.fresh_declared
