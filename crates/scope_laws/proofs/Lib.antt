@@ -1,3 +1,4 @@
 mod Apart
 mod Growing
+mod Marks
 mod Places
