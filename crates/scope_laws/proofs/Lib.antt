@@ -1,4 +1,6 @@
 mod Apart
+mod Fitting
 mod Growing
 mod Marks
+mod Meanings
 mod Places
