@@ -1,4 +1,5 @@
 mod Apart
+mod Changes
 mod Fitting
 mod Growing
 mod Marks
