@@ -3,19 +3,20 @@ use Rattle.std.proofs.Common.{◌≡◌, ◌⊎◌, inl, inr, ℕ, Bool, true, f
 use Rattle.std.specs.Prelude.{◌||◌, if◌then◌else◌}
 use Rattle.c_words.specs.declared.kinds.Keyword.{Keyword}
 use Rattle.c_words.specs.declared.kinds.Keyword.TheVariants as keywords
+use Rattle.tape_ops.specs.declared.specifier.TagKind.{TagKind}
 use Rattle.type_table.specs.Types.{CType, base}
 use Rattle.tape_laws.specs.Marks.{Mark}
-use Rattle.name_rules.specs.Spellings.{Place}
-use Rattle.name_rules.specs.Scopes.{Meaning, means_type, means_thing, Scope, Role, typedef_role, object_role, function_role, enumerator_role, Declared, declared_at, Names, NameUse, is_place, thing_named, innermost, outer_scopes, inner_meaning, is_at_file, owner_at}
+use Rattle.name_rules.specs.Spellings.{Spelling, place, Named, Place}
+use Rattle.name_rules.specs.Scopes.{parameter_role, meaning, sized, body_of, has_body, tag_in, tag_through, Meaning, means_type, means_thing, Scope, Role, typedef_role, object_role, function_role, enumerator_role, Declared, declared_at, Names, NameUse, is_place, thing_named, innermost, outer_scopes, inner_meaning, is_at_file, owner_at}
 use Rattle.name_rules.specs.Pieces.{is_function}
-use Rattle.name_rules.specs.Declaring.{the_thing, or_at, linked, owner_where, declared_here, declared_thing, has_word, declared_typedef, declared_by}
+use Rattle.name_rules.specs.Declaring.{use_by, used, Numbered, found_or_new, tag_used, untagged, begun_in, tag_begun, untagged_begun, declared_some, declared_param, declared_member, unnamed_member, the_thing, or_at, linked, owner_where, declared_here, declared_thing, has_word, declared_typedef, declared_by}
 use Rattle.row_rules.specs.Sites.{has_place}
 use Rattle.meaning_laws.specs.Meanings.{Differ, MeaningIs, ThingsAre, UseIs}
 use Rattle.scope_laws.specs.Staying.{IsOfFile, IsWithin}
 use Rattle.scope_laws.proofs.Places.{place_itself}
 use Rattle.scope_laws.proofs.Growing.{Grown}
-use Rattle.scope_laws.proofs.Meanings.{at_more, at_new, differ_before, last_is_new, some_thing_is, named_is}
-use Rattle.scope_laws.proofs.Fitting.{Around, AtTop, around_top, around_with, file_at_top, top_within, inside_at_top, Keeps}
+use Rattle.scope_laws.proofs.Meanings.{through_is, at_more, at_new, differ_before, last_is_new, some_thing_is, named_is}
+use Rattle.scope_laws.proofs.Fitting.{around_within, NameIn, Around, AtTop, around_top, around_with, file_at_top, top_within, inside_at_top, Keeps}
 
 -- of each one of a list
 abbrev pub Every : {A : Type 0} → (A → Type 0) → List A → Type 0
@@ -259,3 +260,86 @@ module _ (S : Names) (differ : Differ S.declared) (keys : List Place) where
             here_goes at name object_role t (own_of words) key
             (λ is. inside_at_top N P m s.scopes at h.around
             (not_left (is_at_file s) (is_function t || has_word keywords.Extern words) e) (inl key))
+
+    pub param_goes : (u : Spelling) (it : Option Named) (i : ℕ) (own : Option Place) (t : CType) → NameIn u keys it →
+        ((q : Place) → P q → AtTop N P m q) → Goes m s (declared_param u it i own t s)
+    param_goes u None i own t key inside = (h, adds_none)
+    param_goes u (Some it) i own t key inside =
+        here_goes (place u it.token) (u.key it.name) (parameter_role i) t own key (λ e. inside _ (inl key))
+
+    pub member_goes : (u : Spelling) (it : Option Named) (n : ℕ) (t : CType) → NameIn u keys it →
+        Goes m s (declared_member u it n t s)
+    member_goes u None n t key = (h, adds_none)
+    member_goes u (Some it) n t key =
+        (record { around = h.around; keeps = h.keeps; things = h.things; round = h.round }, adds_one _ (key, inl key))
+
+    pub unnamed_goes : (at : Place) (n : ℕ) (t : CType) → has_place keys at ≡ true → Goes m s (unnamed_member at n t s)
+    unnamed_goes at n t key =
+        (record { around = h.around; keeps = h.keeps; things = h.things; round = h.round }, adds_one _ (key, inl key))
+
+    -- uses
+
+    use_is : (found : Option Meaning) (c : Bool) → ((it : Meaning) → found ≡ Some it → MeaningIs P it) →
+        UseIs P (use_by found c)
+    use_is None true is = tt
+    use_is None false is = tt
+    use_is (Some (means_thing at)) c is = is (means_thing at) refl
+    use_is (Some (means_type t)) c is = tt
+
+    pub use_goes : (u : Spelling) (c : Bool) (token name : ℕ) → has_place keys (place u token) ≡ true →
+        Goes m s (used u c token name s)
+    use_goes u c token name key = (
+      h,
+      adds_use (record { at = place u token; use_of = use_by (meaning s (u.key name)) c }) (key,
+          use_is (meaning s (u.key name)) c
+          (λ it e. through_is P s.scopes s.round (u.key name) it (around_within N P m s.scopes file_within h.around)
+          (things_within s.round h.round) e)),
+    )
+      where
+        things_within : (things : List (ℕ × Place)) → ThingsAre N things → ThingsAre P things
+        things_within [] k = tt
+        things_within (it ∷ things) k = (file_within it.1 k.0, things_within things k.1)
+
+    -- tags
+
+    tag_goes : (found : Option ℕ) (u : Spelling) (kind : TagKind) (token tag : ℕ) →
+        Goes m s (found_or_new found u kind token tag s).names
+    tag_goes (Some n) u kind token tag = (h, adds_none)
+    tag_goes None u kind token tag = (
+      record {
+        around = around_with N P m s.scopes _ h.around (around_top N P m s.scopes h.around);
+        keeps = h.keeps;
+        things = h.things;
+        round = h.round;
+      },
+      adds_none,
+    )
+
+    pub tag_used_goes : (u : Spelling) (alone : Bool) (kind : TagKind) (token tag : ℕ) →
+        Goes m s (tag_used u alone kind token tag s).names
+    tag_used_goes u alone kind token tag =
+        tag_goes (if alone then tag_in (innermost s.scopes).tags kind (u.key tag) else tag_through s.scopes kind (u.key tag))
+        u kind token tag
+
+    begun_goes : (b : Bool) (at : Place) (kind : TagKind) (it : Numbered) → Goes m s it.names →
+        Goes m s (begun_in b at kind it).names
+    begun_goes true at kind it k = k
+    begun_goes false at kind it k = k
+
+    pub tag_begun_goes : (u : Spelling) (kind : TagKind) (token tag : ℕ) → Goes m s (tag_begun u kind token tag s).names
+    tag_begun_goes u kind token tag =
+        begun_goes (has_body (body_of (tag_used u true kind token tag s).names.aggregates
+        (tag_used u true kind token tag s).number)) (place u token) kind (tag_used u true kind token tag s)
+        (tag_used_goes u true kind token tag)
+
+    pub untagged_goes : (at : Place) (kind : TagKind) → Goes m s (untagged_begun at kind s).names
+    untagged_goes at kind =
+        begun_goes (has_body (body_of (untagged at kind s).names.aggregates (untagged at kind s).number)) at kind
+        (untagged at kind s) (h, adds_none)
+
+  pub some_goes : (m : List Mark) (s : Names) → Fits m s → (u : Spelling) (it : Option Named) (words : List Keyword)
+      (t : CType) → NameIn u keys it → Grown (declared_some u it words t s).declared S.declared →
+      Goes m s (declared_some u it words t s)
+  some_goes m s h u None words t key g = (h, adds_none)
+  some_goes m s h u (Some it) words t key g =
+      by_goes m (sized (place u it.token) t s) h words (place u it.token) (u.key it.name) t key g
