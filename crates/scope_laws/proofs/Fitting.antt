@@ -260,3 +260,10 @@ module _ (u : Spelling) (keys : List Place) where
       Reading (in_declaration name2 last2 own2 ∷ m) (names (with_innermost y xs)) ds
   reading_with name last name2 last2 own own2 m [] y ds h a b c = absurd h
   reading_with name last name2 last2 own own2 m (x ∷ xs) y ds h a b c = (a, b, c, h.3)
+
+  -- whether own parameters are behind it says nothing of names
+  pub reading_own : (name last : Option ℕ) (own own2 : Bool) (m : List Mark) (xs : List (Option Named))
+      (ds : List Declared) → Reading (in_declaration name last own ∷ m) xs ds →
+      Reading (in_declaration name last own2 ∷ m) xs ds
+  reading_own name last own own2 m [] ds h = absurd h
+  reading_own name last own own2 m (x ∷ xs) ds h = h

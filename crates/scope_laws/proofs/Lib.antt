@@ -5,3 +5,4 @@ mod Growing
 mod Marks
 mod Meanings
 mod Places
+mod Steps
