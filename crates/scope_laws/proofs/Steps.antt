@@ -17,13 +17,13 @@ use Rattle.tape_ops.specs.declared.declarator.DeclrOp.TheVariants as declrs
 use Rattle.tape_ops.specs.declared.statement.StmtOp.{StmtOp}
 use Rattle.tape_ops.specs.declared.statement.StmtOp.TheVariants as stmts
 use Rattle.type_table.specs.Types.{CType, base}
-use Rattle.tape_laws.specs.Marks.{Mark, in_declaration, in_params, in_tag, in_scope, in_quiet, in_body, turn, form_turn, spec_turn, declr_turn, stmt_turn}
+use Rattle.tape_laws.specs.Marks.{named, params_begun, Mark, in_declaration, in_params, in_tag, in_scope, in_quiet, in_body, turn, form_turn, spec_turn, declr_turn, stmt_turn}
 use Rattle.name_rules.specs.Spellings.{Spelling, Place, place, Named}
 use Rattle.name_rules.specs.Scopes.{enumerator_role, object_role, Declared, Names, is_at_file, innermost, sized}
 use Rattle.name_rules.specs.Pieces.{is_function, decayed}
-use Rattle.name_rules.specs.Declaring.{tag_used, tag_begun, untagged_begun, unnamed_member, own_where, keep, declared_here, declared_thing, declared_typedef, declared_some, has_word}
+use Rattle.name_rules.specs.Declaring.{declared_param, tag_used, tag_begun, untagged_begun, unnamed_member, own_where, keep, declared_here, declared_thing, declared_typedef, declared_some, has_word}
 use Rattle.name_steps.specs.State.{OpenDeclaration, State, with_innermost, without_innermost, innermost_or, no_declaration, no_parameters}
-use Rattle.name_steps.specs.Steps.{declaration, body, parameters, linked_some, expression_step, specifier_step, declarator_step, body_entered_by, statement_step, step}
+use Rattle.name_steps.specs.Steps.{with_declared, declaration, body, parameters, linked_some, expression_step, specifier_step, declarator_step, body_entered_by, statement_step, step}
 use Rattle.row_rules.specs.Sites.{has_place}
 use Rattle.meaning_laws.specs.Meanings.{Differ}
 use Rattle.key_laws.specs.Keys.{op_key, spec_key, declr_key, expr_key}
@@ -227,3 +227,163 @@ module _ (S : Names) (differ : Differ S.declared) (keys : List Place) (u : Spell
     stmt_next t stmts.FunctionBody e = let it = body_begins t m n e in body_next it.0 it.1 it.2 it.3
     stmt_next t stmts.FunctionEnd e = let it = body_was m n e in body_ends it.0 it.1 it.2 it.3 it.4 it.5
     stmt_next t op e = same e
+
+    -- declarators
+
+    -- another type of what is declared
+    typed_next : (t : CType) → Some m ≡ Some n → Next n st (with_declared t st)
+    typed_next t e =
+        next_is m n st (with_declared t st) (some_is m n e)
+        ((subst (λ (xs : List (Option Named)). Reading u keys m xs st.names.declared) (sym (names_kept ds t)) h.0, h.1,
+        h.2), adds_none)
+
+    name_next : (token name : ℕ) → named token m ≡ Some n → has_place keys (place u token) ≡ true →
+        Next n st (declarator_step u st (declrs.DeclName token name))
+    name_next token name e key =
+        next_is (in_declaration (Some token) d.last d.own ∷ d.outer) n st
+        (declarator_step u st (declrs.DeclName token name)) was.1
+        ((reading_with u keys d.name d.last (Some token) d.last d.own d.own d.outer ds
+        (record (declaration st) { name = Some (record { token = token; name = name }) }) st.names.declared k.0 tt key
+        (reading_top u keys d.name d.last d.own d.outer ds st.names.declared k.0).2, k.1,
+        refit (in_declaration d.name d.last d.own ∷ d.outer) (in_declaration (Some token) d.last d.own ∷ d.outer) st.names
+        (λ a. a) (λ k. k) k.2), adds_none)
+      where
+        was : (d : Declaring m) × (n ≡ in_declaration (Some token) d.last d.own ∷ d.outer)
+        was = named_was token m n e
+
+        d : Declaring m
+        d = was.0
+
+        k : Holds (in_declaration d.name d.last d.own ∷ d.outer) st
+        k = back m (in_declaration d.name d.last d.own ∷ d.outer) st d.is h
+
+    -- the parameters of a function, where they are its own, are behind its name
+    begun_next : (t : Option ℕ) (own : Bool) → params_begun t own m ≡ Some n →
+        Next n st (declarator_step u st (declrs.ParamsBegin own))
+    begun_next t own e =
+        next_is (in_params own ∷ m) n st (declarator_step u st (declrs.ParamsBegin own)) it.is
+        ((h.0, (own_begun u own (declaration st).name st.names (λ is. named (it.name is)), h.1), record {
+          around = (tt, h.2.around);
+          keeps = h.2.keeps;
+          things = h.2.things;
+          round = h.2.round;
+        }), adds_none)
+      where
+        it : Beginning own m n
+        it = begun_was t own m n e
+
+        named : (token : ℕ) × (last : Option ℕ) × (b : Bool) × (rest : List Mark)
+            × (m ≡ in_declaration (Some token) last b ∷ rest) → (token : ℕ) × HasName (Some token) (declaration st).name
+        named (token, last, b, rest, was) =
+            (token, (reading_top u keys (Some token) last b rest ds st.names.declared
+            (back m (in_declaration (Some token) last b ∷ rest) st was h).0).0)
+
+    param_next : (name last : Option ℕ) (b own : Bool) (rest : List Mark) →
+        m ≡ in_declaration name last b ∷ (in_params own ∷ rest) → n ≡ in_params own ∷ rest →
+        Next n st (declarator_step u st declrs.Param)
+    param_next name last b own rest was is =
+        next_is (in_params own ∷ rest) n st (declarator_step u st declrs.Param) is
+        ((read_on (in_params own ∷ rest) (names (without_innermost ds)) st.names next goes.1 top.3,
+        subst (λ (ps : List (Option Place)). Owning (in_params own ∷ rest) ps)
+        (sym (owns_kept st.parameters ((parameters st).types ++ decayed (declaration st).declared ∷ []))) k.1,
+        goes.0), goes.1)
+      where
+        k : Holds (in_declaration name last b ∷ (in_params own ∷ rest)) st
+        k = back m (in_declaration name last b ∷ (in_params own ∷ rest)) st was h
+
+        top : HasName name (declaration st).name × NameIn u keys (declaration st).name × HasLast last st.names.declared
+            × Reading u keys (in_params own ∷ rest) (names (without_innermost ds)) st.names.declared
+        top = reading_top u keys name last b (in_params own ∷ rest) ds st.names.declared k.0
+
+        next : Names
+        next = declared_param u (declaration st).name (length (parameters st).types) (parameters st).own
+            (decayed (declaration st).declared) st.names
+
+        goes : Goes S differ keys (in_params own ∷ rest) st.names next
+        goes = param_goes S differ keys (in_params own ∷ rest) st.names
+            (refit (in_declaration name last b ∷ (in_params own ∷ rest)) (in_params own ∷ rest) st.names (λ a. a) (λ k. k.1)
+            k.2) u (declaration st).name (length (parameters st).types) (parameters st).own
+            (decayed (declaration st).declared) top.1 (λ q k. k)
+
+    ended : (own : Option Place) (params : Bool) (name last : Option ℕ) (flag : Bool) (outer : List Mark) →
+        OwnIs params own → Fits S differ keys (in_params params ∷ (in_declaration name last flag ∷ outer)) st.names →
+        Fits S differ keys (in_declaration name last (if params then true else flag) ∷ outer) (keep own st.names)
+    ended None true name last flag outer is k = absurd is
+    ended None false name last flag outer is k = record {
+      around = (params_left (IsOfFile S) (IsWithin S keys) false outer st.names.scopes k.around).1;
+      keeps = k.keeps;
+      things = k.things;
+      round = k.round;
+    }
+    ended (Some p) true name last flag outer is k =
+        let inner = params_left (IsOfFile S) (IsWithin S keys) true outer st.names.scopes k.around in
+        record {
+          around = inner.1;
+          keeps = (inner.0,
+              keeps_some (IsWithin S keys) outer st.names.kept (innermost st.names.scopes) k.keeps.1 inner.0);
+          things = k.things;
+          round = k.round;
+        }
+    ended (Some p) false name last flag outer is k =
+        let inner = params_left (IsOfFile S) (IsWithin S keys) false outer st.names.scopes k.around in
+        record {
+          around = inner.1;
+          keeps = keeps_some (IsWithin S keys) (in_declaration name last flag ∷ outer) st.names.kept
+              (innermost st.names.scopes) k.keeps inner.0;
+          things = k.things;
+          round = k.round;
+        }
+
+    keep_adds : (own : Option Place) → AddsTo S differ keys st.names (keep own st.names)
+    keep_adds None = adds_none
+    keep_adds (Some p) = adds_none
+
+    ended_next : Ending m n → Next n st (declarator_step u st declrs.ParamsEnd)
+    ended_next it =
+        next_is (in_declaration it.name it.last (if it.params then true else it.own) ∷ it.outer) n st
+        (declarator_step u st declrs.ParamsEnd) it.is
+        ((reading_own u keys it.name it.last it.own (if it.params then true else it.own) it.outer (names ds)
+        (keep (parameters st).own st.names).declared
+        (subst (λ (all : List Declared). Reading u keys (in_declaration it.name it.last it.own ∷ it.outer) (names ds) all)
+        (sym (keep_same (parameters st).own st.names)) k.0),
+        own.1, ended (parameters st).own it.params it.name it.last it.own it.outer own.0 k.2),
+        keep_adds (parameters st).own)
+      where
+        k : Holds (in_params it.params ∷ (in_declaration it.name it.last it.own ∷ it.outer)) st
+        k = back m (in_params it.params ∷ (in_declaration it.name it.last it.own ∷ it.outer)) st it.was h
+
+        own : OwnIs it.params (parameters st).own × Owning it.outer (owns (without_innermost st.parameters))
+        own = owning_top it.params (in_declaration it.name it.last it.own ∷ it.outer) st.parameters k.1
+
+    -- the innermost declaration
+    module _ (d : Declaring m) where
+      abbrev here : List Mark
+      here = in_declaration d.name d.last d.own ∷ d.outer
+
+      at_here : Holds here st
+      at_here = back m here st d.is h
+
+      top : HasName d.name (declaration st).name × NameIn u keys (declaration st).name × HasLast d.last st.names.declared
+          × Reading u keys d.outer (names (without_innermost ds)) st.names.declared
+      top = reading_top u keys d.name d.last d.own d.outer ds st.names.declared at_here.0
+
+      -- it has no name any more
+      unnamed : OpenDeclaration
+      unnamed = record (declaration st) { name = None; declared = (declaration st).type }
+
+      declared_next : n ≡ in_declaration None d.name d.own ∷ d.outer →
+          Grown (declarator_step u st declrs.Declare).names.declared S.declared →
+          Next n st (declarator_step u st declrs.Declare)
+      declared_next is g =
+          next_is (in_declaration None d.name d.own ∷ d.outer) n st (declarator_step u st declrs.Declare) is
+          ((reading_with u keys d.name d.last None d.name d.own d.own d.outer ds _ next.declared
+          (read_on here (names ds) st.names next goes.1 at_here.0) tt tt
+          (last_declared u d.name (declaration st).name (declaration st).storage (declaration st).declared st.names top.0),
+          at_here.1, refit here (in_declaration None d.name d.own ∷ d.outer) next (λ a. a) (λ k. k) goes.0), goes.1)
+        where
+          next : Names
+          next = declared_some u (declaration st).name (declaration st).storage (declaration st).declared st.names
+
+          goes : Goes S differ keys here st.names next
+          goes = some_goes S differ keys here st.names at_here.2 u (declaration st).name (declaration st).storage
+              (declaration st).declared top.1 g
