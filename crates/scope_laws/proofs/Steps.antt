@@ -17,22 +17,23 @@ use Rattle.tape_ops.specs.declared.declarator.DeclrOp.TheVariants as declrs
 use Rattle.tape_ops.specs.declared.statement.StmtOp.{StmtOp}
 use Rattle.tape_ops.specs.declared.statement.StmtOp.TheVariants as stmts
 use Rattle.type_table.specs.Types.{CType, base}
-use Rattle.tape_laws.specs.Marks.{named, params_begun, Mark, in_declaration, in_params, in_tag, in_scope, in_quiet, in_body, turn, form_turn, spec_turn, declr_turn, stmt_turn}
+use Rattle.tape_laws.specs.Marks.{IsBracketed, named, params_begun, Mark, in_declaration, in_params, in_tag, in_scope, in_quiet, in_body, turn, form_turn, spec_turn, declr_turn, stmt_turn}
 use Rattle.name_rules.specs.Spellings.{Spelling, Place, place, Named}
 use Rattle.name_rules.specs.Scopes.{enumerator_role, object_role, Declared, Names, is_at_file, innermost, sized}
-use Rattle.name_rules.specs.Pieces.{is_function, decayed}
-use Rattle.name_rules.specs.Declaring.{declared_param, tag_used, tag_begun, untagged_begun, unnamed_member, own_where, keep, declared_here, declared_thing, declared_typedef, declared_some, has_word}
-use Rattle.name_steps.specs.State.{OpenDeclaration, State, with_innermost, without_innermost, innermost_or, no_declaration, no_parameters}
-use Rattle.name_steps.specs.Steps.{with_declared, declaration, body, parameters, linked_some, expression_step, specifier_step, declarator_step, body_entered_by, statement_step, step}
+use Rattle.name_rules.specs.Pieces.{piece_of, to_pointer, to_function, is_function, decayed}
+use Rattle.name_rules.specs.Declaring.{used, declared_member, declared_param, tag_used, tag_begun, untagged_begun, unnamed_member, own_where, keep, declared_here, declared_thing, declared_typedef, declared_some, has_word}
+use Rattle.name_steps.specs.State.{types_in, OpenDeclaration, State, without_innermost, innermost_or}
+use Rattle.name_steps.specs.Steps.{let_go, ellipsis_where, run, with_declared, declaration, body, parameters, linked_some, expression_step, specifier_step, declarator_step, body_entered_by, statement_step, step}
 use Rattle.row_rules.specs.Sites.{has_place}
 use Rattle.meaning_laws.specs.Meanings.{Differ}
-use Rattle.key_laws.specs.Keys.{op_key, spec_key, declr_key, expr_key}
+use Rattle.key_laws.specs.Keys.{key_place, key_places, op_key, spec_key, declr_key, expr_key}
 use Rattle.scope_laws.specs.Staying.{IsOfFile, IsWithin}
+use Rattle.scope_laws.proofs.Places.{has_itself, has_left, has_right}
 use Rattle.scope_laws.proofs.Apart.{names, names_kept}
-use Rattle.scope_laws.proofs.Growing.{Grown, keep_same}
+use Rattle.scope_laws.proofs.Growing.{run_grown, then_grown, Grown, keep_same}
 use Rattle.scope_laws.proofs.Marks.{quiet_was, tag_was, scope_was, Declaring, declaration_was, named_was, declared_was, member_was, param_was, Beginning, begun_was, Ending, params_were, body_begins, body_was}
 use Rattle.scope_laws.proofs.Fitting.{Around, params_left, scope_left, body_left, Keeps, keeps_some, body_ends_alone, body_around, owns, owns_kept, OwnIs, Owning, owning_top, HasName, HasLast, NameIn, Reading, reading_more, reading_top, reading_with, reading_own}
-use Rattle.scope_laws.proofs.Changes.{adds_none, Fit, Fits, AddsTo, Goes, enumerator_goes, param_goes, member_goes, unnamed_goes, use_goes, tag_used_goes, tag_begun_goes, untagged_goes, some_goes}
+use Rattle.scope_laws.proofs.Changes.{adds_then, adds_none, Fits, AddsTo, Goes, enumerator_goes, param_goes, member_goes, unnamed_goes, use_goes, tag_used_goes, tag_begun_goes, untagged_goes, some_goes}
 
 last_some : (token : ℕ) (ds : List Declared) → HasLast (Some token) ds → (d : Declared) × (last_or None ds ≡ Some d)
 last_some token [] h = absurd h
@@ -367,10 +368,6 @@ module _ (S : Names) (differ : Differ S.declared) (keys : List Place) (u : Spell
           × Reading u keys d.outer (names (without_innermost ds)) st.names.declared
       top = reading_top u keys d.name d.last d.own d.outer ds st.names.declared at_here.0
 
-      -- it has no name any more
-      unnamed : OpenDeclaration
-      unnamed = record (declaration st) { name = None; declared = (declaration st).type }
-
       declared_next : n ≡ in_declaration None d.name d.own ∷ d.outer →
           Grown (declarator_step u st declrs.Declare).names.declared S.declared →
           Next n st (declarator_step u st declrs.Declare)
@@ -387,3 +384,95 @@ module _ (S : Names) (differ : Differ S.declared) (keys : List Place) (u : Spell
           goes : Goes S differ keys here st.names next
           goes = some_goes S differ keys here st.names at_here.2 u (declaration st).name (declaration st).storage
               (declaration st).declared top.1 g
+
+      member_next : n ≡ in_declaration None d.last d.own ∷ d.outer → Next n st (declarator_step u st declrs.Member)
+      member_next is =
+          next_is (in_declaration None d.last d.own ∷ d.outer) n st (declarator_step u st declrs.Member) is
+          ((reading_with u keys d.name d.last None d.last d.own d.own d.outer ds _ next.declared read tt tt
+          (reading_top u keys d.name d.last d.own d.outer ds next.declared read).2,
+          at_here.1, refit here (in_declaration None d.last d.own ∷ d.outer) next (λ a. a) (λ k. k) goes.0), goes.1)
+        where
+          next : Names
+          next = declared_member u (declaration st).name (body st).members_of (declaration st).declared st.names
+
+          goes : Goes S differ keys here st.names next
+          goes = member_goes S differ keys here st.names at_here.2 u (declaration st).name (body st).members_of
+              (declaration st).declared top.1
+
+          read : Reading u keys here (names ds) next.declared
+          read = read_on here (names ds) st.names next goes.1 at_here.0
+
+      gone_next : n ≡ d.outer → Next n st (let_go st)
+      gone_next is =
+          next_is d.outer n st (let_go st) is
+          ((top.3, at_here.1, refit here d.outer st.names (λ a. a) (λ k. k.1) at_here.2), adds_none)
+
+      type_name_next : (first : ℕ) → n ≡ d.outer → Next n st (declarator_step u st (declrs.TypeName first))
+      type_name_next first is =
+          next_is d.outer n st (declarator_step u st (declrs.TypeName first)) is
+          ((top.3, at_here.1, refit here d.outer st.names (λ a. a) (λ k. k.1) at_here.2), adds_none)
+
+    declr_next : (t : Option ℕ) (op : DeclrOp) → declr_turn t m op ≡ Some n → KeyIn (declr_key op) →
+        Grown (declarator_step u st op).names.declared S.declared → Next n st (declarator_step u st op)
+    declr_next t (declrs.DeclName token name) e key g = name_next token name e (key token refl)
+    declr_next t (declrs.ParamsBegin own) e key g = begun_next t own e
+    declr_next t declrs.Param e key g =
+        let was = param_was m n e in
+        param_next was.0.name was.0.last was.0.own was.1 was.2
+        (was.0.is ∙ ap (λ (outer : List Mark). in_declaration was.0.name was.0.last was.0.own ∷ outer) was.3) was.4
+    declr_next t declrs.ParamsEnd e key g = ended_next (params_were m n e)
+    declr_next t declrs.Pointer e key g =
+        typed_next (piece_of (to_pointer st.specifiers.words) (declaration st).declared) e
+    declr_next t declrs.Array e key g =
+        typed_next (piece_of (to_pointer st.specifiers.words) (declaration st).declared) e
+    declr_next t (declrs.Function has_ellipsis) e key g =
+        typed_next (piece_of (to_function (types_in (innermost_or [] st.finished))
+        (ellipsis_where has_ellipsis st.specifiers.words)) (declaration st).declared) e
+    declr_next t declrs.Declare e key g = let was = declared_was m n e in declared_next was.0 was.1 g
+    declr_next t declrs.Member e key g = let was = member_was m n e in member_next was.0 was.1
+    declr_next t (declrs.TypeName first) e key g =
+        let was = declaration_was m n e in type_name_next was.0 first was.1
+    declr_next t declrs.DeclarationEnd e key g = let was = declaration_was m n e in gone_next was.0 was.1
+
+    expr_next : (op : ExprOp) → Some m ≡ Some n → KeyIn (expr_key op) → Next n st (expression_step u st op)
+    expr_next (exprs.Name is_called token name) e key =
+        changed (used u is_called token name st.names) e
+        (use_goes S differ keys m st.names h.2 u is_called token name (key token refl))
+    expr_next op e key = same e
+
+    op_next : (t : Option ℕ) (op : Op) → turn t m op ≡ Some n → KeyIn (op_key op) →
+        Grown (step u st op).names.declared S.declared → Next n st (step u st op)
+    op_next t (ops.Expr op) e key g = expr_next op e key
+    op_next t (ops.Form op) e key g = form_next op e
+    op_next t (ops.Init op) e key g = same e
+    op_next t (ops.Spec op) e key g = spec_next op e key g
+    op_next t (ops.Declr op) e key g = declr_next t op e key g
+    op_next t (ops.Stmt op) e key g = stmt_next t op e
+
+  pub then_next : (m n : List Mark) (st st2 st3 : State) → Next m st st2 → Next n st2 st3 → Next n st st3
+  then_next m n st st2 st3 g h = (
+    h.0,
+    adds_then st.names.uses st2.names.uses st3.names.uses st.names.declared st2.names.declared st3.names.declared g.1 h.1,
+  )
+
+  -- along a tape
+  pub run_next : (t : Option ℕ) (tape : List Op) (m n : List Mark) (st : State) → IsBracketed t m tape n →
+      ((p : Place) → has_place (key_places u tape) p ≡ true → has_place keys p ≡ true) →
+      Grown (run u tape st).names.declared S.declared → Holds m st → Next n st (run u tape st)
+  run_next t [] m n st is inside g h = (back m n st is h, adds_none)
+  run_next t (op ∷ tape) m n st b inside g h =
+      then_next b.0 n st (step u st op) (run u tape (step u st op)) one
+      (run_next t tape b.0 n (step u st op) b.2
+      (λ p e. inside p (has_right (key_place u (op_key op)) (key_places u tape) p e)) g one.0)
+    where
+      key_in : (key : Option ℕ) → ((p : Place) → has_place (key_place u key) p ≡ true → has_place keys p ≡ true) → KeyIn key
+      key_in None k token e = absurd cc
+      key_in (Some it) k token e =
+          let same : it ≡ token = cc in
+          subst (λ (n : ℕ). has_place keys (place u n) ≡ true) same (k (place u it) (has_itself (place u it) []))
+
+      one : Next b.0 st (step u st op)
+      one = op_next m b.0 st h t op b.1
+          (key_in (op_key op) (λ p e. inside p (has_left (key_place u (op_key op)) (key_places u tape) p e)))
+          (then_grown (step u st op).names.declared (run u tape (step u st op)).names.declared S.declared
+          (run_grown u tape (step u st op)) g)
