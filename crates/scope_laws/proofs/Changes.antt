@@ -217,8 +217,7 @@ module _ (S : Names) (differ : Differ S.declared) (keys : List Place) where
     thing_goes : (at : Place) (name : ℕ) (t : CType) → has_place keys at ≡ true →
         Grown (declared_thing at name t s).declared S.declared → Goes m s (declared_thing at name t s)
     thing_goes at name t key g =
-        let around = (with_name m s name (means_thing first) h (file_at_top N P m first (file_within first) is)).around in
-        (
+        let around = (with_name m s name (means_thing first) h (file_at_top N P m first (file_within first) is)).around in (
           record { around = around; keeps = h.keeps; things = (is, h.things); round = h.round },
           adds_one d (key, inr is),
         )
@@ -290,10 +289,12 @@ module _ (S : Names) (differ : Differ S.declared) (keys : List Place) where
         Goes m s (used u c token name s)
     use_goes u c token name key = (
       h,
-      adds_use (record { at = place u token; use_of = use_by (meaning s (u.key name)) c }) (key,
-          use_is (meaning s (u.key name)) c
-          (λ it e. through_is P s.scopes s.round (u.key name) it (around_within N P m s.scopes file_within h.around)
-          (things_within s.round h.round) e)),
+      adds_use (record { at = place u token; use_of = use_by (meaning s (u.key name)) c }) (
+        key,
+        use_is (meaning s (u.key name)) c
+            (λ it e. through_is P s.scopes s.round (u.key name) it (around_within N P m s.scopes file_within h.around)
+            (things_within s.round h.round) e),
+      ),
     )
       where
         things_within : (things : List (ℕ × Place)) → ThingsAre N things → ThingsAre P things

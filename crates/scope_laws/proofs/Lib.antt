@@ -6,3 +6,4 @@ mod Marks
 mod Meanings
 mod Places
 mod Steps
+mod Whole

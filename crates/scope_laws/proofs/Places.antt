@@ -107,4 +107,3 @@ has_left xs ys p e = by (has_place (xs ++ ys) p) refl
     by : (b : Bool) → has_place (xs ++ ys) p ≡ b → b ≡ true
     by true d = refl
     by false d = let none = has_not_left xs ys p d in absurd cc
-

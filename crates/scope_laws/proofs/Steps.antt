@@ -162,9 +162,14 @@ module _ (S : Names) (differ : Differ S.declared) (keys : List Place) (u : Spell
         (unnamed_goes S differ keys m st.names h.2 (place u token) (body st).members_of (declaration st).type
         (key token refl))
     spec_next specs.SpecsEnd e key g =
-        next_is (in_declaration None None false ∷ m) n st (specifier_step u st specs.SpecsEnd) (some_is _ n e)
-        (((tt, tt, tt, h.0), h.1,
-        refit m (in_declaration None None false ∷ m) st.names (λ a. a) (λ k. (tt, k)) h.2), adds_none)
+        next_is (in_declaration None None false ∷ m) n st (specifier_step u st specs.SpecsEnd) (some_is _ n e) (
+          (
+            (tt, tt, tt, h.0),
+            h.1,
+            refit m (in_declaration None None false ∷ m) st.names (λ a. a) (λ k. (tt, k)) h.2,
+          ),
+          adds_none,
+        )
     spec_next op e key g = same e
 
     body_next : (name : Option ℕ) (token : ℕ) → m ≡ in_declaration name (Some token) true ∷ [] →
@@ -172,14 +177,20 @@ module _ (S : Names) (differ : Differ S.declared) (keys : List Place) (u : Spell
     body_next name token was is =
         next_is (in_body ∷ (in_declaration name (Some token) true ∷ [])) n st (statement_step u st stmts.FunctionBody) is
         (subst (λ (it : Option Declared). Next (in_body ∷ (in_declaration name (Some token) true ∷ [])) st
-        (record st { names = body_entered_by it st.names })) (sym some.1)
-        ((k.0, k.1, record {
-          around = body_around (IsOfFile S) (IsWithin S keys) st.names.kept name (Some token) st.names.scopes
-              k.2.keeps.0 k.2.around;
-          keeps = tt;
-          things = k.2.things;
-          round = k.2.round;
-        }), adds_none))
+        (record st { names = body_entered_by it st.names })) (sym some.1) (
+          (
+            k.0,
+            k.1,
+            record {
+              around = body_around (IsOfFile S) (IsWithin S keys) st.names.kept name (Some token) st.names.scopes
+                  k.2.keeps.0 k.2.around;
+              keeps = tt;
+              things = k.2.things;
+              round = k.2.round;
+            },
+          ),
+          adds_none,
+        ))
       where
         k : Holds (in_declaration name (Some token) true ∷ []) st
         k = back m (in_declaration name (Some token) true ∷ []) st was h
@@ -192,14 +203,20 @@ module _ (S : Names) (differ : Differ S.declared) (keys : List Place) (u : Spell
         m ≡ in_body ∷ (in_declaration name last own ∷ outer) → n ≡ in_declaration name last false ∷ outer →
         Next n st (statement_step u st stmts.FunctionEnd)
     body_ends name last own outer was is =
-        next_is (in_declaration name last false ∷ outer) n st (statement_step u st stmts.FunctionEnd) is
-        ((reading_own u keys name last own false outer (names ds) st.names.declared k.0, k.1, record {
-          around = body_left (IsOfFile S) (IsWithin S keys) (in_declaration name last own ∷ outer) st.names.scopes
-              k.2.around;
-          keeps = body_ends_alone (IsWithin S keys) name last own outer st.names.kept k.2.keeps;
-          things = k.2.things;
-          round = k.2.round;
-        }), adds_none)
+        next_is (in_declaration name last false ∷ outer) n st (statement_step u st stmts.FunctionEnd) is (
+          (
+            reading_own u keys name last own false outer (names ds) st.names.declared k.0,
+            k.1,
+            record {
+              around = body_left (IsOfFile S) (IsWithin S keys) (in_declaration name last own ∷ outer) st.names.scopes
+                  k.2.around;
+              keeps = body_ends_alone (IsWithin S keys) name last own outer st.names.kept k.2.keeps;
+              things = k.2.things;
+              round = k.2.round;
+            },
+          ),
+          adds_none,
+        )
       where
         k : Holds (in_body ∷ (in_declaration name last own ∷ outer)) st
         k = back m (in_body ∷ (in_declaration name last own ∷ outer)) st was h
@@ -210,21 +227,33 @@ module _ (S : Names) (differ : Differ S.declared) (keys : List Place) (u : Spell
         ((h.0, h.1, refit m (in_quiet ∷ m) st.names (λ a. a) (λ k. k) h.2), adds_none)
     stmt_next t stmts.Loud e = quiet_ends (quiet_was m n e)
     stmt_next t stmts.Enter e =
-        next_is (in_scope ∷ m) n st (statement_step u st stmts.Enter) (some_is (in_scope ∷ m) n e)
-        ((h.0, h.1, record {
-          around = (tt, h.2.around);
-          keeps = h.2.keeps;
-          things = h.2.things;
-          round = h.2.round;
-        }), adds_none)
+        next_is (in_scope ∷ m) n st (statement_step u st stmts.Enter) (some_is (in_scope ∷ m) n e) (
+          (
+            h.0,
+            h.1,
+            record {
+              around = (tt, h.2.around);
+              keeps = h.2.keeps;
+              things = h.2.things;
+              round = h.2.round;
+            },
+          ),
+          adds_none,
+        )
     stmt_next t stmts.Leave e =
-        let k = back m (in_scope ∷ n) st (scope_was m n e) h in
-        ((k.0, k.1, record {
-          around = scope_left (IsOfFile S) (IsWithin S keys) n st.names.scopes k.2.around;
-          keeps = k.2.keeps;
-          things = k.2.things;
-          round = k.2.round;
-        }), adds_none)
+        let k = back m (in_scope ∷ n) st (scope_was m n e) h in (
+          (
+            k.0,
+            k.1,
+            record {
+              around = scope_left (IsOfFile S) (IsWithin S keys) n st.names.scopes k.2.around;
+              keeps = k.2.keeps;
+              things = k.2.things;
+              round = k.2.round;
+            },
+          ),
+          adds_none,
+        )
     stmt_next t stmts.FunctionBody e = let it = body_begins t m n e in body_next it.0 it.1 it.2 it.3
     stmt_next t stmts.FunctionEnd e = let it = body_was m n e in body_ends it.0 it.1 it.2 it.3 it.4 it.5
     stmt_next t op e = same e
@@ -234,20 +263,30 @@ module _ (S : Names) (differ : Differ S.declared) (keys : List Place) (u : Spell
     -- another type of what is declared
     typed_next : (t : CType) → Some m ≡ Some n → Next n st (with_declared t st)
     typed_next t e =
-        next_is m n st (with_declared t st) (some_is m n e)
-        ((subst (λ (xs : List (Option Named)). Reading u keys m xs st.names.declared) (sym (names_kept ds t)) h.0, h.1,
-        h.2), adds_none)
+        next_is m n st (with_declared t st) (some_is m n e) (
+          (
+            subst (λ (xs : List (Option Named)). Reading u keys m xs st.names.declared) (sym (names_kept ds t)) h.0,
+            h.1,
+            h.2,
+          ),
+          adds_none,
+        )
 
     name_next : (token name : ℕ) → named token m ≡ Some n → has_place keys (place u token) ≡ true →
         Next n st (declarator_step u st (declrs.DeclName token name))
     name_next token name e key =
         next_is (in_declaration (Some token) d.last d.own ∷ d.outer) n st
-        (declarator_step u st (declrs.DeclName token name)) was.1
-        ((reading_with u keys d.name d.last (Some token) d.last d.own d.own d.outer ds
-        (record (declaration st) { name = Some (record { token = token; name = name }) }) st.names.declared k.0 tt key
-        (reading_top u keys d.name d.last d.own d.outer ds st.names.declared k.0).2, k.1,
-        refit (in_declaration d.name d.last d.own ∷ d.outer) (in_declaration (Some token) d.last d.own ∷ d.outer) st.names
-        (λ a. a) (λ k. k) k.2), adds_none)
+        (declarator_step u st (declrs.DeclName token name)) was.1 (
+          (
+            reading_with u keys d.name d.last (Some token) d.last d.own d.own d.outer ds
+                (record (declaration st) { name = Some (record { token = token; name = name }) }) st.names.declared k.0 tt key
+                (reading_top u keys d.name d.last d.own d.outer ds st.names.declared k.0).2,
+            k.1,
+            refit (in_declaration d.name d.last d.own ∷ d.outer) (in_declaration (Some token) d.last d.own ∷ d.outer) st.names
+                (λ a. a) (λ k. k) k.2,
+          ),
+          adds_none,
+        )
       where
         was : (d : Declaring m) × (n ≡ in_declaration (Some token) d.last d.own ∷ d.outer)
         was = named_was token m n e
@@ -262,32 +301,44 @@ module _ (S : Names) (differ : Differ S.declared) (keys : List Place) (u : Spell
     begun_next : (t : Option ℕ) (own : Bool) → params_begun t own m ≡ Some n →
         Next n st (declarator_step u st (declrs.ParamsBegin own))
     begun_next t own e =
-        next_is (in_params own ∷ m) n st (declarator_step u st (declrs.ParamsBegin own)) it.is
-        ((h.0, (own_begun u own (declaration st).name st.names (λ is. named (it.name is)), h.1), record {
-          around = (tt, h.2.around);
-          keeps = h.2.keeps;
-          things = h.2.things;
-          round = h.2.round;
-        }), adds_none)
+        next_is (in_params own ∷ m) n st (declarator_step u st (declrs.ParamsBegin own)) it.is (
+          (
+            h.0,
+            (own_begun u own (declaration st).name st.names (λ is. named (it.name is)), h.1),
+            record {
+              around = (tt, h.2.around);
+              keeps = h.2.keeps;
+              things = h.2.things;
+              round = h.2.round;
+            },
+          ),
+          adds_none,
+        )
       where
         it : Beginning own m n
         it = begun_was t own m n e
 
         named : (token : ℕ) × (last : Option ℕ) × (b : Bool) × (rest : List Mark)
             × (m ≡ in_declaration (Some token) last b ∷ rest) → (token : ℕ) × HasName (Some token) (declaration st).name
-        named (token, last, b, rest, was) =
-            (token, (reading_top u keys (Some token) last b rest ds st.names.declared
-            (back m (in_declaration (Some token) last b ∷ rest) st was h).0).0)
+        named (token, last, b, rest, was) = (
+          token,
+          (reading_top u keys (Some token) last b rest ds st.names.declared
+              (back m (in_declaration (Some token) last b ∷ rest) st was h).0).0,
+        )
 
     param_next : (name last : Option ℕ) (b own : Bool) (rest : List Mark) →
         m ≡ in_declaration name last b ∷ (in_params own ∷ rest) → n ≡ in_params own ∷ rest →
         Next n st (declarator_step u st declrs.Param)
     param_next name last b own rest was is =
-        next_is (in_params own ∷ rest) n st (declarator_step u st declrs.Param) is
-        ((read_on (in_params own ∷ rest) (names (without_innermost ds)) st.names next goes.1 top.3,
-        subst (λ (ps : List (Option Place)). Owning (in_params own ∷ rest) ps)
-        (sym (owns_kept st.parameters ((parameters st).types ++ decayed (declaration st).declared ∷ []))) k.1,
-        goes.0), goes.1)
+        next_is (in_params own ∷ rest) n st (declarator_step u st declrs.Param) is (
+          (
+            read_on (in_params own ∷ rest) (names (without_innermost ds)) st.names next goes.1 top.3,
+            subst (λ (ps : List (Option Place)). Owning (in_params own ∷ rest) ps)
+                (sym (owns_kept st.parameters ((parameters st).types ++ decayed (declaration st).declared ∷ []))) k.1,
+            goes.0,
+          ),
+          goes.1,
+        )
       where
         k : Holds (in_declaration name last b ∷ (in_params own ∷ rest)) st
         k = back m (in_declaration name last b ∷ (in_params own ∷ rest)) st was h
@@ -320,8 +371,10 @@ module _ (S : Names) (differ : Differ S.declared) (keys : List Place) (u : Spell
         let inner = params_left (IsOfFile S) (IsWithin S keys) true outer st.names.scopes k.around in
         record {
           around = inner.1;
-          keeps = (inner.0,
-              keeps_some (IsWithin S keys) outer st.names.kept (innermost st.names.scopes) k.keeps.1 inner.0);
+          keeps = (
+            inner.0,
+            keeps_some (IsWithin S keys) outer st.names.kept (innermost st.names.scopes) k.keeps.1 inner.0,
+          );
           things = k.things;
           round = k.round;
         }
@@ -342,13 +395,17 @@ module _ (S : Names) (differ : Differ S.declared) (keys : List Place) (u : Spell
     ended_next : Ending m n → Next n st (declarator_step u st declrs.ParamsEnd)
     ended_next it =
         next_is (in_declaration it.name it.last (if it.params then true else it.own) ∷ it.outer) n st
-        (declarator_step u st declrs.ParamsEnd) it.is
-        ((reading_own u keys it.name it.last it.own (if it.params then true else it.own) it.outer (names ds)
-        (keep (parameters st).own st.names).declared
-        (subst (λ (all : List Declared). Reading u keys (in_declaration it.name it.last it.own ∷ it.outer) (names ds) all)
-        (sym (keep_same (parameters st).own st.names)) k.0),
-        own.1, ended (parameters st).own it.params it.name it.last it.own it.outer own.0 k.2),
-        keep_adds (parameters st).own)
+        (declarator_step u st declrs.ParamsEnd) it.is (
+          (
+            reading_own u keys it.name it.last it.own (if it.params then true else it.own) it.outer (names ds)
+                (keep (parameters st).own st.names).declared
+                (subst (λ (all : List Declared). Reading u keys (in_declaration it.name it.last it.own ∷ it.outer) (names ds) all)
+                (sym (keep_same (parameters st).own st.names)) k.0),
+            own.1,
+            ended (parameters st).own it.params it.name it.last it.own it.outer own.0 k.2,
+          ),
+          keep_adds (parameters st).own,
+        )
       where
         k : Holds (in_params it.params ∷ (in_declaration it.name it.last it.own ∷ it.outer)) st
         k = back m (in_params it.params ∷ (in_declaration it.name it.last it.own ∷ it.outer)) st it.was h
@@ -372,11 +429,16 @@ module _ (S : Names) (differ : Differ S.declared) (keys : List Place) (u : Spell
           Grown (declarator_step u st declrs.Declare).names.declared S.declared →
           Next n st (declarator_step u st declrs.Declare)
       declared_next is g =
-          next_is (in_declaration None d.name d.own ∷ d.outer) n st (declarator_step u st declrs.Declare) is
-          ((reading_with u keys d.name d.last None d.name d.own d.own d.outer ds _ next.declared
-          (read_on here (names ds) st.names next goes.1 at_here.0) tt tt
-          (last_declared u d.name (declaration st).name (declaration st).storage (declaration st).declared st.names top.0),
-          at_here.1, refit here (in_declaration None d.name d.own ∷ d.outer) next (λ a. a) (λ k. k) goes.0), goes.1)
+          next_is (in_declaration None d.name d.own ∷ d.outer) n st (declarator_step u st declrs.Declare) is (
+            (
+              reading_with u keys d.name d.last None d.name d.own d.own d.outer ds _ next.declared
+                  (read_on here (names ds) st.names next goes.1 at_here.0) tt tt
+                  (last_declared u d.name (declaration st).name (declaration st).storage (declaration st).declared st.names top.0),
+              at_here.1,
+              refit here (in_declaration None d.name d.own ∷ d.outer) next (λ a. a) (λ k. k) goes.0,
+            ),
+            goes.1,
+          )
         where
           next : Names
           next = declared_some u (declaration st).name (declaration st).storage (declaration st).declared st.names
@@ -387,10 +449,15 @@ module _ (S : Names) (differ : Differ S.declared) (keys : List Place) (u : Spell
 
       member_next : n ≡ in_declaration None d.last d.own ∷ d.outer → Next n st (declarator_step u st declrs.Member)
       member_next is =
-          next_is (in_declaration None d.last d.own ∷ d.outer) n st (declarator_step u st declrs.Member) is
-          ((reading_with u keys d.name d.last None d.last d.own d.own d.outer ds _ next.declared read tt tt
-          (reading_top u keys d.name d.last d.own d.outer ds next.declared read).2,
-          at_here.1, refit here (in_declaration None d.last d.own ∷ d.outer) next (λ a. a) (λ k. k) goes.0), goes.1)
+          next_is (in_declaration None d.last d.own ∷ d.outer) n st (declarator_step u st declrs.Member) is (
+            (
+              reading_with u keys d.name d.last None d.last d.own d.own d.outer ds _ next.declared read tt tt
+                  (reading_top u keys d.name d.last d.own d.outer ds next.declared read).2,
+              at_here.1,
+              refit here (in_declaration None d.last d.own ∷ d.outer) next (λ a. a) (λ k. k) goes.0,
+            ),
+            goes.1,
+          )
         where
           next : Names
           next = declared_member u (declaration st).name (body st).members_of (declaration st).declared st.names
