@@ -23,11 +23,11 @@ abbrev pub Every : {A : Type 0} → (A → Type 0) → List A → Type 0
 Every Q [] = Unit {0}
 Every Q (x ∷ xs) = Q x × Every Q xs
 
-pub every_joined : {A : Type 0} (Q : A → Type 0) (xs ys : List A) → Every Q xs → Every Q ys → Every Q (xs ++ ys)
+every_joined : {A : Type 0} (Q : A → Type 0) (xs ys : List A) → Every Q xs → Every Q ys → Every Q (xs ++ ys)
 every_joined Q [] ys h k = k
 every_joined Q (x ∷ xs) ys h k = (h.0, every_joined Q xs ys h.1 k)
 
-pub every_map : {A : Type 0} (Q R : A → Type 0) (f : (x : A) → Q x → R x) (xs : List A) → Every Q xs → Every R xs
+every_map : {A : Type 0} (Q R : A → Type 0) (f : (x : A) → Q x → R x) (xs : List A) → Every Q xs → Every R xs
 every_map Q R f [] h = tt
 every_map Q R f (x ∷ xs) h = (f x h.0, every_map Q R f xs h.1)
 
@@ -55,7 +55,7 @@ module _ {U : NameUse → Type 0} {D : Declared → Type 0} where
   pub adds_none : {us : List NameUse} {ds : List Declared} → Adds U D us ds us ds
   adds_none = adds_same refl refl
 
-  pub adds_one : {us : List NameUse} {ds : List Declared} (d : Declared) → D d → Adds U D us ds us (ds ++ d ∷ [])
+  adds_one : {us : List NameUse} {ds : List Declared} (d : Declared) → D d → Adds U D us ds us (ds ++ d ∷ [])
   adds_one {us} {ds} d h = record {
     uses = [];
     uses_is = sym (append-nil us);
@@ -65,7 +65,7 @@ module _ {U : NameUse → Type 0} {D : Declared → Type 0} where
     declared_are = (h, tt);
   }
 
-  pub adds_use : {us : List NameUse} {ds : List Declared} (it : NameUse) → U it → Adds U D us ds (us ++ it ∷ []) ds
+  adds_use : {us : List NameUse} {ds : List Declared} (it : NameUse) → U it → Adds U D us ds (us ++ it ∷ []) ds
   adds_use {us} {ds} it h = record {
     uses = it ∷ [];
     uses_is = refl;
@@ -246,7 +246,7 @@ module _ (S : Names) (differ : Differ S.declared) (keys : List Place) where
         if b then declared_typedef at name t s else if c then declared_thing at name t s
         else declared_here at name object_role t (own_of words) s
 
-    pub by_goes : (words : List Keyword) (at : Place) (name : ℕ) (t : CType) → has_place keys at ≡ true →
+    by_goes : (words : List Keyword) (at : Place) (name : ℕ) (t : CType) → has_place keys at ≡ true →
         Grown (declared_by words at name t s).declared S.declared → Goes m s (declared_by words at name t s)
     by_goes words at name t key g =
         by (has_word keywords.Typedef words) (is_at_file s || (is_function t || has_word keywords.Extern words)) refl g

@@ -41,7 +41,7 @@ then_grown a b c g h = record {
 
 -- by each change
 
-pub grown_some : (u : Spelling) (it : Option Named) (words : List Keyword) (t : CType) (s : Names) →
+grown_some : (u : Spelling) (it : Option Named) (words : List Keyword) (t : CType) (s : Names) →
     Grown s.declared (declared_some u it words t s).declared
 grown_some u None words t s = same _ _ refl
 grown_some u (Some it) words t s =
@@ -126,7 +126,7 @@ module _ (u : Spelling) where
   stmt_grown st stmts.FunctionBody = same _ _ (entered_same (last_or None st.names.declared) st.names)
   stmt_grown st op = same _ _ refl
 
-  pub expr_same : (st : State) (op : ExprOp) → (expression_step u st op).names.declared ≡ st.names.declared
+  expr_same : (st : State) (op : ExprOp) → (expression_step u st op).names.declared ≡ st.names.declared
   expr_same st (exprs.Name is_called token name) = refl
   expr_same st op = refl
 

@@ -2,7 +2,7 @@
 use Rattle.std.proofs.Common.{◌≡◌, ℕ, Bool, true, false, List, [], ◌∷◌, ◌++◌, Option, None, Some, nat_eq, refl, ◌∙◌, ap, subst}
 use Rattle.std.specs.Prelude.{if◌then◌else◌}
 use Rattle.name_rules.specs.Spellings.{Place}
-use Rattle.name_rules.specs.Scopes.{Meaning, means_type, means_thing, Scope, Declared, declared_at, is_place, thing_named, meaning_in, some_thing, or_outer, meaning_through, innermost}
+use Rattle.name_rules.specs.Scopes.{Meaning, means_type, means_thing, Scope, Declared, declared_at, is_place, thing_named, meaning_in, some_thing, or_outer, meaning_through}
 use Rattle.meaning_laws.specs.Meanings.{Differ, MeaningIs, NamesAre, ScopesAre, ThingsAre}
 use Rattle.scope_laws.proofs.Places.{place_itself}
 use Rattle.scope_laws.proofs.Apart.{other_way}
@@ -111,11 +111,3 @@ module _ (P : Place → Type 0) where
   through_is (scope ∷ scopes) round name m h r e =
       either_is m (meaning_in scope.names name) (meaning_through scopes round name)
       (λ is. named_is scope.names name m h.0 is) (λ is. through_is scopes round name m h.1 r is) e
-
-  pub innermost_is : (scopes : List Scope) → ScopesAre P scopes → NamesAre P (innermost scopes).names
-  innermost_is [] h = tt
-  innermost_is (scope ∷ scopes) h = h.0
-
-  pub inner_is : (scopes : List Scope) (name : ℕ) (m : Meaning) → ScopesAre P scopes →
-      meaning_in (innermost scopes).names name ≡ Some m → MeaningIs P m
-  inner_is scopes name m h e = named_is (innermost scopes).names name m (innermost_is scopes h) e

@@ -35,17 +35,6 @@ declared_place (other ∷ ds) p d e = by (is_place other.at p) (place_is other.a
     by true is e more = let same : other ≡ d = cc in subst (λ (it : Declared). it.at ≡ p) same (is refl)
     by false is e more = more e
 
-pub has_not : (xs ys : List Place) (p : Place) → has_place xs p ≡ false → has_place ys p ≡ false →
-    has_place (xs ++ ys) p ≡ false
-has_not [] ys p e d = d
-has_not (x ∷ xs) ys p e d = by (is_place x p) e (λ h. has_not xs ys p h d)
-  where
-    by : (b : Bool) → (if b then true else has_place xs p) ≡ false →
-        (has_place xs p ≡ false → has_place (xs ++ ys) p ≡ false) →
-        (if b then true else has_place (xs ++ ys) p) ≡ false
-    by true e more = absurd cc
-    by false e more = more e
-
 pub has_not_left : (xs ys : List Place) (p : Place) → has_place (xs ++ ys) p ≡ false → has_place xs p ≡ false
 has_not_left [] ys p e = refl
 has_not_left (x ∷ xs) ys p e = by (is_place x p) e (has_not_left xs ys p)

@@ -433,7 +433,8 @@ module _ (S : Names) (differ : Differ S.declared) (keys : List Place) (u : Spell
             (
               reading_with u keys d.name d.last None d.name d.own d.own d.outer ds _ next.declared
                   (read_on here (names ds) st.names next goes.1 at_here.0) tt tt
-                  (last_declared u d.name (declaration st).name (declaration st).storage (declaration st).declared st.names top.0),
+                  (last_declared u d.name (declaration st).name (declaration st).storage (declaration st).declared
+                  st.names top.0),
               at_here.1,
               refit here (in_declaration None d.name d.own ∷ d.outer) next (λ a. a) (λ k. k) goes.0,
             ),
@@ -516,7 +517,7 @@ module _ (S : Names) (differ : Differ S.declared) (keys : List Place) (u : Spell
     op_next t (ops.Declr op) e key g = declr_next t op e key g
     op_next t (ops.Stmt op) e key g = stmt_next t op e
 
-  pub then_next : (m n : List Mark) (st st2 st3 : State) → Next m st st2 → Next n st2 st3 → Next n st st3
+  then_next : (m n : List Mark) (st st2 st3 : State) → Next m st st2 → Next n st2 st3 → Next n st st3
   then_next m n st st2 st3 g h = (
     h.0,
     adds_then st.names.uses st2.names.uses st3.names.uses st.names.declared st2.names.declared st3.names.declared g.1 h.1,
