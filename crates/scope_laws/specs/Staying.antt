@@ -1,8 +1,8 @@
 -- What names mean stays in the item: what a name in an item of a unit means is declared in that item, or is of the file.
-use Rattle.std.specs.Prelude.{◌≡◌, ◌⊎◌, ℕ, true, All, List, [], ◌∷◌, Option, None, Some}
+use Rattle.std.specs.Prelude.{◌≡◌, ◌⊎◌, true, All, List, [], ◌∷◌, None, Some}
 use Rattle.c_tree.specs.Unit.{Item}
 use Rattle.c_tape.specs.Tape.{item_tape}
-use Rattle.name_rules.specs.Spellings.{Spelling, Place, place}
+use Rattle.name_rules.specs.Spellings.{Spelling, Place}
 use Rattle.name_rules.specs.Scopes.{function_role, Declared, declared_at, means, Names}
 use Rattle.name_rules.specs.Uses.{use_at}
 use Rattle.type_rules.specs.Program.{Source, names_of}

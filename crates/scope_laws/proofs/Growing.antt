@@ -1,0 +1,151 @@
+-- Each step adds declarations behind those that are there.
+use Rattle.std.proofs.Common.{◌≡◌, ℕ, Bool, true, false, List, [], ◌∷◌, ◌++◌, length, Option, None, Some, refl, sym, ◌∙◌, ap, append_assoc, append-nil}
+use Rattle.std.specs.Prelude.{◌||◌, if◌then◌else◌}
+use Rattle.std.specs.List.{last_or}
+use Rattle.c_words.specs.declared.kinds.Keyword.{Keyword}
+use Rattle.c_words.specs.declared.kinds.Keyword.TheVariants as keywords
+use Rattle.tape_ops.specs.declared.op.Op.{Op}
+use Rattle.tape_ops.specs.declared.op.Op.TheVariants as ops
+use Rattle.tape_ops.specs.declared.expression.ExprOp.{ExprOp}
+use Rattle.tape_ops.specs.declared.expression.ExprOp.TheVariants as exprs
+use Rattle.tape_ops.specs.declared.specifier.SpecOp.{SpecOp}
+use Rattle.tape_ops.specs.declared.specifier.SpecOp.TheVariants as specs
+use Rattle.tape_ops.specs.declared.specifier.TagKind.{TagKind}
+use Rattle.tape_ops.specs.declared.declarator.DeclrOp.{DeclrOp}
+use Rattle.tape_ops.specs.declared.declarator.DeclrOp.TheVariants as declrs
+use Rattle.tape_ops.specs.declared.statement.StmtOp.{StmtOp}
+use Rattle.tape_ops.specs.declared.statement.StmtOp.TheVariants as stmts
+use Rattle.type_table.specs.Types.{CType}
+use Rattle.name_rules.specs.Spellings.{Spelling, Place, place, Named}
+use Rattle.name_rules.specs.Scopes.{object_role, Declared, Names, is_at_file, innermost, tag_in, tag_through, body_of, has_body, sized}
+use Rattle.name_rules.specs.Pieces.{is_function, decayed}
+use Rattle.name_rules.specs.Declaring.{Numbered, found_or_new, tag_used, untagged, begun_in, declared_here, declared_thing, declared_typedef, declared_some, declared_param, declared_member, has_word, keep}
+use Rattle.name_rules.specs.Units.{unit_begun}
+use Rattle.name_steps.specs.State.{State, with_names}
+use Rattle.name_steps.specs.Steps.{declaration, body, parameters, expression_step, specifier_step, declarator_step, body_entered_by, statement_step, step, run}
+use Rattle.name_steps.specs.Units.{Tape, tape_named, tapes_named}
+
+-- the second ones are the first ones and others behind them
+pub record Grown (old new : List Declared) : Type 0 where
+  pub added : List Declared
+  pub is : new ≡ old ++ added
+
+pub same : (old new : List Declared) → new ≡ old → Grown old new
+same old new e = record { added = []; is = e ∙ sym (append-nil old) }
+
+pub then_grown : (a b c : List Declared) → Grown a b → Grown b c → Grown a c
+then_grown a b c g h = record {
+  added = g.added ++ h.added;
+  is = h.is ∙ (ap (λ (ds : List Declared). ds ++ h.added) g.is ∙ append_assoc a g.added h.added);
+}
+
+-- by each change
+
+grown_some : (u : Spelling) (it : Option Named) (words : List Keyword) (t : CType) (s : Names) →
+    Grown s.declared (declared_some u it words t s).declared
+grown_some u None words t s = same _ _ refl
+grown_some u (Some it) words t s =
+    by (has_word keywords.Typedef words) (is_at_file old || (is_function t || has_word keywords.Extern words))
+  where
+    old : Names
+    old = sized (place u it.token) t s
+
+    own : Option Place
+    own = if has_word keywords.Static words then None else old.enclosing
+
+    by : (b c : Bool) → Grown s.declared (if b then declared_typedef (place u it.token) (u.key it.name) t old
+        else if c then declared_thing (place u it.token) (u.key it.name) t old
+        else declared_here (place u it.token) (u.key it.name) object_role t own old).declared
+    by true c = record { added = _; is = refl }
+    by false true = record { added = _; is = refl }
+    by false false = record { added = _; is = refl }
+
+grown_param : (u : Spelling) (it : Option Named) (i : ℕ) (own : Option Place) (t : CType) (s : Names) →
+    Grown s.declared (declared_param u it i own t s).declared
+grown_param u None i own t s = same _ _ refl
+grown_param u (Some it) i own t s = record { added = _; is = refl }
+
+grown_member : (u : Spelling) (it : Option Named) (n : ℕ) (t : CType) (s : Names) →
+    Grown s.declared (declared_member u it n t s).declared
+grown_member u None n t s = same _ _ refl
+grown_member u (Some it) n t s = record { added = _; is = refl }
+
+tag_same : (found : Option ℕ) (u : Spelling) (kind : TagKind) (token tag : ℕ) (s : Names) →
+    (found_or_new found u kind token tag s).names.declared ≡ s.declared
+tag_same (Some n) u kind token tag s = refl
+tag_same None u kind token tag s = refl
+
+pub used_same : (u : Spelling) (alone : Bool) (kind : TagKind) (token tag : ℕ) (s : Names) →
+    (tag_used u alone kind token tag s).names.declared ≡ s.declared
+used_same u alone kind token tag s =
+    tag_same (if alone then tag_in (innermost s.scopes).tags kind (u.key tag) else tag_through s.scopes kind (u.key tag))
+    u kind token tag s
+
+pub begun_same : (b : Bool) (at : Place) (kind : TagKind) (it : Numbered) →
+    (begun_in b at kind it).names.declared ≡ it.names.declared
+begun_same true at kind it = refl
+begun_same false at kind it = refl
+
+pub keep_same : (own : Option Place) (s : Names) → (keep own s).declared ≡ s.declared
+keep_same None s = refl
+keep_same (Some own) s = refl
+
+pub entered_same : (d : Option Declared) (s : Names) → (body_entered_by d s).declared ≡ s.declared
+entered_same None s = refl
+entered_same (Some d) s = refl
+
+-- steps
+
+module _ (u : Spelling) where
+  spec_grown : (st : State) (op : SpecOp) → Grown st.names.declared (specifier_step u st op).names.declared
+  spec_grown st (specs.TagUse kind token name) = same _ _ (used_same u false kind token name st.names)
+  spec_grown st (specs.TagAlone kind token name) = same _ _ (used_same u true kind token name st.names)
+  spec_grown st (specs.TagBody kind token name) =
+      same _ _ (begun_same (has_body (body_of (tag_used u true kind token name st.names).names.aggregates
+      (tag_used u true kind token name st.names).number)) (place u token) kind
+      (tag_used u true kind token name st.names) ∙ used_same u true kind token name st.names)
+  spec_grown st (specs.Untagged kind token) =
+      same _ _ (begun_same (has_body (body_of (untagged (place u token) kind st.names).names.aggregates
+      (untagged (place u token) kind st.names).number)) (place u token) kind (untagged (place u token) kind st.names))
+  spec_grown st (specs.Enumerator token name) = record { added = _; is = refl }
+  spec_grown st (specs.UnnamedMember token) = record { added = _; is = refl }
+  spec_grown st op = same _ _ refl
+
+  declr_grown : (st : State) (op : DeclrOp) → Grown st.names.declared (declarator_step u st op).names.declared
+  declr_grown st declrs.Param =
+      grown_param u (declaration st).name (length (parameters st).types) (parameters st).own
+      (decayed (declaration st).declared) st.names
+  declr_grown st declrs.ParamsEnd = same _ _ (keep_same (parameters st).own st.names)
+  declr_grown st declrs.Declare =
+      grown_some u (declaration st).name (declaration st).storage (declaration st).declared st.names
+  declr_grown st declrs.Member =
+      grown_member u (declaration st).name (body st).members_of (declaration st).declared st.names
+  declr_grown st op = same _ _ refl
+
+  stmt_grown : (st : State) (op : StmtOp) → Grown st.names.declared (statement_step u st op).names.declared
+  stmt_grown st stmts.FunctionBody = same _ _ (entered_same (last_or None st.names.declared) st.names)
+  stmt_grown st op = same _ _ refl
+
+  expr_same : (st : State) (op : ExprOp) → (expression_step u st op).names.declared ≡ st.names.declared
+  expr_same st (exprs.Name is_called token name) = refl
+  expr_same st op = refl
+
+  step_grown : (st : State) (op : Op) → Grown st.names.declared (step u st op).names.declared
+  step_grown st (ops.Expr op) = same _ _ (expr_same st op)
+  step_grown st (ops.Spec op) = spec_grown st op
+  step_grown st (ops.Declr op) = declr_grown st op
+  step_grown st (ops.Stmt op) = stmt_grown st op
+  step_grown st op = same _ _ refl
+
+  pub run_grown : (tape : List Op) (st : State) → Grown st.names.declared (run u tape st).names.declared
+  run_grown [] st = same _ _ refl
+  run_grown (op ∷ tape) st =
+      then_grown st.names.declared (step u st op).names.declared (run u tape (step u st op)).names.declared
+      (step_grown st op) (run_grown tape (step u st op))
+
+pub tapes_grown : (tapes : List Tape) (s : Names) → Grown s.declared (tapes_named tapes s).declared
+tapes_grown [] s = same _ _ refl
+tapes_grown (it ∷ tapes) s =
+    then_grown s.declared (tape_named it (unit_begun s)).declared
+    (tapes_named tapes (tape_named it (unit_begun s))).declared
+    (run_grown it.spelling it.ops (with_names (unit_begun s))) (tapes_grown tapes (tape_named it (unit_begun s)))

@@ -1,0 +1,9 @@
+mod Apart
+mod Changes
+mod Fitting
+mod Growing
+mod Marks
+mod Meanings
+mod Places
+mod Steps
+mod Whole
