@@ -4,6 +4,7 @@ ghost use Rattle.std.specs.Prelude.{◌≡◌, ◌++◌, ◌∷◌, [], IfOk};
 ghost use Rattle.type_table.specs.Rows.{type_of};
 ghost use Rattle.name_rules.specs.Scopes as rules;
 ghost use Rattle.row_rules.specs.Sites as sites;
+ghost use Rattle.row_rules.specs.Starting.{is_function_role};
 ghost use Rattle.unit_names.specs.Shown.{declared_of, role_of};
 ghost use Rattle.unit_shapes.specs.Views.{names_in};
 
@@ -24,7 +25,7 @@ fn is_place(one: &Place, other: &Place) -> bool
 
 /// Whether a declaration is of a function.
 fn is_function(role: Role) -> bool
-    ensures { result ≡ sites.is_function_role (role_of role) }
+    ensures { result ≡ is_function_role (role_of role) }
 {
     match role {
         Role::Function => true,
