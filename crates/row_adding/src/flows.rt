@@ -18,7 +18,7 @@ use qual_base::{SiteId, SkelId, Span, VarId};
 use qual_types::VarTable;
 use row_world::{Known, is_empty};
 
-/// An expression's value flows into a skeleton: nothing where it is a zero, or where either is void or is none. Linear in the list.
+/// An expression's value flows into a skeleton: nothing where it is a zero, or where either is void or none. Linear in the list.
 pub fn flowing(
     vars: &VarTable,
     graph: &mut FlowGraph,

@@ -59,8 +59,8 @@ fn flow_between(
     add(graph, known.all_lattices(), span, Link::Le(from, to))
 }
 
-/// What is taken from a list of further arguments has what stands for all of them: nothing where either is none. Linear in the list
-/// of flows.
+/// What stands for all further arguments flows into what is taken from a list of them, where both have a skeleton. Linear in that
+/// skeleton.
 pub fn taken(
     known: &Known,
     graph: &mut FlowGraph,

@@ -24,7 +24,7 @@ use unit_shapes::{FoundNames, ImplicitTypes};
 use unit_spelling::Spelling;
 
 /// Whether a declaration is of a function.
-fn is_function(role: Role) -> bool
+pub fn is_function(role: Role) -> bool
     ensures { result ≡ rules.is_function_role (role_of role) }
 {
     match role {
@@ -49,8 +49,8 @@ fn is_some_function(names: &FoundNames, types: &TypeTable, at: &Place) -> bool
     }
 }
 
-/// The function that a declared name belongs to: what was first declared as a function to that, other names to the function around
-/// them, and what is nobody's to none. Constant time.
+/// The function that a declared name belongs to: what was first declared as a function to that, other names to the function
+/// around them, and what is nobody's to none. Constant time.
 fn owner_there(
     names: &FoundNames,
     types: &TypeTable,

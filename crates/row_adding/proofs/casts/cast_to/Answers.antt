@@ -13,7 +13,8 @@ returns-clause-err c =
     let operand = skel k c.args.operand in
     let own = skel k c.args.own in
     IfErr-weaker c.flow_uncut.result
-    (λ fault. Halts k c.annotate.new.graph c.flow_uncut.new.graph fault (λ w. cast_row w ty c.args.is_zero operand own c.args.span.now)) _
+    (λ fault. Halts k c.annotate.new.graph c.flow_uncut.new.graph fault
+    (λ w. cast_row w ty c.args.is_zero operand own c.args.span.now)) _
     (λ fault stop w s. stop_back c.args.graph.now c.annotate.new.graph c.flow_uncut.new.graph fault
     (annotating w ty own) (cast_row w ty c.args.is_zero operand own c.args.span.now)
     (c.in_ok-annotate.ensures.ok w s) (stop w s)) c.flow_uncut.ensures.err

@@ -14,7 +14,9 @@ returns-clause-err c =
     let place = skel k c.args.place in
     let value = skel k c.args.value in
     IfErr-weaker c.moved.result
-    (λ fault. Halts k c.written.new.graph c.moved.new.graph fault (λ w. moved w c.args.sign c.args.is_zero (vals.contents place) value c.args.span.now)) _
+    (λ fault. Halts k c.written.new.graph c.moved.new.graph fault
+    (λ w. moved w c.args.sign c.args.is_zero (vals.contents place) value c.args.span.now)) _
     (λ fault stop w s. stop_back c.args.graph.now c.written.new.graph c.moved.new.graph fault
-    (write_bounds w (root place) c.args.span.now) (moved w c.args.sign c.args.is_zero (vals.contents place) value c.args.span.now)
+    (write_bounds w (root place) c.args.span.now)
+    (moved w c.args.sign c.args.is_zero (vals.contents place) value c.args.span.now)
     (c.in_ok-written.ensures.ok w s) (stop w s)) c.moved.ensures.err

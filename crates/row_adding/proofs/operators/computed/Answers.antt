@@ -15,7 +15,8 @@ returns-clause-err c =
     let new = c.flowing_in_all-2.new.graph in
     let own = skel k c.args.own in
     IfErr-weaker c.flowing_in_all-2.result
-    (λ fault. Halts k middle new fault (λ w. flowing c.args.last_is_zero (skel k c.args.last) own (all_lattices w) c.args.span.now)) _
+    (λ fault. Halts k middle new fault
+    (λ w. flowing c.args.last_is_zero (skel k c.args.last) own (all_lattices w) c.args.span.now)) _
     (λ fault stop w s.
     let first = flowing c.args.first_is_zero (skel k c.args.first) own (all_lattices w) c.args.span.now in
     let last = flowing c.args.last_is_zero (skel k c.args.last) own (all_lattices w) c.args.span.now in

@@ -44,6 +44,8 @@ returns c =
     let r = c.taken.result in
     let new = c.taken.new.graph in
     record {
-      ok = row_added r k old new _ _ (both c) (rows_added r k old c.annotate_some.new.graph new _ _ c.in_ok-annotate_some.ensures.ok c.taken.ensures.ok);
-      err = row_halted r k old new _ _ (both c) (rows_halted r k old c.annotate_some.new.graph new _ _ c.in_ok-annotate_some.ensures.ok c.taken.ensures.err);
+      ok = row_added r k old new _ _ (both c)
+          (rows_added r k old c.annotate_some.new.graph new _ _ c.in_ok-annotate_some.ensures.ok c.taken.ensures.ok);
+      err = row_halted r k old new _ _ (both c)
+          (rows_halted r k old c.annotate_some.new.graph new _ _ c.in_ok-annotate_some.ensures.ok c.taken.ensures.err);
     }
