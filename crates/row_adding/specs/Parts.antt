@@ -1,18 +1,19 @@
 -- Parts of rows.
-use Rattle.std.specs.Prelude.{ℕ, ◌^◌, nat_eq, Bool, ◌&&◌, ◌||◌, List, [], ◌∷◌, Option, None, Some, if◌then◌else◌}
+use Rattle.std.specs.Prelude.{ℕ, ◌^◌, nat_eq, Bool, true, ◌&&◌, ◌||◌, List, [], ◌∷◌, Option, None, Some, if◌then◌else◌}
 use Rattle.c_words.specs.declared.kinds.Punct.{Punct}
 use Rattle.qual_base.specs.declared.places.Span.{Span}
 use Rattle.lattice_core.specs.declared.Entry.{Entry}
 use Rattle.flow_graph.specs.declared.constraint.Constraint.{Constraint}
-use Rattle.flow_graph.specs.declared.constraint.Link.TheVariants.{Bound}
-use Rattle.qual_types.specs.Skel.{Skel}
-use Rattle.flow_rules.specs.Lists.{cross}
+use Rattle.flow_graph.specs.declared.constraint.Link.TheVariants.{Bound, Le}
+use Rattle.qual_types.specs.Skel.{Skel, root}
+use Rattle.flow_rules.specs.declared.arrow.Arrow.TheVariants.{Flow}
+use Rattle.flow_rules.specs.Lists.{flow, equal, cross}
 use Rattle.name_rules.specs.Spellings.{Place}
 use Rattle.name_rules.specs.Values.{is_additive}
 use Rattle.row_rules.specs.Worlds.{World, all_lattices, at, constraint, in_all, site_number, skeleton, span}
 use Rattle.type_table.specs.Types.{CType}
 use Rattle.row_rules.specs.Annotations.{uncut}
-use Rattle.row_rules.specs.Vals.{Val, is_ref, value}
+use Rattle.row_rules.specs.Vals.{Val, is_nothing, is_ref, value}
 use Rattle.row_rules.specs.Rows.{is_plus_or_minus, is_logical, flowing}
 use Rattle.row_adding.specs.declared.bounds.Attribute.{Attribute}
 use Rattle.row_adding.specs.declared.bounds.Attribute.TheVariants as attributes
@@ -44,3 +45,15 @@ into_some w (Some t) is_zero it where_ = flowing is_zero (value it) t (all_latti
 -- the operand of a cast flows in the lattices of which the type has no word
 abbrev pub cast_row : World → CType → Bool → Skel → Skel → Span → List Constraint
 cast_row w type is_zero a t where_ = if nat_eq (uncut w type) 0 then [] else flowing is_zero a t (uncut w type) where_
+
+-- the skeletons of two declarations of a name are equal, where these are two and both have one
+abbrev pub tied : World → Bool → Skel → Skel → Span → List Constraint
+tied w is_one a b where_ = if is_one || (is_nothing a || is_nothing b) then [] else in_all w where_ (equal Flow true a b)
+
+-- what is given flows into a skeleton, where that is one
+abbrev pub given : World → Skel → Skel → Span → List Constraint
+given w a b where_ = if is_nothing b then [] else in_all w where_ (flow Flow true a b)
+
+-- the variable of further arguments flows into a list of arguments, where that is one
+abbrev pub begun : World → ℕ → Skel → Span → List Constraint
+begun w e list where_ = if is_nothing list then [] else in_all w where_ (Le e (root list) ∷ [])

@@ -16,9 +16,9 @@ ghost use Rattle.row_adding.specs.Adding.{StopsEarly, Adds, Halts};
 use flow_graph::{Constraint, FlowGraph, GraphFault, Link};
 use qual_base::{SiteId, SkelId, Span, VarId};
 use qual_types::VarTable;
-use row_world::{Known, is_void};
+use row_world::{Known, is_empty};
 
-/// An expression's value flows into a skeleton: nothing where it is a zero, or where either is void. Linear in the list.
+/// An expression's value flows into a skeleton: nothing where it is a zero, or where either is void or none. Linear in the list.
 pub fn flowing(
     vars: &VarTable,
     graph: &mut FlowGraph,
@@ -33,7 +33,7 @@ pub fn flowing(
     ensures err { IfErr result (λ fault. StopsEarly graph.old graph.new fault
         (rows.flowing is_zero (skel_of vars.now from) (skel_of vars.now to) lattices span.now)) }
 {
-    if is_zero || is_void(vars, from) || is_void(vars, to) {
+    if is_zero || is_empty(vars, from) || is_empty(vars, to) {
         return Ok(());
     }
     flow_rules::flow(vars, graph, from, to, lattices, *span)

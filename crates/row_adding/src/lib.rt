@@ -26,5 +26,5 @@ pub use flows::{
 };
 pub use naming::{RowKind, annotate_name, declared, name};
 pub use operators::{assigned, chosen, computed, passed, prefixed};
-pub use others::{into_target, returned, started};
+pub use others::{into_target, returned, started, taken};
 pub use uses::used;

@@ -10,6 +10,7 @@ ghost use Rattle.row_rules.specs.Rows as rows;
 ghost use Rattle.row_world.specs.Shown.{skel, type};
 ghost use Rattle.row_adding.specs.Adding.{Adds, Halts};
 ghost use Rattle.row_adding.specs.Kinds.{kind_of, index_row};
+ghost use Rattle.row_adding.specs.Parts.{given, tied};
 
 use crate::annotating::annotate_place;
 use crate::flows::{equate_in_all, flow_in_all};
@@ -18,8 +19,8 @@ use crate::marks::word_span;
 use flow_graph::{FlowGraph, GraphFault};
 use name_records::{Declared, Role};
 use name_scopes::Place;
-use qual_base::{Numbered, SkelId, TokenId};
-use row_world::{Known, contents, parameter};
+use qual_base::{Numbered, SkelId, Span, TokenId};
+use row_world::{Known, contents, is_nothing, parameter};
 use std::alloc::Global;
 
 /// Which row the name of a declarator has: none in a type's name and in a prototype, that of a name, or that of a parameter of
@@ -53,6 +54,26 @@ pub fn annotate_name(
     annotate_place(alloc, known, graph, declared.ty, at)
 }
 
+/// The skeletons of two declarations of a name are equal, where these are two and both have one.
+fn tied(
+    known: &Known,
+    graph: &mut FlowGraph,
+    is_one: bool,
+    first: SkelId,
+    here: SkelId,
+    span: &Span,
+) -> Result<(), GraphFault>
+    ensures ok { OnOk result (Adds known.now graph.old graph.new
+        (λ w. tied w is_one (skel known.now first) (skel known.now here) span.now)) }
+    ensures err { IfErr result (λ fault. Halts known.now graph.old graph.new fault
+        (λ w. tied w is_one (skel known.now first) (skel known.now here) span.now)) }
+{
+    if is_one || is_nothing(known.vars, first) || is_nothing(known.vars, here) {
+        return Ok(());
+    }
+    equate_in_all(known, graph, first, here, span)
+}
+
 /// A further declaration is as the first.
 fn as_first(known: &Known, graph: &mut FlowGraph, declared: &Declared) -> Result<(), GraphFault>
     ensures ok { OnOk result (Adds known.now graph.old graph.new
@@ -60,12 +81,10 @@ fn as_first(known: &Known, graph: &mut FlowGraph, declared: &Declared) -> Result
     ensures err { IfErr result (λ fault. Halts known.now graph.old graph.new fault
         (λ w. rows.tied_to_first w (declared_of (type known.now) declared.now))) }
 {
-    if is_place(&declared.first, &declared.at) {
-        return Ok(());
-    }
+    let is_one = is_place(&declared.first, &declared.at);
     let first = known.skeleton(&declared.first);
     let here = known.skeleton(&declared.at);
-    equate_in_all(known, graph, first, here, &word_span(&declared.at))
+    tied(known, graph, is_one, first, here, &word_span(&declared.at))
 }
 
 /// What the index words of a declared name give.
@@ -143,6 +162,25 @@ fn some_name(
     }
 }
 
+/// What is given flows into a skeleton, where that is one.
+fn given(
+    known: &Known,
+    graph: &mut FlowGraph,
+    from: SkelId,
+    into: SkelId,
+    span: &Span,
+) -> Result<(), GraphFault>
+    ensures ok { OnOk result (Adds known.now graph.old graph.new
+        (λ w. given w (skel known.now from) (skel known.now into) span.now)) }
+    ensures err { IfErr result (λ fault. Halts known.now graph.old graph.new fault
+        (λ w. given w (skel known.now from) (skel known.now into) span.now)) }
+{
+    if is_nothing(known.vars, into) {
+        return Ok(());
+    }
+    flow_in_all(known, graph, from, into, span)
+}
+
 /// What a function is given flows into its parameter.
 fn into_param(
     known: &Known,
@@ -159,7 +197,7 @@ fn into_param(
     match param {
         Some(param) => {
             let into = contents(known.vars, known.skeleton(&declared.at));
-            flow_in_all(known, graph, *param, into, &word_span(&declared.at))
+            given(known, graph, *param, into, &word_span(&declared.at))
         }
         None => Ok(()),
     }

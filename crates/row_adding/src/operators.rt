@@ -14,7 +14,7 @@ use crate::flows::{flowing_in_all, smash_in_all};
 use c_words::Punct;
 use flow_graph::{FlowGraph, GraphFault};
 use qual_base::{SkelId, Span, VarId};
-use row_world::{Known, Operand, contents, is_additive, is_ref, is_void, value};
+use row_world::{Known, Operand, contents, is_additive, is_empty, is_ref, value};
 
 /// Whether a sign is `+=` or `-=`.
 fn is_plus_or_minus(sign: Punct) -> bool
@@ -191,7 +191,7 @@ fn passed_further(
     ensures err { IfErr result (λ fault. Halts known.now graph.old graph.new fault (λ w.
         rows.passed w is_zero (skel known.now argument) None (Some further) span.now)) }
 {
-    if is_zero || is_void(known.vars, argument) {
+    if is_zero || is_empty(known.vars, argument) {
         return Ok(());
     }
     smash_in_all(known, graph, argument, further, span)

@@ -10,12 +10,12 @@ ghost use Rattle.row_rules.specs.Vals as vals;
 ghost use Rattle.row_rules.specs.Rows as rows;
 ghost use Rattle.row_world.specs.Shown.{skel, val};
 ghost use Rattle.row_adding.specs.Adding.{Adds, Halts};
-ghost use Rattle.row_adding.specs.Parts.{into_some};
+ghost use Rattle.row_adding.specs.Parts.{begun, into_some};
 
-use crate::flows::{add, flowing_in_all};
+use crate::flows::{add, flowing_in_all, unsmash_in_all};
 use flow_graph::{FlowGraph, GraphFault, Link};
 use qual_base::{SkelId, Span, VarId};
-use row_world::{Known, Operand, further, outcome, value};
+use row_world::{Known, Operand, further, is_nothing, outcome, value};
 
 /// A returned value flows into the result of the function around it.
 pub fn returned(
@@ -59,6 +59,46 @@ fn flow_between(
     add(graph, known.all_lattices(), span, Link::Le(from, to))
 }
 
+/// What stands for all further arguments flows into what is taken from a list of them, where both have a skeleton. Linear in that
+/// skeleton.
+pub fn taken(
+    known: &Known,
+    graph: &mut FlowGraph,
+    list: SkelId,
+    to: SkelId,
+    span: &Span,
+) -> Result<(), GraphFault>
+    ensures ok { OnOk result (Adds known.now graph.old graph.new
+        (λ w. rows.taken w (skel known.now list) (skel known.now to) span.now)) }
+    ensures err { IfErr result (λ fault. Halts known.now graph.old graph.new fault
+        (λ w. rows.taken w (skel known.now list) (skel known.now to) span.now)) }
+{
+    if is_nothing(known.vars, list) || is_nothing(known.vars, to) {
+        return Ok(());
+    }
+    unsmash_in_all(known, graph, known.vars.var(list), to, span)
+}
+
+/// The variable of further arguments flows into a list of arguments, where that is one.
+fn begun(
+    known: &Known,
+    graph: &mut FlowGraph,
+    further: VarId,
+    list: SkelId,
+    span: &Span,
+) -> Result<(), GraphFault>
+    requires { IsVar further }
+    ensures ok { OnOk result (Adds known.now graph.old graph.new
+        (λ w. begun w further (skel known.now list) span.now)) }
+    ensures err { IfErr result (λ fault. Halts known.now graph.old graph.new fault
+        (λ w. begun w further (skel known.now list) span.now)) }
+{
+    if is_nothing(known.vars, list) {
+        return Ok(());
+    }
+    flow_between(known, graph, further, known.vars.var(list), span)
+}
+
 /// The further arguments of the function around it flow into a list of arguments that is begun.
 pub fn started(
     known: &Known,
@@ -74,7 +114,7 @@ pub fn started(
 {
     match own {
         Some(own) => match further(known.vars, *own) {
-            Some(from) => flow_between(known, graph, from, known.vars.var(list), span),
+            Some(further) => begun(known, graph, further, list, span),
             None => Ok(()),
         },
         None => Ok(()),

@@ -21,15 +21,14 @@ use Rattle.tape_ops.specs.declared.statement.StmtOp.TheVariants as stmts
 use Rattle.type_table.specs.Types.{Words, CType, base, void, struct, pointer, function, CTypes, no_types, more_types, words_of, words_or_none}
 use Rattle.qual_types.specs.declared.look.Kind.TheVariants as kinds
 use Rattle.qual_types.specs.Skel.{Skel, flat, ref, fun, Skels, no_skels, more_skels, root, param_at}
-use Rattle.flow_rules.specs.Lists.{unsmash}
 use Rattle.name_rules.specs.Spellings.{Place}
 use Rattle.name_rules.specs.Scopes.{Role, typedef_role, object_role, function_role, parameter_role, field_role, enumerator_role, Declared, declared_at, Use, means, called, missing, Known, Own}
 use Rattle.name_rules.specs.Uses.{use_at}
 use Rattle.shape_steps.specs.State.{declared_last, changed}
-use Rattle.row_rules.specs.Worlds.{World, at, span, in_all, skeleton}
+use Rattle.row_rules.specs.Worlds.{World, at, span, skeleton}
 use Rattle.row_rules.specs.Annotations.{Annotation, is_reference_mark, is_reference_word, words_of_level, sorted, annotations_at, some_annotations_at, inner, parameters, outcome, further, annotated, annotated_params, marked, annotation_constraints, annotating, names_lattice, all_words, uncut_from, uncut}
 use Rattle.row_rules.specs.Vals.{Val, a_place, contents, struct_of, member_of, known_skeleton, member_skel, prefix_of, used_by_role, used_some, used, own}
-use Rattle.row_rules.specs.Rows.{flowing, prefixed, passed, instance, some_instance, use_demand, annotating_some, cast_demand, annotating_name, name_row, declared_row, some_declared_row, into_param, param_row, RowKind, no_row, row_of_name, row_of_param, row_at, returned, started, own_skel, behind_known, annotating_place, by_role, by_first, initialised_at, tied_to_first}
+use Rattle.row_rules.specs.Rows.{flowing, prefixed, passed, instance, some_instance, use_demand, annotating_some, cast_demand, annotating_name, name_row, declared_row, some_declared_row, into_param, param_row, RowKind, no_row, row_of_name, row_of_param, row_at, returned, started, own_skel, behind_known, annotating_place, by_role, by_first, initialised_at, taken, tied_to_first}
 use Rattle.row_rules.specs.Indexing.{indexing}
 use Rattle.row_steps.specs.Rounds.{Naming, a_name, own_param, other_param, naming, is_quiet}
 use Rattle.row_steps.specs.State.{Operand, Braces, whole, untargeted, listed, State, put, val_at, value_at, is_zero_at, type_at, first_operand, type_of_operand, operands_below, first_braces}
@@ -395,6 +394,7 @@ module _ (w : World) (o : Option Skel) where
   item_alike (flat v (kinds.Struct m)) is_first n (Some now) = refl
   item_alike (flat v kinds.Base) is_first n now = refl
   item_alike (flat v kinds.Void) is_first n now = refl
+  item_alike (flat v kinds.Nothing) is_first n now = refl
   item_alike (fun v ps t e) is_first n now = refl
 
   target_alike : (it : Braces) → target_in (inside o w) it ≡ target_in w it
@@ -527,7 +527,7 @@ module _ (w : World) (o : Option Skel) where
   form_row_alike st (forms.StmtExpr has_value token) = refl
   form_row_alike st (forms.VaArg token last) =
       ap (λ (rows : List Constraint). rows
-      ++ in_all w (span w token last) (unsmash (root (value_at 1 st)) (own w token)))
+      ++ taken w (value_at 1 st) (own w token) (span w token last))
       (annotating_some_alike (type_at 0 st) (own w token))
   form_row_alike st (forms.VaStart token last) =
       started_alike (function_skeleton (inside o w) st.rounds.body) (value_at 1 st) (span w token last)

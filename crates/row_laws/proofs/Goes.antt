@@ -4,8 +4,7 @@ use Rattle.std.specs.Prelude.{if◌then◌else◌}
 use Rattle.std.proofs.lemmas.List.{append-nil}
 use Rattle.flow_graph.specs.declared.constraint.Constraint.{Constraint}
 use Rattle.tape_ops.specs.declared.op.Op.{Op}
-use Rattle.qual_types.specs.declared.look.Kind.TheVariants as kinds
-use Rattle.qual_types.specs.Skel.{Skel, flat}
+use Rattle.qual_types.specs.Skel.{Skel, no_skeleton}
 use Rattle.shape_steps.specs.State.{OpenDeclaration}
 use Rattle.row_rules.specs.Worlds.{World}
 use Rattle.row_steps.specs.Rounds.{Rounds, is_quiet, silenced}
@@ -164,8 +163,8 @@ nowhere = record { runs = stay }
 pub one : {k : Over} {r : Rounds} {op : Op} {f : Stacks → Stacks} (rows : List Constraint) →
     (k.asked ≡ true → (c : Stacks) (s : Skel) → op_row k.world (state r (f c) s) op ≡ unless (is_quiet r) rows)
     → ((c : Stacks) (s : Skel) → step k.world (state r (f c) s) op ≡
-    state r (stacks_of (step k.world (state r (f c) (flat 0 kinds.Base)) op)) s)
-    → Goes k r (op ∷ []) f (λ c. stacks_of (step k.world (state r (f c) (flat 0 kinds.Base)) op)) rows
+    state r (stacks_of (step k.world (state r (f c) no_skeleton) op)) s)
+    → Goes k r (op ∷ []) f (λ c. stacks_of (step k.world (state r (f c) no_skeleton) op)) rows
 one {k} {r} {op} {f} rows e d = record { runs = ending _ (op_runs rows e) d }
 
 -- one tape behind another

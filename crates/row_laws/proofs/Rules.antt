@@ -99,11 +99,13 @@ module _ (k : Over) (r : Rounds) where
   target_behind no_desigs (flat v (kinds.Struct n)) is_first next = refl
   target_behind no_desigs (flat v kinds.Base) is_first next = refl
   target_behind no_desigs (flat v kinds.Void) is_first next = refl
+  target_behind no_desigs (flat v kinds.Nothing) is_first next = refl
   target_behind no_desigs (fun v ps result e) is_first next = refl
   target_behind (more_desigs d ds) (ref v s) is_first next = refl
   target_behind (more_desigs d ds) (flat v (kinds.Struct n)) is_first next = refl
   target_behind (more_desigs d ds) (flat v kinds.Base) is_first next = refl
   target_behind (more_desigs d ds) (flat v kinds.Void) is_first next = refl
+  target_behind (more_desigs d ds) (flat v kinds.Nothing) is_first next = refl
   target_behind (more_desigs d ds) (fun v ps result e) is_first next = refl
 
   item_behind : (ds : Desigs) (t : Skel) (is_first : Bool) (next : ℕ) →

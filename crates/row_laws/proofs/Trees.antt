@@ -19,10 +19,9 @@ use Rattle.qual_types.specs.Skel.{Skel, root}
 use Rattle.row_rules.specs.Vals.{value, own}
 use Rattle.row_rules.specs.Vals as vals
 use Rattle.row_rules.specs.Annotations.{write_bounds}
-use Rattle.flow_rules.specs.Lists.{unsmash}
 use Rattle.name_rules.specs.Uses.{use_at}
-use Rattle.row_rules.specs.Worlds.{World, at, all_lattices, in_all, span}
-use Rattle.row_rules.specs.Rows.{RowKind, row_of_name, param_kind, row_at, returned, started, flowing, prefixed, dereferenced, use_demand, cast_demand, annotating_some, annotating_place}
+use Rattle.row_rules.specs.Worlds.{World, at, all_lattices, span}
+use Rattle.row_rules.specs.Rows.{RowKind, row_of_name, param_kind, row_at, returned, started, taken, flowing, prefixed, dereferenced, use_demand, cast_demand, annotating_some, annotating_place}
 use Rattle.constraint_rules.specs.Values.{val}
 use Rattle.constraint_rules.specs.Demands.{type_of_name, zero_at, where_is, list_rule, demand, some_expr_demand, exprs_demand, words_demand, word_demand, some_body_demand, struct_items_demand, struct_item_demand, mem_declrs_demand, mem_declr_demand, declr_demand, some_declr_demand, params_demand, init_demand, init_list_demand, init_items_demand, init_declrs_demand, some_init_demand, declaration_demand, decl_demand, block_items_demand, block_item_demand, stmt_demand, some_else_demand, for_start_demand}
 use Rattle.constraint_rules.specs.Demands as demands
@@ -187,12 +186,12 @@ module _ (k : Over) where
         same (join (next (expr_goes e r o n false) (type_name_goes k r ws (token_in_some d) (words_go ws r o false)
         (some_declr_goes d r o row_of_name (named_row r n) None)))
         (one (annotating_some k.world (type_of_name k.world ws) (own k.world keyword)
-        ++ in_all k.world (where_is k.world (va_arg keyword opening e separator ws d closing))
-        (unsmash (root (value (val k.world e))) (own k.world keyword))) (λ y c s. refl) (λ c s. refl)))
+        ++ taken k.world (value (val k.world e)) (own k.world keyword)
+        (where_is k.world (va_arg keyword opening e separator ws d closing))) (λ y c s. refl) (λ c s. refl)))
         (va_arg_rows (demand k.world e) (words_demand k.world ws) (some_declr_demand k.world row_of_name d)
         (annotating_some k.world (type_of_name k.world ws) (own k.world keyword)
-        ++ in_all k.world (where_is k.world (va_arg keyword opening e separator ws d closing))
-        (unsmash (root (value (val k.world e))) (own k.world keyword))))
+        ++ taken k.world (value (val k.world e)) (own k.world keyword)
+        (where_is k.world (va_arg keyword opening e separator ws d closing))))
     expr_goes (va_start keyword opening e separator e2 closing) r o n called =
         same (join (next (expr_goes e r o n false) (expr_goes e2 r o n false))
         (one (started k.world k.world.own (value (val k.world e))

@@ -9,8 +9,7 @@ use Rattle.c_tape.specs.Tape.{declr, expr_tape, words_tape, specs_with, contents
 use Rattle.tape_ops.specs.declared.declarator.DeclrOp.TheVariants as declrs
 use Rattle.name_rules.specs.Spellings.{Named}
 use Rattle.type_rules.specs.Tokens.{declared_name}
-use Rattle.qual_types.specs.declared.look.Kind.TheVariants as kinds
-use Rattle.qual_types.specs.Skel.{Skel, flat}
+use Rattle.qual_types.specs.Skel.{Skel, no_skeleton}
 use Rattle.row_rules.specs.Worlds.{World}
 use Rattle.row_rules.specs.Rows.{row_of_name, own_skeleton}
 use Rattle.type_rules.specs.Program.{Source}
@@ -98,7 +97,7 @@ module _ (w : World) (asked : Bool) (at_file : IsOwn (over w asked) file) where
 
 pub rows_are_found : RowsAreFound
 rows_are_found w items outside =
-    (items_go w true (λ y. sym outside) items).runs.found refl (stacks_of nothing) (flat 0 kinds.Base)
+    (items_go w true (λ y. sym outside) items).runs.found refl (stacks_of nothing) no_skeleton
 
 pub units_leave_nothing : UnitsLeaveNothing
 units_leave_nothing w items =
@@ -108,8 +107,8 @@ units_leave_nothing w items =
     goes = items_go w false (λ y. absurd cc) items
 
     left : run w nothing (tape_of items) ≡
-        with_literal (goes.runs.behind (stacks_of nothing) (flat 0 kinds.Base)) nothing
-    left = goes.runs.goes (stacks_of nothing) (flat 0 kinds.Base)
+        with_literal (goes.runs.behind (stacks_of nothing) no_skeleton) nothing
+    left = goes.runs.goes (stacks_of nothing) no_skeleton
 
 -- programs
 

@@ -1,8 +1,7 @@
 -- Numbers past a table, and what two words say of one thing.
 use Rattle.std.proofs.Common.{◌≡◌, ℕ, zero, suc, ◌+◌, ◌≤◌, arith, List, [], ◌∷◌, length, slice_get, unwrap_or, Option, None, option_map, refl, ◌∙◌, ap}
 use Rattle.qual_types.specs.declared.row.Row.{Row}
-use Rattle.qual_types.specs.declared.look.Kind.TheVariants as kinds
-use Rattle.qual_types.specs.Skel.{Skel, flat, ref, fun, params_of, param_at}
+use Rattle.qual_types.specs.Skel.{Skel, flat, ref, fun, no_skeleton, params_of, param_at}
 use Rattle.qual_types.specs.Rows.{Seen, nothing, all_seen, skel_of}
 use Rattle.row_rules.specs.Annotations.{parameters}
 
@@ -15,7 +14,7 @@ none_past [] n le = refl
 none_past (x ∷ xs) zero le = absurd (omega arith)
 none_past (x ∷ xs) (suc n) le = none_past xs n (omega arith)
 
-pub nowhere_is : (rows : List Row) → length rows ≤ 16777216 → skel_of rows 4294967295 ≡ flat 0 kinds.Base
+pub nowhere_is : (rows : List Row) → length rows ≤ 16777216 → skel_of rows 4294967295 ≡ no_skeleton
 nowhere_is rows few =
     let e = seen_length 0 rows in
     ap (λ (o : Option Seen). (unwrap_or o nothing).tree) (none_past (all_seen 0 rows) 4294967295 (omega arith))

@@ -1,8 +1,7 @@
 //! Skeletons by their numbers: what operators make of them. Each call takes constant time, but for what is said.
 
 ghost use Rattle.std.specs.Prelude.{◌≡◌, ℕ, option_map};
-ghost use Rattle.qual_types.specs.declared.look.Kind.TheVariants as kinds;
-ghost use Rattle.qual_types.specs.Skel.{flat, param_at};
+ghost use Rattle.qual_types.specs.Skel.{flat, no_skeleton, param_at};
 ghost use Rattle.qual_types.specs.Rows.{skel_of};
 ghost use Rattle.qual_types.specs.Table.{IsSomeVar};
 ghost use Rattle.row_rules.specs.Annotations.{parameters, further, outcome};
@@ -11,10 +10,10 @@ ghost use Rattle.row_rules.specs.Vals as vals;
 use qual_base::{Numbered, SkelId, StructId, VarId};
 use qual_types::{Kind, Look, VarTable};
 
-/// What stands for the skeleton of what has none: a base type of variable 0.
+/// What stands for the skeleton of what has none.
 #[tactic(auto, using(crate::proofs::Past::nowhere_is))]
 pub fn nowhere(vars: &VarTable) -> SkelId
-    ensures { skel_of vars.now result ≡ flat 0 kinds.Base }
+    ensures { skel_of vars.now result ≡ no_skeleton }
 {
     vars.law();
     SkelId::new(u32::MAX)
@@ -68,11 +67,26 @@ pub fn is_fun(vars: &VarTable, at: SkelId) -> bool
     }
 }
 
-/// Whether it is `void`.
-pub fn is_void(vars: &VarTable, at: SkelId) -> bool
-    ensures { result ≡ vals.is_void (skel_of vars.now at) }
+/// Whether it is none: that of what has no skeleton.
+pub fn is_nothing(vars: &VarTable, at: SkelId) -> bool
+    ensures { result ≡ vals.is_nothing (skel_of vars.now at) }
 {
     match vars.look(at) {
+        Look::Flat(_, Kind::Nothing) => true,
+        Look::Flat(_, Kind::Void) => false,
+        Look::Flat(_, Kind::Base) => false,
+        Look::Flat(_, Kind::Struct(_)) => false,
+        Look::Ref(_, _) => false,
+        Look::Fun { .. } => false,
+    }
+}
+
+/// Whether it is `void`, or none.
+pub fn is_empty(vars: &VarTable, at: SkelId) -> bool
+    ensures { result ≡ vals.is_empty (skel_of vars.now at) }
+{
+    match vars.look(at) {
+        Look::Flat(_, Kind::Nothing) => true,
         Look::Flat(_, Kind::Void) => true,
         Look::Flat(_, Kind::Base) => false,
         Look::Flat(_, Kind::Struct(_)) => false,
@@ -133,5 +147,6 @@ fn struct_in(kind: Kind) -> Option<StructId>
         Kind::Struct(of) => Some(of),
         Kind::Base => None,
         Kind::Void => None,
+        Kind::Nothing => None,
     }
 }

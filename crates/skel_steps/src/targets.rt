@@ -53,6 +53,7 @@ fn flat_target(
         Kind::Struct(number) => member_target(known, number, next, named),
         Kind::Base => first_alone(is_first, of),
         Kind::Void => first_alone(is_first, of),
+        Kind::Nothing => None,
     }
 }
 

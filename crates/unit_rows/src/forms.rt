@@ -56,7 +56,7 @@ pub(crate) fn va_arg_row(
     adding::annotate_some(alloc, known, graph, &ty, own)?;
     let list = value_at(known, stacks, 1);
     let span = known.span(token, last);
-    adding::unsmash_in_all(known, graph, known.vars.var(list), own, &span)
+    adding::taken(known, graph, list, own, &span)
 }
 
 /// `va_start`.

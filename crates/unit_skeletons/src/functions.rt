@@ -4,36 +4,23 @@ ghost use Rattle.std.specs.Prelude.{◌≡◌, ◌++◌, ◌∷◌, [], IfOk};
 ghost use Rattle.type_table.specs.Rows.{type_of};
 ghost use Rattle.name_rules.specs.Scopes as rules;
 ghost use Rattle.row_rules.specs.Sites as sites;
-ghost use Rattle.unit_names.specs.Shown.{declared_of, role_of};
+ghost use Rattle.unit_names.specs.Shown.{declared_of};
 ghost use Rattle.unit_shapes.specs.Views.{names_in};
 
 use crate::place_numbers::PlaceNumbers;
-use name_records::{Declared, Role};
+use name_records::Declared;
 use name_scopes::Place;
 use qual_base::{FuncId, NoMemory, Numbered, Owner};
 use std::alloc::Global;
 use type_table::TypeTable;
 use unit_names::Names;
+use unit_starts::is_function;
 
 /// Whether two places are one.
 fn is_place(one: &Place, other: &Place) -> bool
     ensures { result ≡ rules.is_place one.now other.now }
 {
     one.0.number() == other.0.number() && one.1.number() == other.1.number()
-}
-
-/// Whether a declaration is of a function.
-fn is_function(role: Role) -> bool
-    ensures { result ≡ sites.is_function_role (role_of role) }
-{
-    match role {
-        Role::Function => true,
-        Role::Typedef => false,
-        Role::Object => false,
-        Role::Parameter(_) => false,
-        Role::Field(_, _) => false,
-        Role::Enumerator => false,
-    }
 }
 
 /// Whether a declaration is the first of a function, or of what has a body. Constant time.

@@ -8,5 +8,6 @@ mod ops;
 mod start;
 mod starts;
 
+pub use names::is_function;
 pub use start::Start;
 pub use starts::{Starts, add_starts};

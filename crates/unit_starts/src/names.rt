@@ -13,8 +13,9 @@ ghost use Rattle.unit_spelling.specs.Spelled.{spelling_of};
 ghost use Rattle.unit_shapes.specs.Views.{names_in, AreImplicit};
 ghost use Rattle.unit_starts.specs.Views.{starts_in, around_in};
 
-use crate::start::{Around, Start};
+use crate::start::{Around, Start, function_at};
 use name_records::{Declared, Role, Use};
+use name_scopes::Place;
 use qual_base::TokenId;
 use shape_values::ValueType;
 use tape_rounds::Naming;
@@ -22,62 +23,137 @@ use type_table::TypeTable;
 use unit_shapes::{FoundNames, ImplicitTypes};
 use unit_spelling::Spelling;
 
-/// What begins at a declared name: a place of its type. Constant time.
-fn named_start(types: &TypeTable, declared: &Declared) -> Option<Start>
-    ensures { starts_in types.now result
-        ≡ rules.named_start (declared_of (type_of types.now) declared.now) }
+/// Whether a declaration is of a function.
+pub fn is_function(role: Role) -> bool
+    ensures { result ≡ rules.is_function_role (role_of role) }
 {
-    let _ = types;
-    Some(Start {
-        at: declared.at,
-        ty: declared.ty,
-        outer: true,
-        owner: declared.owner,
-        calls: None,
-    })
-}
-
-/// What begins at a declaration. Constant time.
-fn declared_start(types: &TypeTable, declared: &Declared) -> Option<Start>
-    ensures { starts_in types.now result
-        ≡ rules.declared_start (declared_of (type_of types.now) declared.now)
-        (role_of declared.now.role) }
-{
-    match declared.role {
-        Role::Typedef => None,
-        Role::Object => named_start(types, declared),
-        Role::Function => named_start(types, declared),
-        Role::Parameter(_) => named_start(types, declared),
-        Role::Field(_, _) => named_start(types, declared),
-        Role::Enumerator => None,
+    match role {
+        Role::Function => true,
+        Role::Typedef => false,
+        Role::Object => false,
+        Role::Parameter(_) => false,
+        Role::Field(_, _) => false,
+        Role::Enumerator => false,
     }
 }
 
-/// What begins at the name at a token, where it is declared. Constant time.
-pub(crate) fn name_start(
-    spelling: &Spelling,
+/// Whether what is declared at a place is a function. Constant time.
+fn is_some_function(names: &FoundNames, types: &TypeTable, at: &Place) -> bool
+    ensures { result ≡ rules.is_some_function
+        (declared_at (names_in types.now names.now).declared at.now) }
+{
+    let _ = types;
+    match names.declared_at(at) {
+        Some(declared) => is_function(declared.role),
+        None => false,
+    }
+}
+
+/// The function that a declared name belongs to: what was first declared as a function to that, other names to the function
+/// around them, and what is nobody's to none. Constant time.
+fn owner_there(
     names: &FoundNames,
     types: &TypeTable,
-    token: TokenId,
-) -> Option<Start>
-    ensures { starts_in types.now result
-        ≡ rules.some_declared_start (declared_at (names_in types.now names.now).declared
-        (place (spelling_of spelling.now) token)) }
+    function: &Option<Place>,
+    declared: &Declared,
+) -> Option<Place>
+    ensures { result ≡ rules.owner_there (names_in types.now names.now) function.now
+        (declared_of (type_of types.now) declared.now) }
 {
-    match names.declared_at(&spelling.place(token)) {
-        Some(declared) => declared_start(types, &declared),
+    match declared.owner {
+        Some(_) => {
+            if is_some_function(names, types, &declared.first) {
+                Some(declared.first)
+            } else {
+                *function
+            }
+        }
         None => None,
     }
 }
 
-/// Whether names have skeletons: those of the parameters of functions without a body have none.
-pub(crate) fn has_skeleton(naming: Naming) -> bool
-    ensures { rules.having result ≡ naming_has (naming_of naming) }
+/// What begins at a declared name, by the function around it: a place of its type. Constant time.
+fn named_start(
+    names: &FoundNames,
+    types: &TypeTable,
+    function: &Option<Place>,
+    declared: &Declared,
+) -> Option<Start>
+    ensures { starts_in types.now result
+        ≡ rules.named_start (names_in types.now names.now) function.now
+        (declared_of (type_of types.now) declared.now) }
+{
+    Some(Start {
+        at: declared.at,
+        ty: declared.ty,
+        outer: true,
+        owner: owner_there(names, types, function, declared),
+        calls: None,
+    })
+}
+
+/// What begins at a declaration, by the function around it. Constant time.
+fn declared_start(
+    names: &FoundNames,
+    types: &TypeTable,
+    function: &Option<Place>,
+    declared: &Declared,
+) -> Option<Start>
+    ensures { starts_in types.now result
+        ≡ rules.declared_start (names_in types.now names.now) function.now
+        (declared_of (type_of types.now) declared.now) (role_of declared.now.role) }
+{
+    match declared.role {
+        Role::Typedef => None,
+        Role::Object => named_start(names, types, function, declared),
+        Role::Function => named_start(names, types, function, declared),
+        Role::Parameter(_) => named_start(names, types, function, declared),
+        Role::Field(_, _) => named_start(names, types, function, declared),
+        Role::Enumerator => None,
+    }
+}
+
+/// What begins at the name at a token, where it is declared, by the function around it. Constant time.
+pub(crate) fn name_start(
+    spelling: &Spelling,
+    names: &FoundNames,
+    types: &TypeTable,
+    function: &Option<Place>,
+    token: TokenId,
+) -> Option<Start>
+    ensures { starts_in types.now result
+        ≡ rules.some_declared_start (names_in types.now names.now) function.now
+        (declared_at (names_in types.now names.now).declared
+        (place (spelling_of spelling.now) token)) }
+{
+    match names.declared_at(&spelling.place(token)) {
+        Some(declared) => declared_start(names, types, function, &declared),
+        None => None,
+    }
+}
+
+/// What begins at the name of a declarator, by the function in whose body that is: a function's own parameters belong to it, and
+/// other parameters have no skeletons. Constant time.
+pub(crate) fn had_name(
+    spelling: &Spelling,
+    names: &FoundNames,
+    types: &TypeTable,
+    around: &Around,
+    naming: Naming,
+    token: TokenId,
+) -> Option<Start>
+    ensures { starts_in types.now result
+        ≡ rules.had_name
+        (naming_has (spelling_of spelling.now) (names_in types.now names.now) (naming_of naming))
+        (around_in (spelling_of spelling.now) (names_in types.now names.now) around.now) token }
 {
     match naming {
-        Naming::Name => true,
-        Naming::OwnParam { .. } => true,
-        Naming::OtherParam => false,
+        Naming::Name => name_start(spelling, names, types, &around.enclosing, token),
+        Naming::OwnParam { function, .. } => {
+            let function = function_at(spelling, names, types, &function);
+            name_start(spelling, names, types, &function, token)
+        }
+        Naming::OtherParam => None,
     }
 }
 

@@ -11,7 +11,7 @@ ghost use Rattle.unit_shapes.specs.Views.{names_in, AreImplicit};
 ghost use Rattle.unit_starts.specs.Views.{starts_in};
 
 use crate::expressions::{expression, form};
-use crate::names::{has_skeleton, name_start};
+use crate::names::{had_name, name_start};
 use crate::operands::literal_place;
 use crate::start::{Around, Start};
 use qual_base::TokenId;
@@ -66,7 +66,6 @@ fn specifier(
         ≡ spec_op_starts (spelling_of spelling.now) (names_in types.now names.now)
         rounds.now op }
 {
-    let _ = rounds;
     match op {
         SpecOp::Word { .. } => None,
         SpecOp::Storage { .. } => None,
@@ -78,7 +77,10 @@ fn specifier(
         SpecOp::Untagged { .. } => None,
         SpecOp::BodyEnd => None,
         SpecOp::Enumerator { .. } => None,
-        SpecOp::UnnamedMember { token } => name_start(spelling, names, types, token),
+        SpecOp::UnnamedMember { token } => {
+            let around = Around::new(spelling, names, types, rounds);
+            name_start(spelling, names, types, &around.enclosing, token)
+        }
         SpecOp::SpecsEnd => None,
     }
 }
@@ -92,14 +94,12 @@ fn declarator_name(
     token: TokenId,
 ) -> Option<Start>
     ensures { starts_in types.now result
-        ≡ had_name (naming_has (naming rounds.now))
+        ≡ had_name (naming_has (spelling_of spelling.now) (names_in types.now names.now)
+        (naming rounds.now))
         (around (spelling_of spelling.now) (names_in types.now names.now) rounds.now) token }
 {
-    if has_skeleton(rounds.naming()) {
-        name_start(spelling, names, types, token)
-    } else {
-        None
-    }
+    let around = Around::new(spelling, names, types, rounds);
+    had_name(spelling, names, types, &around, rounds.naming(), token)
 }
 
 /// What begins at a part of a declarator. Constant time.

@@ -69,18 +69,18 @@ fn first_declared(
     }
 }
 
-/// The function in whose body this is. Constant time.
-fn enclosing(
+/// The function whose name is at a token, where there is one, by where it was first declared. Constant time.
+pub(crate) fn function_at(
     spelling: &Spelling,
     names: &FoundNames,
     types: &TypeTable,
-    rounds: &Rounds,
+    token: &Option<TokenId>,
 ) -> Option<Place>
     ensures { result ≡ function_at (spelling_of spelling.now) (names_in types.now names.now)
-        rounds.now.body }
+        token.now }
 {
-    match rounds.body() {
-        Some(token) => first_declared(spelling, names, types, token),
+    match token {
+        Some(token) => first_declared(spelling, names, types, *token),
         None => None,
     }
 }
@@ -99,7 +99,7 @@ impl Around {
         ensures quiet { result.is_quiet ≡ round_rules.is_quiet rounds.now }
     {
         Around {
-            enclosing: enclosing(spelling, names, types, rounds),
+            enclosing: function_at(spelling, names, types, &rounds.body()),
             is_quiet: rounds.is_quiet(),
         }
     }
@@ -117,7 +117,7 @@ impl Around {
         ensures quiet { result.is_quiet ≡ round_rules.is_quiet (round_rules.left rounds.now) }
     {
         Around {
-            enclosing: enclosing(spelling, names, types, rounds),
+            enclosing: function_at(spelling, names, types, &rounds.body()),
             is_quiet: rounds.is_quiet_outside(),
         }
     }

@@ -4,8 +4,7 @@ use Rattle.std.proofs.lemmas.Bool.Decides.{eqb_tells}
 use Rattle.type_table.specs.declared.row.Row.{Row as TypeRow}
 use Rattle.qual_types.specs.declared.row.Row.{Row}
 use Rattle.type_table.specs.Types.{size}
-use Rattle.qual_types.specs.declared.look.Kind.TheVariants as kinds
-use Rattle.qual_types.specs.Skel.{flat, numbered}
+use Rattle.qual_types.specs.Skel.{no_skeleton, numbered}
 use Rattle.qual_types.specs.Rows.{Seen, nothing, all_seen, skel_of}
 use Rattle.name_rules.specs.Spellings.{Place}
 use Rattle.name_rules.specs.Scopes.{is_place}
@@ -51,7 +50,7 @@ none_past [] n le = refl
 none_past (x ∷ xs) zero le = absurd (omega arith)
 none_past (x ∷ xs) (suc n) le = none_past xs n (omega arith)
 
-nowhere_is : (rows : List Row) → length rows ≤ 16777216 → skel_of rows 4294967295 ≡ flat 0 kinds.Base
+nowhere_is : (rows : List Row) → length rows ≤ 16777216 → skel_of rows 4294967295 ≡ no_skeleton
 nowhere_is rows few =
     let e = seen_length 0 rows in
     ap (λ (o : Option Seen). (unwrap_or o nothing).tree) (none_past (all_seen 0 rows) 4294967295 (omega arith))
@@ -71,7 +70,7 @@ some_found it (s ∷ ss) p = by_test (is_place s.at p) refl (some_found it ss p)
 
 none_found : (types : List TypeRow) (it : Skeletons) (starts : List Start) (k : ℕ) (p : Place)
     → first_in (start_entry it) starts p ≡ None
-    → skeleton_among (numbered_from k (map (start_in types) starts)) p ≡ flat 0 kinds.Base
+    → skeleton_among (numbered_from k (map (start_in types) starts)) p ≡ no_skeleton
 none_found types it [] k p is = refl
 none_found types it (s ∷ ss) k p is = by_test (is_place s.at p) is (none_found types it ss (k + size (start_in types s).type) p)
   where
@@ -79,10 +78,10 @@ none_found types it (s ∷ ss) k p is = by_test (is_place s.at p) is (none_found
         → or_else (if b then Some (number_at it s.at) else None) (first_in (start_entry it) ss p) ≡ None
         → (first_in (start_entry it) ss p ≡ None
         → skeleton_among (numbered_from (k + size (start_in types s).type) (map (start_in types) ss)) p
-        ≡ flat 0 kinds.Base)
+        ≡ no_skeleton)
         → (if b then numbered (start_in types s).type k
         else skeleton_among (numbered_from (k + size (start_in types s).type) (map (start_in types) ss)) p)
-        ≡ flat 0 kinds.Base
+        ≡ no_skeleton
     by_test true none others = absurd cc
     by_test false none others = others none
 

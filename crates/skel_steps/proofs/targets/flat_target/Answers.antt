@@ -35,3 +35,10 @@ returns-in-Struct c =
     let named = option_map (skel k) c.args.named.now in
     λ w v shows is. c.member_target.ensures w v c.args.is_first shows
     ∙ ap (λ (kind : Kind). steps.item_target w (flat v kind) c.args.is_first c.args.next named) (sym c.in-Struct.is)
+
+pub returns-in-Nothing : goal.returns-in-Nothing
+returns-in-Nothing c =
+    let k = c.args.known.now in
+    let named = option_map (skel k) c.args.named.now in
+    λ w v shows is.
+    ap (λ (kind : Kind). steps.item_target w (flat v kind) c.args.is_first c.args.next named) (sym c.in-Nothing.is)
