@@ -1,0 +1,354 @@
+-- The skeletons that each op of an item looks up are of the function around, where names mean what stays in the item.
+use Rattle.std.proofs.Common.{◌≡◌, ◌⊎◌, inl, inr, ℕ, Bool, true, false, List, [], ◌∷◌, ◌++◌, Option, None, Some, refl, sym, ◌∙◌, ap, subst}
+use Rattle.std.specs.Prelude.{if◌then◌else◌, slice_get}
+use Rattle.tape_ops.specs.declared.op.Op.{Op}
+use Rattle.tape_ops.specs.declared.op.Op.TheVariants as ops
+use Rattle.tape_ops.specs.declared.expression.ExprOp.{ExprOp}
+use Rattle.tape_ops.specs.declared.expression.ExprOp.TheVariants as exprs
+use Rattle.tape_ops.specs.declared.form.FormOp.{FormOp}
+use Rattle.tape_ops.specs.declared.form.FormOp.TheVariants as forms
+use Rattle.tape_ops.specs.declared.initialiser.InitOp.{InitOp}
+use Rattle.tape_ops.specs.declared.initialiser.InitOp.TheVariants as inits
+use Rattle.tape_ops.specs.declared.specifier.SpecOp.{SpecOp}
+use Rattle.tape_ops.specs.declared.specifier.SpecOp.TheVariants as specs
+use Rattle.tape_ops.specs.declared.declarator.DeclrOp.{DeclrOp}
+use Rattle.tape_ops.specs.declared.declarator.DeclrOp.TheVariants as declrs
+use Rattle.tape_ops.specs.declared.statement.StmtOp.{StmtOp}
+use Rattle.tape_ops.specs.declared.statement.StmtOp.TheVariants as stmts
+use Rattle.type_table.specs.Types.{pointer}
+use Rattle.name_rules.specs.Spellings.{Spelling, Place, place}
+use Rattle.name_rules.specs.Scopes.{Role, typedef_role, object_role, function_role, parameter_role, field_role, enumerator_role, Declared, declared_at, Use, means, called, missing, Own, Known, Names, body_of, is_place}
+use Rattle.name_rules.specs.Values.{member_in, own_of}
+use Rattle.name_rules.specs.Uses.{use_at}
+use Rattle.meaning_laws.specs.Meanings.{IsFirst, HasFirst, IsNobodys, NamesAreFirst}
+use Rattle.shape_steps.specs.State as shapes
+use Rattle.shape_steps.specs.Steps as shape_steps
+use Rattle.shape_steps.specs.State.{OpenDeclaration, declared_last, changed}
+use Rattle.row_rules.specs.Starting.{Start, Around, first_of, instance, is_function_role, is_some_function, owned_there, owner_there, use_by_role, some_use_start, use_start}
+use Rattle.row_rules.specs.Sites.{has_place}
+use Rattle.row_rules.specs.Worlds.{World, at}
+use Rattle.row_steps.specs.Rounds.{Naming, a_name, own_param, other_param, naming, is_quiet, Rounds, round_step}
+use Rattle.row_steps.specs.State.{State}
+use Rattle.row_steps.specs.Steps.{step}
+use Rattle.row_steps.specs.Starting.{function_at, around, expr_op_starts, form_op_starts, init_op_starts, op_starts}
+use Rattle.key_laws.specs.Keys.{expr_key, form_key, init_key, op_key, key_place, key_places}
+use Rattle.scope_laws.specs.Staying.{IsOfFile, IsWithin, AreWithin}
+use Rattle.owner_laws.specs.Fitting.{start_at}
+use Rattle.owner_laws.specs.Rows.{IsInstance}
+use Rattle.owned_laws.specs.Around.{IsOwn, BeginsIn, MeantFits, SomeMeantFits, UseFits, DeclaredFits, ParamFits, FunctionFits, NamingFits, InitFits, FirstInitFits, SomeInitFits, InitialisedFits, ExprFits, FormFits, InitOpFits, DeclrFits, StmtFits, OpFits, MembersFit}
+use Rattle.owned_laws.specs.Contexts.{OpContext, ContextsAlong}
+use Rattle.owned_laws.specs.Names.{FunctionsBegin}
+use Rattle.owned_laws.specs.Tapes.{OpsFit}
+use Rattle.owned_laws.proofs.Places.{place_itself, declared_place, begins_at, has_itself, has_right, has_left}
+use Rattle.owned_laws.proofs.Begin.{FreshAt, fresh_begins, IsPlaced, expr_is, form_is, init_is, IsExact, ExactAlong}
+use Rattle.owned_laws.proofs.Alike.{Alike, alike}
+
+-- what is known of all names and skeletons of a program
+pub record Scene : Type 0 where
+  pub world : World
+  pub starts : List Start
+  pub placed : (p : Place) (x : Start) → start_at starts p ≡ Some x → (g : Option Place) × IsPlaced world.names g x
+  pub first : NamesAreFirst world.names
+  pub functions : FunctionsBegin starts world.names
+
+-- of an item: its function, by the token of its name, and the places at which its ops stand
+pub record Item (k : Scene) : Type 0 where
+  pub token : Option ℕ
+  pub keys : List Place
+  pub placed : (p : Place) (x : Start) → has_place keys p ≡ true → start_at k.starts p ≡ Some x →
+      IsPlaced k.world.names (function_at k.world.spelling k.world.names token) x
+  pub stays : AreWithin k.world.spelling k.world.names keys
+
+-- owners
+
+owned_none : (o : Option Place) (g : Option Place) → o ≡ None → owned_there o g ≡ None
+owned_none o g e = ap (λ (x : Option Place). owned_there x g) e
+
+owned_own : (f g o : Option Place) → IsOwn f g → IsOwn f (owned_there o g)
+owned_own f g None own = inl refl
+owned_own f g (Some p) own = own
+
+found_same : (x y : Declared) → Some x ≡ Some y → x ≡ y
+found_same x y e = cc
+
+role_function : (role : Role) → is_function_role role ≡ true → role ≡ function_role
+role_function function_role e = refl
+role_function typedef_role e = absurd cc
+role_function object_role e = absurd cc
+role_function (parameter_role i) e = absurd cc
+role_function (field_role n i) e = absurd cc
+role_function enumerator_role e = absurd cc
+
+module _ (k : Scene) where
+  abbrev w : World
+  w = k.world
+
+  abbrev s : Names
+  s = k.world.names
+
+  abbrev u : Spelling
+  u = k.world.spelling
+
+  -- what is found at a place is what it says it is
+  itself : (p : Place) (d : Declared) → declared_at s.declared p ≡ Some d → declared_at s.declared d.at ≡ Some d
+  itself p d e = subst (λ (q : Place). declared_at s.declared q ≡ Some d) (sym (declared_place s.declared p d e)) e
+
+  -- the owner of what begins where something is declared
+  named_there : (p : Place) (x : Start) (g : Option Place) → IsPlaced s g x → start_at k.starts p ≡ Some x →
+      (d : Declared) → declared_at s.declared p ≡ Some d →
+      (h : Option Place) × IsOwn g h × (x.owner ≡ owner_there s h d)
+  named_there p x g it is d e =
+      it.named d (subst (λ (q : Place). declared_at s.declared q ≡ Some d) (sym (begins_at k.starts p x is)) e)
+
+  -- nobody's
+  nobodys_begin : (g : Option Place) (p : Place) (d : Declared) → declared_at s.declared p ≡ Some d → d.owner ≡ None →
+      BeginsIn k.starts g p
+  nobodys_begin g p d e none x is =
+      let it = k.placed p x is in let found = named_there p x it.0 it.1 is d e in
+      inl (found.2 ∙ owned_none d.owner _ none)
+
+  -- what was first declared as a function belongs to that
+  functions_begin : (p : Place) (d : Declared) → declared_at s.declared p ≡ Some d →
+      is_some_function (declared_at s.declared d.first) ≡ true → BeginsIn k.starts (Some d.first) p
+  functions_begin p d e fun x is =
+      let it = k.placed p x is in let found = named_there p x it.0 it.1 is d e in
+      subst (IsOwn (Some d.first)) (sym (found.2
+      ∙ ap (λ (b : Bool). owned_there d.owner (if b then Some d.first else found.0)) fun))
+      (owned_own (Some d.first) (Some d.first) d.owner (inr refl))
+
+  nobodys_there : (g : Option Place) (p : Place) → IsNobodys s.declared p → BeginsIn k.starts g p
+  nobodys_there g p h = nobodys_begin g p h.it h.there h.none
+
+  pub members : MembersFit k.starts s
+  members = record {
+    known = λ n name it e. nobodys_there None it.at (k.first.known n name it e);
+    own = λ n i it e. nobodys_there None it.at (k.first.own n i it e);
+  }
+
+  -- a first declaration is that of a function where it is one
+  first_is_function : (p : Place) (d : Declared) → declared_at s.declared p ≡ Some d → d.first ≡ p →
+      is_some_function (declared_at s.declared d.first) ≡ is_function_role d.role
+  first_is_function p d e first = ap is_some_function (ap (declared_at s.declared) first ∙ e)
+
+  function_there : (p : Place) (d : Declared) → declared_at s.declared p ≡ Some d → d.role ≡ function_role →
+      d.first ≡ p → d.owner ≡ Some d.at →
+      (there : Start) × (start_at k.starts d.at ≡ Some there) × (there.owner ≡ Some d.at)
+  function_there p d e role first own = by (start_at k.starts d.at) refl
+    where
+      by : (found : Option Start) → start_at k.starts d.at ≡ found →
+          (there : Start) × (start_at k.starts d.at ≡ Some there) × (there.owner ≡ Some d.at)
+      by None is = absurd (k.functions p d e role own is)
+      by (Some there) is =
+          let it = k.placed d.at there is in let found = named_there d.at there it.0 it.1 is d (itself p d e) in
+          (there, is, found.2
+          ∙ (ap (λ (b : Bool). owned_there d.owner (if b then Some d.first else found.0))
+          (first_is_function p d e first ∙ ap is_function_role role)
+          ∙ (ap (λ (o : Option Place). owned_there o (Some d.first)) own
+          ∙ ap (λ (q : Place). Some q) (first ∙ sym (declared_place s.declared p d e)))))
+
+  module _ (i : Item k) where
+    abbrev t : Option ℕ
+    t = i.token
+
+    abbrev f : Option Place
+    f = function_at u s i.token
+
+    -- a token of the item
+    abbrev pub IsKeyed : Option ℕ → Type 0
+    IsKeyed None = Unit {0}
+    IsKeyed (Some token) = has_place i.keys (place u token) ≡ true
+
+    -- what is declared in the item, and no function first
+    keyed_begins : (p : Place) (d : Declared) → has_place i.keys p ≡ true → declared_at s.declared p ≡ Some d →
+        is_some_function (declared_at s.declared d.first) ≡ false → BeginsIn k.starts f p
+    keyed_begins p d keyed e fun x is =
+        let found = named_there p x f (i.placed p x keyed is) is d e in
+        subst (IsOwn f) (sym (found.2 ∙ ap (λ (b : Bool). owned_there d.owner (if b then Some d.first else found.0)) fun))
+        (owned_own f found.0 d.owner found.1)
+
+    within_begins : (p : Place) (d : Declared) → IsWithin s i.keys p → declared_at s.declared p ≡ Some d →
+        is_some_function (declared_at s.declared d.first) ≡ false → is_function_role d.role ≡ false → BeginsIn k.starts f p
+    within_begins p d (inl keyed) e fun role = keyed_begins p d keyed e fun
+    within_begins p d (inr file) e fun role = by (file d e)
+      where
+        by : (d.role ≡ function_role) ⊎ (d.owner ≡ None) → BeginsIn k.starts f p
+        by (inl is) = let yes : is_function_role d.role ≡ true = ap is_function_role is in absurd cc
+        by (inr none) = nobodys_begin f p d e none
+
+    -- fresh skeletons
+
+    fresh_fits : (token : ℕ) (r : Rounds) (xs : List Start) → IsOwn f (function_at u s r.body) →
+        FreshAt (place u token) (function_at u s r.body) xs → IsExact u s k.starts (Some token) xs →
+        BeginsIn k.starts f (at w token)
+    fresh_fits token r xs own h e it is =
+        fresh_begins (place u token) (function_at u s r.body) f xs own h it (sym e ∙ is)
+
+    -- names
+
+    instance_fits : (token : ℕ) (a : Around) (p : Place) (d : Declared) → a.spelling ≡ u → a.is_quiet ≡ false →
+        declared_at s.declared p ≡ Some d → d.role ≡ function_role → d.first ≡ p → d.owner ≡ Some d.at →
+        start_at k.starts (place u token) ≡ start_at (instance a token d.at d.type) (place u token) →
+        IsInstance w k.starts token d.at
+    instance_fits token a p d spelled loud e role first own exact = record {
+      here = here;
+      begins_here = exact ∙ found;
+      calls = refl;
+      there = (function_there p d e role first own).0;
+      begins_there = (function_there p d e role first own).1;
+      is_own = (function_there p d e role first own).2;
+    } where
+      here : Start
+      here = record { at = place a.spelling token; type = pointer [] d.type; owner = a.enclosing; calls = Some d.at }
+
+      found : start_at (instance a token d.at d.type) (place u token) ≡ Some here
+      found =
+          ap (λ (q : Bool). start_at (if q then [] else here ∷ []) (place u token)) loud
+          ∙ ap (λ (v : Spelling). if is_place (place a.spelling token) (place v token) then Some here else None)
+          (sym spelled)
+          ∙ ap (λ (b : Bool). if b then Some here else None) (place_itself (place a.spelling token))
+
+    module _ (token : ℕ) (r : Rounds) (p : Place) (keyed : has_place i.keys (place u token) ≡ true)
+        (used : use_at s.uses (place u token) ≡ means p) where
+      -- what a name means is declared there first
+      it_is : (d : Declared) → declared_at s.declared p ≡ Some d → (d.first ≡ p) × (d.role ≡ function_role → d.owner ≡ Some d.at)
+      it_is d e =
+          let h = k.first.uses (place u token) p used in
+          let same : h.it ≡ d = found_same h.it d (sym h.there ∙ e) in (
+            subst (λ (c : Declared). c.first ≡ p) same h.is_first,
+            λ role. subst (λ (c : Declared). c.owner ≡ Some c.at) same
+                (h.is_itself (ap (λ (c : Declared). c.role) same ∙ role)
+                ∙ ap (λ (q : Place). Some q) (sym (declared_place s.declared p h.it h.there))),
+          )
+
+      object_fits : (d : Declared) → declared_at s.declared p ≡ Some d → is_function_role d.role ≡ false →
+          BeginsIn k.starts f d.at
+      object_fits d e role =
+          subst (BeginsIn k.starts f) (sym (declared_place s.declared p d e))
+          (within_begins p d (i.stays.uses (place u token) p keyed used) e
+          (first_is_function p d e (it_is d e).0 ∙ role) role)
+
+      role_fits : (d : Declared) (role : Role) → declared_at s.declared p ≡ Some d → d.role ≡ role →
+          BeginsIn k.starts f (at w token) →
+          start_at k.starts (place u token) ≡ start_at (use_by_role (around u s r) token d role) (place u token) →
+          MeantFits w k.starts f (is_quiet r) token d role
+      role_fits d function_role e role here exact =
+          (here, λ loud. instance_fits token (around u s r) p d refl loud e role (it_is d e).0 ((it_is d e).1 role) exact)
+      role_fits d enumerator_role e role here exact = here
+      role_fits d typedef_role e role here exact = object_fits d e (ap is_function_role role)
+      role_fits d object_role e role here exact = object_fits d e (ap is_function_role role)
+      role_fits d (parameter_role n) e role here exact = object_fits d e (ap is_function_role role)
+      role_fits d (field_role n j) e role here exact = object_fits d e (ap is_function_role role)
+
+      some_meant_fits : (d : Option Declared) → declared_at s.declared p ≡ d → BeginsIn k.starts f (at w token) →
+          start_at k.starts (place u token) ≡ start_at (some_use_start (around u s r) token d) (place u token) →
+          SomeMeantFits w k.starts f (is_quiet r) token d
+      some_meant_fits None e here exact = tt
+      some_meant_fits (Some d) e here exact = role_fits d d.role e refl here exact
+
+    use_fits : (token : ℕ) (r : Rounds) (it : Use) → has_place i.keys (place u token) ≡ true →
+        use_at s.uses (place u token) ≡ it → BeginsIn k.starts f (at w token) →
+        start_at k.starts (place u token) ≡ start_at (use_start (around u s r) token it) (place u token) →
+        UseFits w k.starts f (is_quiet r) token it
+    use_fits token r (means p) keyed used here exact =
+        some_meant_fits token r p keyed used (declared_at s.declared p) refl here exact
+    use_fits token r called keyed used here exact = here
+    use_fits token r missing keyed used here exact = tt
+
+    -- declared names
+
+    name_by : (p : Place) (d : Declared) → has_place i.keys p ≡ true → declared_at s.declared p ≡ Some d →
+        (b : Bool) → is_some_function (declared_at s.declared d.first) ≡ b → HasFirst s.declared d →
+        DeclaredFits k.starts (Some d)
+    name_by p d keyed e true fun first = (
+      Some d.first,
+      subst (λ (q : Place). BeginsIn k.starts (Some q) d.first) first.is_first
+          (functions_begin d.first first.first first.there
+          (ap (λ (q : Place). is_some_function (declared_at s.declared q)) first.is_first ∙ fun)),
+      functions_begin d.at d (itself p d e) fun,
+    )
+    name_by p d keyed e false fun first = (
+      f,
+      within_begins d.first first.first (i.stays.firsts p d keyed e) first.there
+          (ap (λ (q : Place). is_some_function (declared_at s.declared q)) first.is_first ∙ fun)
+          (ap is_some_function (sym first.there) ∙ fun),
+      subst (BeginsIn k.starts f) (sym (declared_place s.declared p d e)) (keyed_begins p d keyed e fun),
+    )
+
+    declared_fits : (p : Place) (d : Option Declared) → has_place i.keys p ≡ true → declared_at s.declared p ≡ d →
+        DeclaredFits k.starts d
+    declared_fits p None keyed e = tt
+    declared_fits p (Some d) keyed e =
+        name_by p d keyed e (is_some_function (declared_at s.declared d.first)) refl (k.first.firsts p d e)
+
+    param_by : (p : Place) (d : Declared) → has_place i.keys p ≡ true → declared_at s.declared p ≡ Some d → (b : Bool) →
+        is_some_function (declared_at s.declared d.first) ≡ b → ParamFits w k.starts f (Some d)
+    param_by p d keyed e true fun = inl fun
+    param_by p d keyed e false fun =
+        inr (subst (BeginsIn k.starts f) (sym (declared_place s.declared p d e)) (keyed_begins p d keyed e fun))
+
+    param_fits : (p : Place) (d : Option Declared) → has_place i.keys p ≡ true → declared_at s.declared p ≡ d →
+        ParamFits w k.starts f d
+    param_fits p None keyed e = tt
+    param_fits p (Some d) keyed e = param_by p d keyed e (is_some_function (declared_at s.declared d.first)) refl
+
+    -- the item's function
+
+    function_by : (token : ℕ) → t ≡ Some token → has_place i.keys (place u token) ≡ true → (d : Option Declared) →
+        declared_at s.declared (place u token) ≡ d → BeginsIn k.starts f (at w token)
+    function_by token is keyed None e x there =
+        (i.placed (place u token) x keyed there).fresh
+        (subst (λ (q : Place). declared_at s.declared q ≡ None) (sym (begins_at k.starts (place u token) x there)) e)
+    function_by token is keyed (Some d) e = by (is_some_function (declared_at s.declared d.first)) refl
+      where
+        its : f ≡ Some d.first
+        its = ap (function_at u s) is ∙ ap first_of e
+
+        by : (b : Bool) → is_some_function (declared_at s.declared d.first) ≡ b → BeginsIn k.starts f (at w token)
+        by true fun =
+            subst (λ (g : Option Place). BeginsIn k.starts g (place u token)) (sym its)
+            (functions_begin (place u token) d e fun)
+        by false fun = keyed_begins (place u token) d keyed e fun
+
+    function_fits : (g : Option ℕ) → g ≡ t → IsKeyed g → FunctionFits w k.starts f g
+    function_fits None is keyed = tt
+    function_fits (Some token) is keyed =
+        function_by token (sym is) keyed (declared_at s.declared (place u token)) refl
+
+    naming_fits : (token : ℕ) (it : Naming) → has_place i.keys (place u token) ≡ true →
+        ((g : Option ℕ) (n : ℕ) → it ≡ own_param g n → g ≡ t) → ((g : Option ℕ) (n : ℕ) → it ≡ own_param g n → IsKeyed g) →
+        NamingFits w k.starts f token it
+    naming_fits token a_name keyed its known =
+        declared_fits (at w token) (declared_at s.declared (at w token)) keyed refl
+    naming_fits token (own_param g n) keyed its known = (
+      function_fits g (its g n refl) (known g n refl),
+      param_fits (at w token) (declared_at s.declared (at w token)) keyed refl,
+    )
+    naming_fits token other_param keyed its known = tt
+
+    -- initialisers
+
+    init_role_fits : (d : Declared) (role : Role) → (is_function_role role ≡ false → BeginsIn k.starts f d.at) →
+        InitFits k.starts f d role
+    init_role_fits d typedef_role h = tt
+    init_role_fits d function_role h = tt
+    init_role_fits d object_role h = h refl
+    init_role_fits d (parameter_role n) h = h refl
+    init_role_fits d (field_role n j) h = h refl
+    init_role_fits d enumerator_role h = tt
+
+    first_init_fits : (p : Place) (d : Declared) (first : Option Declared) → has_place i.keys p ≡ true →
+        declared_at s.declared p ≡ Some d → declared_at s.declared d.first ≡ first → FirstInitFits k.starts f d first
+    first_init_fits p d None keyed e there = tt
+    first_init_fits p d (Some first) keyed e there =
+        init_role_fits d first.role (λ fun. subst (BeginsIn k.starts f) (sym (declared_place s.declared p d e))
+        (keyed_begins p d keyed e (ap is_some_function there ∙ fun)))
+
+    some_init_fits : (p : Place) (d : Option Declared) → has_place i.keys p ≡ true → declared_at s.declared p ≡ d →
+        SomeInitFits w k.starts f d
+    some_init_fits p None keyed e = tt
+    some_init_fits p (Some d) keyed e = first_init_fits p d (declared_at s.declared d.first) keyed e refl
+
+    initialised_fits : (token : Option ℕ) → IsKeyed token → InitialisedFits w k.starts f token
+    initialised_fits None keyed = tt
+    initialised_fits (Some token) keyed = some_init_fits (at w token) (declared_at s.declared (at w token)) keyed refl
+
