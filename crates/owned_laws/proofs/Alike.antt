@@ -1,5 +1,5 @@
 -- Both kinds of steps along a tape, of shapes and of skeletons, open and end the same declarations.
-use Rattle.std.proofs.Common.{◌≡◌, List, [], ◌∷◌, None, refl, ap}
+use Rattle.std.proofs.Common.{◌≡◌, true, false, List, ◌∷◌, None, ap}
 use Rattle.tape_ops.specs.declared.op.Op.{Op}
 use Rattle.tape_ops.specs.declared.op.Op.TheVariants as ops
 use Rattle.tape_ops.specs.declared.expression.ExprOp.TheVariants as exprs

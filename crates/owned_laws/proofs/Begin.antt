@@ -1,5 +1,5 @@
 -- Where the skeletons of an op begin, and to whom they belong.
-use Rattle.std.proofs.Common.{◌≡◌, ◌⊎◌, inl, inr, ℕ, Bool, true, false, List, [], ◌∷◌, ◌++◌, Option, None, Some, refl, sym, ◌∙◌, ap, subst, append_assoc}
+use Rattle.std.proofs.Common.{◌≡◌, inl, inr, ℕ, Bool, true, false, List, [], ◌∷◌, ◌++◌, Option, None, Some, refl, sym, ◌∙◌, ap, subst, append_assoc}
 use Rattle.std.specs.Prelude.{not, ◌&&◌, if◌then◌else◌}
 use Rattle.tape_ops.specs.declared.op.Op.{Op}
 use Rattle.tape_ops.specs.declared.op.Op.TheVariants as ops
@@ -27,8 +27,8 @@ use Rattle.row_steps.specs.Starting.{function_at, around, naming_has, expr_op_st
 use Rattle.owner_laws.specs.Fitting.{start_at}
 use Rattle.owned_laws.specs.Contexts.{NamingIsOf, BodyIsOf}
 use Rattle.owned_laws.specs.Around.{BeginsIn, IsOwn}
-use Rattle.key_laws.specs.Keys.{expr_key, form_key, init_key, fresh_key, spec_key, declr_key, op_key, key_place, key_places, KeyIsApart, KeysAreApart}
-use Rattle.owned_laws.proofs.Places.{place_is, declared_place, none_before, none_behind, has_not_right, has_not_left, has_left, has_itself, differ_right, differ_before, Kept, none_kept, joined_kept, OneAt, one_kept}
+use Rattle.key_laws.specs.Keys.{expr_key, form_key, init_key, fresh_key, spec_key, declr_key, op_key, key_place, key_places, KeyIsApart}
+use Rattle.owned_laws.proofs.Places.{declared_place, none_before, none_behind, has_not_right, has_not_left, has_left, has_itself, differ_right, differ_before, Kept, none_kept, joined_kept, OneAt, one_kept}
 
 -- at most one, at the place and of the owner
 abbrev pub FreshAt : Place → Option Place → List Start → Type 0

@@ -1,6 +1,6 @@
 -- The skeletons that each op of an item looks up are of the function around, where names mean what stays in the item.
 use Rattle.std.proofs.Common.{◌≡◌, ◌⊎◌, inl, inr, ℕ, Bool, true, false, List, [], ◌∷◌, ◌++◌, Option, None, Some, refl, sym, ◌∙◌, ap, subst}
-use Rattle.std.specs.Prelude.{if◌then◌else◌, slice_get}
+use Rattle.std.specs.Prelude.{if◌then◌else◌}
 use Rattle.tape_ops.specs.declared.op.Op.{Op}
 use Rattle.tape_ops.specs.declared.op.Op.TheVariants as ops
 use Rattle.tape_ops.specs.declared.expression.ExprOp.{ExprOp}
@@ -17,29 +17,28 @@ use Rattle.tape_ops.specs.declared.statement.StmtOp.{StmtOp}
 use Rattle.tape_ops.specs.declared.statement.StmtOp.TheVariants as stmts
 use Rattle.type_table.specs.Types.{pointer}
 use Rattle.name_rules.specs.Spellings.{Spelling, Place, place}
-use Rattle.name_rules.specs.Scopes.{Role, typedef_role, object_role, function_role, parameter_role, field_role, enumerator_role, Declared, declared_at, Use, means, called, missing, Own, Known, Names, body_of, is_place}
-use Rattle.name_rules.specs.Values.{member_in, own_of}
+use Rattle.name_rules.specs.Scopes.{Role, typedef_role, object_role, function_role, parameter_role, field_role, enumerator_role, Declared, declared_at, Use, means, called, missing, Names, is_place}
 use Rattle.name_rules.specs.Uses.{use_at}
-use Rattle.meaning_laws.specs.Meanings.{IsFirst, HasFirst, IsNobodys, NamesAreFirst}
+use Rattle.meaning_laws.specs.Meanings.{HasFirst, IsNobodys, NamesAreFirst}
 use Rattle.shape_steps.specs.State as shapes
 use Rattle.shape_steps.specs.Steps as shape_steps
 use Rattle.shape_steps.specs.State.{OpenDeclaration, declared_last, changed}
 use Rattle.row_rules.specs.Starting.{Start, Around, first_of, instance, is_function_role, is_some_function, owned_there, owner_there, use_by_role, some_use_start, use_start}
 use Rattle.row_rules.specs.Sites.{has_place}
 use Rattle.row_rules.specs.Worlds.{World, at}
-use Rattle.row_steps.specs.Rounds.{Naming, a_name, own_param, other_param, naming, is_quiet, Rounds, round_step}
+use Rattle.row_steps.specs.Rounds.{Naming, a_name, own_param, other_param, naming, is_quiet, Round, Rounds, innermost, name_so_far, params_naming, next_naming, next_round, form_round, spec_round, declr_round, stmt_round, round_step}
 use Rattle.row_steps.specs.State.{State}
-use Rattle.row_steps.specs.Steps.{step}
+use Rattle.row_steps.specs.Steps.{expr_step, form_step, init_step, spec_step, declr_step, stmt_step, step}
 use Rattle.row_steps.specs.Starting.{function_at, around, expr_op_starts, form_op_starts, init_op_starts, op_starts}
-use Rattle.key_laws.specs.Keys.{expr_key, form_key, init_key, op_key, key_place, key_places}
-use Rattle.scope_laws.specs.Staying.{IsOfFile, IsWithin, AreWithin}
+use Rattle.key_laws.specs.Keys.{expr_key, form_key, init_key, declr_key, op_key, key_place, key_places}
+use Rattle.scope_laws.specs.Staying.{IsWithin, AreWithin}
 use Rattle.owner_laws.specs.Fitting.{start_at}
 use Rattle.owner_laws.specs.Rows.{IsInstance}
 use Rattle.owned_laws.specs.Around.{IsOwn, BeginsIn, MeantFits, SomeMeantFits, UseFits, DeclaredFits, ParamFits, FunctionFits, NamingFits, InitFits, FirstInitFits, SomeInitFits, InitialisedFits, ExprFits, FormFits, InitOpFits, DeclrFits, StmtFits, OpFits, MembersFit}
-use Rattle.owned_laws.specs.Contexts.{OpContext, ContextsAlong}
+use Rattle.owned_laws.specs.Contexts.{BodyIsOf, OpContext, ContextsAlong}
 use Rattle.owned_laws.specs.Names.{FunctionsBegin}
 use Rattle.owned_laws.specs.Tapes.{OpsFit}
-use Rattle.owned_laws.proofs.Places.{place_itself, declared_place, begins_at, has_itself, has_right, has_left}
+use Rattle.owned_laws.proofs.Places.{place_itself, declared_place, begins_at, has_itself, has_right}
 use Rattle.owned_laws.proofs.Begin.{FreshAt, fresh_begins, IsPlaced, expr_is, form_is, init_is, IsExact, ExactAlong}
 use Rattle.owned_laws.proofs.Alike.{Alike, alike}
 
@@ -139,12 +138,15 @@ module _ (k : Scene) where
           (there : Start) × (start_at k.starts d.at ≡ Some there) × (there.owner ≡ Some d.at)
       by None is = absurd (k.functions p d e role own is)
       by (Some there) is =
-          let it = k.placed d.at there is in let found = named_there d.at there it.0 it.1 is d (itself p d e) in
-          (there, is, found.2
-          ∙ (ap (λ (b : Bool). owned_there d.owner (if b then Some d.first else found.0))
-          (first_is_function p d e first ∙ ap is_function_role role)
-          ∙ (ap (λ (o : Option Place). owned_there o (Some d.first)) own
-          ∙ ap (λ (q : Place). Some q) (first ∙ sym (declared_place s.declared p d e)))))
+          let it = k.placed d.at there is in let found = named_there d.at there it.0 it.1 is d (itself p d e) in (
+            there,
+            is,
+            found.2
+                ∙ (ap (λ (b : Bool). owned_there d.owner (if b then Some d.first else found.0))
+                (first_is_function p d e first ∙ ap is_function_role role)
+                ∙ (ap (λ (o : Option Place). owned_there o (Some d.first)) own
+                ∙ ap (λ (q : Place). Some q) (first ∙ sym (declared_place s.declared p d e)))),
+          )
 
   module _ (i : Item k) where
     abbrev t : Option ℕ
@@ -295,7 +297,7 @@ module _ (k : Scene) where
 
     function_by : (token : ℕ) → t ≡ Some token → has_place i.keys (place u token) ≡ true → (d : Option Declared) →
         declared_at s.declared (place u token) ≡ d → BeginsIn k.starts f (at w token)
-    function_by token is keyed None e x there =
+    function_by token is keyed None e = λ x there.
         (i.placed (place u token) x keyed there).fresh
         (subst (λ (q : Place). declared_at s.declared q ≡ None) (sym (begins_at k.starts (place u token) x there)) e)
     function_by token is keyed (Some d) e = by (is_some_function (declared_at s.declared d.first)) refl
@@ -352,3 +354,353 @@ module _ (k : Scene) where
     initialised_fits None keyed = tt
     initialised_fits (Some token) keyed = some_init_fits (at w token) (declared_at s.declared (at w token)) keyed refl
 
+    -- ops
+
+    abbrev BodyOwn : Rounds → Type 0
+    BodyOwn r = IsOwn f (function_at u s r.body)
+
+    expr_fits : (sst : shapes.State) (st : State) (op : ExprOp) → BodyOwn st.rounds → IsKeyed (expr_key op) →
+        IsExact u s k.starts (expr_key op) (expr_op_starts u s sst st.rounds op) → ExprFits w k.starts f st op
+    expr_fits sst st (exprs.Name is_called token name) body own e =
+        use_fits token st.rounds (use_at s.uses (place u token)) own refl
+        (fresh_fits token st.rounds _ body (expr_is u s sst st.rounds (exprs.Name is_called token name)) e) e
+    expr_fits sst st (exprs.Number token) body own e =
+        fresh_fits token st.rounds _ body (expr_is u s sst st.rounds (exprs.Number token)) e
+    expr_fits sst st (exprs.Char token) body own e =
+        fresh_fits token st.rounds _ body (expr_is u s sst st.rounds (exprs.Char token)) e
+    expr_fits sst st (exprs.Text token) body own e =
+        fresh_fits token st.rounds _ body (expr_is u s sst st.rounds (exprs.Text token)) e
+    expr_fits sst st (exprs.Paren token) body own e = tt
+    expr_fits sst st (exprs.Ext token) body own e = tt
+    expr_fits sst st (exprs.Comma token) body own e = tt
+    expr_fits sst st (exprs.Assign sign token first last) body own e = tt
+    expr_fits sst st (exprs.Cond has_middle token first last) body own e =
+        fresh_fits token st.rounds _ body (expr_is u s sst st.rounds (exprs.Cond has_middle token first last)) e
+    expr_fits sst st (exprs.Binary sign token first last) body own e =
+        fresh_fits token st.rounds _ body (expr_is u s sst st.rounds (exprs.Binary sign token first last)) e
+    expr_fits sst st (exprs.Prefix sign token last) body own e =
+        fresh_fits token st.rounds _ body (expr_is u s sst st.rounds (exprs.Prefix sign token last)) e
+    expr_fits sst st (exprs.Post sign token first) body own e = tt
+    expr_fits sst st (exprs.Index token first last) body own e = tt
+    expr_fits sst st (exprs.Arg behind first last) body own e = tt
+    expr_fits sst st (exprs.Call token count) body own e = tt
+    expr_fits sst st (exprs.Arrow token first last) body own e = tt
+    expr_fits sst st (exprs.Dot token member name) body own e = tt
+
+    form_fits : (sst : shapes.State) (r : Rounds) (op : FormOp) → BodyOwn r →
+        IsExact u s k.starts (form_key op) (form_op_starts u s sst r op) → FormFits w k.starts f op
+    form_fits sst r (forms.Cast token last) body e =
+        fresh_fits token r _ body (form_is u s sst r (forms.Cast token last)) e
+    form_fits sst r (forms.Sizeof token) body e = fresh_fits token r _ body (form_is u s sst r (forms.Sizeof token)) e
+    form_fits sst r (forms.StmtExpr has_value token) body e =
+        fresh_fits token r _ body (form_is u s sst r (forms.StmtExpr has_value token)) e
+    form_fits sst r (forms.VaArg token last) body e =
+        fresh_fits token r _ body (form_is u s sst r (forms.VaArg token last)) e
+    form_fits sst r (forms.VaStart token last) body e =
+        fresh_fits token r _ body (form_is u s sst r (forms.VaStart token last)) e
+    form_fits sst r (forms.VaCopy token last) body e =
+        fresh_fits token r _ body (form_is u s sst r (forms.VaCopy token last)) e
+    form_fits sst r (forms.OffsetMember token name) body e = tt
+    form_fits sst r (forms.OffsetIndex token) body e = tt
+    form_fits sst r (forms.Offset token) body e = fresh_fits token r _ body (form_is u s sst r (forms.Offset token)) e
+
+    init_fits : (sst : shapes.State) (st : State) (op : InitOp) → BodyOwn st.rounds → IsKeyed (declared_last st.declarations) →
+        IsExact u s k.starts (init_key op) (init_op_starts u s sst st.rounds op) → InitOpFits w k.starts f st op
+    init_fits sst st (inits.Value first last) body own e = initialised_fits (declared_last st.declarations) own
+    init_fits sst st inits.Begin body own e = tt
+    init_fits sst st inits.Rule body own e = initialised_fits (declared_last st.declarations) own
+    init_fits sst st (inits.Literal token) body own e =
+        fresh_fits token st.rounds _ body (init_is u s sst st.rounds (inits.Literal token)) e
+    init_fits sst st inits.ListBegin body own e = tt
+    init_fits sst st (inits.Member token name) body own e = tt
+    init_fits sst st (inits.Index token) body own e = tt
+    init_fits sst st (inits.Leaf first last) body own e = tt
+    init_fits sst st inits.ListEnd body own e = tt
+    init_fits sst st inits.End body own e = tt
+    init_fits sst st inits.LiteralEnd body own e = tt
+
+    -- what is opens along the tape of the item is of its tokens
+
+    abbrev AllDeclared : List OpenDeclaration → Type 0
+    AllDeclared [] = Unit {0}
+    AllDeclared (it ∷ outer) = (IsKeyed it.name × IsKeyed it.declared) × AllDeclared outer
+
+    abbrev NamingKeyed : Naming → Type 0
+    NamingKeyed a_name = Unit {0}
+    NamingKeyed (own_param g n) = IsKeyed g
+    NamingKeyed other_param = Unit {0}
+
+    abbrev AllAround : List Round → Type 0
+    AllAround [] = Unit {0}
+    AllAround (it ∷ outer) = NamingKeyed it.naming × AllAround outer
+
+    last_keyed : (ds : List OpenDeclaration) → AllDeclared ds → IsKeyed (declared_last ds)
+    last_keyed [] h = tt
+    last_keyed (it ∷ outer) h = h.0.1
+
+    so_far_keyed : (ds : List OpenDeclaration) → AllDeclared ds → IsKeyed (name_so_far ds)
+    so_far_keyed [] h = tt
+    so_far_keyed (it ∷ outer) h = h.0.0
+
+    innermost_keyed : (rs : List Round) → AllAround rs → NamingKeyed (innermost rs).naming
+    innermost_keyed [] h = tt
+    innermost_keyed (it ∷ outer) h = h.0
+
+    own_keyed : (it : Naming) → NamingKeyed it → (g : Option ℕ) (n : ℕ) → it ≡ own_param g n → IsKeyed g
+    own_keyed a_name h g n e = absurd cc
+    own_keyed (own_param c m) h g n e = let same : c ≡ g = cc in subst IsKeyed same h
+    own_keyed other_param h g n e = absurd cc
+
+    declr_fits : (st : State) (op : DeclrOp) → OpContext t st (ops.Declr op) → IsKeyed (declr_key op) →
+        AllAround st.rounds.around → DeclrFits w k.starts f st op
+    declr_fits st (declrs.DeclName token name) its keyed around_ =
+        naming_fits token (naming st.rounds) keyed its.params
+        (own_keyed (naming st.rounds) (innermost_keyed st.rounds.around around_))
+    declr_fits st (declrs.ParamsBegin is_own) its keyed around_ = tt
+    declr_fits st declrs.Param its keyed around_ = tt
+    declr_fits st declrs.ParamsEnd its keyed around_ = tt
+    declr_fits st declrs.Pointer its keyed around_ = tt
+    declr_fits st declrs.Array its keyed around_ = tt
+    declr_fits st (declrs.Function has_ellipsis) its keyed around_ = tt
+    declr_fits st declrs.Declare its keyed around_ = tt
+    declr_fits st declrs.Member its keyed around_ = tt
+    declr_fits st (declrs.TypeName first) its keyed around_ = tt
+    declr_fits st declrs.DeclarationEnd its keyed around_ = tt
+
+    stmt_fits : (st : State) (op : StmtOp) → OpContext t st (ops.Stmt op) → AllDeclared st.declarations →
+        StmtFits w k.starts f st op
+    stmt_fits st stmts.Quiet its opens = tt
+    stmt_fits st stmts.Loud its opens = tt
+    stmt_fits st stmts.Pop its opens = tt
+    stmt_fits st (stmts.Return token last) its opens = tt
+    stmt_fits st stmts.Enter its opens = tt
+    stmt_fits st stmts.Leave its opens = tt
+    stmt_fits st stmts.FunctionBody its opens =
+        function_fits (declared_last st.declarations) its.begins (last_keyed st.declarations opens)
+    stmt_fits st stmts.FunctionEnd its opens = tt
+
+    body_own : (body : Option ℕ) → BodyIsOf t body → IsOwn f (function_at u s body)
+    body_own body (inl e) = inl (ap (function_at u s) e)
+    body_own body (inr e) = inr (ap (function_at u s) e)
+
+    op_fits : (sst : shapes.State) (st : State) (op : Op) → OpContext t st op → IsKeyed (op_key op) →
+        AllDeclared st.declarations → AllAround st.rounds.around →
+        IsExact u s k.starts (op_key op) (op_starts u s sst st.rounds op) → OpFits w k.starts f st op
+    op_fits sst st (ops.Expr op) its keyed opens around_ e =
+        expr_fits sst st op (body_own st.rounds.body its.body) keyed e
+    op_fits sst st (ops.Form op) its keyed opens around_ e = form_fits sst st.rounds op (body_own st.rounds.body its.body) e
+    op_fits sst st (ops.Init op) its keyed opens around_ e =
+        init_fits sst st op (body_own st.rounds.body its.body) (last_keyed st.declarations opens) e
+    op_fits sst st (ops.Spec op) its keyed opens around_ e = tt
+    op_fits sst st (ops.Declr op) its keyed opens around_ e = declr_fits st op its keyed around_
+    op_fits sst st (ops.Stmt op) its keyed opens around_ e = stmt_fits st op its opens
+
+    -- steps
+
+    expr_open : (st : State) (op : ExprOp) → (expr_step w st op).declarations ≡ st.declarations
+    expr_open st (exprs.Name is_called token name) = refl
+    expr_open st (exprs.Number token) = refl
+    expr_open st (exprs.Char token) = refl
+    expr_open st (exprs.Text token) = refl
+    expr_open st (exprs.Paren token) = refl
+    expr_open st (exprs.Ext token) = refl
+    expr_open st (exprs.Comma token) = refl
+    expr_open st (exprs.Assign sign token first last) = refl
+    expr_open st (exprs.Cond has_middle token first last) = refl
+    expr_open st (exprs.Binary sign token first last) = refl
+    expr_open st (exprs.Prefix sign token last) = refl
+    expr_open st (exprs.Post sign token first) = refl
+    expr_open st (exprs.Index token first last) = refl
+    expr_open st (exprs.Arg behind first last) = refl
+    expr_open st (exprs.Call token count) = refl
+    expr_open st (exprs.Arrow token first last) = refl
+    expr_open st (exprs.Dot token member name) = refl
+
+    form_open : (st : State) (op : FormOp) → (form_step w st op).declarations ≡ st.declarations
+    form_open st (forms.Cast token last) = refl
+    form_open st (forms.Sizeof token) = refl
+    form_open st (forms.StmtExpr true token) = refl
+    form_open st (forms.StmtExpr false token) = refl
+    form_open st (forms.VaArg token last) = refl
+    form_open st (forms.VaStart token last) = refl
+    form_open st (forms.VaCopy token last) = refl
+    form_open st (forms.OffsetMember token name) = refl
+    form_open st (forms.OffsetIndex token) = refl
+    form_open st (forms.Offset token) = refl
+
+    init_open : (st : State) (op : InitOp) → (init_step w st op).declarations ≡ st.declarations
+    init_open st (inits.Value first last) = refl
+    init_open st inits.Begin = refl
+    init_open st inits.Rule = refl
+    init_open st (inits.Literal token) = refl
+    init_open st inits.ListBegin = refl
+    init_open st (inits.Member token name) = refl
+    init_open st (inits.Index token) = refl
+    init_open st (inits.Leaf first last) = refl
+    init_open st inits.ListEnd = refl
+    init_open st inits.End = refl
+    init_open st inits.LiteralEnd = refl
+
+    outer_open : (ds : List OpenDeclaration) → AllDeclared ds → AllDeclared (shapes.without_innermost ds)
+    outer_open [] h = tt
+    outer_open (it ∷ outer) h = h.1
+
+    named_open : (token : ℕ) (ds : List OpenDeclaration) → IsKeyed (Some token) → AllDeclared ds →
+        AllDeclared (changed (shapes.with_name token) ds)
+    named_open token [] keyed h = tt
+    named_open token (it ∷ outer) keyed h = ((keyed, h.0.1), h.1)
+
+    declared_open : (ds : List OpenDeclaration) → AllDeclared ds → AllDeclared (changed shapes.with_declared ds)
+    declared_open [] h = tt
+    declared_open (it ∷ outer) h = ((tt, h.0.0), h.1)
+
+    unnamed_open : (ds : List OpenDeclaration) → AllDeclared ds → AllDeclared (changed shapes.without_name ds)
+    unnamed_open [] h = tt
+    unnamed_open (it ∷ outer) h = ((tt, h.0.1), h.1)
+
+    spec_open : (st : State) (op : SpecOp) → AllDeclared st.declarations → AllDeclared (spec_step st op).declarations
+    spec_open st (specs.Word token) h = h
+    spec_open st (specs.Storage keyword) h = h
+    spec_open st specs.Void h = h
+    spec_open st (specs.Typedef token name) h = h
+    spec_open st (specs.TagUse kind token name) h = h
+    spec_open st (specs.TagAlone kind token name) h = h
+    spec_open st (specs.TagBody kind token name) h = h
+    spec_open st (specs.Untagged kind token) h = h
+    spec_open st specs.BodyEnd h = h
+    spec_open st (specs.Enumerator token name) h = h
+    spec_open st (specs.UnnamedMember token) h = h
+    spec_open st specs.SpecsEnd h = ((tt, tt), h)
+
+    declr_open : (st : State) (op : DeclrOp) → IsKeyed (declr_key op) → AllDeclared st.declarations →
+        AllDeclared (declr_step w st op).declarations
+    declr_open st (declrs.DeclName token name) keyed h = named_open token st.declarations keyed h
+    declr_open st (declrs.ParamsBegin is_own) keyed h = h
+    declr_open st declrs.Param keyed h = outer_open st.declarations h
+    declr_open st declrs.ParamsEnd keyed h = h
+    declr_open st declrs.Pointer keyed h = h
+    declr_open st declrs.Array keyed h = h
+    declr_open st (declrs.Function has_ellipsis) keyed h = h
+    declr_open st declrs.Declare keyed h = declared_open st.declarations h
+    declr_open st declrs.Member keyed h = unnamed_open st.declarations h
+    declr_open st (declrs.TypeName first) keyed h = outer_open st.declarations h
+    declr_open st declrs.DeclarationEnd keyed h = outer_open st.declarations h
+
+    stmt_open : (st : State) (op : StmtOp) → (stmt_step st op).declarations ≡ st.declarations
+    stmt_open st stmts.Quiet = refl
+    stmt_open st stmts.Loud = refl
+    stmt_open st stmts.Pop = refl
+    stmt_open st (stmts.Return token last) = refl
+    stmt_open st stmts.Enter = refl
+    stmt_open st stmts.Leave = refl
+    stmt_open st stmts.FunctionBody = refl
+    stmt_open st stmts.FunctionEnd = refl
+
+    step_open : (st : State) (op : Op) → IsKeyed (op_key op) → AllDeclared st.declarations →
+        AllDeclared (step w st op).declarations
+    step_open st (ops.Expr op) keyed h = subst AllDeclared (sym (expr_open st op)) h
+    step_open st (ops.Form op) keyed h = subst AllDeclared (sym (form_open st op)) h
+    step_open st (ops.Init op) keyed h = subst AllDeclared (sym (init_open st op)) h
+    step_open st (ops.Spec op) keyed h = spec_open st op h
+    step_open st (ops.Declr op) keyed h = declr_open st op keyed h
+    step_open st (ops.Stmt op) keyed h = subst AllDeclared (sym (stmt_open st op)) h
+
+    left_around : (rs : List Round) → AllAround rs → AllAround (shapes.without_innermost rs)
+    left_around [] h = tt
+    left_around (it ∷ outer) h = h.1
+
+    next_keyed : (it : Naming) → NamingKeyed it → NamingKeyed (next_naming it)
+    next_keyed a_name h = tt
+    next_keyed (own_param g n) h = h
+    next_keyed other_param h = tt
+
+    next_around : (rs : List Round) → AllAround rs → AllAround (changed next_round rs)
+    next_around [] h = tt
+    next_around (it ∷ outer) h = (next_keyed it.naming h.0, h.1)
+
+    params_keyed : (own : Bool) (ds : List OpenDeclaration) → AllDeclared ds → NamingKeyed (params_naming own ds)
+    params_keyed true ds h = so_far_keyed ds h
+    params_keyed false ds h = tt
+
+    form_around : (r : Rounds) (op : FormOp) → AllAround r.around → AllAround (form_round r op).around
+    form_around r (forms.Cast token last) h = h
+    form_around r (forms.Sizeof token) h = left_around r.around h
+    form_around r (forms.StmtExpr has_value token) h = h
+    form_around r (forms.VaArg token last) h = h
+    form_around r (forms.VaStart token last) h = h
+    form_around r (forms.VaCopy token last) h = h
+    form_around r (forms.OffsetMember token name) h = h
+    form_around r (forms.OffsetIndex token) h = h
+    form_around r (forms.Offset token) h = left_around r.around h
+
+    spec_around : (r : Rounds) (op : SpecOp) → AllAround r.around → AllAround (spec_round r op).around
+    spec_around r (specs.Word token) h = h
+    spec_around r (specs.Storage keyword) h = h
+    spec_around r specs.Void h = h
+    spec_around r (specs.Typedef token name) h = h
+    spec_around r (specs.TagUse kind token name) h = h
+    spec_around r (specs.TagAlone kind token name) h = h
+    spec_around r (specs.TagBody kind token name) h = (tt, h)
+    spec_around r (specs.Untagged kind token) h = (tt, h)
+    spec_around r specs.BodyEnd h = left_around r.around h
+    spec_around r (specs.Enumerator token name) h = h
+    spec_around r (specs.UnnamedMember token) h = h
+    spec_around r specs.SpecsEnd h = h
+
+    declr_around : (ds : List OpenDeclaration) (r : Rounds) (op : DeclrOp) → AllDeclared ds → AllAround r.around →
+        AllAround (declr_round ds r op).around
+    declr_around ds r (declrs.DeclName token name) opens h = h
+    declr_around ds r (declrs.ParamsBegin is_own) opens h = (params_keyed is_own ds opens, h)
+    declr_around ds r declrs.Param opens h = next_around r.around h
+    declr_around ds r declrs.ParamsEnd opens h = left_around r.around h
+    declr_around ds r declrs.Pointer opens h = h
+    declr_around ds r declrs.Array opens h = h
+    declr_around ds r (declrs.Function has_ellipsis) opens h = h
+    declr_around ds r declrs.Declare opens h = h
+    declr_around ds r declrs.Member opens h = h
+    declr_around ds r (declrs.TypeName first) opens h = h
+    declr_around ds r declrs.DeclarationEnd opens h = h
+
+    stmt_around : (ds : List OpenDeclaration) (r : Rounds) (op : StmtOp) → AllAround r.around →
+        AllAround (stmt_round ds r op).around
+    stmt_around ds r stmts.Quiet h = (tt, h)
+    stmt_around ds r stmts.Loud h = left_around r.around h
+    stmt_around ds r stmts.Pop h = h
+    stmt_around ds r (stmts.Return token last) h = h
+    stmt_around ds r stmts.Enter h = (tt, h)
+    stmt_around ds r stmts.Leave h = left_around r.around h
+    stmt_around ds r stmts.FunctionBody h = h
+    stmt_around ds r stmts.FunctionEnd h = h
+
+    step_around : (st : State) (op : Op) → AllDeclared st.declarations → AllAround st.rounds.around →
+        AllAround (step w st op).rounds.around
+    step_around st (ops.Expr op) opens h = h
+    step_around st (ops.Form op) opens h = form_around st.rounds op h
+    step_around st (ops.Init op) opens h = h
+    step_around st (ops.Spec op) opens h = spec_around st.rounds op h
+    step_around st (ops.Declr op) opens h = declr_around st.declarations st.rounds op opens h
+    step_around st (ops.Stmt op) opens h = stmt_around st.declarations st.rounds op h
+
+    -- along the tape
+
+    abbrev pub AreKeyed : List Op → Type 0
+    AreKeyed tape = (p : Place) → has_place (key_places u tape) p ≡ true → has_place i.keys p ≡ true
+
+    head_keyed : (key : Option ℕ) (qs : List Place) →
+        ((p : Place) → has_place (key_place u key ++ qs) p ≡ true → has_place i.keys p ≡ true) → IsKeyed key
+    head_keyed None qs h = tt
+    head_keyed (Some token) qs h = h (place u token) (has_itself (place u token) qs)
+
+    pub along : (tape : List Op) (sst : shapes.State) (st : State) → Alike w sst st → AreKeyed tape →
+        ContextsAlong w t st tape → AllDeclared st.declarations → AllAround st.rounds.around →
+        ExactAlong u s k.starts sst st.rounds tape → OpsFit w k.starts f st tape
+    along [] sst st same keyed its opens around_ e = tt
+    along (op ∷ tape) sst st same keyed its opens around_ e =
+        let here = head_keyed (op_key op) (key_places u tape) keyed in (
+          op_fits sst st op its.0 here opens around_ e.0,
+          along tape (shape_steps.step u s sst op) (step w st op) (alike w sst st op same)
+              (λ p has. keyed p (has_right (key_place u (op_key op)) (key_places u tape) p has)) its.1
+              (step_open st op here opens) (step_around st op opens around_)
+              (subst (λ (ds : List OpenDeclaration).
+              ExactAlong u s k.starts (shape_steps.step u s sst op) (round_step ds st.rounds op) tape) same e.1),
+        )

@@ -1,9 +1,13 @@
+mod Alike
 mod Apart
 mod Begin
 mod Contexts
+mod Fits
 mod Found
 mod Functions
+mod Placed
 mod Places
 mod Stacks
 mod Steps
 mod Turns
+mod Whole

@@ -2,7 +2,6 @@
 use Rattle.std.proofs.Common.{◌≡◌, inl, inr, ℕ, suc, ◌+◌, Bool, true, false, List, [], ◌∷◌, drop, Option, None, Some, refl, subst}
 use Rattle.std.specs.Prelude.{take, if◌then◌else◌}
 use Rattle.qual_base.specs.declared.places.Span.{Span}
-use Rattle.flow_graph.specs.System.{owner_of}
 use Rattle.tape_ops.specs.declared.op.Op.{Op}
 use Rattle.tape_ops.specs.declared.op.Op.TheVariants as ops
 use Rattle.tape_ops.specs.declared.expression.ExprOp.{ExprOp}
@@ -19,7 +18,6 @@ use Rattle.tape_ops.specs.declared.statement.StmtOp.{StmtOp}
 use Rattle.tape_ops.specs.declared.statement.StmtOp.TheVariants as stmts
 use Rattle.type_table.specs.Types.{CType, pointer}
 use Rattle.qual_types.specs.Skel.{Skel, root, param_at}
-use Rattle.flow_rules.specs.Lists.{unsmash}
 use Rattle.name_rules.specs.Spellings.{Place}
 use Rattle.name_rules.specs.Scopes.{Role, typedef_role, object_role, function_role, parameter_role, field_role, enumerator_role, Declared, declared_at, Use, means, called, missing}
 use Rattle.name_rules.specs.Uses.{use_at}

@@ -1,8 +1,16 @@
 //! Laws of the constraints along tapes.
 
+ghost use Rattle.owned_laws.specs.Programs.{SystemsAreOwned};
 ghost use Rattle.owned_laws.specs.Tapes.{TapesFit};
 
+use key_laws::keys_differ;
+use meaning_laws::meanings_are_first;
+use name_laws::names_of_tapes;
 use owner_laws::{fitting_is_well_owned, instances_fit, parts_stay, rows_fit, skeletons_are_owned};
+use row_laws::rows_are_found;
+use scope_laws::names_stay;
+use start_laws::starts_are_found;
+use tape_laws::items_are_bracketed;
 
 /// The constraints along a tape fit, where the skeletons that each op looks up belong to the
 /// function around it or to nobody.
@@ -14,4 +22,20 @@ pub fn tapes_fit()
     fitting_is_well_owned();
     parts_stay();
     skeletons_are_owned();
+}
+
+/// The system of every program is well owned: no flow joins two functions, and each call of a site and each return leads from its
+/// owner to its target or back. Its units are well formed of differently numbered tokens, and have different numbers.
+pub fn systems_are_owned()
+    ensures { SystemsAreOwned }
+{
+    tapes_fit();
+    rows_are_found();
+    starts_are_found();
+    fitting_is_well_owned();
+    names_of_tapes();
+    meanings_are_first();
+    items_are_bracketed();
+    keys_differ();
+    names_stay();
 }

@@ -1,6 +1,6 @@
-//! That the system of a program is well owned, by what is at each op of its tapes.
+//! That the system of every program is well owned, by what is at each op of its tapes.
 #![tactic(auto)]
 
 mod laws;
 
-pub use laws::tapes_fit;
+pub use laws::{systems_are_owned, tapes_fit};

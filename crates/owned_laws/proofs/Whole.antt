@@ -1,0 +1,301 @@
+-- The constraints of all units of a program.
+use Rattle.std.proofs.Common.{◌≡◌, All, map, true, false, Bool, List, [], ◌∷◌, ◌++◌, Option, None, Some, refl, sym, ◌∙◌, ap, subst, append_assoc, append-nil}
+use Rattle.std.proofs.lemmas.List.Elements.{All-nil, All-cons, All-head, All-tail}
+use Rattle.std.specs.Prelude.{if◌then◌else◌}
+use Rattle.flow_graph.specs.System.{IsWellOwned}
+use Rattle.tape_ops.specs.declared.op.Op.{Op}
+use Rattle.c_tree.specs.declared.lexeme.Lexeme.{Lexeme}
+use Rattle.c_tree.specs.Unit.{Item, IsItem}
+use Rattle.c_tape.specs.Tape.{item_tape, tape_of}
+use Rattle.name_rules.specs.Spellings.{Spelling, Place}
+use Rattle.name_rules.specs.Scopes.{Names, is_place}
+use Rattle.type_rules.specs.Program.{Source, names_of}
+use Rattle.shape_steps.specs.State as shapes
+use Rattle.row_rules.specs.Starting.{Start}
+use Rattle.row_rules.specs.Worlds.{World}
+use Rattle.row_rules.specs.Sites.{AreDifferent, functions_of, has_place}
+use Rattle.row_steps.specs.Rounds.{file}
+use Rattle.row_steps.specs.State.{nothing}
+use Rattle.row_steps.specs.Found.{unit_rows}
+use Rattle.row_steps.specs.Starting.{function_at, unit_starts}
+use Rattle.constraint_rules.specs.Demands.{item_demand, items_demand}
+use Rattle.constraint_rules.specs.Starts.{item_starts, items_starts}
+use Rattle.constraint_rules.specs.Systems.{Program, starts_among, starts_of, world_of, demands_among, system_of}
+use Rattle.row_laws.specs.Laws.{RowsAreFound}
+use Rattle.start_laws.specs.Laws.{StartsAreFound}
+use Rattle.meaning_laws.specs.Meanings.{Differ, NamesAreFirst, MeaningsAreFirst}
+use Rattle.name_laws.specs.NameLaws.{tape_of_source, IsSound, NamesOfTapes}
+use Rattle.key_laws.specs.Keys.{key_place, op_key, key_places, KeysAreApart}
+use Rattle.key_laws.specs.Differing.{IsRead, UnitsDiffer, keys_among, KeysDiffer}
+use Rattle.scope_laws.specs.Staying.{AreWithin, ItemsStay, SourcesStay, NamesStay}
+use Rattle.owner_laws.specs.Fitting.{AllFit, FittingIsWellOwned, ListsFit, start_at}
+use Rattle.tape_laws.specs.Marks.{function_token, DeclaresIts, ItemsAreBracketed}
+use Rattle.owned_laws.specs.Around.{Settled}
+use Rattle.owned_laws.specs.Tapes.{TapesFit}
+use Rattle.owned_laws.specs.Programs.{AllApart, SystemsAreOwned}
+use Rattle.owned_laws.proofs.Places.{Kept, none_kept, joined_kept, none_before, none_behind, has_left, differ_before, differ_apart, differ_right}
+use Rattle.owned_laws.proofs.Apart.{declared_differ, names_apart}
+use Rattle.owned_laws.proofs.Begin.{IsPlaced, AllPlaced, placed_at, tape_kept, ExactAlong, exact, regroup}
+use Rattle.owned_laws.proofs.Placed.{tape_placed}
+use Rattle.owned_laws.proofs.Contexts.{contexts_along}
+use Rattle.owned_laws.proofs.Fits.{Scene, Item as ItemScene, members, along}
+use Rattle.owned_laws.proofs.Functions.{functions_begin, declares_its}
+
+pub record Laws : Type 0 where
+  pub tapes : TapesFit
+  pub rows : RowsAreFound
+  pub begins : StartsAreFound
+  pub lists : ListsFit
+  pub whole : FittingIsWellOwned
+  pub names : NamesOfTapes
+  pub meanings : MeaningsAreFirst
+  pub bracketed : ItemsAreBracketed
+  pub keys : KeysDiffer
+  pub stays : NamesStay
+
+keys_joined : (u : Spelling) (xs ys : List Op) → key_places u (xs ++ ys) ≡ key_places u xs ++ key_places u ys
+keys_joined u [] ys = refl
+keys_joined u (op ∷ xs) ys =
+    ap (λ (ps : List Place). key_place u (op_key op) ++ ps) (keys_joined u xs ys)
+    ∙ sym (append_assoc (key_place u (op_key op)) (key_places u xs) (key_places u ys))
+
+apart_left : (u : Spelling) (s : Names) (xs ys : List Op) → KeysAreApart u s (xs ++ ys) → KeysAreApart u s xs
+apart_left u s [] ys h = tt
+apart_left u s (op ∷ xs) ys h = (h.0, apart_left u s xs ys h.1)
+
+apart_right : (u : Spelling) (s : Names) (xs ys : List Op) → KeysAreApart u s (xs ++ ys) → KeysAreApart u s ys
+apart_right u s [] ys h = h
+apart_right u s (op ∷ xs) ys h = apart_right u s xs ys h.1
+
+sound_of : (sources : List Source) → All IsRead sources → All IsSound sources
+sound_of [] h = All-nil IsSound
+sound_of (it ∷ sources) h =
+    let read = All-head IsRead it sources h in
+    All-cons IsSound it sources (read.all, read.rules) (sound_of sources (All-tail IsRead it sources h))
+
+-- each skeleton is that of some item
+abbrev AllSome : Names → List Start → Type 0
+AllSome s [] = Unit {0}
+AllSome s (x ∷ xs) = ((g : Option Place) × IsPlaced s g x) × AllSome s xs
+
+some_of : (s : Names) (f : Option Place) (xs : List Start) → AllPlaced s f xs → AllSome s xs
+some_of s f [] h = tt
+some_of s f (x ∷ xs) h = ((f, h.0), some_of s f xs h.1)
+
+some_joined : (s : Names) (xs ys : List Start) → AllSome s xs → AllSome s ys → AllSome s (xs ++ ys)
+some_joined s [] ys h k = k
+some_joined s (x ∷ xs) ys h k = (h.0, some_joined s xs ys h.1 k)
+
+some_at : (s : Names) (xs : List Start) (p : Place) (it : Start) → AllSome s xs → start_at xs p ≡ Some it →
+    (g : Option Place) × IsPlaced s g it
+some_at s [] p it h is = absurd cc
+some_at s (x ∷ xs) p it h is = by (is_place x.at p) is (some_at s xs p it h.1)
+  where
+    by : (b : Bool) → (if b then Some x else start_at xs p) ≡ Some it →
+        (start_at xs p ≡ Some it → (g : Option Place) × IsPlaced s g it) → (g : Option Place) × IsPlaced s g it
+    by true is more =
+        let same : x ≡ it = cc in (h.0.0, subst (λ (y : Start). IsPlaced s h.0.0 y) same h.0.1)
+    by false is more = more is
+
+module _ (law : Laws) where
+  item_begins : (u : Spelling) (s : Names) (item : Item) → unit_starts u s (item_tape item) ≡ item_starts u s item
+  item_begins u s item =
+      ap (unit_starts u s) (sym (append-nil (item_tape item)))
+      ∙ (law.begins u s (item ∷ []) ∙ append-nil (item_starts u s item))
+
+  item_rows : (w : World) (item : Item) → w.own ≡ None → unit_rows w (item_tape item) ≡ item_demand w item
+  item_rows w item outside =
+      ap (unit_rows w) (sym (append-nil (item_tape item)))
+      ∙ (law.rows w (item ∷ []) outside ∙ append-nil (item_demand w item))
+
+  unit_kept : (u : Spelling) (s : Names) (items : List Item) →
+      Kept (key_places u (tape_of items)) (items_starts u s items)
+  unit_kept u s items =
+      subst (Kept (key_places u (tape_of items))) (law.begins u s items)
+      (tape_kept u s (tape_of items) shapes.nothing file)
+
+  item_kept : (u : Spelling) (s : Names) (item : Item) → Kept (key_places u (item_tape item)) (item_starts u s item)
+  item_kept u s item =
+      subst (Kept (key_places u (item_tape item))) (item_begins u s item)
+      (tape_kept u s (item_tape item) shapes.nothing file)
+
+  sources_kept : (s : Names) (sources : List Source) → Kept (keys_among sources) (starts_among s sources)
+  sources_kept s [] = none_kept
+  sources_kept s (it ∷ sources) =
+      joined_kept (key_places it.spelling (tape_of it.items)) (keys_among sources) (items_starts it.spelling s it.items)
+      (starts_among s sources) (unit_kept it.spelling s it.items) (sources_kept s sources)
+
+  module _ (p : Program) (read : All IsRead p.sources) (units : UnitsDiffer p.sources) where
+    abbrev s : Names
+    s = names_of p.sources
+
+    abbrev starts : List Start
+    starts = starts_of p.sources
+
+    abbrev functions : List Place
+    functions = functions_of s
+
+    sound : All IsSound p.sources
+    sound = sound_of p.sources read
+
+    differ : AreDifferent (keys_among p.sources)
+    differ = law.keys p.sources read units
+
+    first : NamesAreFirst s
+    first =
+        subst NamesAreFirst (law.names p.sources sound)
+        (law.meanings (map tape_of_source p.sources)
+        (subst (λ (names : Names). Differ names.declared) (sym (law.names p.sources sound))
+        (declared_differ p.sources s differ (law.names p.sources sound))))
+
+    -- the function of an item
+    abbrev function_of : Source → Item → Option Place
+    function_of it item = function_at it.spelling s (function_token item)
+
+    item_placed : (it : Source) (item : Item) → DeclaresIts item → KeysAreApart it.spelling s (item_tape item) →
+        AllPlaced s (function_of it item) (item_starts it.spelling s item)
+    item_placed it item declares apart =
+        subst (AllPlaced s (function_of it item)) (item_begins it.spelling s item)
+        (tape_placed (world_of p it) (function_token item) (item_tape item) shapes.nothing nothing refl
+        (contexts_along law.bracketed (world_of p it) item declares) apart)
+
+    items_some : (it : Source) (all : List Lexeme) (items : List Item) → All (IsItem all) items →
+        KeysAreApart it.spelling s (tape_of items) → AllSome s (items_starts it.spelling s items)
+    items_some it all [] rules apart = tt
+    items_some it all (item ∷ items) rules apart =
+        some_joined s (item_starts it.spelling s item) (items_starts it.spelling s items)
+        (some_of s (function_of it item) (item_starts it.spelling s item)
+        (item_placed it item (declares_its all item (All-head (IsItem all) item items rules))
+        (apart_left it.spelling s (item_tape item) (tape_of items) apart)))
+        (items_some it all items (All-tail (IsItem all) item items rules) (apart_right it.spelling s (item_tape item) (tape_of items) apart))
+
+    sources_some : (sources : List Source) → All IsRead sources → AllApart s sources → AllSome s (starts_among s sources)
+    sources_some [] h apart = tt
+    sources_some (it ∷ sources) h apart =
+        some_joined s (items_starts it.spelling s it.items) (starts_among s sources)
+        (items_some it (All-head IsRead it sources h).all it.items (All-head IsRead it sources h).rules.parts apart.0)
+        (sources_some sources (All-tail IsRead it sources h) apart.1)
+
+    apart_all : AllApart s p.sources
+    apart_all = names_apart p.sources s differ (law.names p.sources sound)
+
+    abbrev scene : Source → Scene
+    scene it = record {
+      world = world_of p it;
+      starts = starts;
+      placed = λ q x is. some_at s starts q x (sources_some p.sources read apart_all) is;
+      first = first;
+      functions = functions_begin s starts law.bracketed law.begins p.sources sound (law.names p.sources sound) refl;
+    }
+
+    settled : (it : Source) → Settled starts (world_of p it)
+    settled it = record {
+      knows = record { skeletons_are = refl; sites_are = refl };
+      sites_differ = (sources_kept s p.sources).differ differ;
+      members = members (scene it);
+    }
+
+    -- an item, with the skeletons before and behind it
+    module _ (it : Source) (item : Item) (xs zs : List Start) (ps rs : List Place) (before : Kept ps xs)
+        (behind : Kept rs zs) (all : xs ++ (item_starts it.spelling s item ++ zs) ≡ starts)
+        (apart : AreDifferent (ps ++ (key_places it.spelling (item_tape item) ++ rs))) where
+      keys : List Place
+      keys = key_places it.spelling (item_tape item)
+
+      -- at its places its skeletons alone
+      here : (q : Place) → has_place (key_places it.spelling (item_tape item)) q ≡ true →
+          start_at starts q ≡ start_at (item_starts it.spelling s item) q
+      here q has =
+          ap (λ (ys : List Start). start_at ys q) (sym all)
+          ∙ (none_before xs (item_starts it.spelling s item ++ zs) q
+          (before.begins q (differ_before ps (key_places it.spelling (item_tape item) ++ rs) q apart
+          (has_left (key_places it.spelling (item_tape item)) rs q has)))
+          ∙ none_behind (item_starts it.spelling s item) zs q
+          (behind.begins q (differ_apart (key_places it.spelling (item_tape item)) rs q
+          (differ_right ps (key_places it.spelling (item_tape item) ++ rs) apart) has)))
+
+      abbrev item_scene : DeclaresIts item → KeysAreApart it.spelling s (item_tape item) →
+          AreWithin it.spelling s (key_places it.spelling (item_tape item)) → ItemScene (scene it)
+      item_scene declares keys_apart stays = record {
+        token = function_token item;
+        keys = key_places it.spelling (item_tape item);
+        placed = λ q x has is. placed_at s (function_of it item) (item_starts it.spelling s item) q x
+            (item_placed it item declares keys_apart) (sym (here q has) ∙ is);
+        stays = stays;
+      }
+
+      item_fits : DeclaresIts item → KeysAreApart it.spelling s (item_tape item) →
+          AreWithin it.spelling s (key_places it.spelling (item_tape item)) →
+          AllFit (system_of p) (unit_rows (world_of p it) (item_tape item))
+      item_fits declares keys_apart stays =
+          law.tapes functions starts (demands_among p p.sources) (world_of p it) (function_of it item) (item_tape item)
+          (settled it)
+          (along (scene it) (item_scene declares keys_apart stays) (item_tape item) shapes.nothing nothing refl
+          (λ q has. has) (contexts_along law.bracketed (world_of p it) item declares) tt tt
+          (subst (λ (ys : List Start). ExactAlong it.spelling s ys shapes.nothing file (item_tape item))
+          (ap (λ (ys : List Start). xs ++ (ys ++ zs)) (item_begins it.spelling s item) ∙ all)
+          (exact it.spelling s (item_tape item) shapes.nothing file xs zs ps rs before behind apart)))
+
+    items_fit : (it : Source) (lexemes : List Lexeme) (items : List Item) (xs zs : List Start) (ps rs : List Place) →
+        Kept ps xs → Kept rs zs → xs ++ (items_starts it.spelling s items ++ zs) ≡ starts →
+        AreDifferent (ps ++ (key_places it.spelling (tape_of items) ++ rs)) → All (IsItem lexemes) items →
+        KeysAreApart it.spelling s (tape_of items) → ItemsStay it.spelling s items →
+        AllFit (system_of p) (items_demand (world_of p it) items)
+    items_fit it lexemes [] xs zs ps rs h l e d rules keys_apart stay = tt
+    items_fit it lexemes (item ∷ items) xs zs ps rs h l e d rules keys_apart stay =
+        law.lists (system_of p) (item_demand w item) (items_demand w items)
+        (subst (AllFit (system_of p)) (item_rows w item refl)
+        (item_fits it item xs (more ++ zs) ps (others ++ rs) h (joined_kept others rs more zs (unit_kept u s items) l)
+        (ap (λ (ys : List Start). xs ++ ys) (sym (append_assoc here_ more zs)) ∙ e)
+        (subst AreDifferent (ap (λ (qs : List Place). ps ++ qs) (append_assoc keys_ others rs)) apart)
+        (declares_its lexemes item (All-head (IsItem lexemes) item items rules)) (apart_left u s (item_tape item) (tape_of items) keys_apart) stay.0))
+        (items_fit it lexemes items (xs ++ here_) zs (ps ++ keys_) rs
+        (joined_kept ps keys_ xs here_ h (item_kept u s item)) l (regroup xs here_ more zs ∙ e)
+        (subst AreDifferent (sym (regroup ps keys_ others rs)) apart) (All-tail (IsItem lexemes) item items rules)
+        (apart_right u s (item_tape item) (tape_of items) keys_apart) stay.1)
+      where
+        w : World
+        w = world_of p it
+
+        u : Spelling
+        u = it.spelling
+
+        here_ : List Start
+        here_ = item_starts it.spelling s item
+
+        more : List Start
+        more = items_starts it.spelling s items
+
+        keys_ : List Place
+        keys_ = key_places it.spelling (item_tape item)
+
+        others : List Place
+        others = key_places it.spelling (tape_of items)
+
+        apart : AreDifferent (ps ++ ((keys_ ++ others) ++ rs))
+        apart = subst (λ (qs : List Place). AreDifferent (ps ++ (qs ++ rs)))
+            (keys_joined it.spelling (item_tape item) (tape_of items)) d
+
+    sources_fit : (sources : List Source) (xs : List Start) (ps : List Place) → Kept ps xs →
+        xs ++ starts_among s sources ≡ starts → AreDifferent (ps ++ keys_among sources) → All IsRead sources →
+        AllApart s sources → SourcesStay s sources → AllFit (system_of p) (demands_among p sources)
+    sources_fit [] xs ps h e d rules keys_apart stay = tt
+    sources_fit (it ∷ sources) xs ps h e d rules keys_apart stay =
+        law.lists (system_of p) (items_demand (world_of p it) it.items) (demands_among p sources)
+        (items_fit it (All-head IsRead it sources rules).all it.items xs (starts_among s sources) ps (keys_among sources) h (sources_kept s sources)
+        e d (All-head IsRead it sources rules).rules.parts keys_apart.0 stay.0)
+        (sources_fit sources (xs ++ items_starts it.spelling s it.items)
+        (ps ++ key_places it.spelling (tape_of it.items))
+        (joined_kept ps (key_places it.spelling (tape_of it.items)) xs (items_starts it.spelling s it.items) h
+        (unit_kept it.spelling s it.items))
+        (append_assoc xs (items_starts it.spelling s it.items) (starts_among s sources) ∙ e)
+        (subst AreDifferent
+        (sym (append_assoc ps (key_places it.spelling (tape_of it.items)) (keys_among sources))) d) (All-tail IsRead it sources rules) keys_apart.1
+        stay.1)
+
+    owned : IsWellOwned (system_of p)
+    owned = law.whole (system_of p)
+        (sources_fit p.sources [] [] none_kept refl differ read apart_all (law.stays p.sources sound differ))
+
+  pub systems_are_owned : SystemsAreOwned
+  systems_are_owned p read units = owned p read units
