@@ -50,9 +50,9 @@ cast_row w type is_zero a t where_ = if nat_eq (uncut w type) 0 then [] else flo
 abbrev pub tied : World → Bool → Skel → Skel → Span → List Constraint
 tied w is_one a b where_ = if is_one || (is_nothing a || is_nothing b) then [] else in_all w where_ (equal Flow true a b)
 
--- what is given flows into a skeleton, where that is one
-abbrev pub given : World → Skel → Skel → Span → List Constraint
-given w a b where_ = if is_nothing b then [] else in_all w where_ (flow Flow true a b)
+-- what is given flows into the skeleton of what was no function first, where that is one
+abbrev pub given : World → Bool → Skel → Skel → Span → List Constraint
+given w was_function a b where_ = if was_function || is_nothing b then [] else in_all w where_ (flow Flow true a b)
 
 -- the variable of further arguments flows into a list of arguments, where that is one
 abbrev pub begun : World → ℕ → Skel → Span → List Constraint

@@ -162,20 +162,21 @@ fn some_name(
     }
 }
 
-/// What is given flows into a skeleton, where that is one.
+/// What is given flows into the skeleton of what was no function first, where that is one.
 fn given(
     known: &Known,
     graph: &mut FlowGraph,
+    was_function: bool,
     from: SkelId,
     into: SkelId,
     span: &Span,
 ) -> Result<(), GraphFault>
     ensures ok { OnOk result (Adds known.now graph.old graph.new
-        (λ w. given w (skel known.now from) (skel known.now into) span.now)) }
+        (λ w. given w was_function (skel known.now from) (skel known.now into) span.now)) }
     ensures err { IfErr result (λ fault. Halts known.now graph.old graph.new fault
-        (λ w. given w (skel known.now from) (skel known.now into) span.now)) }
+        (λ w. given w was_function (skel known.now from) (skel known.now into) span.now)) }
 {
-    if is_nothing(known.vars, into) {
+    if was_function || is_nothing(known.vars, into) {
         return Ok(());
     }
     flow_in_all(known, graph, from, into, span)
@@ -196,8 +197,16 @@ fn into_param(
 {
     match param {
         Some(param) => {
+            let was_function = known.was_function(declared);
             let into = contents(known.vars, known.skeleton(&declared.at));
-            given(known, graph, *param, into, &word_span(&declared.at))
+            given(
+                known,
+                graph,
+                was_function,
+                *param,
+                into,
+                &word_span(&declared.at),
+            )
         }
         None => Ok(()),
     }

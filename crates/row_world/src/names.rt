@@ -1,9 +1,11 @@
 //! Names at tokens of the unit.
 
-ghost use Rattle.std.specs.Prelude.{◌≡◌, option_map};
+ghost use Rattle.std.specs.Prelude.{◌≡◌, ℕ, option_map};
+ghost use Rattle.type_table.specs.Types.{CType};
 ghost use Rattle.name_rules.specs.Scopes.{declared_at};
 ghost use Rattle.name_rules.specs.Uses as uses;
 ghost use Rattle.unit_names.specs.Shown.{use_of, role_of, declared_of};
+ghost use Rattle.row_rules.specs.Starting as starting;
 ghost use Rattle.row_rules.specs.Worlds.{World, at};
 ghost use Rattle.row_rules.specs.Vals as vals;
 ghost use Rattle.row_world.specs.Shown.{Shows, type, val};
@@ -14,6 +16,24 @@ use crate::skels::nowhere;
 use name_records::{Declared, Role, Use};
 use name_scopes::Place;
 use qual_base::{TokenId, TypeId};
+
+/// Whether a function is declared.
+fn is_some_function(declared: &Option<Declared>) -> bool
+    ensures { (t : ℕ → CType) →
+        result ≡ starting.is_some_function (option_map (declared_of t) declared.now) }
+{
+    let Some(declared) = declared else {
+        return false;
+    };
+    match declared.role {
+        Role::Function => true,
+        Role::Typedef => false,
+        Role::Object => false,
+        Role::Parameter(_) => false,
+        Role::Field(_, _) => false,
+        Role::Enumerator => false,
+    }
+}
 
 impl<'a> Known<'a> {
     /// What the name at a token stands for. Constant time.
@@ -47,6 +67,14 @@ impl<'a> Known<'a> {
             ≡ declared_at w.names.declared (at w token) }
     {
         self.declared(&self.place(token))
+    }
+
+    /// Whether what is declared was first declared as a function. Constant time.
+    pub fn was_function(&self, declared: &Declared) -> bool
+        ensures { (w : World) → Shows self.now w → result ≡ starting.is_some_function
+            (declared_at w.names.declared declared.now.first) }
+    {
+        is_some_function(&self.declared(&declared.first))
     }
 
     /// The operand that the name at a token is, by what it stands for. Constant time.
