@@ -2,5 +2,3 @@
 #![tactic(auto)]
 
 mod laws;
-
-pub use laws::elements_are_named;
