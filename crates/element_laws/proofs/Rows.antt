@@ -21,11 +21,11 @@ use Rattle.name_rules.specs.Scopes.{Role, typedef_role, object_role, function_ro
 use Rattle.name_rules.specs.Values.{is_additive}
 use Rattle.row_rules.specs.Starting.{is_some_function}
 use Rattle.row_rules.specs.Worlds.{World, all_lattices, at, constraint, constraints, site_number, skeleton, span, word_span}
-use Rattle.row_rules.specs.Annotations.{Annotation, entry_of_view, entry_at, signed, links_of_entry, alone, marked, annotation_constraints, annotated, annotating, bounds_of, bounds_from, write_bounds, deref_bounds, further, uncut, parameters}
+use Rattle.row_rules.specs.Annotations.{Annotation, entry_of_view, entry_at, signed, links_of_entry, alone, marked, annotation_constraints, annotated, annotating, bounds_of, bounds_from, write_bounds, deref_bounds, uncut, parameters}
 use Rattle.row_rules.specs.Indexing.{Indexed, indexed, value_lattices, is_below, below_each, below_all, indexing}
 use Rattle.row_rules.specs.Vals.{Val, contents, is_empty, is_fun, is_nothing, is_ref, result, value}
 use Rattle.row_rules.specs.Rows.{flowing, dereferenced, is_plus_or_minus, assigned, is_logical, computed, chosen, prefixed, passed, instance, some_instance, use_demand, annotating_some, annotating_place, cast_demand, annotating_name, tied_to_first, name_row, declared_row, some_declared_row, into_param, param_row, RowKind, no_row, row_of_name, row_of_param, row_at, returned, started, taken}
-use Rattle.element_laws.proofs.Elements.{AllNamed, lists_named, none_where, some_where, flows_named, calls_named, nobodys, all_nobodys}
+use Rattle.element_laws.proofs.Elements.{AllNamed, lists_named, none_where, some_where, flows_named, calls_named, nobodys}
 
 -- the flow lists of rows are flows, calls and returns alone
 pub record Flows : Type 0 where
