@@ -2,11 +2,14 @@
 
 ghost use Rattle.element_laws.specs.Naming.{ElementsAreNamed};
 
-use row_laws::rows_are_found;
+use flow_rules::{crossings_lead, flows_stay};
+use row_laws::constraints_are_found;
 
 /// Each constant and bound of the system of a program names an element of its lattice.
 pub fn elements_are_named()
     ensures { ElementsAreNamed }
 {
-    rows_are_found();
+    constraints_are_found();
+    flows_stay();
+    crossings_lead();
 }

@@ -1,0 +1,20 @@
+use Rattle.qual_base.specs.declared.places.Owner.TheVariants.{Nobody}
+use Rattle.qual_types.specs.Skel.{nodes}
+use Rattle.element_laws.proofs.Elements.{nobodys, all_nobodys, all_of_nobody}
+use Rattle.element_laws.proofs.Rows.{Flows}
+use Rattle.element_laws.proofs.Steps.{elements_are_named}
+use Rattle.element_laws.proofs.laws.elements_are_named.Goals as goal
+use Rattle.std.proofs.Common.{inl, refl}
+
+pub returns : goal.returns
+returns c = elements_are_named law c.constraints_are_found.ensures
+  where
+    law : Flows
+    law = record {
+      flown = λ a b. c.flows_stay.ensures.flow nobodys Nobody a b (all_nobodys (nodes a)) (all_nobodys (nodes b));
+      made_equal = λ a b. c.flows_stay.ensures.equate nobodys Nobody a b (all_nobodys (nodes a)) (all_nobodys (nodes b));
+      smashed = λ a e. c.flows_stay.ensures.smash nobodys Nobody a e (all_nobodys (nodes a)) (inl refl);
+      unsmashed = λ e b. c.flows_stay.ensures.unsmash nobodys Nobody e b (inl refl) (all_nobodys (nodes b));
+      crossed = λ site a b. c.crossings_lead.ensures nobodys Nobody Nobody site a b (all_of_nobody (nodes a))
+          (all_of_nobody (nodes b));
+    }
