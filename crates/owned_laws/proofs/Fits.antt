@@ -70,14 +70,6 @@ owned_own f g (Some p) own = own
 found_same : (x y : Declared) → Some x ≡ Some y → x ≡ y
 found_same x y e = cc
 
-role_function : (role : Role) → is_function_role role ≡ true → role ≡ function_role
-role_function function_role e = refl
-role_function typedef_role e = absurd cc
-role_function object_role e = absurd cc
-role_function (parameter_role i) e = absurd cc
-role_function (field_role n i) e = absurd cc
-role_function enumerator_role e = absurd cc
-
 module _ (k : Scene) where
   abbrev w : World
   w = k.world

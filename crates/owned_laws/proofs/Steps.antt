@@ -24,7 +24,7 @@ use Rattle.name_rules.specs.Uses.{use_at}
 use Rattle.shape_steps.specs.State.{OpenDeclaration, declared_last, without_innermost}
 use Rattle.row_rules.specs.Worlds.{World, at, all_lattices, span}
 use Rattle.row_rules.specs.Annotations.{parameters, further}
-use Rattle.row_rules.specs.Vals.{Val, a_value, a_place, contents, is_ref, result, member_skel, own, binary_of, branch, prefix_of, used}
+use Rattle.row_rules.specs.Vals.{contents, is_ref, own}
 use Rattle.row_rules.specs.Vals as vals
 use Rattle.row_rules.specs.Rows.{instance, some_instance, use_demand, annotating_some, annotating_place, name_row, declared_row, some_declared_row, param_row, row_at}
 use Rattle.row_steps.specs.Rounds.{Naming, a_name, own_param, other_param, naming, is_quiet, Rounds, round_step, stmt_round, spec_round, declr_round, form_round}
@@ -71,13 +71,6 @@ module _ (k : Setting) where
     braces = h.braces;
     literal = h.literal;
   }
-
-  -- the same stacks, where other parts change
-  same_in : (st : State) → StacksIn k st → (declarations : List OpenDeclaration) (bases : List ℕ) (passed : ℕ)
-      (rounds : Rounds) →
-      StacksIn k (record st { declarations = declarations; bases = bases; passed = passed; rounds = rounds })
-  same_in st h declarations bases passed rounds =
-      record { operands = h.operands; leaves = h.leaves; braces = h.braces; literal = h.literal }
 
   expr_in : (st : State) (op : ExprOp) → StacksIn k st → ExprFits w k.starts k.function st op →
       StacksIn k (expr_step w st op)

@@ -1,4 +1,3 @@
-mod Belonging
 mod Fitting
 mod Indexing
 mod Instances
