@@ -157,7 +157,7 @@ module _ (P : Place → Type 0) where
       thing_named things name ≡ found → (at : Place) → found ≡ Some at → P at
   some_thing_is things name found h e at is = thing_is things name at h (e ∙ is)
 
-  named_is : (names : List (ℕ × Meaning)) (name : ℕ) (m : Meaning) → NamesAre P names →
+  pub named_is : (names : List (ℕ × Meaning)) (name : ℕ) (m : Meaning) → NamesAre P names →
       meaning_in names name ≡ Some m → MeaningIs P m
   named_is [] name m h e = absurd cc
   named_is (it ∷ names) name m h e = by (nat_eq it.0 name) e (named_is names name m h.1)

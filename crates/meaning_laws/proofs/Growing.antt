@@ -1,4 +1,4 @@
--- Each step adds declarations behind those that are there.
+-- What each step adds to the declarations, behind those that are there, and what it leaves as it is.
 use Rattle.std.proofs.Common.{◌≡◌, ℕ, Bool, true, false, List, [], ◌∷◌, ◌++◌, length, Option, None, Some, refl, sym, ◌∙◌, ap, append_assoc, append-nil}
 use Rattle.std.specs.Prelude.{◌||◌, if◌then◌else◌}
 use Rattle.std.specs.List.{last_or}
@@ -21,7 +21,7 @@ use Rattle.name_rules.specs.Scopes.{object_role, Declared, Names, is_at_file, in
 use Rattle.name_rules.specs.Pieces.{is_function, decayed}
 use Rattle.name_rules.specs.Declaring.{Numbered, found_or_new, tag_used, untagged, begun_in, declared_here, declared_thing, declared_typedef, declared_some, declared_param, declared_member, has_word, keep}
 use Rattle.name_rules.specs.Units.{unit_begun}
-use Rattle.name_steps.specs.State.{State, with_names}
+use Rattle.name_steps.specs.State.{OpenDeclaration, State, no_declaration, innermost_or, with_innermost, with_names}
 use Rattle.name_steps.specs.Steps.{declaration, body, parameters, expression_step, specifier_step, declarator_step, body_entered_by, statement_step, step, run}
 use Rattle.name_steps.specs.Units.{Tape, tape_named, tapes_named}
 
@@ -81,7 +81,7 @@ used_same u alone kind token tag s =
     tag_same (if alone then tag_in (innermost s.scopes).tags kind (u.key tag) else tag_through s.scopes kind (u.key tag))
     u kind token tag s
 
-pub begun_same : (b : Bool) (at : Place) (kind : TagKind) (it : Numbered) →
+begun_same : (b : Bool) (at : Place) (kind : TagKind) (it : Numbered) →
     (begun_in b at kind it).names.declared ≡ it.names.declared
 begun_same true at kind it = refl
 begun_same false at kind it = refl
@@ -94,19 +94,38 @@ pub entered_same : (d : Option Declared) (s : Names) → (body_entered_by d s).d
 entered_same None s = refl
 entered_same (Some d) s = refl
 
+-- the names that are read
+
+abbrev pub names : List OpenDeclaration → List (Option Named)
+names [] = []
+names (d ∷ ds) = d.name ∷ names ds
+
+pub names_kept : (ds : List OpenDeclaration) (t : CType) →
+    names (with_innermost (record (innermost_or no_declaration ds) { declared = t }) ds) ≡ names ds
+names_kept [] t = refl
+names_kept (d ∷ ds) t = refl
+
 -- steps
 
 module _ (u : Spelling) where
+  pub tag_body_same : (st : State) (kind : TagKind) (token name : ℕ) →
+      (specifier_step u st (specs.TagBody kind token name)).names.declared ≡ st.names.declared
+  tag_body_same st kind token name =
+      begun_same (has_body (body_of (tag_used u true kind token name st.names).names.aggregates
+      (tag_used u true kind token name st.names).number)) (place u token) kind
+      (tag_used u true kind token name st.names) ∙ used_same u true kind token name st.names
+
+  pub untagged_same : (st : State) (kind : TagKind) (token : ℕ) →
+      (specifier_step u st (specs.Untagged kind token)).names.declared ≡ st.names.declared
+  untagged_same st kind token =
+      begun_same (has_body (body_of (untagged (place u token) kind st.names).names.aggregates
+      (untagged (place u token) kind st.names).number)) (place u token) kind (untagged (place u token) kind st.names)
+
   spec_grown : (st : State) (op : SpecOp) → Grown st.names.declared (specifier_step u st op).names.declared
   spec_grown st (specs.TagUse kind token name) = same _ _ (used_same u false kind token name st.names)
   spec_grown st (specs.TagAlone kind token name) = same _ _ (used_same u true kind token name st.names)
-  spec_grown st (specs.TagBody kind token name) =
-      same _ _ (begun_same (has_body (body_of (tag_used u true kind token name st.names).names.aggregates
-      (tag_used u true kind token name st.names).number)) (place u token) kind
-      (tag_used u true kind token name st.names) ∙ used_same u true kind token name st.names)
-  spec_grown st (specs.Untagged kind token) =
-      same _ _ (begun_same (has_body (body_of (untagged (place u token) kind st.names).names.aggregates
-      (untagged (place u token) kind st.names).number)) (place u token) kind (untagged (place u token) kind st.names))
+  spec_grown st (specs.TagBody kind token name) = same _ _ (tag_body_same st kind token name)
+  spec_grown st (specs.Untagged kind token) = same _ _ (untagged_same st kind token)
   spec_grown st (specs.Enumerator token name) = record { added = _; is = refl }
   spec_grown st (specs.UnnamedMember token) = record { added = _; is = refl }
   spec_grown st op = same _ _ refl
@@ -126,9 +145,13 @@ module _ (u : Spelling) where
   stmt_grown st stmts.FunctionBody = same _ _ (entered_same (last_or None st.names.declared) st.names)
   stmt_grown st op = same _ _ refl
 
-  expr_same : (st : State) (op : ExprOp) → (expression_step u st op).names.declared ≡ st.names.declared
+  pub expr_same : (st : State) (op : ExprOp) → (expression_step u st op).names.declared ≡ st.names.declared
   expr_same st (exprs.Name is_called token name) = refl
   expr_same st op = refl
+
+  pub expr_declarations : (st : State) (op : ExprOp) → (expression_step u st op).declarations ≡ st.declarations
+  expr_declarations st (exprs.Name is_called token name) = refl
+  expr_declarations st op = refl
 
   step_grown : (st : State) (op : Op) → Grown st.names.declared (step u st op).names.declared
   step_grown st (ops.Expr op) = same _ _ (expr_same st op)
