@@ -1,9 +1,7 @@
 mod Apart
 mod Changes
 mod Fitting
-mod Growing
 mod Marks
-mod Meanings
-mod Places
+pub mod Places
 mod Steps
 mod Whole

@@ -29,8 +29,7 @@ use Rattle.meaning_laws.specs.Meanings.{Differ}
 use Rattle.key_laws.specs.Keys.{key_place, key_places, op_key, spec_key, declr_key, expr_key}
 use Rattle.scope_laws.specs.Staying.{IsOfFile, IsWithin}
 use Rattle.scope_laws.proofs.Places.{has_itself, has_left, has_right}
-use Rattle.scope_laws.proofs.Apart.{names, names_kept}
-use Rattle.scope_laws.proofs.Growing.{run_grown, then_grown, Grown, keep_same}
+use Rattle.meaning_laws.proofs.Growing.{names, names_kept, run_grown, then_grown, Grown, keep_same}
 use Rattle.scope_laws.proofs.Marks.{quiet_was, tag_was, scope_was, Declaring, declaration_was, named_was, declared_was, member_was, param_was, Beginning, begun_was, Ending, params_were, body_begins, body_was}
 use Rattle.scope_laws.proofs.Fitting.{Around, params_left, scope_left, body_left, Keeps, keeps_some, body_ends_alone, body_around, owns, owns_kept, OwnIs, Owning, owning_top, HasName, HasLast, NameIn, Reading, reading_more, reading_top, reading_with, reading_own}
 use Rattle.scope_laws.proofs.Changes.{adds_then, adds_none, Fits, AddsTo, Goes, enumerator_goes, param_goes, member_goes, unnamed_goes, use_goes, tag_used_goes, tag_begun_goes, untagged_goes, some_goes}

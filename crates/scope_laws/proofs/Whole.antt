@@ -21,9 +21,10 @@ use Rattle.meaning_laws.specs.Meanings.{Differ, MeaningIs, NamesAre, ThingsAre, 
 use Rattle.key_laws.specs.Keys.{op_key, key_place, key_places}
 use Rattle.key_laws.specs.Differing.{keys_among}
 use Rattle.scope_laws.specs.Staying.{IsOfFile, IsWithin, ItemsStay, SourcesStay, NamesStay}
-use Rattle.scope_laws.proofs.Places.{place_is, declared_place, differ_left, differ_right, differ_apart, has_left, has_right}
+use Rattle.meaning_laws.proofs.Lists.{place_is}
+use Rattle.scope_laws.proofs.Places.{declared_place, differ_left, differ_right, differ_apart, has_left, has_right}
 use Rattle.scope_laws.proofs.Apart.{declared_differ}
-use Rattle.scope_laws.proofs.Growing.{Grown, then_grown, same, run_grown, tapes_grown}
+use Rattle.meaning_laws.proofs.Growing.{Grown, then_grown, same, run_grown, tapes_grown}
 use Rattle.scope_laws.proofs.Fitting.{Around, around_top}
 use Rattle.scope_laws.proofs.Changes.{Every, Adds, adds_none, adds_then, adds_map, UseWithin, DeclaredWithin}
 use Rattle.scope_laws.proofs.Steps.{Holds, Next, run_next}
@@ -330,7 +331,7 @@ names_stay named bracketed sources sound apart =
     S = tapes_named (map tape_of_source sources) no_names
 
     differ : Differ S.declared
-    differ = declared_differ sources apart
+    differ = declared_differ sources S apart refl
 
     adds : SourceAdds S differ sources no_names S
     adds = sources_next S differ bracketed sources no_names sound (same S.declared S.declared refl)
