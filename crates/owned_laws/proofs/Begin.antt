@@ -28,7 +28,8 @@ use Rattle.owner_laws.specs.Fitting.{start_at}
 use Rattle.owned_laws.specs.Contexts.{NamingIsOf, BodyIsOf}
 use Rattle.owned_laws.specs.Around.{BeginsIn, IsOwn}
 use Rattle.key_laws.specs.Keys.{expr_key, form_key, init_key, fresh_key, spec_key, declr_key, op_key, key_place, key_places, KeyIsApart}
-use Rattle.owned_laws.proofs.Places.{declared_place, none_before, none_behind, has_not_right, has_not_left, has_left, has_itself, differ_right, differ_before, Kept, none_kept, joined_kept, OneAt, one_kept}
+use Rattle.scope_laws.proofs.Places.{declared_place, has_not_right, has_not_left, has_left, has_itself, differ_right, differ_before}
+use Rattle.owned_laws.proofs.Places.{none_before, none_behind, Kept, none_kept, joined_kept, OneAt, one_kept}
 
 -- at most one, at the place and of the owner
 abbrev pub FreshAt : Place → Option Place → List Start → Type 0

@@ -38,7 +38,9 @@ use Rattle.owned_laws.specs.Around.{IsOwn, BeginsIn, MeantFits, SomeMeantFits, U
 use Rattle.owned_laws.specs.Contexts.{BodyIsOf, OpContext, ContextsAlong}
 use Rattle.owned_laws.specs.Names.{FunctionsBegin}
 use Rattle.owned_laws.specs.Tapes.{OpsFit}
-use Rattle.owned_laws.proofs.Places.{place_itself, declared_place, begins_at, has_itself, has_right}
+use Rattle.meaning_laws.proofs.Lists.{place_itself}
+use Rattle.scope_laws.proofs.Places.{declared_place, has_itself, has_right}
+use Rattle.owned_laws.proofs.Places.{begins_at}
 use Rattle.owned_laws.proofs.Begin.{FreshAt, fresh_begins, IsPlaced, expr_is, form_is, init_is, IsExact, ExactAlong}
 use Rattle.owned_laws.proofs.Alike.{Alike, alike}
 

@@ -6,13 +6,10 @@ use Rattle.c_words.specs.declared.kinds.Keyword.{Keyword}
 use Rattle.c_words.specs.declared.kinds.Keyword.TheVariants as keywords
 use Rattle.tape_ops.specs.declared.op.Op.{Op}
 use Rattle.tape_ops.specs.declared.op.Op.TheVariants as ops
-use Rattle.tape_ops.specs.declared.expression.ExprOp.{ExprOp}
-use Rattle.tape_ops.specs.declared.expression.ExprOp.TheVariants as exprs
 use Rattle.tape_ops.specs.declared.form.FormOp.{FormOp}
 use Rattle.tape_ops.specs.declared.form.FormOp.TheVariants as forms
 use Rattle.tape_ops.specs.declared.specifier.SpecOp.{SpecOp}
 use Rattle.tape_ops.specs.declared.specifier.SpecOp.TheVariants as specs
-use Rattle.tape_ops.specs.declared.specifier.TagKind.{TagKind}
 use Rattle.tape_ops.specs.declared.declarator.DeclrOp.{DeclrOp}
 use Rattle.tape_ops.specs.declared.declarator.DeclrOp.TheVariants as declrs
 use Rattle.tape_ops.specs.declared.statement.StmtOp.{StmtOp}
@@ -20,12 +17,12 @@ use Rattle.tape_ops.specs.declared.statement.StmtOp.TheVariants as stmts
 use Rattle.tape_laws.specs.Marks.{Mark, in_declaration, in_params, in_tag, in_scope, in_quiet, in_body, is_open, turn, IsBracketed, function_token, DeclaresIts, ItemsAreBracketed}
 use Rattle.type_table.specs.Types.{CType, pointer}
 use Rattle.name_rules.specs.Spellings.{Spelling, Place, place, Named}
-use Rattle.name_rules.specs.Scopes.{object_role, function_role, Declared, declared_at, Names, is_place, is_at_file, innermost, tag_in, tag_through, body_of, has_body, sized}
+use Rattle.name_rules.specs.Scopes.{object_role, function_role, Declared, declared_at, Names, is_place, is_at_file, innermost, sized}
 use Rattle.name_rules.specs.Pieces.{is_function, decayed}
-use Rattle.name_rules.specs.Declaring.{Numbered, found_or_new, tag_used, untagged, begun_in, declared_here, declared_thing, declared_typedef, declared_some, declared_param, declared_member, has_word, keep}
+use Rattle.name_rules.specs.Declaring.{declared_here, declared_thing, declared_typedef, declared_some, declared_param, declared_member, has_word}
 use Rattle.name_rules.specs.Units.{no_names, unit_begun}
 use Rattle.name_steps.specs.State.{OpenDeclaration, State, no_declaration, innermost_or, with_innermost, without_innermost, with_names}
-use Rattle.name_steps.specs.Steps.{declaration, body, parameters, body_entered_by, expression_step, specifier_step, declarator_step, statement_step, step, run}
+use Rattle.name_steps.specs.Steps.{declaration, body, parameters, specifier_step, declarator_step, statement_step, step, run}
 use Rattle.name_steps.specs.Units.{tapes_named}
 use Rattle.name_laws.specs.NameLaws.{tape_of_source, IsSound}
 use Rattle.std.specs.List.{last_or}
@@ -44,7 +41,9 @@ use Rattle.constraint_rules.specs.Systems.{starts_among}
 use Rattle.start_laws.specs.Laws.{StartsAreFound}
 use Rattle.owner_laws.specs.Fitting.{start_at}
 use Rattle.owned_laws.specs.Names.{FunctionsBegin}
-use Rattle.owned_laws.proofs.Places.{place_itself, declared_place}
+use Rattle.meaning_laws.proofs.Lists.{place_itself}
+use Rattle.meaning_laws.proofs.Growing.{names, names_kept, used_same, tag_body_same, untagged_same, keep_same, entered_same, expr_declarations, expr_same}
+use Rattle.scope_laws.proofs.Places.{declared_place}
 use Rattle.owned_laws.proofs.Turns.{quiet_was, tag_was, scope_was, declaration_was, params_were, named_was, begun_was, param_was, declared_was, member_was, body_begins, body_was}
 
 -- a skeleton begins there
@@ -71,82 +70,6 @@ has_right (x ∷ xs) ys p h none = by (is_place x.at p) none (has_right xs ys p 
     by : (b : Bool) → (if b then Some x else start_at (xs ++ ys) p) ≡ None → (start_at (xs ++ ys) p ≡ None → ⊥) → ⊥
     by true e next = absurd cc
     by false e next = next e
-
--- the names of the declarators that are read
-abbrev pub names : List OpenDeclaration → List (Option Named)
-names [] = []
-names (d ∷ ds) = d.name ∷ names ds
-
-pub names_kept : (ds : List OpenDeclaration) (t : CType) →
-    names (with_innermost (record (innermost_or no_declaration ds) { declared = t }) ds) ≡ names ds
-names_kept [] t = refl
-names_kept (d ∷ ds) t = refl
-
--- names that stay
-
-tag_same : (found : Option ℕ) (u : Spelling) (kind : TagKind) (token tag : ℕ) (s : Names) →
-    (found_or_new found u kind token tag s).names.declared ≡ s.declared
-tag_same (Some n) u kind token tag s = refl
-tag_same None u kind token tag s = refl
-
-pub used_same : (u : Spelling) (alone : Bool) (kind : TagKind) (token tag : ℕ) (s : Names) →
-    (tag_used u alone kind token tag s).names.declared ≡ s.declared
-used_same u alone kind token tag s =
-    tag_same (if alone then tag_in (innermost s.scopes).tags kind (u.key tag) else tag_through s.scopes kind (u.key tag))
-    u kind token tag s
-
-pub begun_same : (b : Bool) (at : Place) (kind : TagKind) (it : Numbered) →
-    (begun_in b at kind it).names.declared ≡ it.names.declared
-begun_same true at kind it = refl
-begun_same false at kind it = refl
-
-pub keep_same : (own : Option Place) (s : Names) → (keep own s).declared ≡ s.declared
-keep_same None s = refl
-keep_same (Some own) s = refl
-
-pub entered_same : (d : Option Declared) (s : Names) → (body_entered_by d s).declared ≡ s.declared
-entered_same None s = refl
-entered_same (Some d) s = refl
-
-pub expr_declarations : (u : Spelling) (st : State) (op : ExprOp) →
-    (expression_step u st op).declarations ≡ st.declarations
-expr_declarations u st (exprs.Name is_called token name) = refl
-expr_declarations u st (exprs.Number token) = refl
-expr_declarations u st (exprs.Char token) = refl
-expr_declarations u st (exprs.Text token) = refl
-expr_declarations u st (exprs.Paren token) = refl
-expr_declarations u st (exprs.Ext token) = refl
-expr_declarations u st (exprs.Comma token) = refl
-expr_declarations u st (exprs.Assign sign token first last) = refl
-expr_declarations u st (exprs.Cond has_middle token first last) = refl
-expr_declarations u st (exprs.Binary sign token first last) = refl
-expr_declarations u st (exprs.Prefix sign token last) = refl
-expr_declarations u st (exprs.Post sign token first) = refl
-expr_declarations u st (exprs.Index token first last) = refl
-expr_declarations u st (exprs.Arg behind first last) = refl
-expr_declarations u st (exprs.Call token count) = refl
-expr_declarations u st (exprs.Arrow token first last) = refl
-expr_declarations u st (exprs.Dot token member name) = refl
-
-pub expr_names : (u : Spelling) (st : State) (op : ExprOp) →
-    (expression_step u st op).names.declared ≡ st.names.declared
-expr_names u st (exprs.Name is_called token name) = refl
-expr_names u st (exprs.Number token) = refl
-expr_names u st (exprs.Char token) = refl
-expr_names u st (exprs.Text token) = refl
-expr_names u st (exprs.Paren token) = refl
-expr_names u st (exprs.Ext token) = refl
-expr_names u st (exprs.Comma token) = refl
-expr_names u st (exprs.Assign sign token first last) = refl
-expr_names u st (exprs.Cond has_middle token first last) = refl
-expr_names u st (exprs.Binary sign token first last) = refl
-expr_names u st (exprs.Prefix sign token last) = refl
-expr_names u st (exprs.Post sign token first) = refl
-expr_names u st (exprs.Index token first last) = refl
-expr_names u st (exprs.Arg behind first last) = refl
-expr_names u st (exprs.Call token count) = refl
-expr_names u st (exprs.Arrow token first last) = refl
-expr_names u st (exprs.Dot token member name) = refl
 
 -- a well-formed function's declarator declares one
 pub declares_its : (all : List Lexeme) (item : Item) → IsItem all item → DeclaresIts item
@@ -483,14 +406,8 @@ module _ (s : Names) (starts : List Start) where
     spec_begun (specs.Typedef token name) k = k
     spec_begun (specs.TagUse kind token name) k = same_begun _ (used_same u false kind token name st.names) k
     spec_begun (specs.TagAlone kind token name) k = same_begun _ (used_same u true kind token name st.names) k
-    spec_begun (specs.TagBody kind token name) k =
-        same_begun _ (begun_same (has_body (body_of (tag_used u true kind token name st.names).names.aggregates
-        (tag_used u true kind token name st.names).number)) (place u token) kind
-        (tag_used u true kind token name st.names) ∙ used_same u true kind token name st.names) k
-    spec_begun (specs.Untagged kind token) k =
-        same_begun _ (begun_same (has_body (body_of (untagged (place u token) kind st.names).names.aggregates
-        (untagged (place u token) kind st.names).number)) (place u token) kind
-        (untagged (place u token) kind st.names)) k
+    spec_begun (specs.TagBody kind token name) k = same_begun _ (tag_body_same u st kind token name) k
+    spec_begun (specs.Untagged kind token) k = same_begun _ (untagged_same u st kind token) k
     spec_begun specs.BodyEnd k = k
     spec_begun (specs.Enumerator token name) k = one_more st.names.declared _ k (λ role. absurd cc)
     spec_begun (specs.UnnamedMember token) k = one_more st.names.declared _ k (λ role. absurd cc)
@@ -528,7 +445,7 @@ module _ (s : Names) (starts : List Start) where
     stmt_begun stmts.FunctionEnd k = k
 
     all_begun : (op : Op) → turn t m op ≡ Some n → AllBegun st.names.declared → AllBegun (step u st op).names.declared
-    all_begun (ops.Expr op) e k = same_begun _ (expr_names u st op) k
+    all_begun (ops.Expr op) e k = same_begun _ (expr_same u st op) k
     all_begun (ops.Form op) e k = k
     all_begun (ops.Init op) e k = k
     all_begun (ops.Spec op) e k = spec_begun op k

@@ -1,5 +1,4 @@
 mod Alike
-mod Apart
 mod Begin
 mod Contexts
 mod Fits

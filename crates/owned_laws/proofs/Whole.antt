@@ -25,16 +25,17 @@ use Rattle.row_laws.specs.Laws.{RowsAreFound}
 use Rattle.start_laws.specs.Laws.{StartsAreFound}
 use Rattle.meaning_laws.specs.Meanings.{Differ, NamesAreFirst, MeaningsAreFirst}
 use Rattle.name_laws.specs.NameLaws.{tape_of_source, IsSound, NamesOfTapes}
-use Rattle.key_laws.specs.Keys.{key_place, op_key, key_places, KeysAreApart}
+use Rattle.key_laws.specs.Keys.{key_places, KeysAreApart}
 use Rattle.key_laws.specs.Differing.{IsRead, UnitsDiffer, keys_among, KeysDiffer}
+use Rattle.scope_laws.specs.Apart.{AllApart, DeclarationsDiffer, NamesAreApart}
 use Rattle.scope_laws.specs.Staying.{AreWithin, ItemsStay, SourcesStay, NamesStay}
 use Rattle.owner_laws.specs.Fitting.{AllFit, FittingIsWellOwned, ListsFit, start_at}
 use Rattle.tape_laws.specs.Marks.{function_token, DeclaresIts, ItemsAreBracketed}
 use Rattle.owned_laws.specs.Around.{Settled}
 use Rattle.owned_laws.specs.Tapes.{TapesFit}
-use Rattle.owned_laws.specs.Programs.{AllApart, SystemsAreOwned}
-use Rattle.owned_laws.proofs.Places.{Kept, none_kept, joined_kept, none_before, none_behind, has_left, differ_before, differ_apart, differ_right}
-use Rattle.owned_laws.proofs.Apart.{declared_differ, names_apart}
+use Rattle.owned_laws.specs.Programs.{SystemsAreOwned}
+use Rattle.scope_laws.proofs.Places.{has_left, differ_before, differ_apart, differ_right, keys_joined}
+use Rattle.owned_laws.proofs.Places.{Kept, none_kept, joined_kept, none_before, none_behind}
 use Rattle.owned_laws.proofs.Begin.{IsPlaced, AllPlaced, placed_at, tape_kept, ExactAlong, exact, regroup}
 use Rattle.owned_laws.proofs.Placed.{tape_placed}
 use Rattle.owned_laws.proofs.Contexts.{contexts_along}
@@ -51,13 +52,9 @@ pub record Laws : Type 0 where
   pub meanings : MeaningsAreFirst
   pub bracketed : ItemsAreBracketed
   pub keys : KeysDiffer
+  pub differ : DeclarationsDiffer
+  pub apart : NamesAreApart
   pub stays : NamesStay
-
-keys_joined : (u : Spelling) (xs ys : List Op) → key_places u (xs ++ ys) ≡ key_places u xs ++ key_places u ys
-keys_joined u [] ys = refl
-keys_joined u (op ∷ xs) ys =
-    ap (λ (ps : List Place). key_place u (op_key op) ++ ps) (keys_joined u xs ys)
-    ∙ sym (append_assoc (key_place u (op_key op)) (key_places u xs) (key_places u ys))
 
 apart_left : (u : Spelling) (s : Names) (xs ys : List Op) → KeysAreApart u s (xs ++ ys) → KeysAreApart u s xs
 apart_left u s [] ys h = tt
@@ -146,7 +143,7 @@ module _ (law : Laws) where
         subst NamesAreFirst (law.names p.sources sound)
         (law.meanings (map tape_of_source p.sources)
         (subst (λ (names : Names). Differ names.declared) (sym (law.names p.sources sound))
-        (declared_differ p.sources s differ (law.names p.sources sound))))
+        (law.differ p.sources sound differ)))
 
     -- the function of an item
     abbrev function_of : Source → Item → Option Place
@@ -177,7 +174,7 @@ module _ (law : Laws) where
         (sources_some sources (All-tail IsRead it sources h) apart.1)
 
     apart_all : AllApart s p.sources
-    apart_all = names_apart p.sources s differ (law.names p.sources sound)
+    apart_all = law.apart p.sources sound differ
 
     abbrev scene : Source → Scene
     scene it = record {

@@ -1,9 +1,11 @@
 -- Lists of places, and of what is declared at places.
-use Rattle.std.proofs.Common.{◌≡◌, ◌⊎◌, inl, inr, Bool, true, false, List, [], ◌∷◌, ◌++◌, Some, refl, ◌∙◌, ap, subst}
+use Rattle.std.proofs.Common.{◌≡◌, ◌⊎◌, inl, inr, Bool, true, false, List, [], ◌∷◌, ◌++◌, Some, refl, ◌∙◌, ap, subst, sym, append_assoc}
 use Rattle.std.specs.Prelude.{if◌then◌else◌}
-use Rattle.name_rules.specs.Spellings.{Place}
+use Rattle.tape_ops.specs.declared.op.Op.{Op}
+use Rattle.name_rules.specs.Spellings.{Spelling, Place}
 use Rattle.name_rules.specs.Scopes.{Declared, declared_at, is_place}
 use Rattle.row_rules.specs.Sites.{has_place, AreDifferent}
+use Rattle.key_laws.specs.Keys.{op_key, key_place, key_places}
 use Rattle.meaning_laws.proofs.Lists.{place_itself, place_is}
 
 pub declared_place : (ds : List Declared) (p : Place) (d : Declared) → declared_at ds p ≡ Some d → d.at ≡ p
@@ -136,3 +138,11 @@ tail_has_not p q xs e = has_not_right (p ∷ []) xs q e
 pub head_has_not : (p q : Place) (xs : List Place) → is_place p q ≡ false → has_place xs q ≡ false →
     has_place (p ∷ xs) q ≡ false
 head_has_not p q xs e k = ap (λ (b : Bool). if b then true else has_place xs q) e ∙ k
+
+-- of the ops of joined tapes
+
+pub keys_joined : (u : Spelling) (xs ys : List Op) → key_places u (xs ++ ys) ≡ key_places u xs ++ key_places u ys
+keys_joined u [] ys = refl
+keys_joined u (op ∷ xs) ys =
+    ap (λ (ps : List Place). key_place u (op_key op) ++ ps) (keys_joined u xs ys)
+    ∙ sym (append_assoc (key_place u (op_key op)) (key_places u xs) (key_places u ys))

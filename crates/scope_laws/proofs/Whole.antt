@@ -1,5 +1,5 @@
 -- What names mean stays in the item, or is of the file.
-use Rattle.std.proofs.Common.{◌≡◌, ◌⊎◌, inl, inr, ℕ, Bool, true, false, List, [], ◌∷◌, ◌++◌, map, Some, refl, sym, ◌∙◌, ap, subst, append_assoc}
+use Rattle.std.proofs.Common.{◌≡◌, ◌⊎◌, inl, inr, ℕ, Bool, true, false, List, [], ◌∷◌, ◌++◌, map, Some, refl, sym, ◌∙◌, ap, subst}
 use Rattle.std.specs.Prelude.{All, if◌then◌else◌}
 use Rattle.std.proofs.lemmas.List.Elements.{All-head, All-tail}
 use Rattle.tape_ops.specs.declared.op.Op.{Op}
@@ -18,11 +18,11 @@ use Rattle.name_laws.specs.NameLaws.{tape_of_source, IsSound, NamesOfTapes}
 use Rattle.type_rules.specs.Program.{Source}
 use Rattle.row_rules.specs.Sites.{has_place, AreDifferent}
 use Rattle.meaning_laws.specs.Meanings.{Differ, MeaningIs, NamesAre, ThingsAre, UseIs}
-use Rattle.key_laws.specs.Keys.{op_key, key_place, key_places}
+use Rattle.key_laws.specs.Keys.{key_places}
 use Rattle.key_laws.specs.Differing.{keys_among}
 use Rattle.scope_laws.specs.Staying.{IsOfFile, IsWithin, ItemsStay, SourcesStay, NamesStay}
 use Rattle.meaning_laws.proofs.Lists.{place_is}
-use Rattle.scope_laws.proofs.Places.{declared_place, differ_left, differ_right, differ_apart, has_left, has_right}
+use Rattle.scope_laws.proofs.Places.{keys_joined, declared_place, differ_left, differ_right, differ_apart, has_left, has_right}
 use Rattle.scope_laws.proofs.Apart.{declared_differ}
 use Rattle.meaning_laws.proofs.Growing.{Grown, then_grown, same, run_grown, tapes_grown}
 use Rattle.scope_laws.proofs.Fitting.{Around, around_top}
@@ -34,12 +34,6 @@ use Rattle.scope_laws.proofs.Steps.{Holds, Next, run_next}
 run_joined : (u : Spelling) (xs ys : List Op) (st : State) → run u (xs ++ ys) st ≡ run u ys (run u xs st)
 run_joined u [] ys st = refl
 run_joined u (op ∷ xs) ys st = run_joined u xs ys (step u st op)
-
-keys_joined : (u : Spelling) (xs ys : List Op) → key_places u (xs ++ ys) ≡ key_places u xs ++ key_places u ys
-keys_joined u [] ys = refl
-keys_joined u (op ∷ xs) ys =
-    ap (λ (ps : List Place). key_place u (op_key op) ++ ps) (keys_joined u xs ys)
-    ∙ sym (append_assoc (key_place u (op_key op)) (key_places u xs) (key_places u ys))
 
 declares : (all : List Lexeme) (item : Item) → IsItem all item → DeclaresIts item
 declares all (function_item exts ws d attrs opening items closing) h = h.4
