@@ -14,7 +14,7 @@ use Rattle.tape_ops.specs.declared.declarator.DeclrOp.{DeclrOp}
 use Rattle.tape_ops.specs.declared.declarator.DeclrOp.TheVariants as declrs
 use Rattle.tape_ops.specs.declared.statement.StmtOp.{StmtOp}
 use Rattle.tape_ops.specs.declared.statement.StmtOp.TheVariants as stmts
-use Rattle.tape_laws.specs.Marks.{Mark, in_declaration, in_params, in_tag, in_scope, in_quiet, in_body, is_open, turn, IsBracketed, function_token, DeclaresIts, ItemsAreBracketed}
+use Rattle.tape_laws.specs.Marks.{Mark, in_declaration, in_params, in_tag, in_scope, in_quiet, in_body, is_open, turn, IsBracketed, function_token, ItemsAreBracketed}
 use Rattle.type_table.specs.Types.{CType, pointer}
 use Rattle.name_rules.specs.Spellings.{Spelling, Place, place, Named}
 use Rattle.name_rules.specs.Scopes.{object_role, function_role, Declared, declared_at, Names, is_place, is_at_file, innermost, sized}
@@ -33,7 +33,7 @@ use Rattle.row_steps.specs.Rounds.{Naming, a_name, Round, Rounds, file, naming, 
 use Rattle.row_steps.specs.Rounds as rounds
 use Rattle.row_steps.specs.Starting.{around, function_at, naming_has, op_starts, starts_found}
 use Rattle.c_tree.specs.declared.lexeme.Lexeme.{Lexeme}
-use Rattle.c_tree.specs.Unit.{Item, function_item, decl_item, asm_item, semi_item, IsItem}
+use Rattle.c_tree.specs.Unit.{Item, IsItem}
 use Rattle.c_tape.specs.Tape.{item_tape, tape_of}
 use Rattle.type_rules.specs.Program.{Source}
 use Rattle.constraint_rules.specs.Starts.{items_starts}
@@ -44,7 +44,7 @@ use Rattle.owned_laws.specs.Names.{FunctionsBegin}
 use Rattle.meaning_laws.proofs.Lists.{place_itself}
 use Rattle.meaning_laws.proofs.Growing.{names, names_kept, used_same, tag_body_same, untagged_same, keep_same, entered_same, expr_declarations, expr_same}
 use Rattle.scope_laws.proofs.Places.{declared_place}
-use Rattle.owned_laws.proofs.Turns.{quiet_was, tag_was, scope_was, declaration_was, params_were, named_was, begun_was, param_was, declared_was, member_was, body_begins, body_was}
+use Rattle.tape_laws.proofs.Turns.{declares_its, Declaring, quiet_was, tag_was, scope_was, declaration_was, params_were, named_was, begun_was, param_was, declared_was, member_was, body_begins, body_was}
 
 -- a skeleton begins there
 
@@ -70,13 +70,6 @@ has_right (x ∷ xs) ys p h none = by (is_place x.at p) none (has_right xs ys p 
     by : (b : Bool) → (if b then Some x else start_at (xs ++ ys) p) ≡ None → (start_at (xs ++ ys) p ≡ None → ⊥) → ⊥
     by true e next = absurd cc
     by false e next = next e
-
--- a well-formed function's declarator declares one
-pub declares_its : (all : List Lexeme) (item : Item) → IsItem all item → DeclaresIts item
-declares_its all (function_item exts ws d attrs opening items closing) h = h.4
-declares_its all (decl_item d) h = tt
-declares_its all (asm_item keyword group semi) h = tt
-declares_its all (semi_item semi) h = tt
 
 module _ (s : Names) (starts : List Start) where
   -- a function that is declared there has a skeleton there
@@ -226,95 +219,82 @@ module _ (s : Names) (starts : List Start) where
 
     form_aligned : (op : FormOp) → turn t m (ops.Form op) ≡ Some n →
         Aligned u n (names ds) (rounds.form_round r op).around
-    form_aligned (forms.Cast token last) e = moved u m n (names ds) rs e h
     form_aligned (forms.Sizeof token) e =
         left_quiet u n (names ds) rs (back u m (in_quiet ∷ n) (names ds) rs (quiet_was m n e) h)
-    form_aligned (forms.StmtExpr has_value token) e = moved u m n (names ds) rs e h
-    form_aligned (forms.VaArg token last) e = moved u m n (names ds) rs e h
-    form_aligned (forms.VaStart token last) e = moved u m n (names ds) rs e h
-    form_aligned (forms.VaCopy token last) e = moved u m n (names ds) rs e h
-    form_aligned (forms.OffsetMember token name) e = moved u m n (names ds) rs e h
-    form_aligned (forms.OffsetIndex token) e = moved u m n (names ds) rs e h
     form_aligned (forms.Offset token) e =
         left_quiet u n (names ds) rs (back u m (in_quiet ∷ n) (names ds) rs (quiet_was m n e) h)
+    form_aligned op e = moved u m n (names ds) rs e h
 
     spec_aligned : (op : SpecOp) → turn t m (ops.Spec op) ≡ Some n →
         Aligned u n (names (specifier_step u st op).declarations) (rounds.spec_round r op).around
-    spec_aligned (specs.Word token) e = moved u m n (names ds) rs e h
-    spec_aligned (specs.Storage keyword) e = moved u m n (names ds) rs e h
-    spec_aligned specs.Void e = moved u m n (names ds) rs e h
-    spec_aligned (specs.Typedef token name) e = moved u m n (names ds) rs e h
-    spec_aligned (specs.TagUse kind token name) e = moved u m n (names ds) rs e h
-    spec_aligned (specs.TagAlone kind token name) e = moved u m n (names ds) rs e h
     spec_aligned (specs.TagBody kind token name) e =
         moved u (in_tag ∷ m) n (names ds) (rounds.entered r).around e (refl, h)
     spec_aligned (specs.Untagged kind token) e =
         moved u (in_tag ∷ m) n (names ds) (rounds.entered r).around e (refl, h)
     spec_aligned specs.BodyEnd e =
         left_tag u n (names ds) rs (back u m (in_tag ∷ n) (names ds) rs (tag_was m n e) h)
-    spec_aligned (specs.Enumerator token name) e = moved u m n (names ds) rs e h
-    spec_aligned (specs.UnnamedMember token) e = moved u m n (names ds) rs e h
     spec_aligned specs.SpecsEnd e =
         moved u (in_declaration None None false ∷ m) n (None ∷ names ds) rs e (tt, h)
+    spec_aligned op e = moved u m n (names ds) rs e h
 
-    -- in a declaration, another name
-    named_now : (x c x2 c2 : Option ℕ) (own own2 : Bool) (outer : List Mark) (d : OpenDeclaration) →
-        m ≡ in_declaration x c own ∷ outer → n ≡ in_declaration x2 c2 own2 ∷ outer →
-        NameBegins u outer d.name → Aligned u n (names (with_innermost d ds)) rs
-    named_now x c x2 c2 own own2 outer d was is k =
-        back u (in_declaration x2 c2 own2 ∷ outer) n (names (with_innermost d ds)) rs (sym is)
-        (renamed u x c x2 c2 own own2 outer ds rs d (back u m (in_declaration x c own ∷ outer) (names ds) rs was h) k)
+    -- in a declaration
+
+    here : (d : Declaring m) → Aligned u (in_declaration d.name d.last d.own ∷ d.outer) (names ds) rs
+    here d = back u m (in_declaration d.name d.last d.own ∷ d.outer) (names ds) rs d.is h
+
+    gone : (d : Declaring m) → Aligned u d.outer (names (without_innermost ds)) rs
+    gone d = left_declaration u d.name d.last d.own d.outer ds rs (here d)
+
+    named_now : (d : Declaring m) (x c : Option ℕ) (new : OpenDeclaration) → n ≡ in_declaration x c d.own ∷ d.outer →
+        NameBegins u d.outer new.name → Aligned u n (names (with_innermost new ds)) rs
+    named_now d x c new is k =
+        back u (in_declaration x c d.own ∷ d.outer) n (names (with_innermost new ds)) rs (sym is)
+        (renamed u d.name d.last x c d.own d.own d.outer ds rs new (here d) k)
 
     closed_now : turn t m (ops.Declr declrs.DeclarationEnd) ≡ Some n → Aligned u n (names (without_innermost ds)) rs
     closed_now e =
         let was = declaration_was m n e in
-        left_declaration u was.0 was.1 was.2 n ds rs
-        (back u m (in_declaration was.0 was.1 was.2 ∷ n) (names ds) rs was.3 h)
+        back u was.0.outer n (names (without_innermost ds)) rs (sym was.1) (gone was.0)
 
     -- behind the name that comes, where its declaration may declare
     abbrev NextBegins : ℕ → Type 0
-    NextBegins token =
-        (x c : Option ℕ) (own : Bool) (outer : List Mark) → m ≡ in_declaration x c own ∷ outer → is_open outer ≡ true
-        → Begun (place u token)
+    NextBegins token = (d : Declaring m) → is_open d.outer ≡ true → Begun (place u token)
 
     declr_aligned : (op : DeclrOp) → turn t m (ops.Declr op) ≡ Some n →
         ((token name : ℕ) → op ≡ declrs.DeclName token name → NextBegins token) →
         Aligned u n (names (declarator_step u st op).declarations) (rounds.declr_round ods r op).around
     declr_aligned (declrs.DeclName token name) e begins =
         let was = named_was token m n e in
-        named_now was.0 was.1 (Some token) was.1 was.2 was.2 was.3
-        (record (declaration st) { name = Some (record { token = token; name = name }) }) was.4 was.5
-        (λ o. begins token name refl was.0 was.1 was.2 was.3 was.4 o)
+        named_now was.0 (Some token) was.0.last
+        (record (declaration st) { name = Some (record { token = token; name = name }) }) was.1
+        (begins token name refl was.0)
     declr_aligned (declrs.ParamsBegin is_own) e begins =
-        let was = begun_was t is_own m n e in
-        let inner = in_declaration was.0 was.1 was.2 ∷ was.3 in
-        back u (in_params is_own ∷ inner) n (names ds)
+        back u (in_params is_own ∷ m) n (names ds)
         (rounds.with_round (rounds.params_naming is_own ods) (rounds.is_quiet r) r).around
-        (sym was.5) (back u m inner (names ds) rs was.4 h)
+        (sym (begun_was t is_own m n e).is) h
     declr_aligned declrs.Param e begins =
         let was = param_was m n e in
-        let inner = in_params was.3 ∷ was.4 in
-        back u inner n (names (without_innermost ds)) (rounds.next_param r).around (sym was.6)
-        (next_round_is u was.3 was.4 (names (without_innermost ds)) rs
-        (left_declaration u was.0 was.1 was.2 inner ds rs
-        (back u m (in_declaration was.0 was.1 was.2 ∷ inner) (names ds) rs was.5 h)))
+        back u (in_params was.1 ∷ was.2) n (names (without_innermost ds)) (rounds.next_param r).around (sym was.4)
+        (next_round_is u was.1 was.2 (names (without_innermost ds)) rs
+        (back u was.0.outer (in_params was.1 ∷ was.2) (names (without_innermost ds)) rs was.3 (gone was.0)))
     declr_aligned declrs.ParamsEnd e begins =
-        let was = params_were m n e in
-        let inner = in_declaration was.1 was.2 was.3 ∷ was.4 in
-        back u (in_declaration was.1 was.2 (was.0 || was.3) ∷ was.4) n (names ds) (shapes.without_innermost rs) (sym was.6)
-        (marked u was.1 was.2 was.1 was.2 was.3 (was.0 || was.3) was.4 (names ds) (shapes.without_innermost rs)
-        (left_params u was.0 inner (names ds) rs (back u m (in_params was.0 ∷ inner) (names ds) rs was.5 h)))
+        let it = params_were m n e in
+        let inner = in_declaration it.name it.last it.own ∷ it.outer in
+        let own = if it.params then true else it.own in
+        back u (in_declaration it.name it.last own ∷ it.outer) n (names ds) (shapes.without_innermost rs) (sym it.is)
+        (marked u it.name it.last it.name it.last it.own own it.outer (names ds) (shapes.without_innermost rs)
+        (left_params u it.params inner (names ds) rs (back u m (in_params it.params ∷ inner) (names ds) rs it.was h)))
     declr_aligned declrs.Pointer e begins = kept_name u n ds rs _ (moved u m n (names ds) rs e h)
     declr_aligned declrs.Array e begins = kept_name u n ds rs _ (moved u m n (names ds) rs e h)
     declr_aligned (declrs.Function has_ellipsis) e begins = kept_name u n ds rs _ (moved u m n (names ds) rs e h)
     declr_aligned declrs.Declare e begins =
         let was = declared_was m n e in
-        named_now was.0 was.1 None was.0 was.2 was.2 was.3
-        (record (declaration st) { name = None; declared = (declaration st).type }) was.4 was.5 tt
+        named_now was.0 None was.0.name
+        (record (declaration st) { name = None; declared = (declaration st).type }) was.1 tt
     declr_aligned declrs.Member e begins =
         let was = member_was m n e in
-        named_now was.0 was.1 None was.1 was.2 was.2 was.3
-        (record (declaration st) { name = None; declared = (declaration st).type }) was.4 was.5 tt
+        named_now was.0 None was.0.last
+        (record (declaration st) { name = None; declared = (declaration st).type }) was.1 tt
     declr_aligned (declrs.TypeName first) e begins = closed_now e
     declr_aligned declrs.DeclarationEnd e begins = closed_now e
 
@@ -323,29 +303,26 @@ module _ (s : Names) (starts : List Start) where
     stmt_aligned stmts.Quiet e = moved u (in_quiet ∷ m) n (names ds) (rounds.silenced r).around e (refl, h)
     stmt_aligned stmts.Loud e =
         left_quiet u n (names ds) rs (back u m (in_quiet ∷ n) (names ds) rs (quiet_was m n e) h)
-    stmt_aligned stmts.Pop e = moved u m n (names ds) rs e h
-    stmt_aligned (stmts.Return token last) e = moved u m n (names ds) rs e h
     stmt_aligned stmts.Enter e = moved u (in_scope ∷ m) n (names ds) (rounds.entered r).around e (refl, h)
     stmt_aligned stmts.Leave e =
         left_scope u n (names ds) rs (back u m (in_scope ∷ n) (names ds) rs (scope_was m n e) h)
     stmt_aligned stmts.FunctionBody e =
         let was = body_begins t m n e in
-        back u (in_body ∷ (in_declaration was.0 was.1 true ∷ [])) n (names ds) rs (sym was.3)
-        (begun_in_body u was.0 was.1 true (names ds) rs
-        (back u m (in_declaration was.0 was.1 true ∷ []) (names ds) rs was.2 h))
+        let inner = in_declaration was.0 (Some was.1) true ∷ [] in
+        back u (in_body ∷ inner) n (names ds) rs (sym (was.3 ∙ ap (λ (marks : List Mark). in_body ∷ marks) was.2))
+        (begun_in_body u was.0 (Some was.1) true (names ds) rs (back u m inner (names ds) rs was.2 h))
     stmt_aligned stmts.FunctionEnd e =
         let was = body_was m n e in
         back u (in_declaration was.0 was.1 false ∷ was.3) n (names ds) rs (sym was.5)
         (marked u was.0 was.1 was.0 was.1 was.2 false was.3 (names ds) rs
         (back u m (in_body ∷ (in_declaration was.0 was.1 was.2 ∷ was.3)) (names ds) rs was.4 h).1)
+    stmt_aligned op e = moved u m n (names ds) rs e h
 
     name_there : (sst : shapes.State) (op : DeclrOp) →
         ((p : Place) → Has (op_starts u s sst r (ops.Declr op)) p → Has starts p) → (token name : ℕ) →
         op ≡ declrs.DeclName token name → NextBegins token
-    name_there sst op inside token name is x c own outer was o =
-        name_begins u r token
-        (open_naming u outer (names (without_innermost ds)) rs o
-        (left_declaration u x c own outer ds rs (back u m (in_declaration x c own ∷ outer) (names ds) rs was h)))
+    name_there sst op inside token name is d o =
+        name_begins u r token (open_naming u d.outer (names (without_innermost ds)) rs o (gone d))
         (subst (λ (it : DeclrOp). (p : Place) → Has (op_starts u s sst r (ops.Declr it)) p → Has starts p) is inside)
 
     aligned : (sst : shapes.State) (op : Op) → turn t m op ≡ Some n →
@@ -400,49 +377,31 @@ module _ (s : Names) (starts : List Start) where
     member_begun (Some it) number t k = one_more st.names.declared _ k (λ role. absurd cc)
 
     spec_begun : (op : SpecOp) → AllBegun st.names.declared → AllBegun (specifier_step u st op).names.declared
-    spec_begun (specs.Word token) k = k
-    spec_begun (specs.Storage keyword) k = k
-    spec_begun specs.Void k = k
-    spec_begun (specs.Typedef token name) k = k
     spec_begun (specs.TagUse kind token name) k = same_begun _ (used_same u false kind token name st.names) k
     spec_begun (specs.TagAlone kind token name) k = same_begun _ (used_same u true kind token name st.names) k
     spec_begun (specs.TagBody kind token name) k = same_begun _ (tag_body_same u st kind token name) k
     spec_begun (specs.Untagged kind token) k = same_begun _ (untagged_same u st kind token) k
-    spec_begun specs.BodyEnd k = k
     spec_begun (specs.Enumerator token name) k = one_more st.names.declared _ k (λ role. absurd cc)
     spec_begun (specs.UnnamedMember token) k = one_more st.names.declared _ k (λ role. absurd cc)
-    spec_begun specs.SpecsEnd k = k
+    spec_begun op k = k
 
     declr_begun : (op : DeclrOp) → turn t m (ops.Declr op) ≡ Some n → AllBegun st.names.declared →
         AllBegun (declarator_step u st op).names.declared
-    declr_begun (declrs.DeclName token name) e k = k
-    declr_begun (declrs.ParamsBegin is_own) e k = k
     declr_begun declrs.Param e k =
         param_begun (declaration st).name (length (parameters st).types) (parameters st).own
         (decayed (declaration st).declared) k
     declr_begun declrs.ParamsEnd e k = same_begun _ (keep_same (parameters st).own st.names) k
-    declr_begun declrs.Pointer e k = k
-    declr_begun declrs.Array e k = k
-    declr_begun (declrs.Function has_ellipsis) e k = k
     declr_begun declrs.Declare e k =
         let was = declared_was m n e in
-        some_begun was.3 (declaration st).name (declaration st).storage (declaration st).declared was.6
-        (top_begins was.0 was.1 was.2 was.3 ds
-        (back u m (in_declaration was.0 was.1 was.2 ∷ was.3) (names ds) rs was.4 h)) k
+        some_begun was.0.outer (declaration st).name (declaration st).storage (declaration st).declared was.2
+        (top_begins was.0.name was.0.last was.0.own was.0.outer ds (here was.0)) k
     declr_begun declrs.Member e k =
         member_begun (declaration st).name (body st).members_of (declaration st).declared k
-    declr_begun (declrs.TypeName first) e k = k
-    declr_begun declrs.DeclarationEnd e k = k
+    declr_begun op e k = k
 
     stmt_begun : (op : StmtOp) → AllBegun st.names.declared → AllBegun (statement_step u st op).names.declared
-    stmt_begun stmts.Quiet k = k
-    stmt_begun stmts.Loud k = k
-    stmt_begun stmts.Pop k = k
-    stmt_begun (stmts.Return token last) k = k
-    stmt_begun stmts.Enter k = k
-    stmt_begun stmts.Leave k = k
     stmt_begun stmts.FunctionBody k = same_begun _ (entered_same (last_or None st.names.declared) st.names) k
-    stmt_begun stmts.FunctionEnd k = k
+    stmt_begun op k = k
 
     all_begun : (op : Op) → turn t m op ≡ Some n → AllBegun st.names.declared → AllBegun (step u st op).names.declared
     all_begun (ops.Expr op) e k = same_begun _ (expr_same u st op) k

@@ -8,5 +8,4 @@ mod Placed
 mod Places
 mod Stacks
 mod Steps
-mod Turns
 mod Whole

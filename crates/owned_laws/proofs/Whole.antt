@@ -38,9 +38,10 @@ use Rattle.scope_laws.proofs.Places.{has_left, differ_before, differ_apart, diff
 use Rattle.owned_laws.proofs.Places.{Kept, none_kept, joined_kept, none_before, none_behind}
 use Rattle.owned_laws.proofs.Begin.{IsPlaced, AllPlaced, placed_at, tape_kept, ExactAlong, exact, regroup}
 use Rattle.owned_laws.proofs.Placed.{tape_placed}
+use Rattle.tape_laws.proofs.Turns.{declares_its}
 use Rattle.owned_laws.proofs.Contexts.{contexts_along}
 use Rattle.owned_laws.proofs.Fits.{Scene, Item as ItemScene, members, along}
-use Rattle.owned_laws.proofs.Functions.{functions_begin, declares_its}
+use Rattle.owned_laws.proofs.Functions.{functions_begin}
 
 pub record Laws : Type 0 where
   pub tapes : TapesFit

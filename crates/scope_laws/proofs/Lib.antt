@@ -1,7 +1,6 @@
 mod Apart
 mod Changes
 mod Fitting
-mod Marks
 pub mod Places
 mod Steps
 mod Whole

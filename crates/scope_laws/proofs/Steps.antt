@@ -30,7 +30,7 @@ use Rattle.key_laws.specs.Keys.{key_place, key_places, op_key, spec_key, declr_k
 use Rattle.scope_laws.specs.Staying.{IsOfFile, IsWithin}
 use Rattle.scope_laws.proofs.Places.{has_itself, has_left, has_right}
 use Rattle.meaning_laws.proofs.Growing.{names, names_kept, run_grown, then_grown, Grown, keep_same}
-use Rattle.scope_laws.proofs.Marks.{quiet_was, tag_was, scope_was, Declaring, declaration_was, named_was, declared_was, member_was, param_was, Beginning, begun_was, Ending, params_were, body_begins, body_was}
+use Rattle.tape_laws.proofs.Turns.{quiet_was, tag_was, scope_was, Declaring, declaration_was, named_was, declared_was, member_was, param_was, Beginning, begun_was, Ending, params_were, body_begins, body_was}
 use Rattle.scope_laws.proofs.Fitting.{Around, params_left, scope_left, body_left, Keeps, keeps_some, body_ends_alone, body_around, owns, owns_kept, OwnIs, Owning, owning_top, HasName, HasLast, NameIn, Reading, reading_more, reading_top, reading_with, reading_own}
 use Rattle.scope_laws.proofs.Changes.{adds_then, adds_none, Fits, AddsTo, Goes, enumerator_goes, param_goes, member_goes, unnamed_goes, use_goes, tag_used_goes, tag_begun_goes, untagged_goes, some_goes}
 
@@ -253,7 +253,8 @@ module _ (S : Names) (differ : Differ S.declared) (keys : List Place) (u : Spell
           ),
           adds_none,
         )
-    stmt_next t stmts.FunctionBody e = let it = body_begins t m n e in body_next it.0 it.1 it.2 it.3
+    stmt_next t stmts.FunctionBody e = let it = body_begins t m n e in
+        body_next it.0 it.1 it.2 (it.3 ∙ ap (λ (marks : List Mark). in_body ∷ marks) it.2)
     stmt_next t stmts.FunctionEnd e = let it = body_was m n e in body_ends it.0 it.1 it.2 it.3 it.4 it.5
     stmt_next t op e = same e
 
@@ -303,7 +304,7 @@ module _ (S : Names) (differ : Differ S.declared) (keys : List Place) (u : Spell
         next_is (in_params own ∷ m) n st (declarator_step u st (declrs.ParamsBegin own)) it.is (
           (
             h.0,
-            (own_begun u own (declaration st).name st.names (λ is. named (it.name is)), h.1),
+            (own_begun u own (declaration st).name st.names named, h.1),
             record {
               around = (tt, h.2.around);
               keeps = h.2.keeps;
@@ -314,16 +315,20 @@ module _ (S : Names) (differ : Differ S.declared) (keys : List Place) (u : Spell
           adds_none,
         )
       where
-        it : Beginning own m n
+        it : Beginning t own m n
         it = begun_was t own m n e
 
-        named : (token : ℕ) × (last : Option ℕ) × (b : Bool) × (rest : List Mark)
-            × (m ≡ in_declaration (Some token) last b ∷ rest) → (token : ℕ) × HasName (Some token) (declaration st).name
-        named (token, last, b, rest, was) = (
-          token,
-          (reading_top u keys (Some token) last b rest ds st.names.declared
-              (back m (in_declaration (Some token) last b ∷ rest) st was h).0).0,
-        )
+        d : Declaring m
+        d = it.declaring
+
+        named : own ≡ true → (token : ℕ) × HasName (Some token) (declaration st).name
+        named is =
+            let name = it.named is in (
+              name.0,
+              subst (λ (it : Option ℕ). HasName it (declaration st).name) name.1
+                  (reading_top u keys d.name d.last d.own d.outer ds st.names.declared
+                  (back m (in_declaration d.name d.last d.own ∷ d.outer) st d.is h).0).0,
+            )
 
     param_next : (name last : Option ℕ) (b own : Bool) (rest : List Mark) →
         m ≡ in_declaration name last b ∷ (in_params own ∷ rest) → n ≡ in_params own ∷ rest →

@@ -4,9 +4,10 @@ use Rattle.std.specs.Prelude.{All, if◌then◌else◌}
 use Rattle.std.proofs.lemmas.List.Elements.{All-head, All-tail}
 use Rattle.tape_ops.specs.declared.op.Op.{Op}
 use Rattle.c_tree.specs.declared.lexeme.Lexeme.{Lexeme}
-use Rattle.c_tree.specs.Unit.{Item, function_item, decl_item, asm_item, semi_item, IsItem}
+use Rattle.c_tree.specs.Unit.{Item, IsItem}
 use Rattle.c_tape.specs.Tape.{item_tape, tape_of}
-use Rattle.tape_laws.specs.Marks.{DeclaresIts, function_token, ItemsAreBracketed}
+use Rattle.tape_laws.specs.Marks.{function_token, ItemsAreBracketed}
+use Rattle.tape_laws.proofs.Turns.{declares_its}
 use Rattle.name_rules.specs.Spellings.{Spelling, Place}
 use Rattle.name_rules.specs.Scopes.{Meaning, means_type, means_thing, Scope, Declared, declared_at, means, NameUse, Names, is_place, innermost}
 use Rattle.name_rules.specs.Uses.{use_at}
@@ -34,12 +35,6 @@ use Rattle.scope_laws.proofs.Steps.{Holds, Next, run_next}
 run_joined : (u : Spelling) (xs ys : List Op) (st : State) → run u (xs ++ ys) st ≡ run u ys (run u xs st)
 run_joined u [] ys st = refl
 run_joined u (op ∷ xs) ys st = run_joined u xs ys (step u st op)
-
-declares : (all : List Lexeme) (item : Item) → IsItem all item → DeclaresIts item
-declares all (function_item exts ws d attrs opening items closing) h = h.4
-declares all (decl_item d) h = tt
-declares all (asm_item keyword group semi) h = tt
-declares all (semi_item semi) h = tt
 
 -- some item of a unit, and of a program, by the places of its ops
 
@@ -161,7 +156,7 @@ module _ (S : Names) (differ : Differ S.declared) where
 
         one : Next S differ keys u [] st next
         one = run_next S differ keys u (function_token item) (item_tape item) [] [] st
-            (bracketed item (declares all item (All-head (IsItem all) item items rules))) (λ p e. e)
+            (bracketed item (declares_its all item (All-head (IsItem all) item items rules))) (λ p e. e)
             (then_grown next.names.declared (run u (tape_of items) next).names.declared S.declared
             (run_grown u (tape_of items) next) later) (begins keys u st h)
 
