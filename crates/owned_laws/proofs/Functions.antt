@@ -17,7 +17,7 @@ use Rattle.tape_ops.specs.declared.statement.StmtOp.TheVariants as stmts
 use Rattle.tape_laws.specs.Marks.{Mark, in_declaration, in_params, in_tag, in_scope, in_quiet, in_body, is_open, turn, IsBracketed, function_token, ItemsAreBracketed}
 use Rattle.type_table.specs.Types.{CType, pointer}
 use Rattle.name_rules.specs.Spellings.{Spelling, Place, place, Named}
-use Rattle.name_rules.specs.Scopes.{object_role, function_role, Declared, declared_at, Names, is_place, is_at_file, innermost, sized}
+use Rattle.name_rules.specs.Scopes.{object_role, function_role, Declared, declared_at, Names, is_place, is_at_file, sized}
 use Rattle.name_rules.specs.Pieces.{is_function, decayed}
 use Rattle.name_rules.specs.Declaring.{declared_here, declared_thing, declared_typedef, declared_some, declared_param, declared_member, has_word}
 use Rattle.name_rules.specs.Units.{no_names, unit_begun}

@@ -1,5 +1,5 @@
 -- The system of every program is well owned.
-use Rattle.std.specs.Prelude.{All, []}
+use Rattle.std.specs.Prelude.{All}
 use Rattle.flow_graph.specs.System.{IsWellOwned}
 use Rattle.constraint_rules.specs.Systems.{Program, system_of}
 use Rattle.key_laws.specs.Differing.{IsRead, UnitsDiffer}
