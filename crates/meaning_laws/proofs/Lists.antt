@@ -3,7 +3,8 @@ use Rattle.std.proofs.Common.{◌≡◌, ℕ, zero, suc, Bool, true, false, List
 use Rattle.std.specs.Prelude.{◌&&◌, if◌then◌else◌}
 use Rattle.std.proofs.lemmas.Bool.{eq-eqb, eqb-true}
 use Rattle.name_rules.specs.Spellings.{Place}
-use Rattle.name_rules.specs.Scopes.{Meaning, means_type, means_thing, Scope, Declared, declared_at, Use, means, called, missing, NameUse, Own, Known, Body, Aggregate, is_place, thing_named, meaning_in, some_thing, or_outer, meaning_through, innermost, outer_scopes, changed_at, or_no_body, body_of, body_of_some, lying_in}
+use Rattle.name_rules.specs.Scopes.{Meaning, means_type, means_thing, Scope, Declared, declared_at, Use, means, called, missing, NameUse, Own, Known, Body, Aggregate, Names, is_place, thing_named, meaning_in, some_thing, or_outer, meaning_through, innermost, outer_scopes, changed_at, or_no_body, body_of, body_of_some, lying_in}
+use Rattle.name_rules.specs.Units.{is_shared, shared_name, shared}
 use Rattle.name_rules.specs.Uses.{use_at}
 use Rattle.name_rules.specs.Values.{known_named, member_in, own_of}
 use Rattle.meaning_laws.specs.Meanings.{Differ, MeaningIs, NamesAre, ScopesAre, ThingsAre, KeptIs, UseIs, UsesAre, OwnAre, KnownAre, SomeBodyIs, AggregatesAre}
@@ -275,3 +276,25 @@ module _ (P : Place → Type 0) where
       by None is k = let none : slice_get (own_of xs n) i ≡ None = rw is refl in absurd cc
       by (Some body) is k = own_found body.own i it k.0 (let some : own_of xs n ≡ body.own = rw is refl in
           ap (λ (ys : List Own). slice_get ys i) (sym some) ∙ e)
+
+  -- what a unit leaves to later ones
+
+  pub things_joined : (xs ys : List (ℕ × Place)) → ThingsAre P xs → ThingsAre P ys →
+      ThingsAre P (xs ++ ys)
+  things_joined [] ys h k = k
+  things_joined (x ∷ xs) ys h k = (h.0, things_joined xs ys h.1 k)
+
+  shared_one : (s : Names) (name : ℕ) (it : Meaning) → MeaningIs P it →
+      ThingsAre P (shared_name s name it)
+  shared_one s name (means_type t) h = tt
+  shared_one s name (means_thing at) h = by (is_shared (declared_at s.declared at))
+    where
+      by : (b : Bool) → ThingsAre P (if b then (name, at) ∷ [] else [])
+      by true = (h, tt)
+      by false = tt
+
+  pub shared_are : (s : Names) (names : List (ℕ × Meaning)) → NamesAre P names →
+      ThingsAre P (shared s names)
+  shared_are s [] h = tt
+  shared_are s (it ∷ names) h =
+      things_joined (shared_name s it.0 it.1) (shared s names) (shared_one s it.0 it.1 h.0) (shared_are s names h.1)

@@ -23,7 +23,7 @@ use Rattle.name_steps.specs.Units.{Tape, tape_named, tapes_named}
 use Rattle.meaning_laws.specs.Meanings.{Differ, IsFirst, HasFirst, AllFirst, AreFirst, NamesAreFirst, MeaningsAreFirst}
 use Rattle.meaning_laws.proofs.Growing.{Grown, run_grown, tapes_grown}
 use Rattle.meaning_laws.proofs.Lists.{differ_before, use_found, member_found, body_of_is, own_of_found}
-use Rattle.meaning_laws.proofs.Changes.{is_type_named, is_declared_here, is_declared_some, is_declared_param, is_declared_member, is_unnamed_member, is_tag_used, is_tag_begun, is_untagged_begun, is_used, is_entered, is_left, is_kept, is_body_entered, is_body_left, is_unit_begun, no_names_are}
+use Rattle.meaning_laws.proofs.Changes.{is_declared_here, is_declared_some, is_declared_param, is_declared_member, is_unnamed_member, is_tag_used, is_tag_begun, is_untagged_begun, is_used, is_entered, is_left, is_kept, is_body_entered, is_body_left, is_unit_begun, no_names_are}
 
 differ_old : (old new : List Declared) → Grown old new → Differ new → Differ old
 differ_old old new g h = differ_before old g.added (subst Differ g.is h)
@@ -52,8 +52,6 @@ module _ (u : Spelling) where
       is_declared_some u (declaration st).name (declaration st).storage (declaration st).declared st.names d h
   declr_first st declrs.Member d h =
       is_declared_member u (declaration st).name (body st).members_of (declaration st).declared st.names d h
-  declr_first st (declrs.TypeName first) d h =
-      is_type_named (place u first) (declaration st).declared st.names h
   declr_first st op d h = h
 
   entered_first : (d : Option Declared) (s : Names) → AreFirst s → AreFirst (body_entered_by d s)

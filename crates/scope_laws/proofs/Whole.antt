@@ -9,20 +9,20 @@ use Rattle.c_tape.specs.Tape.{item_tape, tape_of}
 use Rattle.tape_laws.specs.Marks.{function_token, ItemsAreBracketed}
 use Rattle.tape_laws.proofs.Turns.{declares_its}
 use Rattle.name_rules.specs.Spellings.{Spelling, Place}
-use Rattle.name_rules.specs.Scopes.{Meaning, means_type, means_thing, Scope, Declared, declared_at, means, NameUse, Names, is_place, innermost}
+use Rattle.name_rules.specs.Scopes.{Scope, Declared, declared_at, means, NameUse, Names, is_place, innermost}
 use Rattle.name_rules.specs.Uses.{use_at}
-use Rattle.name_rules.specs.Units.{no_names, is_shared, shared_name, shared, unit_begun}
+use Rattle.name_rules.specs.Units.{no_names, shared, unit_begun}
 use Rattle.name_steps.specs.State.{State, with_names}
 use Rattle.name_steps.specs.Steps.{step, run}
 use Rattle.name_steps.specs.Units.{tape_named, tapes_named}
 use Rattle.name_laws.specs.NameLaws.{tape_of_source, IsSound, NamesOfTapes}
 use Rattle.type_rules.specs.Program.{Source}
 use Rattle.row_rules.specs.Sites.{has_place, AreDifferent}
-use Rattle.meaning_laws.specs.Meanings.{Differ, MeaningIs, NamesAre, ThingsAre, UseIs}
+use Rattle.meaning_laws.specs.Meanings.{Differ, ThingsAre, UseIs}
 use Rattle.key_laws.specs.Keys.{key_places}
 use Rattle.key_laws.specs.Differing.{keys_among}
 use Rattle.scope_laws.specs.Staying.{IsOfFile, IsWithin, ItemsStay, SourcesStay, NamesStay}
-use Rattle.meaning_laws.proofs.Lists.{place_is}
+use Rattle.meaning_laws.proofs.Lists.{place_is, things_joined, shared_are}
 use Rattle.scope_laws.proofs.Places.{keys_joined, declared_place, differ_left, differ_right, differ_apart, has_left, has_right}
 use Rattle.scope_laws.proofs.Apart.{declared_differ}
 use Rattle.meaning_laws.proofs.Growing.{Grown, then_grown, same, run_grown, tapes_grown}
@@ -103,34 +103,12 @@ module _ (S : Names) (differ : Differ S.declared) where
       Adds (λ it. SomeSource sources (λ keys. UseWithin S differ keys it))
       (λ d. SomeSource sources (λ keys. DeclaredWithin S differ keys d)) s.uses s.declared next.uses next.declared
 
-  -- what a unit leaves to later ones
-
-  things_joined : (xs ys : List (ℕ × Place)) → ThingsAre (IsOfFile S) xs → ThingsAre (IsOfFile S) ys →
-      ThingsAre (IsOfFile S) (xs ++ ys)
-  things_joined [] ys h k = k
-  things_joined (x ∷ xs) ys h k = (h.0, things_joined xs ys h.1 k)
-
-  shared_one : (s : Names) (name : ℕ) (it : Meaning) → MeaningIs (IsOfFile S) it →
-      ThingsAre (IsOfFile S) (shared_name s name it)
-  shared_one s name (means_type t) h = tt
-  shared_one s name (means_thing at) h = by (is_shared (declared_at s.declared at))
-    where
-      by : (b : Bool) → ThingsAre (IsOfFile S) (if b then (name, at) ∷ [] else [])
-      by true = (h, tt)
-      by false = tt
-
-  shared_are : (s : Names) (names : List (ℕ × Meaning)) → NamesAre (IsOfFile S) names →
-      ThingsAre (IsOfFile S) (shared s names)
-  shared_are s [] h = tt
-  shared_are s (it ∷ names) h =
-      things_joined (shared_name s it.0 it.1) (shared s names) (shared_one s it.0 it.1 h.0) (shared_are s names h.1)
-
   unit_at_file : (s : Names) → AtFile s → AtFile (unit_begun s)
   unit_at_file s h = record {
     around = tt;
     things = h.things;
-    round = things_joined (shared s (innermost s.scopes).names) s.round
-        (shared_are s (innermost s.scopes).names (around_top (IsOfFile S) (IsOfFile S) [] s.scopes h.around)) h.round;
+    round = things_joined (IsOfFile S) (shared s (innermost s.scopes).names) s.round
+        (shared_are (IsOfFile S) s (innermost s.scopes).names (around_top (IsOfFile S) (IsOfFile S) [] s.scopes h.around)) h.round;
   }
 
   module _ (bracketed : ItemsAreBracketed) where
