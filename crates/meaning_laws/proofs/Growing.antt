@@ -39,12 +39,15 @@ then_grown a b c g h = record {
   is = h.is ∙ (ap (λ (ds : List Declared). ds ++ h.added) g.is ∙ append_assoc a g.added h.added);
 }
 
--- by each change
+-- what a declarator that ends adds: a declaration at its name, where it has one
+abbrev pub Adds : Spelling → Option Named → List Declared → List Declared → Type 0
+Adds u None old new = new ≡ old
+Adds u (Some it) old new = (d : Declared) × (d.at ≡ place u it.token) × (new ≡ old ++ d ∷ [])
 
-grown_some : (u : Spelling) (it : Option Named) (words : List Keyword) (t : CType) (s : Names) →
-    Grown s.declared (declared_some u it words t s).declared
-grown_some u None words t s = same _ _ refl
-grown_some u (Some it) words t s =
+pub adds_some : (u : Spelling) (it : Option Named) (words : List Keyword) (t : CType) (s : Names) →
+    Adds u it s.declared (declared_some u it words t s).declared
+adds_some u None words t s = refl
+adds_some u (Some it) words t s =
     by (has_word keywords.Typedef words) (is_at_file old || (is_function t || has_word keywords.Extern words))
   where
     old : Names
@@ -53,22 +56,26 @@ grown_some u (Some it) words t s =
     own : Option Place
     own = if has_word keywords.Static words then None else old.enclosing
 
-    by : (b c : Bool) → Grown s.declared (if b then declared_typedef (place u it.token) (u.key it.name) t old
+    by : (b c : Bool) → Adds u (Some it) s.declared (if b then declared_typedef (place u it.token) (u.key it.name) t old
         else if c then declared_thing (place u it.token) (u.key it.name) t old
         else declared_here (place u it.token) (u.key it.name) object_role t own old).declared
-    by true c = record { added = _; is = refl }
-    by false true = record { added = _; is = refl }
-    by false false = record { added = _; is = refl }
+    by true c = (_, refl, refl)
+    by false true = (_, refl, refl)
+    by false false = (_, refl, refl)
 
-grown_param : (u : Spelling) (it : Option Named) (i : ℕ) (own : Option Place) (t : CType) (s : Names) →
-    Grown s.declared (declared_param u it i own t s).declared
-grown_param u None i own t s = same _ _ refl
-grown_param u (Some it) i own t s = record { added = _; is = refl }
+pub adds_param : (u : Spelling) (it : Option Named) (i : ℕ) (own : Option Place) (t : CType) (s : Names) →
+    Adds u it s.declared (declared_param u it i own t s).declared
+adds_param u None i own t s = refl
+adds_param u (Some it) i own t s = (_, refl, refl)
 
-grown_member : (u : Spelling) (it : Option Named) (n : ℕ) (t : CType) (s : Names) →
-    Grown s.declared (declared_member u it n t s).declared
-grown_member u None n t s = same _ _ refl
-grown_member u (Some it) n t s = record { added = _; is = refl }
+pub adds_member : (u : Spelling) (it : Option Named) (n : ℕ) (t : CType) (s : Names) →
+    Adds u it s.declared (declared_member u it n t s).declared
+adds_member u None n t s = refl
+adds_member u (Some it) n t s = (_, refl, refl)
+
+adds_grown : (u : Spelling) (it : Option Named) (old new : List Declared) → Adds u it old new → Grown old new
+adds_grown u None old new e = same old new e
+adds_grown u (Some it) old new a = record { added = a.0 ∷ []; is = a.2 }
 
 tag_same : (found : Option ℕ) (u : Spelling) (kind : TagKind) (token tag : ℕ) (s : Names) →
     (found_or_new found u kind token tag s).names.declared ≡ s.declared
@@ -132,13 +139,15 @@ module _ (u : Spelling) where
 
   declr_grown : (st : State) (op : DeclrOp) → Grown st.names.declared (declarator_step u st op).names.declared
   declr_grown st declrs.Param =
-      grown_param u (declaration st).name (length (parameters st).types) (parameters st).own
-      (decayed (declaration st).declared) st.names
+      adds_grown u (declaration st).name _ _ (adds_param u (declaration st).name (length (parameters st).types)
+      (parameters st).own (decayed (declaration st).declared) st.names)
   declr_grown st declrs.ParamsEnd = same _ _ (keep_same (parameters st).own st.names)
   declr_grown st declrs.Declare =
-      grown_some u (declaration st).name (declaration st).storage (declaration st).declared st.names
+      adds_grown u (declaration st).name _ _
+      (adds_some u (declaration st).name (declaration st).storage (declaration st).declared st.names)
   declr_grown st declrs.Member =
-      grown_member u (declaration st).name (body st).members_of (declaration st).declared st.names
+      adds_grown u (declaration st).name _ _
+      (adds_member u (declaration st).name (body st).members_of (declaration st).declared st.names)
   declr_grown st op = same _ _ refl
 
   stmt_grown : (st : State) (op : StmtOp) → Grown st.names.declared (statement_step u st op).names.declared

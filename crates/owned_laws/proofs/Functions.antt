@@ -1,9 +1,8 @@
 -- A function that is declared has a skeleton: no declaration stands directly in a list of parameters.
 use Rattle.std.proofs.Common.{◌≡◌, ℕ, Bool, true, false, List, [], ◌∷◌, ◌++◌, map, length, Option, None, Some, refl, sym, ◌∙◌, ap, subst}
 use Rattle.std.proofs.lemmas.List.Elements.{All-head, All-tail}
-use Rattle.std.specs.Prelude.{All, ◌||◌, if◌then◌else◌}
+use Rattle.std.specs.Prelude.{All, if◌then◌else◌}
 use Rattle.c_words.specs.declared.kinds.Keyword.{Keyword}
-use Rattle.c_words.specs.declared.kinds.Keyword.TheVariants as keywords
 use Rattle.tape_ops.specs.declared.op.Op.{Op}
 use Rattle.tape_ops.specs.declared.op.Op.TheVariants as ops
 use Rattle.tape_ops.specs.declared.form.FormOp.{FormOp}
@@ -17,9 +16,9 @@ use Rattle.tape_ops.specs.declared.statement.StmtOp.TheVariants as stmts
 use Rattle.tape_laws.specs.Marks.{Mark, in_declaration, in_params, in_tag, in_scope, in_quiet, in_body, is_open, turn, IsBracketed, function_token, ItemsAreBracketed}
 use Rattle.type_table.specs.Types.{CType, pointer}
 use Rattle.name_rules.specs.Spellings.{Spelling, Place, place, Named}
-use Rattle.name_rules.specs.Scopes.{object_role, function_role, Declared, declared_at, Names, is_place, is_at_file, sized}
-use Rattle.name_rules.specs.Pieces.{is_function, decayed}
-use Rattle.name_rules.specs.Declaring.{declared_here, declared_thing, declared_typedef, declared_some, declared_param, declared_member, has_word}
+use Rattle.name_rules.specs.Scopes.{function_role, Declared, declared_at, Names, is_place}
+use Rattle.name_rules.specs.Pieces.{decayed}
+use Rattle.name_rules.specs.Declaring.{declared_some, declared_param, declared_member}
 use Rattle.name_rules.specs.Units.{no_names, unit_begun}
 use Rattle.name_steps.specs.State.{OpenDeclaration, State, no_declaration, innermost_or, with_innermost, without_innermost, with_names}
 use Rattle.name_steps.specs.Steps.{declaration, body, parameters, specifier_step, declarator_step, statement_step, step, run}
@@ -42,7 +41,7 @@ use Rattle.start_laws.specs.Laws.{StartsAreFound}
 use Rattle.owner_laws.specs.Fitting.{start_at}
 use Rattle.owned_laws.specs.Names.{FunctionsBegin}
 use Rattle.meaning_laws.proofs.Lists.{place_itself}
-use Rattle.meaning_laws.proofs.Growing.{names, names_kept, used_same, tag_body_same, untagged_same, keep_same, entered_same, expr_declarations, expr_same}
+use Rattle.meaning_laws.proofs.Growing.{adds_some, names, names_kept, used_same, tag_body_same, untagged_same, keep_same, entered_same, expr_declarations, expr_same}
 use Rattle.scope_laws.proofs.Places.{declared_place}
 use Rattle.tape_laws.proofs.Turns.{declares_its, Declaring, quiet_was, tag_was, scope_was, declaration_was, params_were, named_was, begun_was, param_was, declared_was, member_was, body_begins, body_was}
 
@@ -351,20 +350,9 @@ module _ (s : Names) (starts : List Start) where
         NameBegins u outer it → AllBegun st.names.declared → AllBegun (declared_some u it words t st.names).declared
     some_begun outer None words t o begins k = k
     some_begun outer (Some it) words t o begins k =
-        by (has_word keywords.Typedef words) (is_at_file old || (is_function t || has_word keywords.Extern words))
-      where
-        old : Names
-        old = sized (place u it.token) t st.names
-
-        own : Option Place
-        own = if has_word keywords.Static words then None else old.enclosing
-
-        by : (b c : Bool) → AllBegun (if b then declared_typedef (place u it.token) (u.key it.name) t old
-            else if c then declared_thing (place u it.token) (u.key it.name) t old
-            else declared_here (place u it.token) (u.key it.name) object_role t own old).declared
-        by true c = one_more st.names.declared _ k (λ role. begins o)
-        by false true = one_more st.names.declared _ k (λ role. begins o)
-        by false false = one_more st.names.declared _ k (λ role. begins o)
+        let adds = adds_some u (Some it) words t st.names in
+        subst AllBegun (sym adds.2)
+        (one_more st.names.declared adds.0 k (λ role. subst Begun (sym adds.1) (begins o)))
 
     param_begun : (it : Option Named) (i : ℕ) (own : Option Place) (t : CType) → AllBegun st.names.declared →
         AllBegun (declared_param u it i own t st.names).declared

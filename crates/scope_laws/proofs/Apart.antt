@@ -1,9 +1,7 @@
 -- Declarations are at different places, and at no token of an expression, where the places at which skeletons may begin differ.
 use Rattle.std.proofs.Common.{◌≡◌, ◌⊎◌, inl, inr, ℕ, Bool, true, false, List, [], ◌∷◌, ◌++◌, map, length, Option, None, Some, refl, sym, ap, subst, append_assoc, append-nil}
-use Rattle.std.specs.Prelude.{◌||◌, if◌then◌else◌}
+use Rattle.std.specs.Prelude.{if◌then◌else◌}
 use Rattle.std.specs.List.{last_or}
-use Rattle.c_words.specs.declared.kinds.Keyword.{Keyword}
-use Rattle.c_words.specs.declared.kinds.Keyword.TheVariants as keywords
 use Rattle.tape_ops.specs.declared.op.Op.{Op}
 use Rattle.tape_ops.specs.declared.op.Op.TheVariants as ops
 use Rattle.tape_ops.specs.declared.specifier.SpecOp.{SpecOp}
@@ -14,9 +12,8 @@ use Rattle.tape_ops.specs.declared.statement.StmtOp.{StmtOp}
 use Rattle.tape_ops.specs.declared.statement.StmtOp.TheVariants as stmts
 use Rattle.type_table.specs.Types.{CType}
 use Rattle.name_rules.specs.Spellings.{Spelling, Place, place, Named}
-use Rattle.name_rules.specs.Scopes.{object_role, Declared, declared_at, Names, is_place, is_at_file, sized}
-use Rattle.name_rules.specs.Pieces.{is_function, decayed}
-use Rattle.name_rules.specs.Declaring.{declared_here, declared_thing, declared_typedef, declared_some, declared_param, declared_member, has_word}
+use Rattle.name_rules.specs.Scopes.{Declared, declared_at, Names, is_place}
+use Rattle.name_rules.specs.Pieces.{decayed}
 use Rattle.name_rules.specs.Units.{no_names, unit_begun}
 use Rattle.name_steps.specs.State.{OpenDeclaration, State, no_declaration, innermost_or, with_innermost, without_innermost, with_names}
 use Rattle.name_steps.specs.Steps.{declaration, body, parameters, expression_step, specifier_step, declarator_step, statement_step, step, run}
@@ -29,7 +26,7 @@ use Rattle.meaning_laws.specs.Meanings.{Differ}
 use Rattle.key_laws.specs.Keys.{fresh_key, op_key, spec_key, declr_key, key_place, key_places, KeyIsApart, KeysAreApart}
 use Rattle.key_laws.specs.Differing.{keys_among}
 use Rattle.meaning_laws.proofs.Lists.{place_is, other_way}
-use Rattle.meaning_laws.proofs.Growing.{names, names_kept, used_same, tag_body_same, untagged_same, keep_same, entered_same, expr_declarations, expr_same}
+use Rattle.meaning_laws.proofs.Growing.{Adds, adds_some, adds_param, adds_member, names, names_kept, used_same, tag_body_same, untagged_same, keep_same, entered_same, expr_declarations, expr_same}
 use Rattle.scope_laws.specs.Apart.{AllApart, DeclarationsDiffer, NamesAreApart}
 use Rattle.scope_laws.proofs.Places.{not_same, last_or_before, tail_has, tail_has_not, head_has_not, has_not, has_not_left, has_not_right, has_left, has_right, has_itself, differ_before}
 
@@ -201,60 +198,20 @@ module _ (u : Spelling) where
         by None k = k
         by (Some it) k = without_open (place u it.token) k
 
-    top_unnamed : (xs : List OpenDeclaration) (d : OpenDeclaration) → d.name ≡ None →
-        Kept keys fresh st.names.declared (opened u (names (without_innermost xs))) →
-        Kept keys fresh st.names.declared (opened u (names (with_innermost d xs)))
-    top_unnamed [] d e k = k
-    top_unnamed (x ∷ xs) d e k =
-        subst (λ (name : Option Named). Kept keys fresh st.names.declared (opened u (name ∷ names xs))) (sym e) k
-
-    -- what the innermost declaration's name, where it has one, adds to the declarations
-    abbrev Adds : Option Named → List Declared → Type 0
-    Adds None new = new ≡ st.names.declared
-    Adds (Some it) new = (d : Declared) × (d.at ≡ place u it.token) × (new ≡ st.names.declared ++ d ∷ [])
-
-    closing : (xs : List OpenDeclaration) (new : List Declared) → Adds (innermost_or no_declaration xs).name new →
+    closing : (xs : List OpenDeclaration) (new : List Declared) →
+        Adds u (innermost_or no_declaration xs).name st.names.declared new →
         Kept keys fresh st.names.declared (opened u (names xs)) →
         Kept keys fresh new (opened u (names (without_innermost xs)))
     closing [] new a k = subst (λ (it : List Declared). Kept keys fresh it []) (sym a) k
     closing (x ∷ xs) new a k = by x.name a k
       where
-        by : (name : Option Named) → Adds name new → Kept keys fresh st.names.declared (opened u (name ∷ names xs)) →
+        by : (name : Option Named) → Adds u name st.names.declared new → Kept keys fresh st.names.declared (opened u (name ∷ names xs)) →
             Kept keys fresh new (opened u (names xs))
         by None a k = subst (λ (it : List Declared). Kept keys fresh it (opened u (names xs))) (sym a) k
         by (Some it) a k =
             subst (λ (new : List Declared). Kept keys fresh new (opened u (names xs))) (sym a.2)
             (with_declared a.0 (subst (λ (p : Place). Kept keys fresh st.names.declared (p ∷ opened u (names xs)))
             (sym a.1) k))
-
-    adds_some : (it : Option Named) (words : List Keyword) (t : CType) →
-        Adds it (declared_some u it words t st.names).declared
-    adds_some None words t = refl
-    adds_some (Some it) words t =
-        by (has_word keywords.Typedef words) (is_at_file old || (is_function t || has_word keywords.Extern words))
-      where
-        old : Names
-        old = sized (place u it.token) t st.names
-
-        own : Option Place
-        own = if has_word keywords.Static words then None else old.enclosing
-
-        by : (b c : Bool) → Adds (Some it) (if b then declared_typedef (place u it.token) (u.key it.name) t old
-            else if c then declared_thing (place u it.token) (u.key it.name) t old
-            else declared_here (place u it.token) (u.key it.name) object_role t own old).declared
-        by true c = (_, refl, refl)
-        by false true = (_, refl, refl)
-        by false false = (_, refl, refl)
-
-    adds_param : (it : Option Named) (i : ℕ) (own : Option Place) (t : CType) →
-        Adds it (declared_param u it i own t st.names).declared
-    adds_param None i own t = refl
-    adds_param (Some it) i own t = (_, refl, refl)
-
-    adds_member : (it : Option Named) (number : ℕ) (t : CType) →
-        Adds it (declared_member u it number t st.names).declared
-    adds_member None number t = refl
-    adds_member (Some it) number t = (_, refl, refl)
 
     unnamed_top : (xs : List OpenDeclaration) (d : OpenDeclaration) (new : List Declared) → d.name ≡ None →
         Kept keys fresh new (opened u (names (without_innermost xs))) →
@@ -307,18 +264,18 @@ module _ (u : Spelling) where
     declr_kept (declrs.DeclName token name) none = only (name_kept token name (none token refl) ds (top_gone ds h))
     declr_kept (declrs.ParamsBegin is_own) none = plain h
     declr_kept declrs.Param none =
-        plain (closing ds _ (adds_param (declaration st).name (length (parameters st).types) (parameters st).own
-        (decayed (declaration st).declared)) h)
+        plain (closing ds _ (adds_param u (declaration st).name (length (parameters st).types) (parameters st).own
+        (decayed (declaration st).declared) st.names) h)
     declr_kept declrs.ParamsEnd none = plain (same_names _ (keep_same (parameters st).own st.names))
     declr_kept declrs.Pointer none = plain (kept_name _)
     declr_kept declrs.Array none = plain (kept_name _)
     declr_kept (declrs.Function has_ellipsis) none = plain (kept_name _)
     declr_kept declrs.Declare none =
         plain (unnamed_top ds (record (declaration st) { name = None; declared = (declaration st).type }) _ refl
-        (closing ds _ (adds_some (declaration st).name (declaration st).storage (declaration st).declared) h))
+        (closing ds _ (adds_some u (declaration st).name (declaration st).storage (declaration st).declared st.names) h))
     declr_kept declrs.Member none =
         plain (unnamed_top ds (record (declaration st) { name = None; declared = (declaration st).type }) _ refl
-        (closing ds _ (adds_member (declaration st).name (body st).members_of (declaration st).declared) h))
+        (closing ds _ (adds_member u (declaration st).name (body st).members_of (declaration st).declared st.names) h))
     declr_kept (declrs.TypeName first) none = plain (top_gone ds h)
     declr_kept declrs.DeclarationEnd none = plain (top_gone ds h)
 
