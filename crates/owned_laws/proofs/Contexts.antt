@@ -3,12 +3,8 @@ use Rattle.std.specs.Prelude.{if◌then◌else◌}
 use Rattle.std.proofs.Common.{◌≡◌, ℕ, suc, Bool, true, false, List, [], ◌∷◌, Option, None, Some, refl, sym, ◌∙◌, ap, subst, inl, inr}
 use Rattle.tape_ops.specs.declared.op.Op.{Op}
 use Rattle.tape_ops.specs.declared.op.Op.TheVariants as ops
-use Rattle.tape_ops.specs.declared.expression.ExprOp.{ExprOp}
-use Rattle.tape_ops.specs.declared.expression.ExprOp.TheVariants as exprs
 use Rattle.tape_ops.specs.declared.form.FormOp.{FormOp}
 use Rattle.tape_ops.specs.declared.form.FormOp.TheVariants as forms
-use Rattle.tape_ops.specs.declared.initialiser.InitOp.{InitOp}
-use Rattle.tape_ops.specs.declared.initialiser.InitOp.TheVariants as inits
 use Rattle.tape_ops.specs.declared.specifier.SpecOp.{SpecOp}
 use Rattle.tape_ops.specs.declared.specifier.SpecOp.TheVariants as specs
 use Rattle.tape_ops.specs.declared.declarator.DeclrOp.{DeclrOp}
@@ -18,32 +14,14 @@ use Rattle.tape_ops.specs.declared.statement.StmtOp.TheVariants as stmts
 use Rattle.c_tape.specs.Tape.{item_tape}
 use Rattle.shape_steps.specs.State.{OpenDeclaration, declared_last, with_name, with_declared, without_name, without_innermost, changed}
 use Rattle.row_rules.specs.Worlds.{World}
-use Rattle.row_steps.specs.Rounds.{Naming, a_name, own_param, other_param, Round, Rounds}
+use Rattle.row_steps.specs.Rounds.{Naming, a_name, own_param, other_param, Round}
 use Rattle.row_steps.specs.Rounds as rounds
 use Rattle.row_steps.specs.State.{State, nothing}
-use Rattle.row_steps.specs.Steps.{expr_step, form_step, init_step, spec_step, declr_step, stmt_step, step}
+use Rattle.row_steps.specs.Steps.{spec_step, declr_step, step}
 use Rattle.tape_laws.specs.Marks.{Mark, in_declaration, in_params, in_tag, in_scope, in_quiet, in_body, turn, IsBracketed, function_token, ItemsAreBracketed}
 use Rattle.owned_laws.specs.Contexts.{NamingIsOf, BodyIsOf, BeginsIts, ContextsAlong, ContextsAreIts}
+use Rattle.owned_laws.proofs.Keeping.{expr_keeps, form_keeps, init_keeps, stmt_keeps, form_body, spec_body, declr_body}
 use Rattle.tape_laws.proofs.Turns.{Declaring, quiet_was, tag_was, scope_was, declaration_was, params_were, named_was, begun_was, param_was, declared_was, member_was, body_begins, body_was}
-
--- the open declarations that a step keeps
-
-expr_keeps : (w : World) (st : State) (op : ExprOp) → (expr_step w st op).declarations ≡ st.declarations
-expr_keeps w st (exprs.Comma token) = refl
-expr_keeps w st op = refl
-
-form_keeps : (w : World) (st : State) (op : FormOp) → (form_step w st op).declarations ≡ st.declarations
-form_keeps w st (forms.StmtExpr true token) = refl
-form_keeps w st (forms.StmtExpr false token) = refl
-form_keeps w st op = refl
-
-init_keeps : (w : World) (st : State) (op : InitOp) → (init_step w st op).declarations ≡ st.declarations
-init_keeps w st inits.Begin = refl
-init_keeps w st op = refl
-
-stmt_keeps : (st : State) (op : StmtOp) → (stmt_step st op).declarations ≡ st.declarations
-stmt_keeps st stmts.Quiet = refl
-stmt_keeps st op = refl
 
 -- what marks say of the open declarations and of what is around
 
@@ -267,19 +245,6 @@ module _ (t : Option ℕ) where
         ∙ sym was.4
     begins_its (ops.Stmt op) e = tt
     begins_its op e = tt
-
-  form_body : (r : Rounds) (op : FormOp) → (rounds.form_round r op).body ≡ r.body
-  form_body r (forms.Sizeof token) = refl
-  form_body r op = refl
-
-  spec_body : (r : Rounds) (op : SpecOp) → (rounds.spec_round r op).body ≡ r.body
-  spec_body r specs.BodyEnd = refl
-  spec_body r op = refl
-
-  declr_body : (declarations : List OpenDeclaration) (r : Rounds) (op : DeclrOp) →
-      (rounds.declr_round declarations r op).body ≡ r.body
-  declr_body declarations r declrs.Param = refl
-  declr_body declarations r op = refl
 
   stays : (new old : Option ℕ) → new ≡ old → BodyIsOf t old → BodyIsOf t new
   stays new old is k = subst (BodyIsOf t) (sym is) k

@@ -283,9 +283,6 @@ module _ (s : Names) (starts : List Start) where
         back u (in_declaration it.name it.last own ∷ it.outer) n (names ds) (shapes.without_innermost rs) (sym it.is)
         (marked u it.name it.last it.name it.last it.own own it.outer (names ds) (shapes.without_innermost rs)
         (left_params u it.params inner (names ds) rs (back u m (in_params it.params ∷ inner) (names ds) rs it.was h)))
-    declr_aligned declrs.Pointer e begins = kept_name u n ds rs _ (moved u m n (names ds) rs e h)
-    declr_aligned declrs.Array e begins = kept_name u n ds rs _ (moved u m n (names ds) rs e h)
-    declr_aligned (declrs.Function has_ellipsis) e begins = kept_name u n ds rs _ (moved u m n (names ds) rs e h)
     declr_aligned declrs.Declare e begins =
         let was = declared_was m n e in
         named_now was.0 None was.0.name
@@ -296,6 +293,7 @@ module _ (s : Names) (starts : List Start) where
         (record (declaration st) { name = None; declared = (declaration st).type }) was.1 tt
     declr_aligned (declrs.TypeName first) e begins = closed_now e
     declr_aligned declrs.DeclarationEnd e begins = closed_now e
+    declr_aligned op e begins = kept_name u n ds rs _ (moved u m n (names ds) rs e h)
 
     stmt_aligned : (op : StmtOp) → turn t m (ops.Stmt op) ≡ Some n →
         Aligned u n (names (statement_step u st op).declarations) (rounds.stmt_round ods r op).around

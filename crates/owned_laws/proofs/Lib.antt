@@ -4,6 +4,7 @@ mod Contexts
 mod Fits
 mod Found
 mod Functions
+mod Keeping
 mod Placed
 mod Places
 mod Stacks
