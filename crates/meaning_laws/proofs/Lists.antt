@@ -1,7 +1,7 @@
 -- One more declaration, and what it leaves as it is.
 use Rattle.std.proofs.Common.{◌≡◌, ℕ, zero, suc, Bool, true, false, List, [], ◌∷◌, ◌++◌, slice_get, Option, None, Some, nat_eq, refl, sym, ◌∙◌, ap, subst}
-use Rattle.std.specs.Prelude.{◌&&◌, if◌then◌else◌}
-use Rattle.std.proofs.lemmas.Bool.{eq-eqb, eqb-true}
+use Rattle.std.specs.Prelude.{if◌then◌else◌}
+use Rattle.std.proofs.lemmas.Bool.{and_parts, eq-eqb, eqb-true}
 use Rattle.name_rules.specs.Spellings.{Place}
 use Rattle.name_rules.specs.Scopes.{Meaning, means_type, means_thing, Scope, Declared, declared_at, Use, means, called, missing, NameUse, Own, Known, Body, Aggregate, Names, is_place, thing_named, meaning_in, some_thing, or_outer, meaning_through, innermost, outer_scopes, changed_at, or_no_body, body_of, body_of_some, lying_in}
 use Rattle.name_rules.specs.Units.{is_shared, shared_name, shared}
@@ -9,22 +9,13 @@ use Rattle.name_rules.specs.Uses.{use_at}
 use Rattle.name_rules.specs.Values.{known_named, member_in, own_of}
 use Rattle.meaning_laws.specs.Meanings.{Differ, MeaningIs, NamesAre, ScopesAre, ThingsAre, KeptIs, UseIs, UsesAre, OwnAre, KnownAre, SomeBodyIs, AggregatesAre}
 
-left : (a b : Bool) → (a && b) ≡ true → a ≡ true
-left true b e = refl
-left false b e = e
-
-right : (a b : Bool) → (a && b) ≡ true → b ≡ true
-right true b e = e
-right false b e = absurd cc
-
 pub place_itself : (p : Place) → is_place p p ≡ true
 place_itself p = rw (eq-eqb p.0 p.0 refl, eq-eqb p.1 p.1 refl) refl
 
 pub place_is : (p q : Place) → is_place p q ≡ true → p ≡ q
 place_is p q e =
-    let unit : p.0 ≡ q.0 = eqb-true p.0 q.0 (left (nat_eq p.0 q.0) (nat_eq p.1 q.1) e) in
-    let token : p.1 ≡ q.1 = eqb-true p.1 q.1 (right (nat_eq p.0 q.0) (nat_eq p.1 q.1) e) in
-    ap (λ (n : ℕ). pair n p.1) unit ∙ ap (λ (n : ℕ). pair q.0 n) token
+    let both = and_parts (nat_eq p.0 q.0) (nat_eq p.1 q.1) e in
+    ap (λ (n : ℕ). pair n p.1) (eqb-true p.0 q.0 both.0) ∙ ap (λ (n : ℕ). pair q.0 n) (eqb-true p.1 q.1 both.1)
   where
     pair : ℕ → ℕ → Place
     pair m n = (m, n)

@@ -40,7 +40,7 @@ use Rattle.owned_laws.specs.Names.{FunctionsBegin}
 use Rattle.owned_laws.specs.Tapes.{OpsFit}
 use Rattle.meaning_laws.proofs.Lists.{place_itself}
 use Rattle.scope_laws.proofs.Places.{declared_place, has_itself, has_right}
-use Rattle.owned_laws.proofs.Places.{begins_at}
+use Rattle.owner_laws.proofs.Instances.{begins_at}
 use Rattle.owned_laws.proofs.Begin.{FreshAt, fresh_begins, IsPlaced, expr_is, form_is, init_is, IsExact, ExactAlong}
 use Rattle.owned_laws.proofs.Keeping.{expr_keeps, form_keeps, init_keeps, stmt_keeps}
 use Rattle.owned_laws.proofs.Alike.{Alike, alike}

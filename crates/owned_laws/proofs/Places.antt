@@ -6,17 +6,7 @@ use Rattle.name_rules.specs.Scopes.{is_place}
 use Rattle.row_rules.specs.Starting.{Start}
 use Rattle.row_rules.specs.Sites.{AreDifferent, has_place, place_of, site_places}
 use Rattle.owner_laws.specs.Fitting.{start_at}
-use Rattle.meaning_laws.proofs.Lists.{place_is}
 use Rattle.scope_laws.proofs.Places.{has_not, has_not_left, has_not_right, differ_left, differ_right, differ_apart, differ_joined}
-
-pub begins_at : (starts : List Start) (p : Place) (start : Start) → start_at starts p ≡ Some start → start.at ≡ p
-begins_at [] p start e = absurd cc
-begins_at (head ∷ starts) p start e = by (is_place head.at p) (place_is head.at p) e (begins_at starts p start)
-  where
-    by : (b : Bool) → (b ≡ true → head.at ≡ p) → (if b then Some head else start_at starts p) ≡ Some start →
-        (start_at starts p ≡ Some start → start.at ≡ p) → start.at ≡ p
-    by true is e more = let same : head ≡ start = cc in subst (λ (it : Start). it.at ≡ p) same (is refl)
-    by false is e more = more e
 
 -- joined lists
 

@@ -1,6 +1,6 @@
 mod Fitting
 mod Indexing
-mod Instances
+pub mod Instances
 mod Intervals
 mod Rows
 mod Sites
