@@ -350,7 +350,8 @@ module _ (k : Setting) where
   init_fits st (inits.Value first last) h fit =
       target_fits (initialised_by w (declared_last st.declarations)) (first_operand st.operands) (span w first last)
       (initialised_in k (declared_last st.declarations) fit) (first_value_in k st.operands h.operands)
-  init_fits st (inits.Literal token) h fit = annotating_place_fits (type_of_operand (first_operand (operands_below st))) (own w token)
+  init_fits st (inits.Literal token) h fit =
+      annotating_place_fits (type_of_operand (first_operand (operands_below st))) (own w token)
   init_fits st (inits.Leaf first last) h fit =
       target_fits (target_in w (first_braces st.braces)) (first_operand st.leaves) (span w first last)
       (target_in_in k (first_braces st.braces) (first_braces_in k st.braces h.braces))

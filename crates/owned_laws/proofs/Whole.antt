@@ -165,7 +165,8 @@ module _ (law : Laws) where
         (some_of s (function_of it item) (item_starts it.spelling s item)
         (item_placed it item (declares_its all item (All-head (IsItem all) item items rules))
         (apart_left it.spelling s (item_tape item) (tape_of items) apart)))
-        (items_some it all items (All-tail (IsItem all) item items rules) (apart_right it.spelling s (item_tape item) (tape_of items) apart))
+        (items_some it all items (All-tail (IsItem all) item items rules)
+        (apart_right it.spelling s (item_tape item) (tape_of items) apart))
 
     sources_some : (sources : List Source) → All IsRead sources → AllApart s sources → AllSome s (starts_among s sources)
     sources_some [] h apart = tt
@@ -246,7 +247,8 @@ module _ (law : Laws) where
         (item_fits it item xs (more ++ zs) ps (others ++ rs) h (joined_kept others rs more zs (unit_kept u s items) l)
         (ap (λ (ys : List Start). xs ++ ys) (sym (append_assoc here_ more zs)) ∙ e)
         (subst AreDifferent (ap (λ (qs : List Place). ps ++ qs) (append_assoc keys_ others rs)) apart)
-        (declares_its lexemes item (All-head (IsItem lexemes) item items rules)) (apart_left u s (item_tape item) (tape_of items) keys_apart) stay.0))
+        (declares_its lexemes item (All-head (IsItem lexemes) item items rules))
+        (apart_left u s (item_tape item) (tape_of items) keys_apart) stay.0))
         (items_fit it lexemes items (xs ++ here_) zs (ps ++ keys_) rs
         (joined_kept ps keys_ xs here_ h (item_kept u s item)) l (regroup xs here_ more zs ∙ e)
         (subst AreDifferent (sym (regroup ps keys_ others rs)) apart) (All-tail (IsItem lexemes) item items rules)
@@ -280,16 +282,16 @@ module _ (law : Laws) where
     sources_fit [] xs ps h e d rules keys_apart stay = tt
     sources_fit (it ∷ sources) xs ps h e d rules keys_apart stay =
         law.lists (system_of p) (items_demand (world_of p it) it.items) (demands_among p sources)
-        (items_fit it (All-head IsRead it sources rules).all it.items xs (starts_among s sources) ps (keys_among sources) h (sources_kept s sources)
-        e d (All-head IsRead it sources rules).rules.parts keys_apart.0 stay.0)
+        (items_fit it (All-head IsRead it sources rules).all it.items xs (starts_among s sources) ps (keys_among sources) h
+        (sources_kept s sources) e d (All-head IsRead it sources rules).rules.parts keys_apart.0 stay.0)
         (sources_fit sources (xs ++ items_starts it.spelling s it.items)
         (ps ++ key_places it.spelling (tape_of it.items))
         (joined_kept ps (key_places it.spelling (tape_of it.items)) xs (items_starts it.spelling s it.items) h
         (unit_kept it.spelling s it.items))
         (append_assoc xs (items_starts it.spelling s it.items) (starts_among s sources) ∙ e)
         (subst AreDifferent
-        (sym (append_assoc ps (key_places it.spelling (tape_of it.items)) (keys_among sources))) d) (All-tail IsRead it sources rules) keys_apart.1
-        stay.1)
+        (sym (append_assoc ps (key_places it.spelling (tape_of it.items)) (keys_among sources))) d)
+        (All-tail IsRead it sources rules) keys_apart.1 stay.1)
 
     owned : IsWellOwned (system_of p)
     owned = law.whole (system_of p)

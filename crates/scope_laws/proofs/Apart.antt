@@ -205,7 +205,8 @@ module _ (u : Spelling) where
     closing [] new a k = subst (λ (it : List Declared). Kept keys fresh it []) (sym a) k
     closing (x ∷ xs) new a k = by x.name a k
       where
-        by : (name : Option Named) → Adds u name st.names.declared new → Kept keys fresh st.names.declared (opened u (name ∷ names xs)) →
+        by : (name : Option Named) → Adds u name st.names.declared new →
+            Kept keys fresh st.names.declared (opened u (name ∷ names xs)) →
             Kept keys fresh new (opened u (names xs))
         by None a k = subst (λ (it : List Declared). Kept keys fresh it (opened u (names xs))) (sym a) k
         by (Some it) a k =

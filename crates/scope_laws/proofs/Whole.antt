@@ -108,7 +108,8 @@ module _ (S : Names) (differ : Differ S.declared) where
     around = tt;
     things = h.things;
     round = things_joined (IsOfFile S) (shared s (innermost s.scopes).names) s.round
-        (shared_are (IsOfFile S) s (innermost s.scopes).names (around_top (IsOfFile S) (IsOfFile S) [] s.scopes h.around)) h.round;
+        (shared_are (IsOfFile S) s (innermost s.scopes).names
+        (around_top (IsOfFile S) (IsOfFile S) [] s.scopes h.around)) h.round;
   }
 
   module _ (bracketed : ItemsAreBracketed) where

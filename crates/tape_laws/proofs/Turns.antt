@@ -50,7 +50,8 @@ declared_was (in_declaration name last own ∷ m) n e = by (is_open m) refl e
         (d : Declaring (in_declaration name last own ∷ m)) × (n ≡ in_declaration None d.name d.own ∷ d.outer)
         × (is_open d.outer ≡ true)
     by true is e =
-        (record { name = name; last = last; own = own; outer = m; is = refl }, (let same : in_declaration None name own ∷ m ≡ n = cc in sym same), is)
+        let same : in_declaration None name own ∷ m ≡ n = cc in
+        (record { name = name; last = last; own = own; outer = m; is = refl }, sym same, is)
     by false is e = absurd cc
 declared_was m n e = absurd cc
 
