@@ -14,20 +14,20 @@ use Rattle.tape_ops.specs.declared.statement.StmtOp.TheVariants as stmts
 use Rattle.c_tape.specs.Tape.{item_tape}
 use Rattle.shape_steps.specs.State.{OpenDeclaration, declared_last, with_name, with_declared, without_name, without_innermost, changed}
 use Rattle.row_rules.specs.Worlds.{World}
-use Rattle.row_steps.specs.Rounds.{Naming, a_name, own_param, other_param, Round}
+use Rattle.row_steps.specs.Rounds.{Naming, a_name, own_param, other_param, Round, Rounds}
 use Rattle.row_steps.specs.Rounds as rounds
 use Rattle.row_steps.specs.State.{State, nothing}
-use Rattle.row_steps.specs.Steps.{spec_step, declr_step, step}
-use Rattle.tape_laws.specs.Marks.{Mark, in_declaration, in_params, in_tag, in_scope, in_quiet, in_body, turn, IsBracketed, function_token, ItemsAreBracketed}
+use Rattle.row_steps.specs.Steps.{step}
+use Rattle.tape_laws.specs.Marks.{Mark, in_declaration, in_params, in_tag, in_scope, in_quiet, in_body, is_open, turn, IsBracketed, function_token, ItemsAreBracketed}
 use Rattle.owned_laws.specs.Contexts.{NamingIsOf, BodyIsOf, BeginsIts, ContextsAlong, ContextsAreIts}
-use Rattle.owned_laws.proofs.Keeping.{expr_keeps, form_keeps, init_keeps, stmt_keeps, form_body, spec_body, declr_body}
+use Rattle.owned_laws.proofs.Opening.{opens, row_opens, form_body, spec_body, declr_body}
 use Rattle.tape_laws.proofs.Turns.{Declaring, quiet_was, tag_was, scope_was, declaration_was, params_were, named_was, begun_was, param_was, declared_was, member_was, body_begins, body_was}
 
 -- what marks say of the open declarations and of what is around
 
 module _ (t : Option ℕ) where
   -- the marks of declarations have their names; own parameters are those of the function whose name is at `t`
-  abbrev Aligned : List Mark → List OpenDeclaration → List Round → Type 0
+  abbrev pub Aligned : List Mark → List OpenDeclaration → List Round → Type 0
   Aligned [] ds rs = rs ≡ []
   Aligned (in_declaration x d o ∷ m) [] rs = ⊥
   Aligned (in_declaration x d o ∷ m) (it ∷ ds) rs = (it.name ≡ x) × (it.declared ≡ d) × Aligned m ds rs
@@ -39,7 +39,7 @@ module _ (t : Option ℕ) where
   Aligned (in_scope ∷ m) ds (r ∷ rs) = (r.naming ≡ a_name) × Aligned m ds rs
   Aligned (in_quiet ∷ m) ds [] = ⊥
   Aligned (in_quiet ∷ m) ds (r ∷ rs) = (r.naming ≡ a_name) × Aligned m ds rs
-  Aligned (in_body ∷ m) ds rs = Aligned m ds rs
+  Aligned (in_body ∷ m) ds rs = ((rounds.innermost rs).naming ≡ a_name) × Aligned m ds rs
 
   name_is_of : (names : Naming) → names ≡ a_name → NamingIsOf t names
   name_is_of names e g n is = absurd cc
@@ -68,7 +68,16 @@ module _ (t : Option ℕ) where
   innermost_is_of (in_scope ∷ m) ds (r ∷ rs) h = name_is_of r.naming h.0
   innermost_is_of (in_quiet ∷ m) ds [] h = absurd h
   innermost_is_of (in_quiet ∷ m) ds (r ∷ rs) h = name_is_of r.naming h.0
-  innermost_is_of (in_body ∷ m) ds rs h = innermost_is_of m ds rs h
+  innermost_is_of (in_body ∷ m) ds rs h = name_is_of _ h.0
+
+  -- where a declaration may declare, what is read is a name
+  pub open_naming : (m : List Mark) (ds : List OpenDeclaration) (rs : List Round) → is_open m ≡ true → Aligned m ds rs →
+      (rounds.innermost rs).naming ≡ a_name
+  open_naming [] ds rs o h = ap (λ (it : List Round). (rounds.innermost it).naming) h
+  open_naming (in_scope ∷ m) ds [] o h = absurd h
+  open_naming (in_scope ∷ m) ds (r ∷ rs) o h = h.0
+  open_naming (in_body ∷ m) ds rs o h = h.0
+  open_naming m ds rs o h = absurd cc
 
   -- steps
 
@@ -139,48 +148,48 @@ module _ (t : Option ℕ) where
   params_are false x d o n ds rs e h = other_is_of
   params_are true x d o n ds rs e h = own_is_of (rounds.name_so_far ds) 0 (name_is x d o n ds rs h ∙ e refl)
 
-  module _ (w : World) (m n : List Mark) (st : State) (h : Aligned m st.declarations st.rounds.around) where
-    abbrev ds : List OpenDeclaration
-    ds = st.declarations
-
+  module _ (m n : List Mark) (ds : List OpenDeclaration) (r : Rounds) (h : Aligned m ds r.around) where
     abbrev rs : List Round
-    rs = st.rounds.around
-
-    form_aligned : (op : FormOp) → turn t m (ops.Form op) ≡ Some n → Aligned n ds (rounds.form_round st.rounds op).around
-    form_aligned (forms.Sizeof token) e = left_quiet n ds rs (at m (in_quiet ∷ n) ds rs (quiet_was m n e) h)
-    form_aligned (forms.Offset token) e = left_quiet n ds rs (at m (in_quiet ∷ n) ds rs (quiet_was m n e) h)
-    form_aligned op e = moved m n ds rs e h
-
-    spec_aligned : (op : SpecOp) → turn t m (ops.Spec op) ≡ Some n →
-        Aligned n (spec_step st op).declarations (rounds.spec_round st.rounds op).around
-    spec_aligned (specs.TagBody kind token name) e = moved (in_tag ∷ m) n ds (rounds.entered st.rounds).around e (refl, h)
-    spec_aligned (specs.Untagged kind token) e = moved (in_tag ∷ m) n ds (rounds.entered st.rounds).around e (refl, h)
-    spec_aligned specs.BodyEnd e = left_tag n ds rs (at m (in_tag ∷ n) ds rs (tag_was m n e) h)
-    spec_aligned specs.SpecsEnd e =
-        moved (in_declaration None None false ∷ m) n (record { name = None; declared = None } ∷ ds) rs e (refl, refl, h)
-    spec_aligned op e = moved m n ds rs e h
-
-    stmt_aligned : (op : StmtOp) → turn t m (ops.Stmt op) ≡ Some n →
-        Aligned n ds (rounds.stmt_round ds st.rounds op).around
-    stmt_aligned stmts.Quiet e = moved (in_quiet ∷ m) n ds (rounds.silenced st.rounds).around e (refl, h)
-    stmt_aligned stmts.Loud e = left_quiet n ds rs (at m (in_quiet ∷ n) ds rs (quiet_was m n e) h)
-    stmt_aligned stmts.Enter e = moved (in_scope ∷ m) n ds (rounds.entered st.rounds).around e (refl, h)
-    stmt_aligned stmts.Leave e = left_scope n ds rs (at m (in_scope ∷ n) ds rs (scope_was m n e) h)
-    stmt_aligned stmts.FunctionBody e = at (in_body ∷ m) n ds rs (sym (body_begins t m n e).3) h
-    stmt_aligned stmts.FunctionEnd e =
-        let was = body_was m n e in
-        at (in_declaration was.0 was.1 false ∷ was.3) n ds rs (sym was.5)
-        (marked was.0 was.1 was.2 false was.3 ds rs
-        (at m (in_body ∷ (in_declaration was.0 was.1 was.2 ∷ was.3)) ds rs was.4 h))
-    stmt_aligned op e = moved m n ds rs e h
+    rs = r.around
 
     -- in a declaration
 
     here : (d : Declaring m) → Aligned (in_declaration d.name d.last d.own ∷ d.outer) ds rs
     here d = at m (in_declaration d.name d.last d.own ∷ d.outer) ds rs d.is h
 
-    gone : (d : Declaring m) → Aligned d.outer (without_innermost ds) rs
+    pub gone : (d : Declaring m) → Aligned d.outer (without_innermost ds) rs
     gone d = left_declaration d.name d.last d.own d.outer ds rs (here d)
+
+    form_aligned : (op : FormOp) → turn t m (ops.Form op) ≡ Some n → Aligned n ds (rounds.form_round r op).around
+    form_aligned (forms.Sizeof token) e = left_quiet n ds rs (at m (in_quiet ∷ n) ds rs (quiet_was m n e) h)
+    form_aligned (forms.Offset token) e = left_quiet n ds rs (at m (in_quiet ∷ n) ds rs (quiet_was m n e) h)
+    form_aligned op e = moved m n ds rs e h
+
+    spec_aligned : (op : SpecOp) → turn t m (ops.Spec op) ≡ Some n →
+        Aligned n (opens (ops.Spec op) ds) (rounds.spec_round r op).around
+    spec_aligned (specs.TagBody kind token name) e = moved (in_tag ∷ m) n ds (rounds.entered r).around e (refl, h)
+    spec_aligned (specs.Untagged kind token) e = moved (in_tag ∷ m) n ds (rounds.entered r).around e (refl, h)
+    spec_aligned specs.BodyEnd e = left_tag n ds rs (at m (in_tag ∷ n) ds rs (tag_was m n e) h)
+    spec_aligned specs.SpecsEnd e =
+        moved (in_declaration None None false ∷ m) n (record { name = None; declared = None } ∷ ds) rs e (refl, refl, h)
+    spec_aligned op e = moved m n ds rs e h
+
+    stmt_aligned : (op : StmtOp) → turn t m (ops.Stmt op) ≡ Some n → Aligned n ds (rounds.stmt_round ds r op).around
+    stmt_aligned stmts.Quiet e = moved (in_quiet ∷ m) n ds (rounds.silenced r).around e (refl, h)
+    stmt_aligned stmts.Loud e = left_quiet n ds rs (at m (in_quiet ∷ n) ds rs (quiet_was m n e) h)
+    stmt_aligned stmts.Enter e = moved (in_scope ∷ m) n ds (rounds.entered r).around e (refl, h)
+    stmt_aligned stmts.Leave e = left_scope n ds rs (at m (in_scope ∷ n) ds rs (scope_was m n e) h)
+    stmt_aligned stmts.FunctionBody e =
+        let was = body_begins t m n e in
+        let file = left_declaration was.0 (Some was.1) true [] ds rs
+            (at m (in_declaration was.0 (Some was.1) true ∷ []) ds rs was.2 h) in
+        at (in_body ∷ m) n ds rs (sym was.3) (open_naming [] (without_innermost ds) rs refl file, h)
+    stmt_aligned stmts.FunctionEnd e =
+        let was = body_was m n e in
+        at (in_declaration was.0 was.1 false ∷ was.3) n ds rs (sym was.5)
+        (marked was.0 was.1 was.2 false was.3 ds rs
+        (at m (in_body ∷ (in_declaration was.0 was.1 was.2 ∷ was.3)) ds rs was.4 h).1)
+    stmt_aligned op e = moved m n ds rs e h
 
     named_now : (d : Declaring m) (x c : Option ℕ) (change : OpenDeclaration → OpenDeclaration) →
         n ≡ in_declaration x c d.own ∷ d.outer →
@@ -195,7 +204,7 @@ module _ (t : Option ℕ) where
         let was = declaration_was m n e in at was.0.outer n (without_innermost ds) rs (sym was.1) (gone was.0)
 
     declr_aligned : (op : DeclrOp) → turn t m (ops.Declr op) ≡ Some n →
-        Aligned n (declr_step w st op).declarations (rounds.declr_round ds st.rounds op).around
+        Aligned n (opens (ops.Declr op) ds) (rounds.declr_round ds r op).around
     declr_aligned (declrs.DeclName token name) e =
         let was = named_was token m n e in
         named_now was.0 (Some token) was.0.last (with_name token) was.1 (λ it x d. (refl, d))
@@ -203,11 +212,11 @@ module _ (t : Option ℕ) where
         let it = begun_was t is_own m n e in
         let d = it.declaring in
         at (in_params is_own ∷ m) n ds
-        (rounds.with_round (rounds.params_naming is_own ds) (rounds.is_quiet st.rounds) st.rounds).around (sym it.is)
+        (rounds.with_round (rounds.params_naming is_own ds) (rounds.is_quiet r) r).around (sym it.is)
         (params_are is_own d.name d.last d.own d.outer ds rs (λ own. (it.named own).1 ∙ sym (it.named own).2) (here d), h)
     declr_aligned declrs.Param e =
         let was = param_was m n e in
-        at (in_params was.1 ∷ was.2) n (without_innermost ds) (rounds.next_param st.rounds).around (sym was.4)
+        at (in_params was.1 ∷ was.2) n (without_innermost ds) (rounds.next_param r).around (sym was.4)
         (next_round_is was.1 was.2 (without_innermost ds) rs
         (at was.0.outer (in_params was.1 ∷ was.2) (without_innermost ds) rs was.3 (gone was.0)))
     declr_aligned declrs.ParamsEnd e =
@@ -225,26 +234,22 @@ module _ (t : Option ℕ) where
     declr_aligned declrs.DeclarationEnd e = closed_now e
     declr_aligned op e = moved m n ds rs e h
 
-    -- the open declarations stay
-    kept : (new old : List OpenDeclaration) (r : List Round) → new ≡ old → Aligned n old r → Aligned n new r
-    kept new old r is k = subst (λ (it : List OpenDeclaration). Aligned n it r) (sym is) k
-
-    aligned : (op : Op) → turn t m op ≡ Some n →
-        Aligned n (step w st op).declarations (step w st op).rounds.around
-    aligned (ops.Expr op) e = kept _ _ rs (expr_keeps w st op) (moved m n ds rs e h)
-    aligned (ops.Form op) e = kept _ _ _ (form_keeps w st op) (form_aligned op e)
-    aligned (ops.Init op) e = kept _ _ rs (init_keeps w st op) (moved m n ds rs e h)
+    pub aligned : (op : Op) → turn t m op ≡ Some n → Aligned n (opens op ds) (rounds.round_step ds r op).around
+    aligned (ops.Expr op) e = moved m n ds rs e h
+    aligned (ops.Form op) e = form_aligned op e
+    aligned (ops.Init op) e = moved m n ds rs e h
     aligned (ops.Spec op) e = spec_aligned op e
     aligned (ops.Declr op) e = declr_aligned op e
-    aligned (ops.Stmt op) e = kept _ _ _ (stmt_keeps st op) (stmt_aligned op e)
+    aligned (ops.Stmt op) e = stmt_aligned op e
 
-    begins_its : (op : Op) → turn t m op ≡ Some n → BeginsIts t st op
-    begins_its (ops.Stmt stmts.FunctionBody) e =
-        let was = body_begins t m n e in
-        declared_is was.0 (Some was.1) true [] ds rs (at m (in_declaration was.0 (Some was.1) true ∷ []) ds rs was.2 h)
-        ∙ sym was.4
-    begins_its (ops.Stmt op) e = tt
-    begins_its op e = tt
+  begins_its : (m n : List Mark) (st : State) (op : Op) → Aligned m st.declarations st.rounds.around →
+      turn t m op ≡ Some n → BeginsIts t st op
+  begins_its m n st (ops.Stmt stmts.FunctionBody) h e =
+      let was = body_begins t m n e in
+      declared_is was.0 (Some was.1) true [] st.declarations st.rounds.around
+      (at m (in_declaration was.0 (Some was.1) true ∷ []) st.declarations st.rounds.around was.2 h) ∙ sym was.4
+  begins_its m n st (ops.Stmt op) h e = tt
+  begins_its m n st op h e = tt
 
   stays : (new old : Option ℕ) → new ≡ old → BodyIsOf t old → BodyIsOf t new
   stays new old is k = subst (BodyIsOf t) (sym is) k
@@ -264,9 +269,11 @@ module _ (t : Option ℕ) where
       Aligned m st.declarations st.rounds.around → BodyIsOf t st.rounds.body → ContextsAlong w t st tape
   along w [] m st b h k = tt
   along w (op ∷ tape) m st b h k =
-      let begins = begins_its w m b.0 st h op b.1 in (
+      let begins = begins_its m b.0 st op h b.1 in (
         record { params = innermost_is_of m st.declarations st.rounds.around h; body = k; begins = begins },
-        along w tape b.0 (step w st op) b.2 (aligned w m b.0 st h op b.1) (body_behind w st op begins k),
+        along w tape b.0 (step w st op) b.2
+            (subst (λ (ds : List OpenDeclaration). Aligned b.0 ds (step w st op).rounds.around) (sym (row_opens w st op))
+            (aligned m b.0 st.declarations st.rounds h op b.1)) (body_behind w st op begins k),
       )
 
 pub contexts_along : ItemsAreBracketed → ContextsAreIts

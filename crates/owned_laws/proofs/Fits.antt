@@ -28,7 +28,7 @@ use Rattle.row_rules.specs.Sites.{has_place}
 use Rattle.row_rules.specs.Worlds.{World, at}
 use Rattle.row_steps.specs.Rounds.{Naming, a_name, own_param, other_param, naming, is_quiet, Round, Rounds, innermost, name_so_far, params_naming, next_naming, next_round, form_round, spec_round, declr_round, stmt_round, round_step}
 use Rattle.row_steps.specs.State.{State}
-use Rattle.row_steps.specs.Steps.{spec_step, declr_step, step}
+use Rattle.row_steps.specs.Steps.{step}
 use Rattle.row_steps.specs.Starting.{function_at, around, expr_op_starts, form_op_starts, init_op_starts, op_starts}
 use Rattle.key_laws.specs.Keys.{expr_key, form_key, init_key, declr_key, op_key, key_place, key_places}
 use Rattle.scope_laws.specs.Staying.{IsWithin, AreWithin}
@@ -42,8 +42,7 @@ use Rattle.meaning_laws.proofs.Lists.{place_itself}
 use Rattle.scope_laws.proofs.Places.{declared_place, has_itself, has_right}
 use Rattle.owner_laws.proofs.Instances.{begins_at}
 use Rattle.owned_laws.proofs.Begin.{FreshAt, fresh_begins, IsPlaced, expr_is, form_is, init_is, IsExact, ExactAlong}
-use Rattle.owned_laws.proofs.Keeping.{expr_keeps, form_keeps, init_keeps, stmt_keeps}
-use Rattle.owned_laws.proofs.Alike.{Alike, alike}
+use Rattle.owned_laws.proofs.Opening.{opens, row_opens, Alike, alike}
 
 -- what is known of all names and skeletons of a program
 pub record Scene : Type 0 where
@@ -478,28 +477,22 @@ module _ (k : Scene) where
     unnamed_open [] h = tt
     unnamed_open (it ∷ outer) h = ((tt, h.0.1), h.1)
 
-    spec_open : (st : State) (op : SpecOp) → AllDeclared st.declarations → AllDeclared (spec_step st op).declarations
-    spec_open st specs.SpecsEnd h = ((tt, tt), h)
-    spec_open st op h = h
-
-    declr_open : (st : State) (op : DeclrOp) → IsKeyed (declr_key op) → AllDeclared st.declarations →
-        AllDeclared (declr_step w st op).declarations
-    declr_open st (declrs.DeclName token name) keyed h = named_open token st.declarations keyed h
-    declr_open st declrs.Param keyed h = outer_open st.declarations h
-    declr_open st declrs.Declare keyed h = declared_open st.declarations h
-    declr_open st declrs.Member keyed h = unnamed_open st.declarations h
-    declr_open st (declrs.TypeName first) keyed h = outer_open st.declarations h
-    declr_open st declrs.DeclarationEnd keyed h = outer_open st.declarations h
-    declr_open st op keyed h = h
+    opens_keyed : (ds : List OpenDeclaration) (op : Op) → IsKeyed (op_key op) → AllDeclared ds → AllDeclared (opens op ds)
+    opens_keyed ds (ops.Spec specs.SpecsEnd) keyed h = ((tt, tt), h)
+    opens_keyed ds (ops.Spec op) keyed h = h
+    opens_keyed ds (ops.Declr (declrs.DeclName token name)) keyed h = named_open token ds keyed h
+    opens_keyed ds (ops.Declr declrs.Param) keyed h = outer_open ds h
+    opens_keyed ds (ops.Declr declrs.Declare) keyed h = declared_open ds h
+    opens_keyed ds (ops.Declr declrs.Member) keyed h = unnamed_open ds h
+    opens_keyed ds (ops.Declr (declrs.TypeName first)) keyed h = outer_open ds h
+    opens_keyed ds (ops.Declr declrs.DeclarationEnd) keyed h = outer_open ds h
+    opens_keyed ds (ops.Declr op) keyed h = h
+    opens_keyed ds op keyed h = h
 
     step_open : (st : State) (op : Op) → IsKeyed (op_key op) → AllDeclared st.declarations →
         AllDeclared (step w st op).declarations
-    step_open st (ops.Expr op) keyed h = subst AllDeclared (sym (expr_keeps w st op)) h
-    step_open st (ops.Form op) keyed h = subst AllDeclared (sym (form_keeps w st op)) h
-    step_open st (ops.Init op) keyed h = subst AllDeclared (sym (init_keeps w st op)) h
-    step_open st (ops.Spec op) keyed h = spec_open st op h
-    step_open st (ops.Declr op) keyed h = declr_open st op keyed h
-    step_open st (ops.Stmt op) keyed h = subst AllDeclared (sym (stmt_keeps st op)) h
+    step_open st op keyed h =
+        subst AllDeclared (sym (row_opens w st op)) (opens_keyed st.declarations op keyed h)
 
     left_around : (rs : List Round) → AllAround rs → AllAround (shapes.without_innermost rs)
     left_around [] h = tt

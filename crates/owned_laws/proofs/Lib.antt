@@ -1,10 +1,9 @@
-mod Alike
 mod Begin
 mod Contexts
 mod Fits
 mod Found
 mod Functions
-mod Keeping
+mod Opening
 mod Placed
 mod Places
 mod Stacks
