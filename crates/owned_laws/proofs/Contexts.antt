@@ -157,8 +157,8 @@ module _ (t : Option ℕ) where
     here : (d : Declaring m) → Aligned (in_declaration d.name d.last d.own ∷ d.outer) ds rs
     here d = at m (in_declaration d.name d.last d.own ∷ d.outer) ds rs d.is h
 
-    pub gone : (d : Declaring m) → Aligned d.outer (without_innermost ds) rs
-    gone d = left_declaration d.name d.last d.own d.outer ds rs (here d)
+    pub outer_aligned : (d : Declaring m) → Aligned d.outer (without_innermost ds) rs
+    outer_aligned d = left_declaration d.name d.last d.own d.outer ds rs (here d)
 
     form_aligned : (op : FormOp) → turn t m (ops.Form op) ≡ Some n → Aligned n ds (rounds.form_round r op).around
     form_aligned (forms.Sizeof token) e = left_quiet n ds rs (at m (in_quiet ∷ n) ds rs (quiet_was m n e) h)
@@ -201,7 +201,7 @@ module _ (t : Option ℕ) where
 
     closed_now : turn t m (ops.Declr declrs.DeclarationEnd) ≡ Some n → Aligned n (without_innermost ds) rs
     closed_now e =
-        let was = declaration_was m n e in at was.0.outer n (without_innermost ds) rs (sym was.1) (gone was.0)
+        let was = declaration_was m n e in at was.0.outer n (without_innermost ds) rs (sym was.1) (outer_aligned was.0)
 
     declr_aligned : (op : DeclrOp) → turn t m (ops.Declr op) ≡ Some n →
         Aligned n (opens (ops.Declr op) ds) (rounds.declr_round ds r op).around
@@ -218,7 +218,7 @@ module _ (t : Option ℕ) where
         let was = param_was m n e in
         at (in_params was.1 ∷ was.2) n (without_innermost ds) (rounds.next_param r).around (sym was.4)
         (next_round_is was.1 was.2 (without_innermost ds) rs
-        (at was.0.outer (in_params was.1 ∷ was.2) (without_innermost ds) rs was.3 (gone was.0)))
+        (at was.0.outer (in_params was.1 ∷ was.2) (without_innermost ds) rs was.3 (outer_aligned was.0)))
     declr_aligned declrs.ParamsEnd e =
         let it = params_were m n e in
         let inner = in_declaration it.name it.last it.own ∷ it.outer in

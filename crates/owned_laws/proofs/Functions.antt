@@ -28,8 +28,7 @@ use Rattle.std.specs.List.{last_or}
 use Rattle.shape_steps.specs.State as shapes
 use Rattle.shape_steps.specs.Steps as shape_steps
 use Rattle.row_rules.specs.Starting.{Start, owner_there, named_start, declared_start, some_declared_start, had_name}
-use Rattle.row_steps.specs.Rounds.{Naming, a_name, Round, Rounds, file, naming, round_step}
-use Rattle.row_steps.specs.Rounds as rounds
+use Rattle.row_steps.specs.Rounds.{Naming, a_name, Rounds, file, naming, round_step}
 use Rattle.row_steps.specs.Starting.{around, function_at, naming_has, op_starts, starts_found}
 use Rattle.c_tree.specs.declared.lexeme.Lexeme.{Lexeme}
 use Rattle.c_tree.specs.Unit.{Item, IsItem}
@@ -43,6 +42,8 @@ use Rattle.owned_laws.specs.Names.{FunctionsBegin}
 use Rattle.meaning_laws.proofs.Lists.{place_itself}
 use Rattle.meaning_laws.proofs.Growing.{adds_some, names, names_kept, used_same, tag_body_same, untagged_same, keep_same, entered_same, expr_declarations, expr_same}
 use Rattle.scope_laws.proofs.Places.{declared_place}
+use Rattle.owned_laws.proofs.Opening.{shape_opens}
+use Rattle.owned_laws.proofs.Contexts.{Aligned, aligned, outer_aligned, open_naming}
 use Rattle.tape_laws.proofs.Turns.{declares_its, Declaring, quiet_was, tag_was, scope_was, declaration_was, params_were, named_was, begun_was, param_was, declared_was, member_was, body_begins, body_was}
 
 -- a skeleton begins there
@@ -89,30 +90,11 @@ module _ (s : Names) (starts : List Start) where
   NameBegins u m (Some it) = is_open m ≡ true → Begun (place u it.token)
 
   -- of each declaration that may declare a function the name has a skeleton; directly in lists of parameters none does
-  abbrev Aligned : Spelling → List Mark → List (Option Named) → List Round → Type 0
-  Aligned u [] ds rs = rs ≡ []
-  Aligned u (in_declaration x c own ∷ m) [] rs = ⊥
-  Aligned u (in_declaration x c own ∷ m) (d ∷ ds) rs = NameBegins u m d × Aligned u m ds rs
-  Aligned u (in_params own ∷ m) ds [] = ⊥
-  Aligned u (in_params own ∷ m) ds (r ∷ rs) = Aligned u m ds rs
-  Aligned u (in_tag ∷ m) ds [] = ⊥
-  Aligned u (in_tag ∷ m) ds (r ∷ rs) = (r.naming ≡ a_name) × Aligned u m ds rs
-  Aligned u (in_scope ∷ m) ds [] = ⊥
-  Aligned u (in_scope ∷ m) ds (r ∷ rs) = (r.naming ≡ a_name) × Aligned u m ds rs
-  Aligned u (in_quiet ∷ m) ds [] = ⊥
-  Aligned u (in_quiet ∷ m) ds (r ∷ rs) = (r.naming ≡ a_name) × Aligned u m ds rs
-  Aligned u (in_body ∷ m) ds rs = ((rounds.innermost rs).naming ≡ a_name) × Aligned u m ds rs
-
-  open_naming : (u : Spelling) (m : List Mark) (ds : List (Option Named)) (rs : List Round) → is_open m ≡ true →
-      Aligned u m ds rs → (rounds.innermost rs).naming ≡ a_name
-  open_naming u [] ds rs o h = ap (λ (it : List Round). (rounds.innermost it).naming) h
-  open_naming u (in_scope ∷ m) ds [] o h = absurd h
-  open_naming u (in_scope ∷ m) ds (r ∷ rs) o h = h.0
-  open_naming u (in_body ∷ m) ds rs o h = h.0
-  open_naming u (in_declaration x c own ∷ m) ds rs o h = absurd cc
-  open_naming u (in_params own ∷ m) ds rs o h = absurd cc
-  open_naming u (in_tag ∷ m) ds rs o h = absurd cc
-  open_naming u (in_quiet ∷ m) ds rs o h = absurd cc
+  abbrev NamesBegin : Spelling → List Mark → List (Option Named) → Type 0
+  NamesBegin u [] ds = Unit {0}
+  NamesBegin u (in_declaration x c own ∷ m) [] = ⊥
+  NamesBegin u (in_declaration x c own ∷ m) (d ∷ ds) = NameBegins u m d × NamesBegin u m ds
+  NamesBegin u (mark ∷ m) ds = NamesBegin u m ds
 
   -- at the name of a declarator
 
@@ -145,194 +127,140 @@ module _ (s : Names) (starts : List Start) where
 
   -- steps
 
-  moved : (u : Spelling) (m n : List Mark) (ds : List (Option Named)) (rs : List Round) → Some m ≡ Some n →
-      Aligned u m ds rs → Aligned u n ds rs
-  moved u m n ds rs e h = let same : m ≡ n = cc in subst (λ (it : List Mark). Aligned u it ds rs) same h
+  back : (u : Spelling) (m n : List Mark) (ds : List (Option Named)) → m ≡ n → NamesBegin u m ds → NamesBegin u n ds
+  back u m n ds same h = subst (λ (it : List Mark). NamesBegin u it ds) same h
 
-  back : (u : Spelling) (m n : List Mark) (ds : List (Option Named)) (rs : List Round) → m ≡ n → Aligned u m ds rs →
-      Aligned u n ds rs
-  back u m n ds rs same h = subst (λ (it : List Mark). Aligned u it ds rs) same h
+  moved : (u : Spelling) (m n : List Mark) (ds : List (Option Named)) → Some m ≡ Some n → NamesBegin u m ds →
+      NamesBegin u n ds
+  moved u m n ds e h = let same : m ≡ n = cc in back u m n ds same h
 
-  left_quiet : (u : Spelling) (n : List Mark) (ds : List (Option Named)) (rs : List Round) →
-      Aligned u (in_quiet ∷ n) ds rs → Aligned u n ds (shapes.without_innermost rs)
-  left_quiet u n ds [] h = absurd h
-  left_quiet u n ds (r ∷ rs) h = h.1
-
-  left_tag : (u : Spelling) (n : List Mark) (ds : List (Option Named)) (rs : List Round) →
-      Aligned u (in_tag ∷ n) ds rs → Aligned u n ds (shapes.without_innermost rs)
-  left_tag u n ds [] h = absurd h
-  left_tag u n ds (r ∷ rs) h = h.1
-
-  left_scope : (u : Spelling) (n : List Mark) (ds : List (Option Named)) (rs : List Round) →
-      Aligned u (in_scope ∷ n) ds rs → Aligned u n ds (shapes.without_innermost rs)
-  left_scope u n ds [] h = absurd h
-  left_scope u n ds (r ∷ rs) h = h.1
-
-  left_params : (u : Spelling) (own : Bool) (n : List Mark) (ds : List (Option Named)) (rs : List Round) →
-      Aligned u (in_params own ∷ n) ds rs → Aligned u n ds (shapes.without_innermost rs)
-  left_params u own n ds [] h = absurd h
-  left_params u own n ds (r ∷ rs) h = h
-
-  left_declaration : (u : Spelling) (x c : Option ℕ) (own : Bool) (n : List Mark) (ds : List OpenDeclaration)
-      (rs : List Round) → Aligned u (in_declaration x c own ∷ n) (names ds) rs →
-      Aligned u n (names (without_innermost ds)) rs
-  left_declaration u x c own n [] rs h = absurd h
-  left_declaration u x c own n (d ∷ ds) rs h = h.1
+  left_declaration : (u : Spelling) (x c : Option ℕ) (own : Bool) (n : List Mark) (ds : List OpenDeclaration) →
+      NamesBegin u (in_declaration x c own ∷ n) (names ds) → NamesBegin u n (names (without_innermost ds))
+  left_declaration u x c own n [] h = absurd h
+  left_declaration u x c own n (d ∷ ds) h = h.1
 
   -- another name of the innermost declaration
   renamed : (u : Spelling) (x c x2 c2 : Option ℕ) (own own2 : Bool) (n : List Mark) (ds : List OpenDeclaration)
-      (rs : List Round) (d : OpenDeclaration) →
-      Aligned u (in_declaration x c own ∷ n) (names ds) rs → NameBegins u n d.name →
-      Aligned u (in_declaration x2 c2 own2 ∷ n) (names (with_innermost d ds)) rs
-  renamed u x c x2 c2 own own2 n [] rs d h k = absurd h
-  renamed u x c x2 c2 own own2 n (it ∷ ds) rs d h k = (k, h.1)
+      (d : OpenDeclaration) → NamesBegin u (in_declaration x c own ∷ n) (names ds) → NameBegins u n d.name →
+      NamesBegin u (in_declaration x2 c2 own2 ∷ n) (names (with_innermost d ds))
+  renamed u x c x2 c2 own own2 n [] d h k = absurd h
+  renamed u x c x2 c2 own own2 n (it ∷ ds) d h k = (k, h.1)
 
   -- what the mark of a declaration says does not matter
-  marked : (u : Spelling) (x c x2 c2 : Option ℕ) (own own2 : Bool) (n : List Mark) (ds : List (Option Named))
-      (rs : List Round) → Aligned u (in_declaration x c own ∷ n) ds rs → Aligned u (in_declaration x2 c2 own2 ∷ n) ds rs
-  marked u x c x2 c2 own own2 n [] rs h = absurd h
-  marked u x c x2 c2 own own2 n (it ∷ ds) rs h = h
+  marked : (u : Spelling) (x c : Option ℕ) (own own2 : Bool) (n : List Mark) (ds : List (Option Named)) →
+      NamesBegin u (in_declaration x c own ∷ n) ds → NamesBegin u (in_declaration x c own2 ∷ n) ds
+  marked u x c own own2 n [] h = absurd h
+  marked u x c own own2 n (it ∷ ds) h = h
 
-  next_round_is : (u : Spelling) (own : Bool) (n : List Mark) (ds : List (Option Named)) (rs : List Round) →
-      Aligned u (in_params own ∷ n) ds rs → Aligned u (in_params own ∷ n) ds (shapes.changed rounds.next_round rs)
-  next_round_is u own n ds [] h = h
-  next_round_is u own n ds (r ∷ rs) h = h
-
-  begun_in_body : (u : Spelling) (x c : Option ℕ) (own : Bool) (ds : List (Option Named)) (rs : List Round) →
-      Aligned u (in_declaration x c own ∷ []) ds rs → Aligned u (in_body ∷ (in_declaration x c own ∷ [])) ds rs
-  begun_in_body u x c own [] rs h = absurd h
-  begun_in_body u x c own (d ∷ ds) rs h = (open_naming u [] ds rs refl h.1, h)
-
-  kept_name : (u : Spelling) (m : List Mark) (ds : List OpenDeclaration) (rs : List Round) (t : CType) →
-      Aligned u m (names ds) rs →
-      Aligned u m (names (with_innermost (record (innermost_or no_declaration ds) { declared = t }) ds)) rs
-  kept_name u m ds rs t h = subst (λ (it : List (Option Named)). Aligned u m it rs) (sym (names_kept ds t)) h
+  kept_name : (u : Spelling) (m : List Mark) (ds : List OpenDeclaration) (t : CType) → NamesBegin u m (names ds) →
+      NamesBegin u m (names (with_innermost (record (innermost_or no_declaration ds) { declared = t }) ds))
+  kept_name u m ds t h = subst (λ (it : List (Option Named)). NamesBegin u m it) (sym (names_kept ds t)) h
 
   module _ (u : Spelling) (t : Option ℕ) (m n : List Mark) (st : State) (r : Rounds) (ods : List shapes.OpenDeclaration)
-      (h : Aligned u m (names st.declarations) r.around) where
+      (h : NamesBegin u m (names st.declarations)) where
     abbrev ds : List OpenDeclaration
     ds = st.declarations
 
-    abbrev rs : List Round
-    rs = r.around
+    form_names : (op : FormOp) → turn t m (ops.Form op) ≡ Some n → NamesBegin u n (names ds)
+    form_names (forms.Sizeof token) e = back u m (in_quiet ∷ n) (names ds) (quiet_was m n e) h
+    form_names (forms.Offset token) e = back u m (in_quiet ∷ n) (names ds) (quiet_was m n e) h
+    form_names op e = moved u m n (names ds) e h
 
-    form_aligned : (op : FormOp) → turn t m (ops.Form op) ≡ Some n →
-        Aligned u n (names ds) (rounds.form_round r op).around
-    form_aligned (forms.Sizeof token) e =
-        left_quiet u n (names ds) rs (back u m (in_quiet ∷ n) (names ds) rs (quiet_was m n e) h)
-    form_aligned (forms.Offset token) e =
-        left_quiet u n (names ds) rs (back u m (in_quiet ∷ n) (names ds) rs (quiet_was m n e) h)
-    form_aligned op e = moved u m n (names ds) rs e h
-
-    spec_aligned : (op : SpecOp) → turn t m (ops.Spec op) ≡ Some n →
-        Aligned u n (names (specifier_step u st op).declarations) (rounds.spec_round r op).around
-    spec_aligned (specs.TagBody kind token name) e =
-        moved u (in_tag ∷ m) n (names ds) (rounds.entered r).around e (refl, h)
-    spec_aligned (specs.Untagged kind token) e =
-        moved u (in_tag ∷ m) n (names ds) (rounds.entered r).around e (refl, h)
-    spec_aligned specs.BodyEnd e =
-        left_tag u n (names ds) rs (back u m (in_tag ∷ n) (names ds) rs (tag_was m n e) h)
-    spec_aligned specs.SpecsEnd e =
-        moved u (in_declaration None None false ∷ m) n (None ∷ names ds) rs e (tt, h)
-    spec_aligned op e = moved u m n (names ds) rs e h
+    spec_names : (op : SpecOp) → turn t m (ops.Spec op) ≡ Some n →
+        NamesBegin u n (names (specifier_step u st op).declarations)
+    spec_names (specs.TagBody kind token name) e = moved u (in_tag ∷ m) n (names ds) e h
+    spec_names (specs.Untagged kind token) e = moved u (in_tag ∷ m) n (names ds) e h
+    spec_names specs.BodyEnd e = back u m (in_tag ∷ n) (names ds) (tag_was m n e) h
+    spec_names specs.SpecsEnd e = moved u (in_declaration None None false ∷ m) n (None ∷ names ds) e (tt, h)
+    spec_names op e = moved u m n (names ds) e h
 
     -- in a declaration
 
-    here : (d : Declaring m) → Aligned u (in_declaration d.name d.last d.own ∷ d.outer) (names ds) rs
-    here d = back u m (in_declaration d.name d.last d.own ∷ d.outer) (names ds) rs d.is h
+    here : (d : Declaring m) → NamesBegin u (in_declaration d.name d.last d.own ∷ d.outer) (names ds)
+    here d = back u m (in_declaration d.name d.last d.own ∷ d.outer) (names ds) d.is h
 
-    gone : (d : Declaring m) → Aligned u d.outer (names (without_innermost ds)) rs
-    gone d = left_declaration u d.name d.last d.own d.outer ds rs (here d)
+    gone : (d : Declaring m) → n ≡ d.outer → NamesBegin u n (names (without_innermost ds))
+    gone d is =
+        back u d.outer n (names (without_innermost ds)) (sym is)
+        (left_declaration u d.name d.last d.own d.outer ds (here d))
 
     named_now : (d : Declaring m) (x c : Option ℕ) (new : OpenDeclaration) → n ≡ in_declaration x c d.own ∷ d.outer →
-        NameBegins u d.outer new.name → Aligned u n (names (with_innermost new ds)) rs
+        NameBegins u d.outer new.name → NamesBegin u n (names (with_innermost new ds))
     named_now d x c new is k =
-        back u (in_declaration x c d.own ∷ d.outer) n (names (with_innermost new ds)) rs (sym is)
-        (renamed u d.name d.last x c d.own d.own d.outer ds rs new (here d) k)
+        back u (in_declaration x c d.own ∷ d.outer) n (names (with_innermost new ds)) (sym is)
+        (renamed u d.name d.last x c d.own d.own d.outer ds new (here d) k)
 
-    closed_now : turn t m (ops.Declr declrs.DeclarationEnd) ≡ Some n → Aligned u n (names (without_innermost ds)) rs
-    closed_now e =
-        let was = declaration_was m n e in
-        back u was.0.outer n (names (without_innermost ds)) rs (sym was.1) (gone was.0)
+    closed_now : turn t m (ops.Declr declrs.DeclarationEnd) ≡ Some n → NamesBegin u n (names (without_innermost ds))
+    closed_now e = let was = declaration_was m n e in gone was.0 was.1
 
     -- behind the name that comes, where its declaration may declare
     abbrev NextBegins : ℕ → Type 0
     NextBegins token = (d : Declaring m) → is_open d.outer ≡ true → Begun (place u token)
 
-    declr_aligned : (op : DeclrOp) → turn t m (ops.Declr op) ≡ Some n →
+    declr_names : (op : DeclrOp) → turn t m (ops.Declr op) ≡ Some n →
         ((token name : ℕ) → op ≡ declrs.DeclName token name → NextBegins token) →
-        Aligned u n (names (declarator_step u st op).declarations) (rounds.declr_round ods r op).around
-    declr_aligned (declrs.DeclName token name) e begins =
+        NamesBegin u n (names (declarator_step u st op).declarations)
+    declr_names (declrs.DeclName token name) e begins =
         let was = named_was token m n e in
         named_now was.0 (Some token) was.0.last
         (record (declaration st) { name = Some (record { token = token; name = name }) }) was.1
         (begins token name refl was.0)
-    declr_aligned (declrs.ParamsBegin is_own) e begins =
-        back u (in_params is_own ∷ m) n (names ds)
-        (rounds.with_round (rounds.params_naming is_own ods) (rounds.is_quiet r) r).around
-        (sym (begun_was t is_own m n e).is) h
-    declr_aligned declrs.Param e begins =
-        let was = param_was m n e in
-        back u (in_params was.1 ∷ was.2) n (names (without_innermost ds)) (rounds.next_param r).around (sym was.4)
-        (next_round_is u was.1 was.2 (names (without_innermost ds)) rs
-        (back u was.0.outer (in_params was.1 ∷ was.2) (names (without_innermost ds)) rs was.3 (gone was.0)))
-    declr_aligned declrs.ParamsEnd e begins =
+    declr_names (declrs.ParamsBegin is_own) e begins =
+        back u (in_params is_own ∷ m) n (names ds) (sym (begun_was t is_own m n e).is) h
+    declr_names declrs.Param e begins = let was = param_was m n e in gone was.0 (was.4 ∙ sym was.3)
+    declr_names declrs.ParamsEnd e begins =
         let it = params_were m n e in
-        let inner = in_declaration it.name it.last it.own ∷ it.outer in
         let own = if it.params then true else it.own in
-        back u (in_declaration it.name it.last own ∷ it.outer) n (names ds) (shapes.without_innermost rs) (sym it.is)
-        (marked u it.name it.last it.name it.last it.own own it.outer (names ds) (shapes.without_innermost rs)
-        (left_params u it.params inner (names ds) rs (back u m (in_params it.params ∷ inner) (names ds) rs it.was h)))
-    declr_aligned declrs.Declare e begins =
+        back u (in_declaration it.name it.last own ∷ it.outer) n (names ds) (sym it.is)
+        (marked u it.name it.last it.own own it.outer (names ds)
+        (back u m (in_params it.params ∷ (in_declaration it.name it.last it.own ∷ it.outer)) (names ds) it.was h))
+    declr_names declrs.Pointer e begins = kept_name u n ds _ (moved u m n (names ds) e h)
+    declr_names declrs.Array e begins = kept_name u n ds _ (moved u m n (names ds) e h)
+    declr_names (declrs.Function has_ellipsis) e begins = kept_name u n ds _ (moved u m n (names ds) e h)
+    declr_names declrs.Declare e begins =
         let was = declared_was m n e in
         named_now was.0 None was.0.name
         (record (declaration st) { name = None; declared = (declaration st).type }) was.1 tt
-    declr_aligned declrs.Member e begins =
+    declr_names declrs.Member e begins =
         let was = member_was m n e in
         named_now was.0 None was.0.last
         (record (declaration st) { name = None; declared = (declaration st).type }) was.1 tt
-    declr_aligned (declrs.TypeName first) e begins = closed_now e
-    declr_aligned declrs.DeclarationEnd e begins = closed_now e
-    declr_aligned op e begins = kept_name u n ds rs _ (moved u m n (names ds) rs e h)
+    declr_names (declrs.TypeName first) e begins = closed_now e
+    declr_names declrs.DeclarationEnd e begins = closed_now e
 
-    stmt_aligned : (op : StmtOp) → turn t m (ops.Stmt op) ≡ Some n →
-        Aligned u n (names (statement_step u st op).declarations) (rounds.stmt_round ods r op).around
-    stmt_aligned stmts.Quiet e = moved u (in_quiet ∷ m) n (names ds) (rounds.silenced r).around e (refl, h)
-    stmt_aligned stmts.Loud e =
-        left_quiet u n (names ds) rs (back u m (in_quiet ∷ n) (names ds) rs (quiet_was m n e) h)
-    stmt_aligned stmts.Enter e = moved u (in_scope ∷ m) n (names ds) (rounds.entered r).around e (refl, h)
-    stmt_aligned stmts.Leave e =
-        left_scope u n (names ds) rs (back u m (in_scope ∷ n) (names ds) rs (scope_was m n e) h)
-    stmt_aligned stmts.FunctionBody e =
-        let was = body_begins t m n e in
-        let inner = in_declaration was.0 (Some was.1) true ∷ [] in
-        back u (in_body ∷ inner) n (names ds) rs (sym (was.3 ∙ ap (λ (marks : List Mark). in_body ∷ marks) was.2))
-        (begun_in_body u was.0 (Some was.1) true (names ds) rs (back u m inner (names ds) rs was.2 h))
-    stmt_aligned stmts.FunctionEnd e =
+    stmt_names : (op : StmtOp) → turn t m (ops.Stmt op) ≡ Some n →
+        NamesBegin u n (names (statement_step u st op).declarations)
+    stmt_names stmts.Quiet e = moved u (in_quiet ∷ m) n (names ds) e h
+    stmt_names stmts.Loud e = back u m (in_quiet ∷ n) (names ds) (quiet_was m n e) h
+    stmt_names stmts.Enter e = moved u (in_scope ∷ m) n (names ds) e h
+    stmt_names stmts.Leave e = back u m (in_scope ∷ n) (names ds) (scope_was m n e) h
+    stmt_names stmts.FunctionBody e = back u (in_body ∷ m) n (names ds) (sym (body_begins t m n e).3) h
+    stmt_names stmts.FunctionEnd e =
         let was = body_was m n e in
-        back u (in_declaration was.0 was.1 false ∷ was.3) n (names ds) rs (sym was.5)
-        (marked u was.0 was.1 was.0 was.1 was.2 false was.3 (names ds) rs
-        (back u m (in_body ∷ (in_declaration was.0 was.1 was.2 ∷ was.3)) (names ds) rs was.4 h).1)
-    stmt_aligned op e = moved u m n (names ds) rs e h
+        back u (in_declaration was.0 was.1 false ∷ was.3) n (names ds) (sym was.5)
+        (marked u was.0 was.1 was.2 false was.3 (names ds)
+        (back u m (in_body ∷ (in_declaration was.0 was.1 was.2 ∷ was.3)) (names ds) was.4 h))
+    stmt_names op e = moved u m n (names ds) e h
 
-    name_there : (sst : shapes.State) (op : DeclrOp) →
+    name_there : (sst : shapes.State) (op : DeclrOp) → Aligned t m ods r.around →
         ((p : Place) → Has (op_starts u s sst r (ops.Declr op)) p → Has starts p) → (token name : ℕ) →
         op ≡ declrs.DeclName token name → NextBegins token
-    name_there sst op inside token name is d o =
-        name_begins u r token (open_naming u d.outer (names (without_innermost ds)) rs o (gone d))
+    name_there sst op same inside token name is d o =
+        name_begins u r token
+        (open_naming t d.outer (shapes.without_innermost ods) r.around o (outer_aligned t m n ods r same d))
         (subst (λ (it : DeclrOp). (p : Place) → Has (op_starts u s sst r (ops.Declr it)) p → Has starts p) is inside)
 
-    aligned : (sst : shapes.State) (op : Op) → turn t m op ≡ Some n →
+    names_begin : (sst : shapes.State) (op : Op) → Aligned t m ods r.around → turn t m op ≡ Some n →
         ((p : Place) → Has (op_starts u s sst r op) p → Has starts p) →
-        Aligned u n (names (step u st op).declarations) (round_step ods r op).around
-    aligned sst (ops.Expr op) e inside =
-        subst (λ (it : List OpenDeclaration). Aligned u n (names it) rs) (sym (expr_declarations u st op))
-        (moved u m n (names ds) rs e h)
-    aligned sst (ops.Form op) e inside = form_aligned op e
-    aligned sst (ops.Init op) e inside = moved u m n (names ds) rs e h
-    aligned sst (ops.Spec op) e inside = spec_aligned op e
-    aligned sst (ops.Declr op) e inside = declr_aligned op e (name_there sst op inside)
-    aligned sst (ops.Stmt op) e inside = stmt_aligned op e
+        NamesBegin u n (names (step u st op).declarations)
+    names_begin sst (ops.Expr op) same e inside =
+        subst (λ (it : List OpenDeclaration). NamesBegin u n (names it)) (sym (expr_declarations u st op))
+        (moved u m n (names ds) e h)
+    names_begin sst (ops.Form op) same e inside = form_names op e
+    names_begin sst (ops.Init op) same e inside = moved u m n (names ds) e h
+    names_begin sst (ops.Spec op) same e inside = spec_names op e
+    names_begin sst (ops.Declr op) same e inside = declr_names op e (name_there sst op same inside)
+    names_begin sst (ops.Stmt op) same e inside = stmt_names op e
 
     -- declarations
 
@@ -340,7 +268,7 @@ module _ (s : Names) (starts : List Start) where
     same_begun new is k = subst AllBegun (sym is) k
 
     top_begins : (x c : Option ℕ) (own : Bool) (outer : List Mark) (xs : List OpenDeclaration) →
-        Aligned u (in_declaration x c own ∷ outer) (names xs) rs → NameBegins u outer (innermost_or no_declaration xs).name
+        NamesBegin u (in_declaration x c own ∷ outer) (names xs) → NameBegins u outer (innermost_or no_declaration xs).name
     top_begins x c own outer [] k = absurd k
     top_begins x c own outer (d ∷ xs) k = k.0
 
@@ -399,34 +327,38 @@ module _ (s : Names) (starts : List Start) where
 
   -- behind the tape of an item comes more
   item_begun : (u : Spelling) (t : Option ℕ) (more : List Op) →
-      ((st : State) (sst : shapes.State) (r : Rounds) → Aligned u [] (names st.declarations) r.around →
-      AllBegun st.names.declared → ((p : Place) → Has (starts_found u s sst r more) p → Has starts p) →
-      AllBegun (run u more st).names.declared) →
+      ((st : State) (sst : shapes.State) (r : Rounds) → r.around ≡ [] → AllBegun st.names.declared →
+      ((p : Place) → Has (starts_found u s sst r more) p → Has starts p) → AllBegun (run u more st).names.declared) →
       (tape : List Op) (m : List Mark) (st : State) (sst : shapes.State) (r : Rounds) → IsBracketed t m tape [] →
-      Aligned u m (names st.declarations) r.around → AllBegun st.names.declared →
+      Aligned t m sst.declarations r.around → NamesBegin u m (names st.declarations) → AllBegun st.names.declared →
       ((p : Place) → Has (starts_found u s sst r (tape ++ more)) p → Has starts p) →
       AllBegun (run u (tape ++ more) st).names.declared
-  item_begun u t more next [] m st sst r b h k inside =
-      next st sst r (back u m [] (names st.declarations) r.around b h) k inside
-  item_begun u t more next (op ∷ tape) m st sst r b h k inside =
-      item_begun u t more next tape b.0 (step u st op) (shape_steps.step u s sst op) (round_step sst.declarations r op) b.2
-      (aligned u t m b.0 st r sst.declarations h sst op b.1
+  item_begun u t more next [] m st sst r b same h k inside =
+      next st sst r (subst (λ (it : List Mark). Aligned t it sst.declarations r.around) b same) k inside
+  item_begun u t more next (op ∷ tape) m st sst r b same h k inside =
+      item_begun u t more next tape b.0 (step u st op) (shape_steps.step u s sst op) next_round b.2
+      (subst (λ (ds : List shapes.OpenDeclaration). Aligned t b.0 ds next_round.around) (sym (shape_opens u s sst op))
+      (aligned t m b.0 sst.declarations r same op b.1))
+      (names_begin u t m b.0 st r sst.declarations h sst op same b.1
       (λ p has. inside p (has_left (op_starts u s sst r op)
-      (starts_found u s (shape_steps.step u s sst op) (round_step sst.declarations r op) (tape ++ more)) p has)))
+      (starts_found u s (shape_steps.step u s sst op) next_round (tape ++ more)) p has)))
       (all_begun u t m b.0 st r sst.declarations h op b.1 k)
       (λ p has. inside p (has_right (op_starts u s sst r op)
-      (starts_found u s (shape_steps.step u s sst op) (round_step sst.declarations r op) (tape ++ more)) p has))
+      (starts_found u s (shape_steps.step u s sst op) next_round (tape ++ more)) p has))
+    where
+      next_round : Rounds
+      next_round = round_step sst.declarations r op
 
   module _ (bracketed : ItemsAreBracketed) (begins : StartsAreFound) where
     items_begun : (u : Spelling) (all : List Lexeme) (items : List Item) → All (IsItem all) items →
-        (st : State) (sst : shapes.State) (r : Rounds) → Aligned u [] (names st.declarations) r.around →
-        AllBegun st.names.declared → ((p : Place) → Has (starts_found u s sst r (tape_of items)) p → Has starts p) →
+        (st : State) (sst : shapes.State) (r : Rounds) → r.around ≡ [] → AllBegun st.names.declared →
+        ((p : Place) → Has (starts_found u s sst r (tape_of items)) p → Has starts p) →
         AllBegun (run u (tape_of items) st).names.declared
     items_begun u all [] well st sst r h k inside = k
     items_begun u all (item ∷ items) well st sst r h k inside =
         item_begun u (function_token item) (tape_of items)
         (items_begun u all items (All-tail (IsItem all) item items well)) (item_tape item) [] st sst r
-        (bracketed item (declares_its all item (All-head (IsItem all) item items well))) h k inside
+        (bracketed item (declares_its all item (All-head (IsItem all) item items well))) h tt k inside
 
     sources_begun : (sources : List Source) (old : Names) → All IsSound sources → AllBegun old.declared →
         ((p : Place) → Has (starts_among s sources) p → Has starts p) →
