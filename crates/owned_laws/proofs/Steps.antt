@@ -28,8 +28,8 @@ use Rattle.row_rules.specs.Vals.{contents, is_ref, own}
 use Rattle.row_rules.specs.Vals as vals
 use Rattle.row_rules.specs.Rows.{instance, some_instance, use_demand, annotating_some, annotating_place, name_row, declared_row, some_declared_row, param_row, row_at}
 use Rattle.row_steps.specs.Rounds.{Naming, a_name, own_param, other_param, naming, is_quiet, Rounds, round_step, stmt_round}
-use Rattle.row_steps.specs.State.{Operand, State, nothing, first_operand, val_of_operand, is_zero_operand, type_of_operand, val_at, value_at, is_zero_at, type_at, operand_put, dropped, depth_below, operands_below, operands_within, first_braces}
-use Rattle.row_steps.specs.Steps.{target_in, with_member, with_index, with_item, initialised_by, expr_step, form_step, init_step, spec_step, declr_step, stmt_step, stack_step, step}
+use Rattle.row_steps.specs.State.{Operand, Braces, State, nothing, first_operand, val_of_operand, is_zero_operand, type_of_operand, val_at, value_at, is_zero_at, type_at, operand_put, dropped, depth_below, operands_below, operands_within, first_braces}
+use Rattle.row_steps.specs.Steps.{target_in, with_member, with_index, with_item, initialised_by, expr_step, form_step, init_step, spec_step, declr_step, stmt_step, step}
 use Rattle.row_steps.specs.OpRows.{function_skeleton, some_param_row, naming_row, into_target, called_at, expr_row, form_row, init_row, declr_row, stmt_row, loud_row, op_row}
 use Rattle.row_steps.specs.Found.{rows_found}
 use Rattle.owner_laws.specs.Fitting.{AllFit}
@@ -41,11 +41,14 @@ use Rattle.owned_laws.proofs.Found.{Setting, sys, owner, In, Begins, none_in, sk
 use Rattle.owned_laws.proofs.Stacks.{SomeSkelIn, contents_in, result_in, value_in, further_in, own_in, either_in, branch_in, binary_in, prefix_in, used_in, member_skel_in, initialised_in, function_in, OperandIn, OperandsIn, drop_in, take_in, reverse_in, first_val_in, first_value_in, AllBracesIn, first_braces_in, others_in, changed_in, target_in_in, list_of_in, with_member_in, with_index_in, with_item_in}
 
 -- all skeletons that are kept
-pub record StacksIn (k : Setting) (st : State) : Type 0 where
-  pub operands : OperandsIn k st.operands
-  pub leaves : OperandsIn k st.leaves
-  pub braces : AllBracesIn k st.braces
-  pub literal : In k st.literal
+pub record SkelsIn (k : Setting) (os ls : List Operand) (bs : List Braces) (it : Skel) : Type 0 where
+  pub operands : OperandsIn k os
+  pub leaves : OperandsIn k ls
+  pub braces : AllBracesIn k bs
+  pub literal : In k it
+
+abbrev pub StacksIn : Setting → State → Type 0
+StacksIn k st = SkelsIn k st.operands st.leaves st.braces st.literal
 
 module _ (k : Setting) where
   abbrev w : World
@@ -97,12 +100,10 @@ module _ (k : Setting) where
   expr_in st (exprs.Index token first last) h fit =
       put_in 2 _ st (either_in k (is_ref (value_at 1 st)) (value_at 1 st) (value_at 0 st) (value_at_in 1 st h)
       (value_at_in 0 st h)) h
-  expr_in st (exprs.Arg behind first last) h fit =
-      record { operands = h.operands; leaves = h.leaves; braces = h.braces; literal = h.literal }
+  expr_in st (exprs.Arg behind first last) h fit = h
   expr_in st (exprs.Call token count) h fit =
       put_in (suc count) _ (record st { passed = 0 }) (result_in k (contents (value_at count st))
-      (contents_in k (value_at count st) (value_at_in count st h)))
-      (record { operands = h.operands; leaves = h.leaves; braces = h.braces; literal = h.literal })
+      (contents_in k (value_at count st) (value_at_in count st h))) h
   expr_in st (exprs.Arrow token first last) h fit =
       put_in 1 _ st (contents_in k (value_at 0 st) (value_at_in 0 st h)) h
   expr_in st (exprs.Dot token member name) h fit = put_in 1 _ st (member_skel_in k (value_at 0 st) name) h
@@ -133,8 +134,7 @@ module _ (k : Setting) where
   init_in : (st : State) (op : InitOp) → StacksIn k st → InitOpFits w k.starts k.function st op →
       StacksIn k (init_step w st op)
   init_in st (inits.Value first last) h fit = dropped_in 1 st h
-  init_in st inits.Begin h fit =
-      record { operands = h.operands; leaves = h.leaves; braces = h.braces; literal = h.literal }
+  init_in st inits.Begin h fit = h
   init_in st inits.Rule h fit = record {
     operands = h.operands;
     leaves = within_in st h;
@@ -195,20 +195,13 @@ module _ (k : Setting) where
   }
 
   spec_in : (st : State) (op : SpecOp) → StacksIn k st → StacksIn k (spec_step st op)
-  spec_in st specs.SpecsEnd h =
-      record { operands = h.operands; leaves = h.leaves; braces = h.braces; literal = h.literal }
+  spec_in st specs.SpecsEnd h = h
   spec_in st op h = h
 
   declr_in : (st : State) (op : DeclrOp) → StacksIn k st → StacksIn k (declr_step w st op)
-  declr_in st (declrs.ParamsBegin is_own) h = h
-  declr_in st declrs.ParamsEnd h = h
-  declr_in st declrs.Pointer h = h
-  declr_in st declrs.Array h = h
-  declr_in st (declrs.Function has_ellipsis) h = h
   declr_in st (declrs.TypeName first) h =
       record { operands = (tt, h.operands); leaves = h.leaves; braces = h.braces; literal = h.literal }
-  declr_in st op h =
-      record { operands = h.operands; leaves = h.leaves; braces = h.braces; literal = h.literal }
+  declr_in st op h = h
 
   stmt_in : (st : State) (op : StmtOp) → StacksIn k st → StacksIn k (stmt_step st op)
   stmt_in st stmts.Loud h = dropped_in 1 st h
@@ -216,19 +209,13 @@ module _ (k : Setting) where
   stmt_in st (stmts.Return token last) h = dropped_in 1 st h
   stmt_in st op h = h
 
-  stack_in : (st : State) (op : Op) → StacksIn k st → OpFits w k.starts k.function st op →
-      StacksIn k (stack_step w st op)
-  stack_in st (ops.Expr op) h fit = expr_in st op h fit
-  stack_in st (ops.Form op) h fit = form_in st op h fit
-  stack_in st (ops.Init op) h fit = init_in st op h fit
-  stack_in st (ops.Spec op) h fit = spec_in st op h
-  stack_in st (ops.Declr op) h fit = declr_in st op h
-  stack_in st (ops.Stmt op) h fit = stmt_in st op h
-
   step_in : (st : State) (op : Op) → StacksIn k st → OpFits w k.starts k.function st op → StacksIn k (step w st op)
-  step_in st op h fit =
-      let next = stack_in st op h fit in
-      record { operands = next.operands; leaves = next.leaves; braces = next.braces; literal = next.literal }
+  step_in st (ops.Expr op) h fit = expr_in st op h fit
+  step_in st (ops.Form op) h fit = form_in st op h fit
+  step_in st (ops.Init op) h fit = init_in st op h fit
+  step_in st (ops.Spec op) h fit = spec_in st op h
+  step_in st (ops.Declr op) h fit = declr_in st op h
+  step_in st (ops.Stmt op) h fit = stmt_in st op h
 
   -- the function whose body this is
 
