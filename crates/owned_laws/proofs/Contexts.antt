@@ -182,7 +182,7 @@ module _ (t : Option ℕ) where
     stmt_aligned stmts.FunctionBody e =
         let was = body_begins t m n e in
         let file = left_declaration was.0 (Some was.1) true [] ds rs
-            (at m (in_declaration was.0 (Some was.1) true ∷ []) ds rs was.2 h) in
+        (at m (in_declaration was.0 (Some was.1) true ∷ []) ds rs was.2 h) in
         at (in_body ∷ m) n ds rs (sym was.3) (open_naming [] (without_innermost ds) rs refl file, h)
     stmt_aligned stmts.FunctionEnd e =
         let was = body_was m n e in

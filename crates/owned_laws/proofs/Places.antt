@@ -1,4 +1,4 @@
--- Lists of places, and of skeletons that begin at some of them.
+-- Lists of skeletons, by the places at which they begin.
 use Rattle.std.proofs.Common.{◌≡◌, Bool, true, false, List, [], ◌∷◌, ◌++◌, Option, None, Some, refl, sym, ◌∙◌, ap, subst, append_assoc}
 use Rattle.std.specs.Prelude.{if◌then◌else◌}
 use Rattle.name_rules.specs.Spellings.{Place}
