@@ -6,13 +6,12 @@ use Rattle.c_words.specs.declared.kinds.Keyword.TheVariants as keywords
 use Rattle.tape_ops.specs.declared.specifier.TagKind.{TagKind}
 use Rattle.type_table.specs.Types.{CType}
 use Rattle.name_rules.specs.Spellings.{Spelling, Place, place, Named}
-use Rattle.name_rules.specs.Scopes.{Meaning, means_type, means_thing, Scope, no_scope, Role, typedef_role, object_role, function_role, parameter_role, field_role, Declared, declared_at, Names, Aggregate, is_place, thing_named, meaning, innermost, outer_scopes, inner_meaning, is_at_file, owner_of_some, owner_at, enter, leave, bound, tag_bound, with_faults, with_declared, sized, with_aggregate, or_no_body, body_of, has_body, with_body, with_member, with_unnamed, tag_in, tag_through}
-use Rattle.name_rules.specs.Faults.{Fault}
+use Rattle.name_rules.specs.Scopes.{Meaning, means_type, means_thing, Scope, no_scope, Role, typedef_role, object_role, function_role, parameter_role, field_role, Declared, declared_at, Names, Aggregate, is_place, thing_named, meaning, innermost, outer_scopes, inner_meaning, is_at_file, owner_of_some, owner_at, enter, leave, bound, tag_bound, with_declared, sized, with_aggregate, or_no_body, body_of, has_body, with_body, with_member, with_unnamed, tag_in, tag_through}
 use Rattle.name_rules.specs.Pieces.{is_function}
-use Rattle.name_rules.specs.Declaring.{use_by, used, type_named, Numbered, found_or_new, tag_used, untagged, opened, begun_in, tag_begun, untagged_begun, the_thing, or_at, owner_where, declaring, declared_here, declared_thing, has_word, declared_typedef, declared_by, declared_some, declared_param, declared_member, struct_number, unnamed_member, keep, scope_kept, body_entered, body_left}
-use Rattle.name_rules.specs.Units.{no_names, is_shared, shared_name, shared, unit_begun}
-use Rattle.meaning_laws.specs.Meanings.{Differ, IsFirst, HasFirst, IsNobodys, MeaningIs, NamesAre, ScopesAre, ThingsAre, KeptIs, UseIs, AllFirst, AggregatesAre, AreFirst}
-use Rattle.meaning_laws.proofs.Lists.{place_itself, place_is, at_more, at_new, last_is_new, scopes_map, things_map, kept_map, uses_map, aggregates_map, some_thing_is, through_is, innermost_is, outer_are, inner_is, uses_more, own_more, known_joined, lying_are, or_no_body_is, body_of_is, aggregates_more, changed_are}
+use Rattle.name_rules.specs.Declaring.{use_by, used, Numbered, found_or_new, tag_used, untagged, opened, begun_in, tag_begun, untagged_begun, the_thing, or_at, owner_where, declaring, declared_here, declared_thing, has_word, declared_typedef, declared_by, declared_some, declared_param, declared_member, struct_number, unnamed_member, keep, scope_kept, body_entered, body_left}
+use Rattle.name_rules.specs.Units.{no_names, shared, unit_begun}
+use Rattle.meaning_laws.specs.Meanings.{Differ, IsFirst, HasFirst, IsNobodys, MeaningIs, ScopesAre, KeptIs, UseIs, AllFirst, AggregatesAre, AreFirst}
+use Rattle.meaning_laws.proofs.Lists.{things_joined, shared_are, place_itself, place_is, at_more, at_new, last_is_new, scopes_map, things_map, kept_map, uses_map, aggregates_map, some_thing_is, through_is, innermost_is, outer_are, inner_is, uses_more, own_more, known_joined, lying_are, or_no_body_is, body_of_is, aggregates_more, changed_are}
 
 -- one more declaration
 
@@ -87,39 +86,6 @@ with_thing : (s : Names) (name : ℕ) (p : Place) → AreFirst s → IsFirst s.d
 with_thing s name p h k = record {
   scopes = h.scopes;
   things = (k, h.things);
-  round = h.round;
-  kept = h.kept;
-  uses = h.uses;
-  firsts = h.firsts;
-  members = h.members;
-}
-
-pub with_more_faults : (s : Names) (faults : List Fault) → AreFirst s → AreFirst (with_faults faults s)
-with_more_faults s faults h = record {
-  scopes = h.scopes;
-  things = h.things;
-  round = h.round;
-  kept = h.kept;
-  uses = h.uses;
-  firsts = h.firsts;
-  members = h.members;
-}
-
-pub is_sized : (at : Place) (t : CType) (s : Names) → AreFirst s → AreFirst (sized at t s)
-is_sized at t s h = record {
-  scopes = h.scopes;
-  things = h.things;
-  round = h.round;
-  kept = h.kept;
-  uses = h.uses;
-  firsts = h.firsts;
-  members = h.members;
-}
-
-pub is_type_named : (at : Place) (t : CType) (s : Names) → AreFirst s → AreFirst (type_named at t s)
-is_type_named at t s h = record {
-  scopes = h.scopes;
-  things = h.things;
   round = h.round;
   kept = h.kept;
   uses = h.uses;
@@ -269,15 +235,14 @@ pub is_declared_some : (u : Spelling) (it : Option Named) (words : List Keyword)
     Differ (declared_some u it words t s).declared → AreFirst s → AreFirst (declared_some u it words t s)
 is_declared_some u None words t s differ h = h
 is_declared_some u (Some it) words t s differ h =
-    is_declared_by words (place u it.token) (u.key it.name) t (sized (place u it.token) t s) differ
-    (is_sized (place u it.token) t s h)
+    is_declared_by words (place u it.token) (u.key it.name) t (sized (place u it.token) t s) differ h
 
 pub is_declared_param : (u : Spelling) (it : Option Named) (i : ℕ) (own : Option Place) (t : CType) (s : Names) →
     Differ (declared_param u it i own t s).declared → AreFirst s → AreFirst (declared_param u it i own t s)
 is_declared_param u None i own t s differ h = h
 is_declared_param u (Some it) i own t s differ h =
     is_declared_here (place u it.token) (u.key it.name) (parameter_role i) t own (sized (place u it.token) t s)
-    (λ e. absurd cc) differ (is_sized (place u it.token) t s h)
+    (λ e. absurd cc) differ h
 
 -- members
 
@@ -304,8 +269,8 @@ pub is_declared_member : (u : Spelling) (it : Option Named) (n : ℕ) (t : CType
     Differ (declared_member u it n t s).declared → AreFirst s → AreFirst (declared_member u it n t s)
 is_declared_member u None n t s differ h = h
 is_declared_member u (Some it) n t s differ h =
-    is_sized (place u it.token) t _ (member_at s (place u it.token) (u.key it.name) n
-    (field_role n (length (or_no_body (body_of s.aggregates n)).own)) t differ h)
+    member_at s (place u it.token) (u.key it.name) n (field_role n (length (or_no_body (body_of s.aggregates n)).own)) t
+    differ h
 
 pub is_unnamed_member : (at : Place) (n : ℕ) (t : CType) (s : Names) → Differ (unnamed_member at n t s).declared →
     AreFirst s → AreFirst (unnamed_member at n t s)
@@ -365,8 +330,7 @@ is_opened n s h =
 is_begun_in : (b : Bool) (at : Place) (kind : TagKind) (it : Numbered) → AreFirst it.names →
     AreFirst (begun_in b at kind it).names
 is_begun_in true at kind it h =
-    with_more_faults (opened (length it.names.aggregates) (with_aggregate kind at it.names)) _
-    (is_opened (length it.names.aggregates) (with_aggregate kind at it.names) (with_one_more kind at it.names h))
+    is_opened (length it.names.aggregates) (with_aggregate kind at it.names) (with_one_more kind at it.names h)
 is_begun_in false at kind it h = is_opened it.number it.names h
 
 pub is_tag_begun : (u : Spelling) (kind : TagKind) (token tag : ℕ) (s : Names) → AreFirst s →
@@ -440,37 +404,9 @@ is_body_entered at first s h = record {
 }
 
 pub is_body_left : (s : Names) → AreFirst s → AreFirst (body_left s)
-is_body_left s h = record {
-  scopes = outer_are (IsFirst s.declared) s.scopes h.scopes;
-  things = h.things;
-  round = h.round;
-  kept = h.kept;
-  uses = h.uses;
-  firsts = h.firsts;
-  members = h.members;
-}
+is_body_left s h = is_left s h
 
 -- units
-
-things_joined : (P : Place → Type 0) (xs ys : List (ℕ × Place)) → ThingsAre P xs → ThingsAre P ys → ThingsAre P (xs ++ ys)
-things_joined P [] ys h k = k
-things_joined P (x ∷ xs) ys h k = (h.0, things_joined P xs ys h.1 k)
-
-shared_one : (P : Place → Type 0) (s : Names) (name : ℕ) (m : Meaning) → MeaningIs P m →
-    ThingsAre P (shared_name s name m)
-shared_one P s name (means_type t) h = tt
-shared_one P s name (means_thing at) h = by (is_shared (declared_at s.declared at))
-  where
-    by : (b : Bool) → ThingsAre P (if b then (name, at) ∷ [] else [])
-    by true = (h, tt)
-    by false = tt
-
-shared_are : (P : Place → Type 0) (s : Names) (names : List (ℕ × Meaning)) → NamesAre P names →
-    ThingsAre P (shared s names)
-shared_are P s [] h = tt
-shared_are P s (it ∷ names) h =
-    things_joined P (shared_name s it.0 it.1) (shared s names) (shared_one P s it.0 it.1 h.0)
-    (shared_are P s names h.1)
 
 pub is_unit_begun : (s : Names) → AreFirst s → AreFirst (unit_begun s)
 is_unit_begun s h = record {

@@ -1,3 +1,4 @@
 mod Changes
-mod Lists
+pub mod Growing
+pub mod Lists
 mod Tapes

@@ -1,29 +1,21 @@
--- One more declaration, and what it leaves as it is.
+-- Places, one more declaration at a place, and what it leaves as it is.
 use Rattle.std.proofs.Common.{◌≡◌, ℕ, zero, suc, Bool, true, false, List, [], ◌∷◌, ◌++◌, slice_get, Option, None, Some, nat_eq, refl, sym, ◌∙◌, ap, subst}
-use Rattle.std.specs.Prelude.{◌&&◌, if◌then◌else◌}
-use Rattle.std.proofs.lemmas.Bool.{eq-eqb, eqb-true}
+use Rattle.std.specs.Prelude.{if◌then◌else◌}
+use Rattle.std.proofs.lemmas.Bool.{and_parts, eq-eqb, eqb-true}
 use Rattle.name_rules.specs.Spellings.{Place}
-use Rattle.name_rules.specs.Scopes.{Meaning, means_type, means_thing, Scope, Declared, declared_at, Use, means, called, missing, NameUse, Own, Known, Body, Aggregate, is_place, thing_named, meaning_in, some_thing, or_outer, meaning_through, innermost, outer_scopes, changed_at, or_no_body, body_of, body_of_some, lying_in}
+use Rattle.name_rules.specs.Scopes.{Meaning, means_type, means_thing, Scope, Declared, declared_at, Use, means, called, missing, NameUse, Own, Known, Body, Aggregate, Names, is_place, thing_named, meaning_in, some_thing, or_outer, meaning_through, innermost, outer_scopes, changed_at, or_no_body, body_of, body_of_some, lying_in}
+use Rattle.name_rules.specs.Units.{is_shared, shared_name, shared}
 use Rattle.name_rules.specs.Uses.{use_at}
 use Rattle.name_rules.specs.Values.{known_named, member_in, own_of}
 use Rattle.meaning_laws.specs.Meanings.{Differ, MeaningIs, NamesAre, ScopesAre, ThingsAre, KeptIs, UseIs, UsesAre, OwnAre, KnownAre, SomeBodyIs, AggregatesAre}
-
-left : (a b : Bool) → (a && b) ≡ true → a ≡ true
-left true b e = refl
-left false b e = e
-
-right : (a b : Bool) → (a && b) ≡ true → b ≡ true
-right true b e = e
-right false b e = absurd cc
 
 pub place_itself : (p : Place) → is_place p p ≡ true
 place_itself p = rw (eq-eqb p.0 p.0 refl, eq-eqb p.1 p.1 refl) refl
 
 pub place_is : (p q : Place) → is_place p q ≡ true → p ≡ q
 place_is p q e =
-    let unit : p.0 ≡ q.0 = eqb-true p.0 q.0 (left (nat_eq p.0 q.0) (nat_eq p.1 q.1) e) in
-    let token : p.1 ≡ q.1 = eqb-true p.1 q.1 (right (nat_eq p.0 q.0) (nat_eq p.1 q.1) e) in
-    ap (λ (n : ℕ). pair n p.1) unit ∙ ap (λ (n : ℕ). pair q.0 n) token
+    let both = and_parts (nat_eq p.0 q.0) (nat_eq p.1 q.1) e in
+    ap (λ (n : ℕ). pair n p.1) (eqb-true p.0 q.0 both.0) ∙ ap (λ (n : ℕ). pair q.0 n) (eqb-true p.1 q.1 both.1)
   where
     pair : ℕ → ℕ → Place
     pair m n = (m, n)
@@ -157,7 +149,7 @@ module _ (P : Place → Type 0) where
       thing_named things name ≡ found → (at : Place) → found ≡ Some at → P at
   some_thing_is things name found h e at is = thing_is things name at h (e ∙ is)
 
-  named_is : (names : List (ℕ × Meaning)) (name : ℕ) (m : Meaning) → NamesAre P names →
+  pub named_is : (names : List (ℕ × Meaning)) (name : ℕ) (m : Meaning) → NamesAre P names →
       meaning_in names name ≡ Some m → MeaningIs P m
   named_is [] name m h e = absurd cc
   named_is (it ∷ names) name m h e = by (nat_eq it.0 name) e (named_is names name m h.1)
@@ -275,3 +267,25 @@ module _ (P : Place → Type 0) where
       by None is k = let none : slice_get (own_of xs n) i ≡ None = rw is refl in absurd cc
       by (Some body) is k = own_found body.own i it k.0 (let some : own_of xs n ≡ body.own = rw is refl in
           ap (λ (ys : List Own). slice_get ys i) (sym some) ∙ e)
+
+  -- what a unit leaves to later ones
+
+  pub things_joined : (xs ys : List (ℕ × Place)) → ThingsAre P xs → ThingsAre P ys →
+      ThingsAre P (xs ++ ys)
+  things_joined [] ys h k = k
+  things_joined (x ∷ xs) ys h k = (h.0, things_joined xs ys h.1 k)
+
+  shared_one : (s : Names) (name : ℕ) (it : Meaning) → MeaningIs P it →
+      ThingsAre P (shared_name s name it)
+  shared_one s name (means_type t) h = tt
+  shared_one s name (means_thing at) h = by (is_shared (declared_at s.declared at))
+    where
+      by : (b : Bool) → ThingsAre P (if b then (name, at) ∷ [] else [])
+      by true = (h, tt)
+      by false = tt
+
+  pub shared_are : (s : Names) (names : List (ℕ × Meaning)) → NamesAre P names →
+      ThingsAre P (shared s names)
+  shared_are s [] h = tt
+  shared_are s (it ∷ names) h =
+      things_joined (shared_name s it.0 it.1) (shared s names) (shared_one s it.0 it.1 h.0) (shared_are s names h.1)

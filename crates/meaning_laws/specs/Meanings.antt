@@ -82,14 +82,18 @@ AggregatesAre Q [] = Unit {0}
 AggregatesAre Q (it ∷ others) = SomeBodyIs Q it.body × AggregatesAre Q others
 
 -- all that names may mean, and have meant, is declared there for the first time
-pub record AreFirst (s : Names) : Type 0 where
-  pub scopes : ScopesAre (IsFirst s.declared) s.scopes
-  pub things : ThingsAre (IsFirst s.declared) s.things
-  pub round : ThingsAre (IsFirst s.declared) s.round
-  pub kept : KeptIs (IsFirst s.declared) s.kept
-  pub uses : UsesAre (IsFirst s.declared) s.uses
-  pub firsts : AllFirst s.declared s.declared
-  pub members : AggregatesAre (IsNobodys s.declared) s.aggregates
+pub record FirstIn (ds : List Declared) (ss : List Scope) (ts rs : List (ℕ × Place)) (inner : Option Scope)
+    (us : List NameUse) (as_ : List Aggregate) : Type 0 where
+  pub scopes : ScopesAre (IsFirst ds) ss
+  pub things : ThingsAre (IsFirst ds) ts
+  pub round : ThingsAre (IsFirst ds) rs
+  pub kept : KeptIs (IsFirst ds) inner
+  pub uses : UsesAre (IsFirst ds) us
+  pub firsts : AllFirst ds ds
+  pub members : AggregatesAre (IsNobodys ds) as_
+
+abbrev pub AreFirst : Names → Type 0
+AreFirst s = FirstIn s.declared s.scopes s.things s.round s.kept s.uses s.aggregates
 
 -- of the names of tapes, one after another
 pub record NamesAreFirst (s : Names) : Type 0 where

@@ -28,7 +28,8 @@ use Rattle.owner_laws.specs.Fitting.{start_at}
 use Rattle.owned_laws.specs.Contexts.{NamingIsOf, BodyIsOf}
 use Rattle.owned_laws.specs.Around.{BeginsIn, IsOwn}
 use Rattle.key_laws.specs.Keys.{expr_key, form_key, init_key, fresh_key, spec_key, declr_key, op_key, key_place, key_places, KeyIsApart}
-use Rattle.owned_laws.proofs.Places.{declared_place, none_before, none_behind, has_not_right, has_not_left, has_left, has_itself, differ_right, differ_before, Kept, none_kept, joined_kept, OneAt, one_kept}
+use Rattle.scope_laws.proofs.Places.{declared_place, has_not_right, has_not_left, has_left, has_itself, differ_right, differ_before}
+use Rattle.owned_laws.proofs.Places.{none_before, none_behind, Kept, none_kept, joined_kept, OneAt, one_kept}
 
 -- at most one, at the place and of the owner
 abbrev pub FreshAt : Place → Option Place → List Start → Type 0
@@ -218,10 +219,6 @@ module _ (u : Spelling) (s : Names) (st : State) (r : Rounds) where
   expr_is (exprs.Number token) = fresh_is (around u s r) token (base [])
   expr_is (exprs.Char token) = fresh_is (around u s r) token (base [])
   expr_is (exprs.Text token) = fresh_is (around u s r) token (pointer [] text_type)
-  expr_is (exprs.Paren token) = refl
-  expr_is (exprs.Ext token) = refl
-  expr_is (exprs.Comma token) = refl
-  expr_is (exprs.Assign sign token first last) = refl
   expr_is (exprs.Cond has_middle token first last) =
       where_is (around u s r) token (not (is_zero_at 1 st) && not (is_zero_at 0 st)) _
       (some_fresh_is (around u s r) token
@@ -232,12 +229,7 @@ module _ (u : Spelling) (s : Names) (st : State) (r : Rounds) where
       (fresh_is (around u s r) token (base []))
   expr_is (exprs.Prefix sign token last) =
       where_is (around u s r) token (is_fresh_prefix sign) _ (fresh_is (around u s r) token (base []))
-  expr_is (exprs.Post sign token first) = refl
-  expr_is (exprs.Index token first last) = refl
-  expr_is (exprs.Arg behind first last) = refl
-  expr_is (exprs.Call token count) = refl
-  expr_is (exprs.Arrow token first last) = refl
-  expr_is (exprs.Dot token member name) = refl
+  expr_is op = refl
 
   pub form_is : (op : FormOp) → FreshOf (form_key op) (form_op_starts u s st r op)
   form_is (forms.Cast token last) = some_fresh_is (around u s r) token (type_at 1 st)
@@ -252,18 +244,9 @@ module _ (u : Spelling) (s : Names) (st : State) (r : Rounds) where
   form_is (forms.Offset token) = fresh_is (around u s (left r)) token (base [])
 
   pub init_is : (op : InitOp) → FreshOf (init_key op) (init_op_starts u s st r op)
-  init_is (inits.Value first last) = refl
-  init_is inits.Begin = refl
-  init_is inits.Rule = refl
   init_is (inits.Literal token) =
       some_fresh_is (around u s r) token (some_place (type_of_operand (first_operand (operands_below st))))
-  init_is inits.ListBegin = refl
-  init_is (inits.Member token name) = refl
-  init_is (inits.Index token) = refl
-  init_is (inits.Leaf first last) = refl
-  init_is inits.ListEnd = refl
-  init_is inits.End = refl
-  init_is inits.LiteralEnd = refl
+  init_is op = refl
 
   abbrev NamedOf : Option ℕ → Option Place → List Start → Type 0
   NamedOf None g xs = xs ≡ []
@@ -275,31 +258,13 @@ module _ (u : Spelling) (s : Names) (st : State) (r : Rounds) where
   around_declared op = None
 
   spec_is : (op : SpecOp) → NamedOf (spec_key op) (function_at u s r.body) (spec_op_starts u s r op)
-  spec_is (specs.Word token) = refl
-  spec_is (specs.Storage keyword) = refl
-  spec_is specs.Void = refl
-  spec_is (specs.Typedef token name) = refl
-  spec_is (specs.TagUse kind token name) = refl
-  spec_is (specs.TagAlone kind token name) = refl
-  spec_is (specs.TagBody kind token name) = refl
-  spec_is (specs.Untagged kind token) = refl
-  spec_is specs.BodyEnd = refl
   spec_is (specs.Enumerator token name) = tt
   spec_is (specs.UnnamedMember token) = name_is (around u s r) token
-  spec_is specs.SpecsEnd = refl
+  spec_is op = refl
 
   declr_is : (op : DeclrOp) → NamedOf (declr_key op) (around_declared op) (declr_op_starts u s r op)
   declr_is (declrs.DeclName token name) = had_is (around u s r) token (naming_has u s (naming r))
-  declr_is (declrs.ParamsBegin is_own) = refl
-  declr_is declrs.Param = refl
-  declr_is declrs.ParamsEnd = refl
-  declr_is declrs.Pointer = refl
-  declr_is declrs.Array = refl
-  declr_is (declrs.Function has_ellipsis) = refl
-  declr_is declrs.Declare = refl
-  declr_is declrs.Member = refl
-  declr_is (declrs.TypeName first) = refl
-  declr_is declrs.DeclarationEnd = refl
+  declr_is op = refl
 
   fresh_kept : (key : Option ℕ) (xs : List Start) → FreshOf key xs → Kept (key_place u key) xs
   fresh_kept None xs h = subst (Kept []) (sym h) none_kept
@@ -344,16 +309,7 @@ module _ (u : Spelling) (s : Names) (st : State) (r : Rounds) where
 
     declared_own : (op : DeclrOp) → IsOwn f (around_declared op)
     declared_own (declrs.DeclName token name) = naming_own token (naming r) refl
-    declared_own (declrs.ParamsBegin is_own) = inl refl
-    declared_own declrs.Param = inl refl
-    declared_own declrs.ParamsEnd = inl refl
-    declared_own declrs.Pointer = inl refl
-    declared_own declrs.Array = inl refl
-    declared_own (declrs.Function has_ellipsis) = inl refl
-    declared_own declrs.Declare = inl refl
-    declared_own declrs.Member = inl refl
-    declared_own (declrs.TypeName first) = inl refl
-    declared_own declrs.DeclarationEnd = inl refl
+    declared_own op = inl refl
 
     pub op_placed : (op : Op) → KeyIsApart u s (fresh_key op) → AllPlaced s f (op_starts u s st r op)
     op_placed (ops.Expr op) apart = fresh_all (expr_key op) (expr_op_starts u s st r op) apart (expr_is op)

@@ -1,14 +1,10 @@
 -- Along the tape of an item, own parameters and the body are those of the item's function.
-use Rattle.std.specs.Prelude.{◌||◌}
+use Rattle.std.specs.Prelude.{if◌then◌else◌}
 use Rattle.std.proofs.Common.{◌≡◌, ℕ, suc, Bool, true, false, List, [], ◌∷◌, Option, None, Some, refl, sym, ◌∙◌, ap, subst, inl, inr}
 use Rattle.tape_ops.specs.declared.op.Op.{Op}
 use Rattle.tape_ops.specs.declared.op.Op.TheVariants as ops
-use Rattle.tape_ops.specs.declared.expression.ExprOp.{ExprOp}
-use Rattle.tape_ops.specs.declared.expression.ExprOp.TheVariants as exprs
 use Rattle.tape_ops.specs.declared.form.FormOp.{FormOp}
 use Rattle.tape_ops.specs.declared.form.FormOp.TheVariants as forms
-use Rattle.tape_ops.specs.declared.initialiser.InitOp.{InitOp}
-use Rattle.tape_ops.specs.declared.initialiser.InitOp.TheVariants as inits
 use Rattle.tape_ops.specs.declared.specifier.SpecOp.{SpecOp}
 use Rattle.tape_ops.specs.declared.specifier.SpecOp.TheVariants as specs
 use Rattle.tape_ops.specs.declared.declarator.DeclrOp.{DeclrOp}
@@ -21,72 +17,17 @@ use Rattle.row_rules.specs.Worlds.{World}
 use Rattle.row_steps.specs.Rounds.{Naming, a_name, own_param, other_param, Round, Rounds}
 use Rattle.row_steps.specs.Rounds as rounds
 use Rattle.row_steps.specs.State.{State, nothing}
-use Rattle.row_steps.specs.Steps.{expr_step, form_step, init_step, spec_step, declr_step, stmt_step, step}
-use Rattle.tape_laws.specs.Marks.{Mark, in_declaration, in_params, in_tag, in_scope, in_quiet, in_body, turn, IsBracketed, function_token, ItemsAreBracketed}
+use Rattle.row_steps.specs.Steps.{step}
+use Rattle.tape_laws.specs.Marks.{Mark, in_declaration, in_params, in_tag, in_scope, in_quiet, in_body, is_open, turn, IsBracketed, function_token, ItemsAreBracketed}
 use Rattle.owned_laws.specs.Contexts.{NamingIsOf, BodyIsOf, BeginsIts, ContextsAlong, ContextsAreIts}
-use Rattle.owned_laws.proofs.Turns.{quiet_was, tag_was, scope_was, declaration_was, params_were, named_was, begun_was, param_was, declared_was, member_was, body_begins, body_was}
-
--- the open declarations that a step keeps
-
-expr_keeps : (w : World) (st : State) (op : ExprOp) → (expr_step w st op).declarations ≡ st.declarations
-expr_keeps w st (exprs.Name is_called token name) = refl
-expr_keeps w st (exprs.Number token) = refl
-expr_keeps w st (exprs.Char token) = refl
-expr_keeps w st (exprs.Text token) = refl
-expr_keeps w st (exprs.Paren token) = refl
-expr_keeps w st (exprs.Ext token) = refl
-expr_keeps w st (exprs.Comma token) = refl
-expr_keeps w st (exprs.Assign sign token first last) = refl
-expr_keeps w st (exprs.Cond has_middle token first last) = refl
-expr_keeps w st (exprs.Binary sign token first last) = refl
-expr_keeps w st (exprs.Prefix sign token last) = refl
-expr_keeps w st (exprs.Post sign token first) = refl
-expr_keeps w st (exprs.Index token first last) = refl
-expr_keeps w st (exprs.Arg behind first last) = refl
-expr_keeps w st (exprs.Call token count) = refl
-expr_keeps w st (exprs.Arrow token first last) = refl
-expr_keeps w st (exprs.Dot token member name) = refl
-
-form_keeps : (w : World) (st : State) (op : FormOp) → (form_step w st op).declarations ≡ st.declarations
-form_keeps w st (forms.Cast token last) = refl
-form_keeps w st (forms.Sizeof token) = refl
-form_keeps w st (forms.StmtExpr true token) = refl
-form_keeps w st (forms.StmtExpr false token) = refl
-form_keeps w st (forms.VaArg token last) = refl
-form_keeps w st (forms.VaStart token last) = refl
-form_keeps w st (forms.VaCopy token last) = refl
-form_keeps w st (forms.OffsetMember token name) = refl
-form_keeps w st (forms.OffsetIndex token) = refl
-form_keeps w st (forms.Offset token) = refl
-
-init_keeps : (w : World) (st : State) (op : InitOp) → (init_step w st op).declarations ≡ st.declarations
-init_keeps w st (inits.Value first last) = refl
-init_keeps w st inits.Begin = refl
-init_keeps w st inits.Rule = refl
-init_keeps w st (inits.Literal token) = refl
-init_keeps w st inits.ListBegin = refl
-init_keeps w st (inits.Member token name) = refl
-init_keeps w st (inits.Index token) = refl
-init_keeps w st (inits.Leaf first last) = refl
-init_keeps w st inits.ListEnd = refl
-init_keeps w st inits.End = refl
-init_keeps w st inits.LiteralEnd = refl
-
-stmt_keeps : (st : State) (op : StmtOp) → (stmt_step st op).declarations ≡ st.declarations
-stmt_keeps st stmts.Quiet = refl
-stmt_keeps st stmts.Loud = refl
-stmt_keeps st stmts.Pop = refl
-stmt_keeps st (stmts.Return token last) = refl
-stmt_keeps st stmts.Enter = refl
-stmt_keeps st stmts.Leave = refl
-stmt_keeps st stmts.FunctionBody = refl
-stmt_keeps st stmts.FunctionEnd = refl
+use Rattle.owned_laws.proofs.Opening.{opens, row_opens, form_body, spec_body, declr_body}
+use Rattle.tape_laws.proofs.Turns.{Declaring, quiet_was, tag_was, scope_was, declaration_was, params_were, named_was, begun_was, param_was, declared_was, member_was, body_begins, body_was}
 
 -- what marks say of the open declarations and of what is around
 
 module _ (t : Option ℕ) where
   -- the marks of declarations have their names; own parameters are those of the function whose name is at `t`
-  abbrev Aligned : List Mark → List OpenDeclaration → List Round → Type 0
+  abbrev pub Aligned : List Mark → List OpenDeclaration → List Round → Type 0
   Aligned [] ds rs = rs ≡ []
   Aligned (in_declaration x d o ∷ m) [] rs = ⊥
   Aligned (in_declaration x d o ∷ m) (it ∷ ds) rs = (it.name ≡ x) × (it.declared ≡ d) × Aligned m ds rs
@@ -98,7 +39,7 @@ module _ (t : Option ℕ) where
   Aligned (in_scope ∷ m) ds (r ∷ rs) = (r.naming ≡ a_name) × Aligned m ds rs
   Aligned (in_quiet ∷ m) ds [] = ⊥
   Aligned (in_quiet ∷ m) ds (r ∷ rs) = (r.naming ≡ a_name) × Aligned m ds rs
-  Aligned (in_body ∷ m) ds rs = Aligned m ds rs
+  Aligned (in_body ∷ m) ds rs = ((rounds.innermost rs).naming ≡ a_name) × Aligned m ds rs
 
   name_is_of : (names : Naming) → names ≡ a_name → NamingIsOf t names
   name_is_of names e g n is = absurd cc
@@ -127,7 +68,16 @@ module _ (t : Option ℕ) where
   innermost_is_of (in_scope ∷ m) ds (r ∷ rs) h = name_is_of r.naming h.0
   innermost_is_of (in_quiet ∷ m) ds [] h = absurd h
   innermost_is_of (in_quiet ∷ m) ds (r ∷ rs) h = name_is_of r.naming h.0
-  innermost_is_of (in_body ∷ m) ds rs h = innermost_is_of m ds rs h
+  innermost_is_of (in_body ∷ m) ds rs h = name_is_of _ h.0
+
+  -- where a declaration may declare, what is read is a name
+  pub open_naming : (m : List Mark) (ds : List OpenDeclaration) (rs : List Round) → is_open m ≡ true → Aligned m ds rs →
+      (rounds.innermost rs).naming ≡ a_name
+  open_naming [] ds rs o h = ap (λ (it : List Round). (rounds.innermost it).naming) h
+  open_naming (in_scope ∷ m) ds [] o h = absurd h
+  open_naming (in_scope ∷ m) ds (r ∷ rs) o h = h.0
+  open_naming (in_body ∷ m) ds rs o h = h.0
+  open_naming m ds rs o h = absurd cc
 
   -- steps
 
@@ -198,172 +148,108 @@ module _ (t : Option ℕ) where
   params_are false x d o n ds rs e h = other_is_of
   params_are true x d o n ds rs e h = own_is_of (rounds.name_so_far ds) 0 (name_is x d o n ds rs h ∙ e refl)
 
-  module _ (w : World) (m n : List Mark) (st : State) (h : Aligned m st.declarations st.rounds.around) where
-    abbrev ds : List OpenDeclaration
-    ds = st.declarations
-
+  module _ (m n : List Mark) (ds : List OpenDeclaration) (r : Rounds) (h : Aligned m ds r.around) where
     abbrev rs : List Round
-    rs = st.rounds.around
+    rs = r.around
 
-    form_aligned : (op : FormOp) → turn t m (ops.Form op) ≡ Some n → Aligned n ds (rounds.form_round st.rounds op).around
-    form_aligned (forms.Cast token last) e = moved m n ds rs e h
+    -- in a declaration
+
+    here : (d : Declaring m) → Aligned (in_declaration d.name d.last d.own ∷ d.outer) ds rs
+    here d = at m (in_declaration d.name d.last d.own ∷ d.outer) ds rs d.is h
+
+    pub outer_aligned : (d : Declaring m) → Aligned d.outer (without_innermost ds) rs
+    outer_aligned d = left_declaration d.name d.last d.own d.outer ds rs (here d)
+
+    form_aligned : (op : FormOp) → turn t m (ops.Form op) ≡ Some n → Aligned n ds (rounds.form_round r op).around
     form_aligned (forms.Sizeof token) e = left_quiet n ds rs (at m (in_quiet ∷ n) ds rs (quiet_was m n e) h)
-    form_aligned (forms.StmtExpr has_value token) e = moved m n ds rs e h
-    form_aligned (forms.VaArg token last) e = moved m n ds rs e h
-    form_aligned (forms.VaStart token last) e = moved m n ds rs e h
-    form_aligned (forms.VaCopy token last) e = moved m n ds rs e h
-    form_aligned (forms.OffsetMember token name) e = moved m n ds rs e h
-    form_aligned (forms.OffsetIndex token) e = moved m n ds rs e h
     form_aligned (forms.Offset token) e = left_quiet n ds rs (at m (in_quiet ∷ n) ds rs (quiet_was m n e) h)
+    form_aligned op e = moved m n ds rs e h
 
     spec_aligned : (op : SpecOp) → turn t m (ops.Spec op) ≡ Some n →
-        Aligned n (spec_step st op).declarations (rounds.spec_round st.rounds op).around
-    spec_aligned (specs.Word token) e = moved m n ds rs e h
-    spec_aligned (specs.Storage keyword) e = moved m n ds rs e h
-    spec_aligned specs.Void e = moved m n ds rs e h
-    spec_aligned (specs.Typedef token name) e = moved m n ds rs e h
-    spec_aligned (specs.TagUse kind token name) e = moved m n ds rs e h
-    spec_aligned (specs.TagAlone kind token name) e = moved m n ds rs e h
-    spec_aligned (specs.TagBody kind token name) e = moved (in_tag ∷ m) n ds (rounds.entered st.rounds).around e (refl, h)
-    spec_aligned (specs.Untagged kind token) e = moved (in_tag ∷ m) n ds (rounds.entered st.rounds).around e (refl, h)
+        Aligned n (opens (ops.Spec op) ds) (rounds.spec_round r op).around
+    spec_aligned (specs.TagBody kind token name) e = moved (in_tag ∷ m) n ds (rounds.entered r).around e (refl, h)
+    spec_aligned (specs.Untagged kind token) e = moved (in_tag ∷ m) n ds (rounds.entered r).around e (refl, h)
     spec_aligned specs.BodyEnd e = left_tag n ds rs (at m (in_tag ∷ n) ds rs (tag_was m n e) h)
-    spec_aligned (specs.Enumerator token name) e = moved m n ds rs e h
-    spec_aligned (specs.UnnamedMember token) e = moved m n ds rs e h
     spec_aligned specs.SpecsEnd e =
         moved (in_declaration None None false ∷ m) n (record { name = None; declared = None } ∷ ds) rs e (refl, refl, h)
+    spec_aligned op e = moved m n ds rs e h
 
-    stmt_aligned : (op : StmtOp) → turn t m (ops.Stmt op) ≡ Some n →
-        Aligned n ds (rounds.stmt_round ds st.rounds op).around
-    stmt_aligned stmts.Quiet e = moved (in_quiet ∷ m) n ds (rounds.silenced st.rounds).around e (refl, h)
+    stmt_aligned : (op : StmtOp) → turn t m (ops.Stmt op) ≡ Some n → Aligned n ds (rounds.stmt_round ds r op).around
+    stmt_aligned stmts.Quiet e = moved (in_quiet ∷ m) n ds (rounds.silenced r).around e (refl, h)
     stmt_aligned stmts.Loud e = left_quiet n ds rs (at m (in_quiet ∷ n) ds rs (quiet_was m n e) h)
-    stmt_aligned stmts.Pop e = moved m n ds rs e h
-    stmt_aligned (stmts.Return token last) e = moved m n ds rs e h
-    stmt_aligned stmts.Enter e = moved (in_scope ∷ m) n ds (rounds.entered st.rounds).around e (refl, h)
+    stmt_aligned stmts.Enter e = moved (in_scope ∷ m) n ds (rounds.entered r).around e (refl, h)
     stmt_aligned stmts.Leave e = left_scope n ds rs (at m (in_scope ∷ n) ds rs (scope_was m n e) h)
     stmt_aligned stmts.FunctionBody e =
         let was = body_begins t m n e in
-        at (in_body ∷ (in_declaration was.0 was.1 true ∷ [])) n ds rs (sym was.3)
-        (at m (in_declaration was.0 was.1 true ∷ []) ds rs was.2 h)
+        let file = left_declaration was.0 (Some was.1) true [] ds rs
+        (at m (in_declaration was.0 (Some was.1) true ∷ []) ds rs was.2 h) in
+        at (in_body ∷ m) n ds rs (sym was.3) (open_naming [] (without_innermost ds) rs refl file, h)
     stmt_aligned stmts.FunctionEnd e =
         let was = body_was m n e in
         at (in_declaration was.0 was.1 false ∷ was.3) n ds rs (sym was.5)
         (marked was.0 was.1 was.2 false was.3 ds rs
-        (at m (in_body ∷ (in_declaration was.0 was.1 was.2 ∷ was.3)) ds rs was.4 h))
+        (at m (in_body ∷ (in_declaration was.0 was.1 was.2 ∷ was.3)) ds rs was.4 h).1)
+    stmt_aligned op e = moved m n ds rs e h
+
+    named_now : (d : Declaring m) (x c : Option ℕ) (change : OpenDeclaration → OpenDeclaration) →
+        n ≡ in_declaration x c d.own ∷ d.outer →
+        ((it : OpenDeclaration) → it.name ≡ d.name → it.declared ≡ d.last →
+        ((change it).name ≡ x) × ((change it).declared ≡ c)) → Aligned n (changed change ds) rs
+    named_now d x c change is k =
+        at (in_declaration x c d.own ∷ d.outer) n (changed change ds) rs (sym is)
+        (renamed d.name d.last x c d.own d.own d.outer change ds rs k (here d))
 
     closed_now : turn t m (ops.Declr declrs.DeclarationEnd) ≡ Some n → Aligned n (without_innermost ds) rs
     closed_now e =
-        let was = declaration_was m n e in
-        left_declaration was.0 was.1 was.2 n ds rs (at m (in_declaration was.0 was.1 was.2 ∷ n) ds rs was.3 h)
+        let was = declaration_was m n e in at was.0.outer n (without_innermost ds) rs (sym was.1) (outer_aligned was.0)
 
     declr_aligned : (op : DeclrOp) → turn t m (ops.Declr op) ≡ Some n →
-        Aligned n (declr_step w st op).declarations (rounds.declr_round ds st.rounds op).around
+        Aligned n (opens (ops.Declr op) ds) (rounds.declr_round ds r op).around
     declr_aligned (declrs.DeclName token name) e =
         let was = named_was token m n e in
-        at (in_declaration (Some token) was.1 was.2 ∷ was.3) n (changed (with_name token) ds) rs (sym was.5)
-        (renamed was.0 was.1 (Some token) was.1 was.2 was.2 was.3 (with_name token) ds rs (λ it x d. (refl, d))
-        (at m (in_declaration was.0 was.1 was.2 ∷ was.3) ds rs was.4 h))
+        named_now was.0 (Some token) was.0.last (with_name token) was.1 (λ it x d. (refl, d))
     declr_aligned (declrs.ParamsBegin is_own) e =
-        let was = begun_was t is_own m n e in
-        let k = at m (in_declaration was.0 was.1 was.2 ∷ was.3) ds rs was.4 h in
-        at (in_params is_own ∷ (in_declaration was.0 was.1 was.2 ∷ was.3)) n ds
-        (rounds.with_round (rounds.params_naming is_own ds) (rounds.is_quiet st.rounds) st.rounds).around (sym was.5)
-        (params_are is_own was.0 was.1 was.2 was.3 ds rs was.6 k, k)
+        let it = begun_was t is_own m n e in
+        let d = it.declaring in
+        at (in_params is_own ∷ m) n ds
+        (rounds.with_round (rounds.params_naming is_own ds) (rounds.is_quiet r) r).around (sym it.is)
+        (params_are is_own d.name d.last d.own d.outer ds rs (λ own. (it.named own).1 ∙ sym (it.named own).2) (here d), h)
     declr_aligned declrs.Param e =
         let was = param_was m n e in
-        at (in_params was.3 ∷ was.4) n (without_innermost ds) (rounds.next_param st.rounds).around (sym was.6)
-        (next_round_is was.3 was.4 (without_innermost ds) rs
-        (left_declaration was.0 was.1 was.2 (in_params was.3 ∷ was.4) ds rs
-        (at m (in_declaration was.0 was.1 was.2 ∷ (in_params was.3 ∷ was.4)) ds rs was.5 h)))
+        at (in_params was.1 ∷ was.2) n (without_innermost ds) (rounds.next_param r).around (sym was.4)
+        (next_round_is was.1 was.2 (without_innermost ds) rs
+        (at was.0.outer (in_params was.1 ∷ was.2) (without_innermost ds) rs was.3 (outer_aligned was.0)))
     declr_aligned declrs.ParamsEnd e =
-        let was = params_were m n e in
-        let inner = in_declaration was.1 was.2 was.3 ∷ was.4 in
-        at (in_declaration was.1 was.2 (was.0 || was.3) ∷ was.4) n ds (without_innermost rs) (sym was.6)
-        (marked was.1 was.2 was.3 (was.0 || was.3) was.4 ds (without_innermost rs)
-        (left_params was.0 inner ds rs (at m (in_params was.0 ∷ inner) ds rs was.5 h)))
-    declr_aligned declrs.Pointer e = moved m n ds rs e h
-    declr_aligned declrs.Array e = moved m n ds rs e h
-    declr_aligned (declrs.Function has_ellipsis) e = moved m n ds rs e h
+        let it = params_were m n e in
+        let inner = in_declaration it.name it.last it.own ∷ it.outer in
+        let own = if it.params then true else it.own in
+        at (in_declaration it.name it.last own ∷ it.outer) n ds (without_innermost rs) (sym it.is)
+        (marked it.name it.last it.own own it.outer ds (without_innermost rs)
+        (left_params it.params inner ds rs (at m (in_params it.params ∷ inner) ds rs it.was h)))
     declr_aligned declrs.Declare e =
-        let was = declared_was m n e in
-        at (in_declaration None was.0 was.2 ∷ was.3) n (changed with_declared ds) rs (sym was.5)
-        (renamed was.0 was.1 None was.0 was.2 was.2 was.3 with_declared ds rs (λ it x d. (refl, x))
-        (at m (in_declaration was.0 was.1 was.2 ∷ was.3) ds rs was.4 h))
+        let was = declared_was m n e in named_now was.0 None was.0.name with_declared was.1 (λ it x d. (refl, x))
     declr_aligned declrs.Member e =
-        let was = member_was m n e in
-        at (in_declaration None was.1 was.2 ∷ was.3) n (changed without_name ds) rs (sym was.5)
-        (renamed was.0 was.1 None was.1 was.2 was.2 was.3 without_name ds rs (λ it x d. (refl, d))
-        (at m (in_declaration was.0 was.1 was.2 ∷ was.3) ds rs was.4 h))
+        let was = member_was m n e in named_now was.0 None was.0.last without_name was.1 (λ it x d. (refl, d))
     declr_aligned (declrs.TypeName first) e = closed_now e
     declr_aligned declrs.DeclarationEnd e = closed_now e
+    declr_aligned op e = moved m n ds rs e h
 
-    -- the open declarations stay
-    kept : (new old : List OpenDeclaration) (r : List Round) → new ≡ old → Aligned n old r → Aligned n new r
-    kept new old r is k = subst (λ (it : List OpenDeclaration). Aligned n it r) (sym is) k
-
-    aligned : (op : Op) → turn t m op ≡ Some n →
-        Aligned n (step w st op).declarations (step w st op).rounds.around
-    aligned (ops.Expr op) e = kept _ _ rs (expr_keeps w st op) (moved m n ds rs e h)
-    aligned (ops.Form op) e = kept _ _ _ (form_keeps w st op) (form_aligned op e)
-    aligned (ops.Init op) e = kept _ _ rs (init_keeps w st op) (moved m n ds rs e h)
+    pub aligned : (op : Op) → turn t m op ≡ Some n → Aligned n (opens op ds) (rounds.round_step ds r op).around
+    aligned (ops.Expr op) e = moved m n ds rs e h
+    aligned (ops.Form op) e = form_aligned op e
+    aligned (ops.Init op) e = moved m n ds rs e h
     aligned (ops.Spec op) e = spec_aligned op e
     aligned (ops.Declr op) e = declr_aligned op e
-    aligned (ops.Stmt op) e = kept _ _ _ (stmt_keeps st op) (stmt_aligned op e)
+    aligned (ops.Stmt op) e = stmt_aligned op e
 
-    begins_its : (op : Op) → turn t m op ≡ Some n → BeginsIts t st op
-    begins_its (ops.Expr op) e = tt
-    begins_its (ops.Form op) e = tt
-    begins_its (ops.Init op) e = tt
-    begins_its (ops.Spec op) e = tt
-    begins_its (ops.Declr op) e = tt
-    begins_its (ops.Stmt stmts.FunctionBody) e =
-        let was = body_begins t m n e in
-        declared_is was.0 was.1 true [] ds rs (at m (in_declaration was.0 was.1 true ∷ []) ds rs was.2 h) ∙ was.4
-    begins_its (ops.Stmt stmts.Quiet) e = tt
-    begins_its (ops.Stmt stmts.Loud) e = tt
-    begins_its (ops.Stmt stmts.Pop) e = tt
-    begins_its (ops.Stmt (stmts.Return token last)) e = tt
-    begins_its (ops.Stmt stmts.Enter) e = tt
-    begins_its (ops.Stmt stmts.Leave) e = tt
-    begins_its (ops.Stmt stmts.FunctionEnd) e = tt
-
-  form_body : (r : Rounds) (op : FormOp) → (rounds.form_round r op).body ≡ r.body
-  form_body r (forms.Cast token last) = refl
-  form_body r (forms.Sizeof token) = refl
-  form_body r (forms.StmtExpr has_value token) = refl
-  form_body r (forms.VaArg token last) = refl
-  form_body r (forms.VaStart token last) = refl
-  form_body r (forms.VaCopy token last) = refl
-  form_body r (forms.OffsetMember token name) = refl
-  form_body r (forms.OffsetIndex token) = refl
-  form_body r (forms.Offset token) = refl
-
-  spec_body : (r : Rounds) (op : SpecOp) → (rounds.spec_round r op).body ≡ r.body
-  spec_body r (specs.Word token) = refl
-  spec_body r (specs.Storage keyword) = refl
-  spec_body r specs.Void = refl
-  spec_body r (specs.Typedef token name) = refl
-  spec_body r (specs.TagUse kind token name) = refl
-  spec_body r (specs.TagAlone kind token name) = refl
-  spec_body r (specs.TagBody kind token name) = refl
-  spec_body r (specs.Untagged kind token) = refl
-  spec_body r specs.BodyEnd = refl
-  spec_body r (specs.Enumerator token name) = refl
-  spec_body r (specs.UnnamedMember token) = refl
-  spec_body r specs.SpecsEnd = refl
-
-  declr_body : (declarations : List OpenDeclaration) (r : Rounds) (op : DeclrOp) →
-      (rounds.declr_round declarations r op).body ≡ r.body
-  declr_body declarations r (declrs.DeclName token name) = refl
-  declr_body declarations r (declrs.ParamsBegin is_own) = refl
-  declr_body declarations r declrs.Param = refl
-  declr_body declarations r declrs.ParamsEnd = refl
-  declr_body declarations r declrs.Pointer = refl
-  declr_body declarations r declrs.Array = refl
-  declr_body declarations r (declrs.Function has_ellipsis) = refl
-  declr_body declarations r declrs.Declare = refl
-  declr_body declarations r declrs.Member = refl
-  declr_body declarations r (declrs.TypeName first) = refl
-  declr_body declarations r declrs.DeclarationEnd = refl
+  begins_its : (m n : List Mark) (st : State) (op : Op) → Aligned m st.declarations st.rounds.around →
+      turn t m op ≡ Some n → BeginsIts t st op
+  begins_its m n st (ops.Stmt stmts.FunctionBody) h e =
+      let was = body_begins t m n e in
+      declared_is was.0 (Some was.1) true [] st.declarations st.rounds.around
+      (at m (in_declaration was.0 (Some was.1) true ∷ []) st.declarations st.rounds.around was.2 h) ∙ sym was.4
+  begins_its m n st (ops.Stmt op) h e = tt
+  begins_its m n st op h e = tt
 
   stays : (new old : Option ℕ) → new ≡ old → BodyIsOf t old → BodyIsOf t new
   stays new old is k = subst (BodyIsOf t) (sym is) k
@@ -377,20 +263,17 @@ module _ (t : Option ℕ) where
   body_behind w st (ops.Declr op) b k = stays _ _ (declr_body st.declarations st.rounds op) k
   body_behind w st (ops.Stmt stmts.FunctionBody) b k = inr b
   body_behind w st (ops.Stmt stmts.FunctionEnd) b k = inl refl
-  body_behind w st (ops.Stmt stmts.Quiet) b k = k
-  body_behind w st (ops.Stmt stmts.Loud) b k = k
-  body_behind w st (ops.Stmt stmts.Pop) b k = k
-  body_behind w st (ops.Stmt (stmts.Return token last)) b k = k
-  body_behind w st (ops.Stmt stmts.Enter) b k = k
-  body_behind w st (ops.Stmt stmts.Leave) b k = k
+  body_behind w st (ops.Stmt op) b k = k
 
   along : (w : World) (tape : List Op) (m : List Mark) (st : State) → IsBracketed t m tape [] →
       Aligned m st.declarations st.rounds.around → BodyIsOf t st.rounds.body → ContextsAlong w t st tape
   along w [] m st b h k = tt
   along w (op ∷ tape) m st b h k =
-      let begins = begins_its w m b.0 st h op b.1 in (
+      let begins = begins_its m b.0 st op h b.1 in (
         record { params = innermost_is_of m st.declarations st.rounds.around h; body = k; begins = begins },
-        along w tape b.0 (step w st op) b.2 (aligned w m b.0 st h op b.1) (body_behind w st op begins k),
+        along w tape b.0 (step w st op) b.2
+            (subst (λ (ds : List OpenDeclaration). Aligned b.0 ds (step w st op).rounds.around) (sym (row_opens w st op))
+            (aligned m b.0 st.declarations st.rounds h op b.1)) (body_behind w st op begins k),
       )
 
 pub contexts_along : ItemsAreBracketed → ContextsAreIts

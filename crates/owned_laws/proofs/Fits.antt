@@ -28,7 +28,7 @@ use Rattle.row_rules.specs.Sites.{has_place}
 use Rattle.row_rules.specs.Worlds.{World, at}
 use Rattle.row_steps.specs.Rounds.{Naming, a_name, own_param, other_param, naming, is_quiet, Round, Rounds, innermost, name_so_far, params_naming, next_naming, next_round, form_round, spec_round, declr_round, stmt_round, round_step}
 use Rattle.row_steps.specs.State.{State}
-use Rattle.row_steps.specs.Steps.{expr_step, form_step, init_step, spec_step, declr_step, stmt_step, step}
+use Rattle.row_steps.specs.Steps.{step}
 use Rattle.row_steps.specs.Starting.{function_at, around, expr_op_starts, form_op_starts, init_op_starts, op_starts}
 use Rattle.key_laws.specs.Keys.{expr_key, form_key, init_key, declr_key, op_key, key_place, key_places}
 use Rattle.scope_laws.specs.Staying.{IsWithin, AreWithin}
@@ -38,9 +38,11 @@ use Rattle.owned_laws.specs.Around.{IsOwn, BeginsIn, MeantFits, SomeMeantFits, U
 use Rattle.owned_laws.specs.Contexts.{BodyIsOf, OpContext, ContextsAlong}
 use Rattle.owned_laws.specs.Names.{FunctionsBegin}
 use Rattle.owned_laws.specs.Tapes.{OpsFit}
-use Rattle.owned_laws.proofs.Places.{place_itself, declared_place, begins_at, has_itself, has_right}
+use Rattle.meaning_laws.proofs.Lists.{place_itself}
+use Rattle.scope_laws.proofs.Places.{declared_place, has_itself, has_right}
+use Rattle.owner_laws.proofs.Instances.{begins_at}
 use Rattle.owned_laws.proofs.Begin.{FreshAt, fresh_begins, IsPlaced, expr_is, form_is, init_is, IsExact, ExactAlong}
-use Rattle.owned_laws.proofs.Alike.{Alike, alike}
+use Rattle.owned_laws.proofs.Opening.{opens, row_opens, Alike, alike}
 
 -- what is known of all names and skeletons of a program
 pub record Scene : Type 0 where
@@ -69,14 +71,6 @@ owned_own f g (Some p) own = own
 
 found_same : (x y : Declared) → Some x ≡ Some y → x ≡ y
 found_same x y e = cc
-
-role_function : (role : Role) → is_function_role role ≡ true → role ≡ function_role
-role_function function_role e = refl
-role_function typedef_role e = absurd cc
-role_function object_role e = absurd cc
-role_function (parameter_role i) e = absurd cc
-role_function (field_role n i) e = absurd cc
-role_function enumerator_role e = absurd cc
 
 module _ (k : Scene) where
   abbrev w : World
@@ -370,22 +364,13 @@ module _ (k : Scene) where
         fresh_fits token st.rounds _ body (expr_is u s sst st.rounds (exprs.Char token)) e
     expr_fits sst st (exprs.Text token) body own e =
         fresh_fits token st.rounds _ body (expr_is u s sst st.rounds (exprs.Text token)) e
-    expr_fits sst st (exprs.Paren token) body own e = tt
-    expr_fits sst st (exprs.Ext token) body own e = tt
-    expr_fits sst st (exprs.Comma token) body own e = tt
-    expr_fits sst st (exprs.Assign sign token first last) body own e = tt
     expr_fits sst st (exprs.Cond has_middle token first last) body own e =
         fresh_fits token st.rounds _ body (expr_is u s sst st.rounds (exprs.Cond has_middle token first last)) e
     expr_fits sst st (exprs.Binary sign token first last) body own e =
         fresh_fits token st.rounds _ body (expr_is u s sst st.rounds (exprs.Binary sign token first last)) e
     expr_fits sst st (exprs.Prefix sign token last) body own e =
         fresh_fits token st.rounds _ body (expr_is u s sst st.rounds (exprs.Prefix sign token last)) e
-    expr_fits sst st (exprs.Post sign token first) body own e = tt
-    expr_fits sst st (exprs.Index token first last) body own e = tt
-    expr_fits sst st (exprs.Arg behind first last) body own e = tt
-    expr_fits sst st (exprs.Call token count) body own e = tt
-    expr_fits sst st (exprs.Arrow token first last) body own e = tt
-    expr_fits sst st (exprs.Dot token member name) body own e = tt
+    expr_fits sst st op body own e = tt
 
     form_fits : (sst : shapes.State) (r : Rounds) (op : FormOp) → BodyOwn r →
         IsExact u s k.starts (form_key op) (form_op_starts u s sst r op) → FormFits w k.starts f op
@@ -407,17 +392,10 @@ module _ (k : Scene) where
     init_fits : (sst : shapes.State) (st : State) (op : InitOp) → BodyOwn st.rounds → IsKeyed (declared_last st.declarations) →
         IsExact u s k.starts (init_key op) (init_op_starts u s sst st.rounds op) → InitOpFits w k.starts f st op
     init_fits sst st (inits.Value first last) body own e = initialised_fits (declared_last st.declarations) own
-    init_fits sst st inits.Begin body own e = tt
     init_fits sst st inits.Rule body own e = initialised_fits (declared_last st.declarations) own
     init_fits sst st (inits.Literal token) body own e =
         fresh_fits token st.rounds _ body (init_is u s sst st.rounds (inits.Literal token)) e
-    init_fits sst st inits.ListBegin body own e = tt
-    init_fits sst st (inits.Member token name) body own e = tt
-    init_fits sst st (inits.Index token) body own e = tt
-    init_fits sst st (inits.Leaf first last) body own e = tt
-    init_fits sst st inits.ListEnd body own e = tt
-    init_fits sst st inits.End body own e = tt
-    init_fits sst st inits.LiteralEnd body own e = tt
+    init_fits sst st op body own e = tt
 
     -- what is opens along the tape of the item is of its tokens
 
@@ -456,28 +434,13 @@ module _ (k : Scene) where
     declr_fits st (declrs.DeclName token name) its keyed around_ =
         naming_fits token (naming st.rounds) keyed its.params
         (own_keyed (naming st.rounds) (innermost_keyed st.rounds.around around_))
-    declr_fits st (declrs.ParamsBegin is_own) its keyed around_ = tt
-    declr_fits st declrs.Param its keyed around_ = tt
-    declr_fits st declrs.ParamsEnd its keyed around_ = tt
-    declr_fits st declrs.Pointer its keyed around_ = tt
-    declr_fits st declrs.Array its keyed around_ = tt
-    declr_fits st (declrs.Function has_ellipsis) its keyed around_ = tt
-    declr_fits st declrs.Declare its keyed around_ = tt
-    declr_fits st declrs.Member its keyed around_ = tt
-    declr_fits st (declrs.TypeName first) its keyed around_ = tt
-    declr_fits st declrs.DeclarationEnd its keyed around_ = tt
+    declr_fits st op its keyed around_ = tt
 
     stmt_fits : (st : State) (op : StmtOp) → OpContext t st (ops.Stmt op) → AllDeclared st.declarations →
         StmtFits w k.starts f st op
-    stmt_fits st stmts.Quiet its opens = tt
-    stmt_fits st stmts.Loud its opens = tt
-    stmt_fits st stmts.Pop its opens = tt
-    stmt_fits st (stmts.Return token last) its opens = tt
-    stmt_fits st stmts.Enter its opens = tt
-    stmt_fits st stmts.Leave its opens = tt
     stmt_fits st stmts.FunctionBody its opens =
         function_fits (declared_last st.declarations) its.begins (last_keyed st.declarations opens)
-    stmt_fits st stmts.FunctionEnd its opens = tt
+    stmt_fits st op its opens = tt
 
     body_own : (body : Option ℕ) → BodyIsOf t body → IsOwn f (function_at u s body)
     body_own body (inl e) = inl (ap (function_at u s) e)
@@ -497,50 +460,6 @@ module _ (k : Scene) where
 
     -- steps
 
-    expr_open : (st : State) (op : ExprOp) → (expr_step w st op).declarations ≡ st.declarations
-    expr_open st (exprs.Name is_called token name) = refl
-    expr_open st (exprs.Number token) = refl
-    expr_open st (exprs.Char token) = refl
-    expr_open st (exprs.Text token) = refl
-    expr_open st (exprs.Paren token) = refl
-    expr_open st (exprs.Ext token) = refl
-    expr_open st (exprs.Comma token) = refl
-    expr_open st (exprs.Assign sign token first last) = refl
-    expr_open st (exprs.Cond has_middle token first last) = refl
-    expr_open st (exprs.Binary sign token first last) = refl
-    expr_open st (exprs.Prefix sign token last) = refl
-    expr_open st (exprs.Post sign token first) = refl
-    expr_open st (exprs.Index token first last) = refl
-    expr_open st (exprs.Arg behind first last) = refl
-    expr_open st (exprs.Call token count) = refl
-    expr_open st (exprs.Arrow token first last) = refl
-    expr_open st (exprs.Dot token member name) = refl
-
-    form_open : (st : State) (op : FormOp) → (form_step w st op).declarations ≡ st.declarations
-    form_open st (forms.Cast token last) = refl
-    form_open st (forms.Sizeof token) = refl
-    form_open st (forms.StmtExpr true token) = refl
-    form_open st (forms.StmtExpr false token) = refl
-    form_open st (forms.VaArg token last) = refl
-    form_open st (forms.VaStart token last) = refl
-    form_open st (forms.VaCopy token last) = refl
-    form_open st (forms.OffsetMember token name) = refl
-    form_open st (forms.OffsetIndex token) = refl
-    form_open st (forms.Offset token) = refl
-
-    init_open : (st : State) (op : InitOp) → (init_step w st op).declarations ≡ st.declarations
-    init_open st (inits.Value first last) = refl
-    init_open st inits.Begin = refl
-    init_open st inits.Rule = refl
-    init_open st (inits.Literal token) = refl
-    init_open st inits.ListBegin = refl
-    init_open st (inits.Member token name) = refl
-    init_open st (inits.Index token) = refl
-    init_open st (inits.Leaf first last) = refl
-    init_open st inits.ListEnd = refl
-    init_open st inits.End = refl
-    init_open st inits.LiteralEnd = refl
-
     outer_open : (ds : List OpenDeclaration) → AllDeclared ds → AllDeclared (shapes.without_innermost ds)
     outer_open [] h = tt
     outer_open (it ∷ outer) h = h.1
@@ -558,52 +477,22 @@ module _ (k : Scene) where
     unnamed_open [] h = tt
     unnamed_open (it ∷ outer) h = ((tt, h.0.1), h.1)
 
-    spec_open : (st : State) (op : SpecOp) → AllDeclared st.declarations → AllDeclared (spec_step st op).declarations
-    spec_open st (specs.Word token) h = h
-    spec_open st (specs.Storage keyword) h = h
-    spec_open st specs.Void h = h
-    spec_open st (specs.Typedef token name) h = h
-    spec_open st (specs.TagUse kind token name) h = h
-    spec_open st (specs.TagAlone kind token name) h = h
-    spec_open st (specs.TagBody kind token name) h = h
-    spec_open st (specs.Untagged kind token) h = h
-    spec_open st specs.BodyEnd h = h
-    spec_open st (specs.Enumerator token name) h = h
-    spec_open st (specs.UnnamedMember token) h = h
-    spec_open st specs.SpecsEnd h = ((tt, tt), h)
-
-    declr_open : (st : State) (op : DeclrOp) → IsKeyed (declr_key op) → AllDeclared st.declarations →
-        AllDeclared (declr_step w st op).declarations
-    declr_open st (declrs.DeclName token name) keyed h = named_open token st.declarations keyed h
-    declr_open st (declrs.ParamsBegin is_own) keyed h = h
-    declr_open st declrs.Param keyed h = outer_open st.declarations h
-    declr_open st declrs.ParamsEnd keyed h = h
-    declr_open st declrs.Pointer keyed h = h
-    declr_open st declrs.Array keyed h = h
-    declr_open st (declrs.Function has_ellipsis) keyed h = h
-    declr_open st declrs.Declare keyed h = declared_open st.declarations h
-    declr_open st declrs.Member keyed h = unnamed_open st.declarations h
-    declr_open st (declrs.TypeName first) keyed h = outer_open st.declarations h
-    declr_open st declrs.DeclarationEnd keyed h = outer_open st.declarations h
-
-    stmt_open : (st : State) (op : StmtOp) → (stmt_step st op).declarations ≡ st.declarations
-    stmt_open st stmts.Quiet = refl
-    stmt_open st stmts.Loud = refl
-    stmt_open st stmts.Pop = refl
-    stmt_open st (stmts.Return token last) = refl
-    stmt_open st stmts.Enter = refl
-    stmt_open st stmts.Leave = refl
-    stmt_open st stmts.FunctionBody = refl
-    stmt_open st stmts.FunctionEnd = refl
+    opens_keyed : (ds : List OpenDeclaration) (op : Op) → IsKeyed (op_key op) → AllDeclared ds → AllDeclared (opens op ds)
+    opens_keyed ds (ops.Spec specs.SpecsEnd) keyed h = ((tt, tt), h)
+    opens_keyed ds (ops.Spec op) keyed h = h
+    opens_keyed ds (ops.Declr (declrs.DeclName token name)) keyed h = named_open token ds keyed h
+    opens_keyed ds (ops.Declr declrs.Param) keyed h = outer_open ds h
+    opens_keyed ds (ops.Declr declrs.Declare) keyed h = declared_open ds h
+    opens_keyed ds (ops.Declr declrs.Member) keyed h = unnamed_open ds h
+    opens_keyed ds (ops.Declr (declrs.TypeName first)) keyed h = outer_open ds h
+    opens_keyed ds (ops.Declr declrs.DeclarationEnd) keyed h = outer_open ds h
+    opens_keyed ds (ops.Declr op) keyed h = h
+    opens_keyed ds op keyed h = h
 
     step_open : (st : State) (op : Op) → IsKeyed (op_key op) → AllDeclared st.declarations →
         AllDeclared (step w st op).declarations
-    step_open st (ops.Expr op) keyed h = subst AllDeclared (sym (expr_open st op)) h
-    step_open st (ops.Form op) keyed h = subst AllDeclared (sym (form_open st op)) h
-    step_open st (ops.Init op) keyed h = subst AllDeclared (sym (init_open st op)) h
-    step_open st (ops.Spec op) keyed h = spec_open st op h
-    step_open st (ops.Declr op) keyed h = declr_open st op keyed h
-    step_open st (ops.Stmt op) keyed h = subst AllDeclared (sym (stmt_open st op)) h
+    step_open st op keyed h =
+        subst AllDeclared (sym (row_opens w st op)) (opens_keyed st.declarations op keyed h)
 
     left_around : (rs : List Round) → AllAround rs → AllAround (shapes.without_innermost rs)
     left_around [] h = tt
@@ -623,54 +512,30 @@ module _ (k : Scene) where
     params_keyed false ds h = tt
 
     form_around : (r : Rounds) (op : FormOp) → AllAround r.around → AllAround (form_round r op).around
-    form_around r (forms.Cast token last) h = h
     form_around r (forms.Sizeof token) h = left_around r.around h
-    form_around r (forms.StmtExpr has_value token) h = h
-    form_around r (forms.VaArg token last) h = h
-    form_around r (forms.VaStart token last) h = h
-    form_around r (forms.VaCopy token last) h = h
-    form_around r (forms.OffsetMember token name) h = h
-    form_around r (forms.OffsetIndex token) h = h
     form_around r (forms.Offset token) h = left_around r.around h
+    form_around r op h = h
 
     spec_around : (r : Rounds) (op : SpecOp) → AllAround r.around → AllAround (spec_round r op).around
-    spec_around r (specs.Word token) h = h
-    spec_around r (specs.Storage keyword) h = h
-    spec_around r specs.Void h = h
-    spec_around r (specs.Typedef token name) h = h
-    spec_around r (specs.TagUse kind token name) h = h
-    spec_around r (specs.TagAlone kind token name) h = h
     spec_around r (specs.TagBody kind token name) h = (tt, h)
     spec_around r (specs.Untagged kind token) h = (tt, h)
     spec_around r specs.BodyEnd h = left_around r.around h
-    spec_around r (specs.Enumerator token name) h = h
-    spec_around r (specs.UnnamedMember token) h = h
-    spec_around r specs.SpecsEnd h = h
+    spec_around r op h = h
 
     declr_around : (ds : List OpenDeclaration) (r : Rounds) (op : DeclrOp) → AllDeclared ds → AllAround r.around →
         AllAround (declr_round ds r op).around
-    declr_around ds r (declrs.DeclName token name) opens h = h
     declr_around ds r (declrs.ParamsBegin is_own) opens h = (params_keyed is_own ds opens, h)
     declr_around ds r declrs.Param opens h = next_around r.around h
     declr_around ds r declrs.ParamsEnd opens h = left_around r.around h
-    declr_around ds r declrs.Pointer opens h = h
-    declr_around ds r declrs.Array opens h = h
-    declr_around ds r (declrs.Function has_ellipsis) opens h = h
-    declr_around ds r declrs.Declare opens h = h
-    declr_around ds r declrs.Member opens h = h
-    declr_around ds r (declrs.TypeName first) opens h = h
-    declr_around ds r declrs.DeclarationEnd opens h = h
+    declr_around ds r op opens h = h
 
     stmt_around : (ds : List OpenDeclaration) (r : Rounds) (op : StmtOp) → AllAround r.around →
         AllAround (stmt_round ds r op).around
     stmt_around ds r stmts.Quiet h = (tt, h)
     stmt_around ds r stmts.Loud h = left_around r.around h
-    stmt_around ds r stmts.Pop h = h
-    stmt_around ds r (stmts.Return token last) h = h
     stmt_around ds r stmts.Enter h = (tt, h)
     stmt_around ds r stmts.Leave h = left_around r.around h
-    stmt_around ds r stmts.FunctionBody h = h
-    stmt_around ds r stmts.FunctionEnd h = h
+    stmt_around ds r op h = h
 
     step_around : (st : State) (op : Op) → AllDeclared st.declarations → AllAround st.rounds.around →
         AllAround (step w st op).rounds.around

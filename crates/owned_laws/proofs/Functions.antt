@@ -1,42 +1,37 @@
 -- A function that is declared has a skeleton: no declaration stands directly in a list of parameters.
 use Rattle.std.proofs.Common.{◌≡◌, ℕ, Bool, true, false, List, [], ◌∷◌, ◌++◌, map, length, Option, None, Some, refl, sym, ◌∙◌, ap, subst}
 use Rattle.std.proofs.lemmas.List.Elements.{All-head, All-tail}
-use Rattle.std.specs.Prelude.{All, ◌||◌, if◌then◌else◌}
+use Rattle.std.specs.Prelude.{All, if◌then◌else◌}
 use Rattle.c_words.specs.declared.kinds.Keyword.{Keyword}
-use Rattle.c_words.specs.declared.kinds.Keyword.TheVariants as keywords
 use Rattle.tape_ops.specs.declared.op.Op.{Op}
 use Rattle.tape_ops.specs.declared.op.Op.TheVariants as ops
-use Rattle.tape_ops.specs.declared.expression.ExprOp.{ExprOp}
-use Rattle.tape_ops.specs.declared.expression.ExprOp.TheVariants as exprs
 use Rattle.tape_ops.specs.declared.form.FormOp.{FormOp}
 use Rattle.tape_ops.specs.declared.form.FormOp.TheVariants as forms
 use Rattle.tape_ops.specs.declared.specifier.SpecOp.{SpecOp}
 use Rattle.tape_ops.specs.declared.specifier.SpecOp.TheVariants as specs
-use Rattle.tape_ops.specs.declared.specifier.TagKind.{TagKind}
 use Rattle.tape_ops.specs.declared.declarator.DeclrOp.{DeclrOp}
 use Rattle.tape_ops.specs.declared.declarator.DeclrOp.TheVariants as declrs
 use Rattle.tape_ops.specs.declared.statement.StmtOp.{StmtOp}
 use Rattle.tape_ops.specs.declared.statement.StmtOp.TheVariants as stmts
-use Rattle.tape_laws.specs.Marks.{Mark, in_declaration, in_params, in_tag, in_scope, in_quiet, in_body, is_open, turn, IsBracketed, function_token, DeclaresIts, ItemsAreBracketed}
+use Rattle.tape_laws.specs.Marks.{Mark, in_declaration, in_params, in_tag, in_scope, in_quiet, in_body, is_open, turn, IsBracketed, function_token, ItemsAreBracketed}
 use Rattle.type_table.specs.Types.{CType, pointer}
 use Rattle.name_rules.specs.Spellings.{Spelling, Place, place, Named}
-use Rattle.name_rules.specs.Scopes.{object_role, function_role, Declared, declared_at, Names, is_place, is_at_file, innermost, tag_in, tag_through, body_of, has_body, sized}
-use Rattle.name_rules.specs.Pieces.{is_function, decayed}
-use Rattle.name_rules.specs.Declaring.{Numbered, found_or_new, tag_used, untagged, begun_in, declared_here, declared_thing, declared_typedef, declared_some, declared_param, declared_member, has_word, keep}
+use Rattle.name_rules.specs.Scopes.{function_role, Declared, declared_at, Names, is_place}
+use Rattle.name_rules.specs.Pieces.{decayed}
+use Rattle.name_rules.specs.Declaring.{declared_some, declared_param, declared_member}
 use Rattle.name_rules.specs.Units.{no_names, unit_begun}
 use Rattle.name_steps.specs.State.{OpenDeclaration, State, no_declaration, innermost_or, with_innermost, without_innermost, with_names}
-use Rattle.name_steps.specs.Steps.{declaration, body, parameters, body_entered_by, expression_step, specifier_step, declarator_step, statement_step, step, run}
+use Rattle.name_steps.specs.Steps.{declaration, body, parameters, specifier_step, declarator_step, statement_step, step, run}
 use Rattle.name_steps.specs.Units.{tapes_named}
 use Rattle.name_laws.specs.NameLaws.{tape_of_source, IsSound}
 use Rattle.std.specs.List.{last_or}
 use Rattle.shape_steps.specs.State as shapes
 use Rattle.shape_steps.specs.Steps as shape_steps
 use Rattle.row_rules.specs.Starting.{Start, owner_there, named_start, declared_start, some_declared_start, had_name}
-use Rattle.row_steps.specs.Rounds.{Naming, a_name, Round, Rounds, file, naming, round_step}
-use Rattle.row_steps.specs.Rounds as rounds
+use Rattle.row_steps.specs.Rounds.{Naming, a_name, Rounds, file, naming, round_step}
 use Rattle.row_steps.specs.Starting.{around, function_at, naming_has, op_starts, starts_found}
 use Rattle.c_tree.specs.declared.lexeme.Lexeme.{Lexeme}
-use Rattle.c_tree.specs.Unit.{Item, function_item, decl_item, asm_item, semi_item, IsItem}
+use Rattle.c_tree.specs.Unit.{Item, IsItem}
 use Rattle.c_tape.specs.Tape.{item_tape, tape_of}
 use Rattle.type_rules.specs.Program.{Source}
 use Rattle.constraint_rules.specs.Starts.{items_starts}
@@ -44,8 +39,12 @@ use Rattle.constraint_rules.specs.Systems.{starts_among}
 use Rattle.start_laws.specs.Laws.{StartsAreFound}
 use Rattle.owner_laws.specs.Fitting.{start_at}
 use Rattle.owned_laws.specs.Names.{FunctionsBegin}
-use Rattle.owned_laws.proofs.Places.{place_itself, declared_place}
-use Rattle.owned_laws.proofs.Turns.{quiet_was, tag_was, scope_was, declaration_was, params_were, named_was, begun_was, param_was, declared_was, member_was, body_begins, body_was}
+use Rattle.meaning_laws.proofs.Lists.{place_itself}
+use Rattle.meaning_laws.proofs.Growing.{adds_some, names, names_kept, used_same, tag_body_same, untagged_same, keep_same, entered_same, expr_declarations, expr_same}
+use Rattle.scope_laws.proofs.Places.{declared_place}
+use Rattle.owned_laws.proofs.Opening.{shape_opens}
+use Rattle.owned_laws.proofs.Contexts.{Aligned, aligned, outer_aligned, open_naming}
+use Rattle.tape_laws.proofs.Turns.{declares_its, Declaring, quiet_was, tag_was, scope_was, declaration_was, params_were, named_was, begun_was, param_was, declared_was, member_was, body_begins, body_was}
 
 -- a skeleton begins there
 
@@ -72,89 +71,6 @@ has_right (x ∷ xs) ys p h none = by (is_place x.at p) none (has_right xs ys p 
     by true e next = absurd cc
     by false e next = next e
 
--- the names of the declarators that are read
-abbrev pub names : List OpenDeclaration → List (Option Named)
-names [] = []
-names (d ∷ ds) = d.name ∷ names ds
-
-pub names_kept : (ds : List OpenDeclaration) (t : CType) →
-    names (with_innermost (record (innermost_or no_declaration ds) { declared = t }) ds) ≡ names ds
-names_kept [] t = refl
-names_kept (d ∷ ds) t = refl
-
--- names that stay
-
-tag_same : (found : Option ℕ) (u : Spelling) (kind : TagKind) (token tag : ℕ) (s : Names) →
-    (found_or_new found u kind token tag s).names.declared ≡ s.declared
-tag_same (Some n) u kind token tag s = refl
-tag_same None u kind token tag s = refl
-
-pub used_same : (u : Spelling) (alone : Bool) (kind : TagKind) (token tag : ℕ) (s : Names) →
-    (tag_used u alone kind token tag s).names.declared ≡ s.declared
-used_same u alone kind token tag s =
-    tag_same (if alone then tag_in (innermost s.scopes).tags kind (u.key tag) else tag_through s.scopes kind (u.key tag))
-    u kind token tag s
-
-pub begun_same : (b : Bool) (at : Place) (kind : TagKind) (it : Numbered) →
-    (begun_in b at kind it).names.declared ≡ it.names.declared
-begun_same true at kind it = refl
-begun_same false at kind it = refl
-
-pub keep_same : (own : Option Place) (s : Names) → (keep own s).declared ≡ s.declared
-keep_same None s = refl
-keep_same (Some own) s = refl
-
-pub entered_same : (d : Option Declared) (s : Names) → (body_entered_by d s).declared ≡ s.declared
-entered_same None s = refl
-entered_same (Some d) s = refl
-
-pub expr_declarations : (u : Spelling) (st : State) (op : ExprOp) →
-    (expression_step u st op).declarations ≡ st.declarations
-expr_declarations u st (exprs.Name is_called token name) = refl
-expr_declarations u st (exprs.Number token) = refl
-expr_declarations u st (exprs.Char token) = refl
-expr_declarations u st (exprs.Text token) = refl
-expr_declarations u st (exprs.Paren token) = refl
-expr_declarations u st (exprs.Ext token) = refl
-expr_declarations u st (exprs.Comma token) = refl
-expr_declarations u st (exprs.Assign sign token first last) = refl
-expr_declarations u st (exprs.Cond has_middle token first last) = refl
-expr_declarations u st (exprs.Binary sign token first last) = refl
-expr_declarations u st (exprs.Prefix sign token last) = refl
-expr_declarations u st (exprs.Post sign token first) = refl
-expr_declarations u st (exprs.Index token first last) = refl
-expr_declarations u st (exprs.Arg behind first last) = refl
-expr_declarations u st (exprs.Call token count) = refl
-expr_declarations u st (exprs.Arrow token first last) = refl
-expr_declarations u st (exprs.Dot token member name) = refl
-
-pub expr_names : (u : Spelling) (st : State) (op : ExprOp) →
-    (expression_step u st op).names.declared ≡ st.names.declared
-expr_names u st (exprs.Name is_called token name) = refl
-expr_names u st (exprs.Number token) = refl
-expr_names u st (exprs.Char token) = refl
-expr_names u st (exprs.Text token) = refl
-expr_names u st (exprs.Paren token) = refl
-expr_names u st (exprs.Ext token) = refl
-expr_names u st (exprs.Comma token) = refl
-expr_names u st (exprs.Assign sign token first last) = refl
-expr_names u st (exprs.Cond has_middle token first last) = refl
-expr_names u st (exprs.Binary sign token first last) = refl
-expr_names u st (exprs.Prefix sign token last) = refl
-expr_names u st (exprs.Post sign token first) = refl
-expr_names u st (exprs.Index token first last) = refl
-expr_names u st (exprs.Arg behind first last) = refl
-expr_names u st (exprs.Call token count) = refl
-expr_names u st (exprs.Arrow token first last) = refl
-expr_names u st (exprs.Dot token member name) = refl
-
--- a well-formed function's declarator declares one
-pub declares_its : (all : List Lexeme) (item : Item) → IsItem all item → DeclaresIts item
-declares_its all (function_item exts ws d attrs opening items closing) h = h.4
-declares_its all (decl_item d) h = tt
-declares_its all (asm_item keyword group semi) h = tt
-declares_its all (semi_item semi) h = tt
-
 module _ (s : Names) (starts : List Start) where
   -- a function that is declared there has a skeleton there
   abbrev Begun : Place → Type 0
@@ -174,30 +90,11 @@ module _ (s : Names) (starts : List Start) where
   NameBegins u m (Some it) = is_open m ≡ true → Begun (place u it.token)
 
   -- of each declaration that may declare a function the name has a skeleton; directly in lists of parameters none does
-  abbrev Aligned : Spelling → List Mark → List (Option Named) → List Round → Type 0
-  Aligned u [] ds rs = rs ≡ []
-  Aligned u (in_declaration x c own ∷ m) [] rs = ⊥
-  Aligned u (in_declaration x c own ∷ m) (d ∷ ds) rs = NameBegins u m d × Aligned u m ds rs
-  Aligned u (in_params own ∷ m) ds [] = ⊥
-  Aligned u (in_params own ∷ m) ds (r ∷ rs) = Aligned u m ds rs
-  Aligned u (in_tag ∷ m) ds [] = ⊥
-  Aligned u (in_tag ∷ m) ds (r ∷ rs) = (r.naming ≡ a_name) × Aligned u m ds rs
-  Aligned u (in_scope ∷ m) ds [] = ⊥
-  Aligned u (in_scope ∷ m) ds (r ∷ rs) = (r.naming ≡ a_name) × Aligned u m ds rs
-  Aligned u (in_quiet ∷ m) ds [] = ⊥
-  Aligned u (in_quiet ∷ m) ds (r ∷ rs) = (r.naming ≡ a_name) × Aligned u m ds rs
-  Aligned u (in_body ∷ m) ds rs = ((rounds.innermost rs).naming ≡ a_name) × Aligned u m ds rs
-
-  open_naming : (u : Spelling) (m : List Mark) (ds : List (Option Named)) (rs : List Round) → is_open m ≡ true →
-      Aligned u m ds rs → (rounds.innermost rs).naming ≡ a_name
-  open_naming u [] ds rs o h = ap (λ (it : List Round). (rounds.innermost it).naming) h
-  open_naming u (in_scope ∷ m) ds [] o h = absurd h
-  open_naming u (in_scope ∷ m) ds (r ∷ rs) o h = h.0
-  open_naming u (in_body ∷ m) ds rs o h = h.0
-  open_naming u (in_declaration x c own ∷ m) ds rs o h = absurd cc
-  open_naming u (in_params own ∷ m) ds rs o h = absurd cc
-  open_naming u (in_tag ∷ m) ds rs o h = absurd cc
-  open_naming u (in_quiet ∷ m) ds rs o h = absurd cc
+  abbrev NamesBegin : Spelling → List Mark → List (Option Named) → Type 0
+  NamesBegin u [] ds = Unit {0}
+  NamesBegin u (in_declaration x c own ∷ m) [] = ⊥
+  NamesBegin u (in_declaration x c own ∷ m) (d ∷ ds) = NameBegins u m d × NamesBegin u m ds
+  NamesBegin u (mark ∷ m) ds = NamesBegin u m ds
 
   -- at the name of a declarator
 
@@ -230,212 +127,140 @@ module _ (s : Names) (starts : List Start) where
 
   -- steps
 
-  moved : (u : Spelling) (m n : List Mark) (ds : List (Option Named)) (rs : List Round) → Some m ≡ Some n →
-      Aligned u m ds rs → Aligned u n ds rs
-  moved u m n ds rs e h = let same : m ≡ n = cc in subst (λ (it : List Mark). Aligned u it ds rs) same h
+  back : (u : Spelling) (m n : List Mark) (ds : List (Option Named)) → m ≡ n → NamesBegin u m ds → NamesBegin u n ds
+  back u m n ds same h = subst (λ (it : List Mark). NamesBegin u it ds) same h
 
-  back : (u : Spelling) (m n : List Mark) (ds : List (Option Named)) (rs : List Round) → m ≡ n → Aligned u m ds rs →
-      Aligned u n ds rs
-  back u m n ds rs same h = subst (λ (it : List Mark). Aligned u it ds rs) same h
+  moved : (u : Spelling) (m n : List Mark) (ds : List (Option Named)) → Some m ≡ Some n → NamesBegin u m ds →
+      NamesBegin u n ds
+  moved u m n ds e h = let same : m ≡ n = cc in back u m n ds same h
 
-  left_quiet : (u : Spelling) (n : List Mark) (ds : List (Option Named)) (rs : List Round) →
-      Aligned u (in_quiet ∷ n) ds rs → Aligned u n ds (shapes.without_innermost rs)
-  left_quiet u n ds [] h = absurd h
-  left_quiet u n ds (r ∷ rs) h = h.1
-
-  left_tag : (u : Spelling) (n : List Mark) (ds : List (Option Named)) (rs : List Round) →
-      Aligned u (in_tag ∷ n) ds rs → Aligned u n ds (shapes.without_innermost rs)
-  left_tag u n ds [] h = absurd h
-  left_tag u n ds (r ∷ rs) h = h.1
-
-  left_scope : (u : Spelling) (n : List Mark) (ds : List (Option Named)) (rs : List Round) →
-      Aligned u (in_scope ∷ n) ds rs → Aligned u n ds (shapes.without_innermost rs)
-  left_scope u n ds [] h = absurd h
-  left_scope u n ds (r ∷ rs) h = h.1
-
-  left_params : (u : Spelling) (own : Bool) (n : List Mark) (ds : List (Option Named)) (rs : List Round) →
-      Aligned u (in_params own ∷ n) ds rs → Aligned u n ds (shapes.without_innermost rs)
-  left_params u own n ds [] h = absurd h
-  left_params u own n ds (r ∷ rs) h = h
-
-  left_declaration : (u : Spelling) (x c : Option ℕ) (own : Bool) (n : List Mark) (ds : List OpenDeclaration)
-      (rs : List Round) → Aligned u (in_declaration x c own ∷ n) (names ds) rs →
-      Aligned u n (names (without_innermost ds)) rs
-  left_declaration u x c own n [] rs h = absurd h
-  left_declaration u x c own n (d ∷ ds) rs h = h.1
+  left_declaration : (u : Spelling) (x c : Option ℕ) (own : Bool) (n : List Mark) (ds : List OpenDeclaration) →
+      NamesBegin u (in_declaration x c own ∷ n) (names ds) → NamesBegin u n (names (without_innermost ds))
+  left_declaration u x c own n [] h = absurd h
+  left_declaration u x c own n (d ∷ ds) h = h.1
 
   -- another name of the innermost declaration
   renamed : (u : Spelling) (x c x2 c2 : Option ℕ) (own own2 : Bool) (n : List Mark) (ds : List OpenDeclaration)
-      (rs : List Round) (d : OpenDeclaration) →
-      Aligned u (in_declaration x c own ∷ n) (names ds) rs → NameBegins u n d.name →
-      Aligned u (in_declaration x2 c2 own2 ∷ n) (names (with_innermost d ds)) rs
-  renamed u x c x2 c2 own own2 n [] rs d h k = absurd h
-  renamed u x c x2 c2 own own2 n (it ∷ ds) rs d h k = (k, h.1)
+      (d : OpenDeclaration) → NamesBegin u (in_declaration x c own ∷ n) (names ds) → NameBegins u n d.name →
+      NamesBegin u (in_declaration x2 c2 own2 ∷ n) (names (with_innermost d ds))
+  renamed u x c x2 c2 own own2 n [] d h k = absurd h
+  renamed u x c x2 c2 own own2 n (it ∷ ds) d h k = (k, h.1)
 
   -- what the mark of a declaration says does not matter
-  marked : (u : Spelling) (x c x2 c2 : Option ℕ) (own own2 : Bool) (n : List Mark) (ds : List (Option Named))
-      (rs : List Round) → Aligned u (in_declaration x c own ∷ n) ds rs → Aligned u (in_declaration x2 c2 own2 ∷ n) ds rs
-  marked u x c x2 c2 own own2 n [] rs h = absurd h
-  marked u x c x2 c2 own own2 n (it ∷ ds) rs h = h
+  marked : (u : Spelling) (x c : Option ℕ) (own own2 : Bool) (n : List Mark) (ds : List (Option Named)) →
+      NamesBegin u (in_declaration x c own ∷ n) ds → NamesBegin u (in_declaration x c own2 ∷ n) ds
+  marked u x c own own2 n [] h = absurd h
+  marked u x c own own2 n (it ∷ ds) h = h
 
-  next_round_is : (u : Spelling) (own : Bool) (n : List Mark) (ds : List (Option Named)) (rs : List Round) →
-      Aligned u (in_params own ∷ n) ds rs → Aligned u (in_params own ∷ n) ds (shapes.changed rounds.next_round rs)
-  next_round_is u own n ds [] h = h
-  next_round_is u own n ds (r ∷ rs) h = h
-
-  begun_in_body : (u : Spelling) (x c : Option ℕ) (own : Bool) (ds : List (Option Named)) (rs : List Round) →
-      Aligned u (in_declaration x c own ∷ []) ds rs → Aligned u (in_body ∷ (in_declaration x c own ∷ [])) ds rs
-  begun_in_body u x c own [] rs h = absurd h
-  begun_in_body u x c own (d ∷ ds) rs h = (open_naming u [] ds rs refl h.1, h)
-
-  kept_name : (u : Spelling) (m : List Mark) (ds : List OpenDeclaration) (rs : List Round) (t : CType) →
-      Aligned u m (names ds) rs →
-      Aligned u m (names (with_innermost (record (innermost_or no_declaration ds) { declared = t }) ds)) rs
-  kept_name u m ds rs t h = subst (λ (it : List (Option Named)). Aligned u m it rs) (sym (names_kept ds t)) h
+  kept_name : (u : Spelling) (m : List Mark) (ds : List OpenDeclaration) (t : CType) → NamesBegin u m (names ds) →
+      NamesBegin u m (names (with_innermost (record (innermost_or no_declaration ds) { declared = t }) ds))
+  kept_name u m ds t h = subst (λ (it : List (Option Named)). NamesBegin u m it) (sym (names_kept ds t)) h
 
   module _ (u : Spelling) (t : Option ℕ) (m n : List Mark) (st : State) (r : Rounds) (ods : List shapes.OpenDeclaration)
-      (h : Aligned u m (names st.declarations) r.around) where
+      (h : NamesBegin u m (names st.declarations)) where
     abbrev ds : List OpenDeclaration
     ds = st.declarations
 
-    abbrev rs : List Round
-    rs = r.around
+    form_names : (op : FormOp) → turn t m (ops.Form op) ≡ Some n → NamesBegin u n (names ds)
+    form_names (forms.Sizeof token) e = back u m (in_quiet ∷ n) (names ds) (quiet_was m n e) h
+    form_names (forms.Offset token) e = back u m (in_quiet ∷ n) (names ds) (quiet_was m n e) h
+    form_names op e = moved u m n (names ds) e h
 
-    form_aligned : (op : FormOp) → turn t m (ops.Form op) ≡ Some n →
-        Aligned u n (names ds) (rounds.form_round r op).around
-    form_aligned (forms.Cast token last) e = moved u m n (names ds) rs e h
-    form_aligned (forms.Sizeof token) e =
-        left_quiet u n (names ds) rs (back u m (in_quiet ∷ n) (names ds) rs (quiet_was m n e) h)
-    form_aligned (forms.StmtExpr has_value token) e = moved u m n (names ds) rs e h
-    form_aligned (forms.VaArg token last) e = moved u m n (names ds) rs e h
-    form_aligned (forms.VaStart token last) e = moved u m n (names ds) rs e h
-    form_aligned (forms.VaCopy token last) e = moved u m n (names ds) rs e h
-    form_aligned (forms.OffsetMember token name) e = moved u m n (names ds) rs e h
-    form_aligned (forms.OffsetIndex token) e = moved u m n (names ds) rs e h
-    form_aligned (forms.Offset token) e =
-        left_quiet u n (names ds) rs (back u m (in_quiet ∷ n) (names ds) rs (quiet_was m n e) h)
+    spec_names : (op : SpecOp) → turn t m (ops.Spec op) ≡ Some n →
+        NamesBegin u n (names (specifier_step u st op).declarations)
+    spec_names (specs.TagBody kind token name) e = moved u (in_tag ∷ m) n (names ds) e h
+    spec_names (specs.Untagged kind token) e = moved u (in_tag ∷ m) n (names ds) e h
+    spec_names specs.BodyEnd e = back u m (in_tag ∷ n) (names ds) (tag_was m n e) h
+    spec_names specs.SpecsEnd e = moved u (in_declaration None None false ∷ m) n (None ∷ names ds) e (tt, h)
+    spec_names op e = moved u m n (names ds) e h
 
-    spec_aligned : (op : SpecOp) → turn t m (ops.Spec op) ≡ Some n →
-        Aligned u n (names (specifier_step u st op).declarations) (rounds.spec_round r op).around
-    spec_aligned (specs.Word token) e = moved u m n (names ds) rs e h
-    spec_aligned (specs.Storage keyword) e = moved u m n (names ds) rs e h
-    spec_aligned specs.Void e = moved u m n (names ds) rs e h
-    spec_aligned (specs.Typedef token name) e = moved u m n (names ds) rs e h
-    spec_aligned (specs.TagUse kind token name) e = moved u m n (names ds) rs e h
-    spec_aligned (specs.TagAlone kind token name) e = moved u m n (names ds) rs e h
-    spec_aligned (specs.TagBody kind token name) e =
-        moved u (in_tag ∷ m) n (names ds) (rounds.entered r).around e (refl, h)
-    spec_aligned (specs.Untagged kind token) e =
-        moved u (in_tag ∷ m) n (names ds) (rounds.entered r).around e (refl, h)
-    spec_aligned specs.BodyEnd e =
-        left_tag u n (names ds) rs (back u m (in_tag ∷ n) (names ds) rs (tag_was m n e) h)
-    spec_aligned (specs.Enumerator token name) e = moved u m n (names ds) rs e h
-    spec_aligned (specs.UnnamedMember token) e = moved u m n (names ds) rs e h
-    spec_aligned specs.SpecsEnd e =
-        moved u (in_declaration None None false ∷ m) n (None ∷ names ds) rs e (tt, h)
+    -- in a declaration
 
-    -- in a declaration, another name
-    named_now : (x c x2 c2 : Option ℕ) (own own2 : Bool) (outer : List Mark) (d : OpenDeclaration) →
-        m ≡ in_declaration x c own ∷ outer → n ≡ in_declaration x2 c2 own2 ∷ outer →
-        NameBegins u outer d.name → Aligned u n (names (with_innermost d ds)) rs
-    named_now x c x2 c2 own own2 outer d was is k =
-        back u (in_declaration x2 c2 own2 ∷ outer) n (names (with_innermost d ds)) rs (sym is)
-        (renamed u x c x2 c2 own own2 outer ds rs d (back u m (in_declaration x c own ∷ outer) (names ds) rs was h) k)
+    here : (d : Declaring m) → NamesBegin u (in_declaration d.name d.last d.own ∷ d.outer) (names ds)
+    here d = back u m (in_declaration d.name d.last d.own ∷ d.outer) (names ds) d.is h
 
-    closed_now : turn t m (ops.Declr declrs.DeclarationEnd) ≡ Some n → Aligned u n (names (without_innermost ds)) rs
-    closed_now e =
-        let was = declaration_was m n e in
-        left_declaration u was.0 was.1 was.2 n ds rs
-        (back u m (in_declaration was.0 was.1 was.2 ∷ n) (names ds) rs was.3 h)
+    gone : (d : Declaring m) → n ≡ d.outer → NamesBegin u n (names (without_innermost ds))
+    gone d is =
+        back u d.outer n (names (without_innermost ds)) (sym is)
+        (left_declaration u d.name d.last d.own d.outer ds (here d))
+
+    named_now : (d : Declaring m) (x c : Option ℕ) (new : OpenDeclaration) → n ≡ in_declaration x c d.own ∷ d.outer →
+        NameBegins u d.outer new.name → NamesBegin u n (names (with_innermost new ds))
+    named_now d x c new is k =
+        back u (in_declaration x c d.own ∷ d.outer) n (names (with_innermost new ds)) (sym is)
+        (renamed u d.name d.last x c d.own d.own d.outer ds new (here d) k)
+
+    closed_now : turn t m (ops.Declr declrs.DeclarationEnd) ≡ Some n → NamesBegin u n (names (without_innermost ds))
+    closed_now e = let was = declaration_was m n e in gone was.0 was.1
 
     -- behind the name that comes, where its declaration may declare
     abbrev NextBegins : ℕ → Type 0
-    NextBegins token =
-        (x c : Option ℕ) (own : Bool) (outer : List Mark) → m ≡ in_declaration x c own ∷ outer → is_open outer ≡ true
-        → Begun (place u token)
+    NextBegins token = (d : Declaring m) → is_open d.outer ≡ true → Begun (place u token)
 
-    declr_aligned : (op : DeclrOp) → turn t m (ops.Declr op) ≡ Some n →
+    declr_names : (op : DeclrOp) → turn t m (ops.Declr op) ≡ Some n →
         ((token name : ℕ) → op ≡ declrs.DeclName token name → NextBegins token) →
-        Aligned u n (names (declarator_step u st op).declarations) (rounds.declr_round ods r op).around
-    declr_aligned (declrs.DeclName token name) e begins =
+        NamesBegin u n (names (declarator_step u st op).declarations)
+    declr_names (declrs.DeclName token name) e begins =
         let was = named_was token m n e in
-        named_now was.0 was.1 (Some token) was.1 was.2 was.2 was.3
-        (record (declaration st) { name = Some (record { token = token; name = name }) }) was.4 was.5
-        (λ o. begins token name refl was.0 was.1 was.2 was.3 was.4 o)
-    declr_aligned (declrs.ParamsBegin is_own) e begins =
-        let was = begun_was t is_own m n e in
-        let inner = in_declaration was.0 was.1 was.2 ∷ was.3 in
-        back u (in_params is_own ∷ inner) n (names ds)
-        (rounds.with_round (rounds.params_naming is_own ods) (rounds.is_quiet r) r).around
-        (sym was.5) (back u m inner (names ds) rs was.4 h)
-    declr_aligned declrs.Param e begins =
-        let was = param_was m n e in
-        let inner = in_params was.3 ∷ was.4 in
-        back u inner n (names (without_innermost ds)) (rounds.next_param r).around (sym was.6)
-        (next_round_is u was.3 was.4 (names (without_innermost ds)) rs
-        (left_declaration u was.0 was.1 was.2 inner ds rs
-        (back u m (in_declaration was.0 was.1 was.2 ∷ inner) (names ds) rs was.5 h)))
-    declr_aligned declrs.ParamsEnd e begins =
-        let was = params_were m n e in
-        let inner = in_declaration was.1 was.2 was.3 ∷ was.4 in
-        back u (in_declaration was.1 was.2 (was.0 || was.3) ∷ was.4) n (names ds) (shapes.without_innermost rs) (sym was.6)
-        (marked u was.1 was.2 was.1 was.2 was.3 (was.0 || was.3) was.4 (names ds) (shapes.without_innermost rs)
-        (left_params u was.0 inner (names ds) rs (back u m (in_params was.0 ∷ inner) (names ds) rs was.5 h)))
-    declr_aligned declrs.Pointer e begins = kept_name u n ds rs _ (moved u m n (names ds) rs e h)
-    declr_aligned declrs.Array e begins = kept_name u n ds rs _ (moved u m n (names ds) rs e h)
-    declr_aligned (declrs.Function has_ellipsis) e begins = kept_name u n ds rs _ (moved u m n (names ds) rs e h)
-    declr_aligned declrs.Declare e begins =
+        named_now was.0 (Some token) was.0.last
+        (record (declaration st) { name = Some (record { token = token; name = name }) }) was.1
+        (begins token name refl was.0)
+    declr_names (declrs.ParamsBegin is_own) e begins =
+        back u (in_params is_own ∷ m) n (names ds) (sym (begun_was t is_own m n e).is) h
+    declr_names declrs.Param e begins = let was = param_was m n e in gone was.0 (was.4 ∙ sym was.3)
+    declr_names declrs.ParamsEnd e begins =
+        let it = params_were m n e in
+        let own = if it.params then true else it.own in
+        back u (in_declaration it.name it.last own ∷ it.outer) n (names ds) (sym it.is)
+        (marked u it.name it.last it.own own it.outer (names ds)
+        (back u m (in_params it.params ∷ (in_declaration it.name it.last it.own ∷ it.outer)) (names ds) it.was h))
+    declr_names declrs.Pointer e begins = kept_name u n ds _ (moved u m n (names ds) e h)
+    declr_names declrs.Array e begins = kept_name u n ds _ (moved u m n (names ds) e h)
+    declr_names (declrs.Function has_ellipsis) e begins = kept_name u n ds _ (moved u m n (names ds) e h)
+    declr_names declrs.Declare e begins =
         let was = declared_was m n e in
-        named_now was.0 was.1 None was.0 was.2 was.2 was.3
-        (record (declaration st) { name = None; declared = (declaration st).type }) was.4 was.5 tt
-    declr_aligned declrs.Member e begins =
+        named_now was.0 None was.0.name
+        (record (declaration st) { name = None; declared = (declaration st).type }) was.1 tt
+    declr_names declrs.Member e begins =
         let was = member_was m n e in
-        named_now was.0 was.1 None was.1 was.2 was.2 was.3
-        (record (declaration st) { name = None; declared = (declaration st).type }) was.4 was.5 tt
-    declr_aligned (declrs.TypeName first) e begins = closed_now e
-    declr_aligned declrs.DeclarationEnd e begins = closed_now e
+        named_now was.0 None was.0.last
+        (record (declaration st) { name = None; declared = (declaration st).type }) was.1 tt
+    declr_names (declrs.TypeName first) e begins = closed_now e
+    declr_names declrs.DeclarationEnd e begins = closed_now e
 
-    stmt_aligned : (op : StmtOp) → turn t m (ops.Stmt op) ≡ Some n →
-        Aligned u n (names (statement_step u st op).declarations) (rounds.stmt_round ods r op).around
-    stmt_aligned stmts.Quiet e = moved u (in_quiet ∷ m) n (names ds) (rounds.silenced r).around e (refl, h)
-    stmt_aligned stmts.Loud e =
-        left_quiet u n (names ds) rs (back u m (in_quiet ∷ n) (names ds) rs (quiet_was m n e) h)
-    stmt_aligned stmts.Pop e = moved u m n (names ds) rs e h
-    stmt_aligned (stmts.Return token last) e = moved u m n (names ds) rs e h
-    stmt_aligned stmts.Enter e = moved u (in_scope ∷ m) n (names ds) (rounds.entered r).around e (refl, h)
-    stmt_aligned stmts.Leave e =
-        left_scope u n (names ds) rs (back u m (in_scope ∷ n) (names ds) rs (scope_was m n e) h)
-    stmt_aligned stmts.FunctionBody e =
-        let was = body_begins t m n e in
-        back u (in_body ∷ (in_declaration was.0 was.1 true ∷ [])) n (names ds) rs (sym was.3)
-        (begun_in_body u was.0 was.1 true (names ds) rs
-        (back u m (in_declaration was.0 was.1 true ∷ []) (names ds) rs was.2 h))
-    stmt_aligned stmts.FunctionEnd e =
+    stmt_names : (op : StmtOp) → turn t m (ops.Stmt op) ≡ Some n →
+        NamesBegin u n (names (statement_step u st op).declarations)
+    stmt_names stmts.Quiet e = moved u (in_quiet ∷ m) n (names ds) e h
+    stmt_names stmts.Loud e = back u m (in_quiet ∷ n) (names ds) (quiet_was m n e) h
+    stmt_names stmts.Enter e = moved u (in_scope ∷ m) n (names ds) e h
+    stmt_names stmts.Leave e = back u m (in_scope ∷ n) (names ds) (scope_was m n e) h
+    stmt_names stmts.FunctionBody e = back u (in_body ∷ m) n (names ds) (sym (body_begins t m n e).3) h
+    stmt_names stmts.FunctionEnd e =
         let was = body_was m n e in
-        back u (in_declaration was.0 was.1 false ∷ was.3) n (names ds) rs (sym was.5)
-        (marked u was.0 was.1 was.0 was.1 was.2 false was.3 (names ds) rs
-        (back u m (in_body ∷ (in_declaration was.0 was.1 was.2 ∷ was.3)) (names ds) rs was.4 h).1)
+        back u (in_declaration was.0 was.1 false ∷ was.3) n (names ds) (sym was.5)
+        (marked u was.0 was.1 was.2 false was.3 (names ds)
+        (back u m (in_body ∷ (in_declaration was.0 was.1 was.2 ∷ was.3)) (names ds) was.4 h))
+    stmt_names op e = moved u m n (names ds) e h
 
-    name_there : (sst : shapes.State) (op : DeclrOp) →
+    name_there : (sst : shapes.State) (op : DeclrOp) → Aligned t m ods r.around →
         ((p : Place) → Has (op_starts u s sst r (ops.Declr op)) p → Has starts p) → (token name : ℕ) →
         op ≡ declrs.DeclName token name → NextBegins token
-    name_there sst op inside token name is x c own outer was o =
+    name_there sst op same inside token name is d o =
         name_begins u r token
-        (open_naming u outer (names (without_innermost ds)) rs o
-        (left_declaration u x c own outer ds rs (back u m (in_declaration x c own ∷ outer) (names ds) rs was h)))
+        (open_naming t d.outer (shapes.without_innermost ods) r.around o (outer_aligned t m n ods r same d))
         (subst (λ (it : DeclrOp). (p : Place) → Has (op_starts u s sst r (ops.Declr it)) p → Has starts p) is inside)
 
-    aligned : (sst : shapes.State) (op : Op) → turn t m op ≡ Some n →
+    names_begin : (sst : shapes.State) (op : Op) → Aligned t m ods r.around → turn t m op ≡ Some n →
         ((p : Place) → Has (op_starts u s sst r op) p → Has starts p) →
-        Aligned u n (names (step u st op).declarations) (round_step ods r op).around
-    aligned sst (ops.Expr op) e inside =
-        subst (λ (it : List OpenDeclaration). Aligned u n (names it) rs) (sym (expr_declarations u st op))
-        (moved u m n (names ds) rs e h)
-    aligned sst (ops.Form op) e inside = form_aligned op e
-    aligned sst (ops.Init op) e inside = moved u m n (names ds) rs e h
-    aligned sst (ops.Spec op) e inside = spec_aligned op e
-    aligned sst (ops.Declr op) e inside = declr_aligned op e (name_there sst op inside)
-    aligned sst (ops.Stmt op) e inside = stmt_aligned op e
+        NamesBegin u n (names (step u st op).declarations)
+    names_begin sst (ops.Expr op) same e inside =
+        subst (λ (it : List OpenDeclaration). NamesBegin u n (names it)) (sym (expr_declarations u st op))
+        (moved u m n (names ds) e h)
+    names_begin sst (ops.Form op) same e inside = form_names op e
+    names_begin sst (ops.Init op) same e inside = moved u m n (names ds) e h
+    names_begin sst (ops.Spec op) same e inside = spec_names op e
+    names_begin sst (ops.Declr op) same e inside = declr_names op e (name_there sst op same inside)
+    names_begin sst (ops.Stmt op) same e inside = stmt_names op e
 
     -- declarations
 
@@ -443,7 +268,7 @@ module _ (s : Names) (starts : List Start) where
     same_begun new is k = subst AllBegun (sym is) k
 
     top_begins : (x c : Option ℕ) (own : Bool) (outer : List Mark) (xs : List OpenDeclaration) →
-        Aligned u (in_declaration x c own ∷ outer) (names xs) rs → NameBegins u outer (innermost_or no_declaration xs).name
+        NamesBegin u (in_declaration x c own ∷ outer) (names xs) → NameBegins u outer (innermost_or no_declaration xs).name
     top_begins x c own outer [] k = absurd k
     top_begins x c own outer (d ∷ xs) k = k.0
 
@@ -451,20 +276,9 @@ module _ (s : Names) (starts : List Start) where
         NameBegins u outer it → AllBegun st.names.declared → AllBegun (declared_some u it words t st.names).declared
     some_begun outer None words t o begins k = k
     some_begun outer (Some it) words t o begins k =
-        by (has_word keywords.Typedef words) (is_at_file old || (is_function t || has_word keywords.Extern words))
-      where
-        old : Names
-        old = sized (place u it.token) t st.names
-
-        own : Option Place
-        own = if has_word keywords.Static words then None else old.enclosing
-
-        by : (b c : Bool) → AllBegun (if b then declared_typedef (place u it.token) (u.key it.name) t old
-            else if c then declared_thing (place u it.token) (u.key it.name) t old
-            else declared_here (place u it.token) (u.key it.name) object_role t own old).declared
-        by true c = one_more st.names.declared _ k (λ role. begins o)
-        by false true = one_more st.names.declared _ k (λ role. begins o)
-        by false false = one_more st.names.declared _ k (λ role. begins o)
+        let adds = adds_some u (Some it) words t st.names in
+        subst AllBegun (sym adds.2)
+        (one_more st.names.declared adds.0 k (λ role. subst Begun (sym adds.1) (begins o)))
 
     param_begun : (it : Option Named) (i : ℕ) (own : Option Place) (t : CType) → AllBegun st.names.declared →
         AllBegun (declared_param u it i own t st.names).declared
@@ -477,58 +291,34 @@ module _ (s : Names) (starts : List Start) where
     member_begun (Some it) number t k = one_more st.names.declared _ k (λ role. absurd cc)
 
     spec_begun : (op : SpecOp) → AllBegun st.names.declared → AllBegun (specifier_step u st op).names.declared
-    spec_begun (specs.Word token) k = k
-    spec_begun (specs.Storage keyword) k = k
-    spec_begun specs.Void k = k
-    spec_begun (specs.Typedef token name) k = k
     spec_begun (specs.TagUse kind token name) k = same_begun _ (used_same u false kind token name st.names) k
     spec_begun (specs.TagAlone kind token name) k = same_begun _ (used_same u true kind token name st.names) k
-    spec_begun (specs.TagBody kind token name) k =
-        same_begun _ (begun_same (has_body (body_of (tag_used u true kind token name st.names).names.aggregates
-        (tag_used u true kind token name st.names).number)) (place u token) kind
-        (tag_used u true kind token name st.names) ∙ used_same u true kind token name st.names) k
-    spec_begun (specs.Untagged kind token) k =
-        same_begun _ (begun_same (has_body (body_of (untagged (place u token) kind st.names).names.aggregates
-        (untagged (place u token) kind st.names).number)) (place u token) kind
-        (untagged (place u token) kind st.names)) k
-    spec_begun specs.BodyEnd k = k
+    spec_begun (specs.TagBody kind token name) k = same_begun _ (tag_body_same u st kind token name) k
+    spec_begun (specs.Untagged kind token) k = same_begun _ (untagged_same u st kind token) k
     spec_begun (specs.Enumerator token name) k = one_more st.names.declared _ k (λ role. absurd cc)
     spec_begun (specs.UnnamedMember token) k = one_more st.names.declared _ k (λ role. absurd cc)
-    spec_begun specs.SpecsEnd k = k
+    spec_begun op k = k
 
     declr_begun : (op : DeclrOp) → turn t m (ops.Declr op) ≡ Some n → AllBegun st.names.declared →
         AllBegun (declarator_step u st op).names.declared
-    declr_begun (declrs.DeclName token name) e k = k
-    declr_begun (declrs.ParamsBegin is_own) e k = k
     declr_begun declrs.Param e k =
         param_begun (declaration st).name (length (parameters st).types) (parameters st).own
         (decayed (declaration st).declared) k
     declr_begun declrs.ParamsEnd e k = same_begun _ (keep_same (parameters st).own st.names) k
-    declr_begun declrs.Pointer e k = k
-    declr_begun declrs.Array e k = k
-    declr_begun (declrs.Function has_ellipsis) e k = k
     declr_begun declrs.Declare e k =
         let was = declared_was m n e in
-        some_begun was.3 (declaration st).name (declaration st).storage (declaration st).declared was.6
-        (top_begins was.0 was.1 was.2 was.3 ds
-        (back u m (in_declaration was.0 was.1 was.2 ∷ was.3) (names ds) rs was.4 h)) k
+        some_begun was.0.outer (declaration st).name (declaration st).storage (declaration st).declared was.2
+        (top_begins was.0.name was.0.last was.0.own was.0.outer ds (here was.0)) k
     declr_begun declrs.Member e k =
         member_begun (declaration st).name (body st).members_of (declaration st).declared k
-    declr_begun (declrs.TypeName first) e k = k
-    declr_begun declrs.DeclarationEnd e k = k
+    declr_begun op e k = k
 
     stmt_begun : (op : StmtOp) → AllBegun st.names.declared → AllBegun (statement_step u st op).names.declared
-    stmt_begun stmts.Quiet k = k
-    stmt_begun stmts.Loud k = k
-    stmt_begun stmts.Pop k = k
-    stmt_begun (stmts.Return token last) k = k
-    stmt_begun stmts.Enter k = k
-    stmt_begun stmts.Leave k = k
     stmt_begun stmts.FunctionBody k = same_begun _ (entered_same (last_or None st.names.declared) st.names) k
-    stmt_begun stmts.FunctionEnd k = k
+    stmt_begun op k = k
 
     all_begun : (op : Op) → turn t m op ≡ Some n → AllBegun st.names.declared → AllBegun (step u st op).names.declared
-    all_begun (ops.Expr op) e k = same_begun _ (expr_names u st op) k
+    all_begun (ops.Expr op) e k = same_begun _ (expr_same u st op) k
     all_begun (ops.Form op) e k = k
     all_begun (ops.Init op) e k = k
     all_begun (ops.Spec op) e k = spec_begun op k
@@ -537,34 +327,38 @@ module _ (s : Names) (starts : List Start) where
 
   -- behind the tape of an item comes more
   item_begun : (u : Spelling) (t : Option ℕ) (more : List Op) →
-      ((st : State) (sst : shapes.State) (r : Rounds) → Aligned u [] (names st.declarations) r.around →
-      AllBegun st.names.declared → ((p : Place) → Has (starts_found u s sst r more) p → Has starts p) →
-      AllBegun (run u more st).names.declared) →
+      ((st : State) (sst : shapes.State) (r : Rounds) → r.around ≡ [] → AllBegun st.names.declared →
+      ((p : Place) → Has (starts_found u s sst r more) p → Has starts p) → AllBegun (run u more st).names.declared) →
       (tape : List Op) (m : List Mark) (st : State) (sst : shapes.State) (r : Rounds) → IsBracketed t m tape [] →
-      Aligned u m (names st.declarations) r.around → AllBegun st.names.declared →
+      Aligned t m sst.declarations r.around → NamesBegin u m (names st.declarations) → AllBegun st.names.declared →
       ((p : Place) → Has (starts_found u s sst r (tape ++ more)) p → Has starts p) →
       AllBegun (run u (tape ++ more) st).names.declared
-  item_begun u t more next [] m st sst r b h k inside =
-      next st sst r (back u m [] (names st.declarations) r.around b h) k inside
-  item_begun u t more next (op ∷ tape) m st sst r b h k inside =
-      item_begun u t more next tape b.0 (step u st op) (shape_steps.step u s sst op) (round_step sst.declarations r op) b.2
-      (aligned u t m b.0 st r sst.declarations h sst op b.1
+  item_begun u t more next [] m st sst r b same h k inside =
+      next st sst r (subst (λ (it : List Mark). Aligned t it sst.declarations r.around) b same) k inside
+  item_begun u t more next (op ∷ tape) m st sst r b same h k inside =
+      item_begun u t more next tape b.0 (step u st op) (shape_steps.step u s sst op) next_round b.2
+      (subst (λ (ds : List shapes.OpenDeclaration). Aligned t b.0 ds next_round.around) (sym (shape_opens u s sst op))
+      (aligned t m b.0 sst.declarations r same op b.1))
+      (names_begin u t m b.0 st r sst.declarations h sst op same b.1
       (λ p has. inside p (has_left (op_starts u s sst r op)
-      (starts_found u s (shape_steps.step u s sst op) (round_step sst.declarations r op) (tape ++ more)) p has)))
+      (starts_found u s (shape_steps.step u s sst op) next_round (tape ++ more)) p has)))
       (all_begun u t m b.0 st r sst.declarations h op b.1 k)
       (λ p has. inside p (has_right (op_starts u s sst r op)
-      (starts_found u s (shape_steps.step u s sst op) (round_step sst.declarations r op) (tape ++ more)) p has))
+      (starts_found u s (shape_steps.step u s sst op) next_round (tape ++ more)) p has))
+    where
+      next_round : Rounds
+      next_round = round_step sst.declarations r op
 
   module _ (bracketed : ItemsAreBracketed) (begins : StartsAreFound) where
     items_begun : (u : Spelling) (all : List Lexeme) (items : List Item) → All (IsItem all) items →
-        (st : State) (sst : shapes.State) (r : Rounds) → Aligned u [] (names st.declarations) r.around →
-        AllBegun st.names.declared → ((p : Place) → Has (starts_found u s sst r (tape_of items)) p → Has starts p) →
+        (st : State) (sst : shapes.State) (r : Rounds) → r.around ≡ [] → AllBegun st.names.declared →
+        ((p : Place) → Has (starts_found u s sst r (tape_of items)) p → Has starts p) →
         AllBegun (run u (tape_of items) st).names.declared
     items_begun u all [] well st sst r h k inside = k
     items_begun u all (item ∷ items) well st sst r h k inside =
         item_begun u (function_token item) (tape_of items)
         (items_begun u all items (All-tail (IsItem all) item items well)) (item_tape item) [] st sst r
-        (bracketed item (declares_its all item (All-head (IsItem all) item items well))) h k inside
+        (bracketed item (declares_its all item (All-head (IsItem all) item items well))) h tt k inside
 
     sources_begun : (sources : List Source) (old : Names) → All IsSound sources → AllBegun old.declared →
         ((p : Place) → Has (starts_among s sources) p → Has starts p) →

@@ -1,13 +1,11 @@
-mod Alike
-mod Apart
 mod Begin
 mod Contexts
 mod Fits
 mod Found
 mod Functions
+mod Opening
 mod Placed
 mod Places
 mod Stacks
 mod Steps
-mod Turns
 mod Whole

@@ -11,7 +11,7 @@ use Rattle.row_steps.specs.Steps.{step}
 use Rattle.row_steps.specs.Starting.{function_at, op_starts, starts_found}
 use Rattle.key_laws.specs.Keys.{KeysAreApart}
 use Rattle.owned_laws.specs.Contexts.{ContextsAlong}
-use Rattle.owned_laws.proofs.Alike.{Alike, alike}
+use Rattle.owned_laws.proofs.Opening.{Alike, alike}
 use Rattle.owned_laws.proofs.Begin.{AllPlaced, placed_joined, op_placed}
 
 pub tape_placed : (w : World) (t : Option ℕ) (tape : List Op) (sst : shapes.State) (st : State) → Alike w sst st →

@@ -1,52 +1,12 @@
--- Lists of places, and of skeletons that begin at some of them.
-use Rattle.std.proofs.Common.{◌≡◌, ℕ, Bool, true, false, List, [], ◌∷◌, ◌++◌, Option, None, Some, nat_eq, refl, sym, ◌∙◌, ap, subst, append_assoc}
-use Rattle.std.specs.Prelude.{◌&&◌, if◌then◌else◌}
-use Rattle.std.proofs.lemmas.Bool.{eq-eqb, eqb-true}
+-- Lists of skeletons, by the places at which they begin.
+use Rattle.std.proofs.Common.{◌≡◌, Bool, true, false, List, [], ◌∷◌, ◌++◌, Option, None, Some, refl, sym, ◌∙◌, ap, subst, append_assoc}
+use Rattle.std.specs.Prelude.{if◌then◌else◌}
 use Rattle.name_rules.specs.Spellings.{Place}
-use Rattle.name_rules.specs.Scopes.{Declared, declared_at, is_place}
+use Rattle.name_rules.specs.Scopes.{is_place}
 use Rattle.row_rules.specs.Starting.{Start}
 use Rattle.row_rules.specs.Sites.{AreDifferent, has_place, place_of, site_places}
 use Rattle.owner_laws.specs.Fitting.{start_at}
-
-left : (a b : Bool) → (a && b) ≡ true → a ≡ true
-left true b e = refl
-left false b e = e
-
-right : (a b : Bool) → (a && b) ≡ true → b ≡ true
-right true b e = e
-right false b e = absurd cc
-
-pub place_itself : (p : Place) → is_place p p ≡ true
-place_itself p = rw (eq-eqb p.0 p.0 refl, eq-eqb p.1 p.1 refl) refl
-
-pub place_is : (p q : Place) → is_place p q ≡ true → p ≡ q
-place_is p q e =
-    let unit : p.0 ≡ q.0 = eqb-true p.0 q.0 (left (nat_eq p.0 q.0) (nat_eq p.1 q.1) e) in
-    let token : p.1 ≡ q.1 = eqb-true p.1 q.1 (right (nat_eq p.0 q.0) (nat_eq p.1 q.1) e) in
-    ap (λ (n : ℕ). pair n p.1) unit ∙ ap (λ (n : ℕ). pair q.0 n) token
-  where
-    pair : ℕ → ℕ → Place
-    pair m n = (m, n)
-
--- what is found at a place is there
-
-pub declared_place : (ds : List Declared) (p : Place) (d : Declared) → declared_at ds p ≡ Some d → d.at ≡ p
-declared_place [] p d e = absurd cc
-declared_place (other ∷ ds) p d e = by (is_place other.at p) (place_is other.at p) e (declared_place ds p d)
-  where
-    by : (b : Bool) → (b ≡ true → other.at ≡ p) → (if b then Some other else declared_at ds p) ≡ Some d →
-        (declared_at ds p ≡ Some d → d.at ≡ p) → d.at ≡ p
-    by true is e more = let same : other ≡ d = cc in subst (λ (it : Declared). it.at ≡ p) same (is refl)
-    by false is e more = more e
-
-pub begins_at : (starts : List Start) (p : Place) (start : Start) → start_at starts p ≡ Some start → start.at ≡ p
-begins_at [] p start e = absurd cc
-begins_at (head ∷ starts) p start e = by (is_place head.at p) (place_is head.at p) e (begins_at starts p start)
-  where
-    by : (b : Bool) → (b ≡ true → head.at ≡ p) → (if b then Some head else start_at starts p) ≡ Some start →
-        (start_at starts p ≡ Some start → start.at ≡ p) → start.at ≡ p
-    by true is e more = let same : head ≡ start = cc in subst (λ (it : Start). it.at ≡ p) same (is refl)
-    by false is e more = more e
+use Rattle.scope_laws.proofs.Places.{has_not, has_not_left, has_not_right, differ_left, differ_right, differ_apart, differ_joined}
 
 -- joined lists
 
@@ -64,94 +24,6 @@ pub none_behind : (xs ys : List Start) (p : Place) → start_at ys p ≡ None �
 none_behind [] ys p e = e
 none_behind (x ∷ xs) ys p e =
     ap (λ (o : Option Start). if is_place x.at p then Some x else o) (none_behind xs ys p e)
-
-pub has_not : (xs ys : List Place) (p : Place) → has_place xs p ≡ false → has_place ys p ≡ false →
-    has_place (xs ++ ys) p ≡ false
-has_not [] ys p e d = d
-has_not (x ∷ xs) ys p e d = by (is_place x p) e (λ h. has_not xs ys p h d)
-  where
-    by : (b : Bool) → (if b then true else has_place xs p) ≡ false →
-        (has_place xs p ≡ false → has_place (xs ++ ys) p ≡ false) →
-        (if b then true else has_place (xs ++ ys) p) ≡ false
-    by true e more = absurd cc
-    by false e more = more e
-
-pub has_not_left : (xs ys : List Place) (p : Place) → has_place (xs ++ ys) p ≡ false → has_place xs p ≡ false
-has_not_left [] ys p e = refl
-has_not_left (x ∷ xs) ys p e = by (is_place x p) e (has_not_left xs ys p)
-  where
-    by : (b : Bool) → (if b then true else has_place (xs ++ ys) p) ≡ false →
-        (has_place (xs ++ ys) p ≡ false → has_place xs p ≡ false) → (if b then true else has_place xs p) ≡ false
-    by true e more = absurd cc
-    by false e more = more e
-
-pub has_not_right : (xs ys : List Place) (p : Place) → has_place (xs ++ ys) p ≡ false → has_place ys p ≡ false
-has_not_right [] ys p e = e
-has_not_right (x ∷ xs) ys p e = by (is_place x p) e (has_not_right xs ys p)
-  where
-    by : (b : Bool) → (if b then true else has_place (xs ++ ys) p) ≡ false →
-        (has_place (xs ++ ys) p ≡ false → has_place ys p ≡ false) → has_place ys p ≡ false
-    by true e more = absurd cc
-    by false e more = more e
-
--- different places
-
-pub differ_left : (xs ys : List Place) → AreDifferent (xs ++ ys) → AreDifferent xs
-differ_left [] ys h = tt
-differ_left (x ∷ xs) ys h = (has_not_left xs ys x h.0, differ_left xs ys h.1)
-
-pub differ_right : (xs ys : List Place) → AreDifferent (xs ++ ys) → AreDifferent ys
-differ_right [] ys h = h
-differ_right (x ∷ xs) ys h = differ_right xs ys h.1
-
-pub differ_apart : (xs ys : List Place) (p : Place) → AreDifferent (xs ++ ys) → has_place xs p ≡ true →
-    has_place ys p ≡ false
-differ_apart [] ys p h e = absurd cc
-differ_apart (x ∷ xs) ys p h e =
-    by (is_place x p) (place_is x p) e (differ_apart xs ys p h.1)
-  where
-    by : (b : Bool) → (b ≡ true → x ≡ p) → (if b then true else has_place xs p) ≡ true →
-        (has_place xs p ≡ true → has_place ys p ≡ false) → has_place ys p ≡ false
-    by true is e more = subst (λ (q : Place). has_place ys q ≡ false) (is refl) (has_not_right xs ys x h.0)
-    by false is e more = more e
-
-pub has_itself : (p : Place) (ys : List Place) → has_place (p ∷ ys) p ≡ true
-has_itself p ys = ap (λ (b : Bool). if b then true else has_place ys p) (place_itself p)
-
--- not in a list behind which it stands
-pub differ_before : (xs ys : List Place) (p : Place) → AreDifferent (xs ++ ys) → has_place ys p ≡ true →
-    has_place xs p ≡ false
-differ_before xs ys p h e = by (has_place xs p) refl
-  where
-    by : (b : Bool) → has_place xs p ≡ b → b ≡ false
-    by false d = refl
-    by true d = let none = differ_apart xs ys p h d in absurd cc
-
-pub has_right : (xs ys : List Place) (p : Place) → has_place ys p ≡ true → has_place (xs ++ ys) p ≡ true
-has_right xs ys p e = by (has_place (xs ++ ys) p) refl
-  where
-    by : (b : Bool) → has_place (xs ++ ys) p ≡ b → b ≡ true
-    by true d = refl
-    by false d = let none = has_not_right xs ys p d in absurd cc
-
-pub has_left : (xs ys : List Place) (p : Place) → has_place xs p ≡ true → has_place (xs ++ ys) p ≡ true
-has_left xs ys p e = by (has_place (xs ++ ys) p) refl
-  where
-    by : (b : Bool) → has_place (xs ++ ys) p ≡ b → b ≡ true
-    by true d = refl
-    by false d = let none = has_not_left xs ys p d in absurd cc
-
-differ_joined : (xs ys : List Place) → AreDifferent xs → AreDifferent ys →
-    ((p : Place) → has_place xs p ≡ true → has_place ys p ≡ false) → AreDifferent (xs ++ ys)
-differ_joined [] ys h k apart = k
-differ_joined (x ∷ xs) ys h k apart = (
-  has_not xs ys x h.0 (apart x (has_itself x xs)),
-  differ_joined xs ys h.1 k (λ p e. apart p (more p (is_place x p) e)),
-)
-  where
-    more : (p : Place) (b : Bool) → has_place xs p ≡ true → (if b then true else has_place xs p) ≡ true
-    more p true e = refl
-    more p false e = e
 
 sites_joined : (xs ys : List Start) → site_places (xs ++ ys) ≡ site_places xs ++ site_places ys
 sites_joined [] ys = refl

@@ -1,5 +1,5 @@
 -- Each op of a tape whose look-ups stay in the function around keeps its stacks in it, and its constraints fit.
-use Rattle.std.proofs.Common.{◌≡◌, inl, inr, ℕ, suc, ◌+◌, Bool, true, false, List, [], ◌∷◌, drop, Option, None, Some, refl, subst}
+use Rattle.std.proofs.Common.{◌≡◌, inl, inr, ℕ, suc, ◌+◌, Bool, true, false, List, [], ◌∷◌, drop, Option, None, Some, refl, subst, sym}
 use Rattle.std.specs.Prelude.{take, if◌then◌else◌}
 use Rattle.qual_base.specs.declared.places.Span.{Span}
 use Rattle.tape_ops.specs.declared.op.Op.{Op}
@@ -21,30 +21,34 @@ use Rattle.qual_types.specs.Skel.{Skel, root, param_at}
 use Rattle.name_rules.specs.Spellings.{Place}
 use Rattle.name_rules.specs.Scopes.{Role, typedef_role, object_role, function_role, parameter_role, field_role, enumerator_role, Declared, declared_at, Use, means, called, missing}
 use Rattle.name_rules.specs.Uses.{use_at}
-use Rattle.shape_steps.specs.State.{OpenDeclaration, declared_last, without_innermost}
+use Rattle.shape_steps.specs.State.{declared_last, without_innermost}
 use Rattle.row_rules.specs.Worlds.{World, at, all_lattices, span}
 use Rattle.row_rules.specs.Annotations.{parameters, further}
-use Rattle.row_rules.specs.Vals.{Val, a_value, a_place, contents, is_ref, result, member_skel, own, binary_of, branch, prefix_of, used}
+use Rattle.row_rules.specs.Vals.{contents, is_ref, own}
 use Rattle.row_rules.specs.Vals as vals
 use Rattle.row_rules.specs.Rows.{instance, some_instance, use_demand, annotating_some, annotating_place, name_row, declared_row, some_declared_row, param_row, row_at}
-use Rattle.row_steps.specs.Rounds.{Naming, a_name, own_param, other_param, naming, is_quiet, Rounds, round_step, stmt_round, spec_round, declr_round, form_round}
-use Rattle.row_steps.specs.State.{Operand, State, nothing, first_operand, val_of_operand, is_zero_operand, type_of_operand, val_at, value_at, is_zero_at, type_at, operand_put, dropped, depth_below, operands_below, operands_within, first_braces}
-use Rattle.row_steps.specs.Steps.{target_in, with_member, with_index, with_item, initialised_by, expr_step, form_step, init_step, spec_step, declr_step, stmt_step, stack_step, step}
+use Rattle.row_steps.specs.Rounds.{Naming, a_name, own_param, other_param, naming, is_quiet, Rounds, round_step, stmt_round}
+use Rattle.row_steps.specs.State.{Operand, Braces, State, nothing, first_operand, val_of_operand, is_zero_operand, type_of_operand, val_at, value_at, is_zero_at, type_at, operand_put, dropped, depth_below, operands_below, operands_within, first_braces}
+use Rattle.row_steps.specs.Steps.{target_in, with_member, with_index, with_item, initialised_by, expr_step, form_step, init_step, spec_step, declr_step, stmt_step, step}
 use Rattle.row_steps.specs.OpRows.{function_skeleton, some_param_row, naming_row, into_target, called_at, expr_row, form_row, init_row, declr_row, stmt_row, loud_row, op_row}
 use Rattle.row_steps.specs.Found.{rows_found}
 use Rattle.owner_laws.specs.Fitting.{AllFit}
 use Rattle.owner_laws.specs.Rows.{RowsOf}
 use Rattle.owned_laws.specs.Around.{MeantFits, SomeMeantFits, UseFits, DeclaredFits, ParamFits, FunctionFits, NamingFits, ExprFits, FormFits, InitOpFits, DeclrFits, StmtFits, OpFits}
 use Rattle.owned_laws.specs.Tapes.{OpsFit}
+use Rattle.owned_laws.proofs.Opening.{form_body, spec_body, declr_body}
 use Rattle.owned_laws.proofs.Found.{Setting, sys, owner, In, Begins, none_in, skeleton_in}
 use Rattle.owned_laws.proofs.Stacks.{SomeSkelIn, contents_in, result_in, value_in, further_in, own_in, either_in, branch_in, binary_in, prefix_in, used_in, member_skel_in, initialised_in, function_in, OperandIn, OperandsIn, drop_in, take_in, reverse_in, first_val_in, first_value_in, AllBracesIn, first_braces_in, others_in, changed_in, target_in_in, list_of_in, with_member_in, with_index_in, with_item_in}
 
 -- all skeletons that are kept
-pub record StacksIn (k : Setting) (st : State) : Type 0 where
-  pub operands : OperandsIn k st.operands
-  pub leaves : OperandsIn k st.leaves
-  pub braces : AllBracesIn k st.braces
-  pub literal : In k st.literal
+pub record SkelsIn (k : Setting) (os ls : List Operand) (bs : List Braces) (it : Skel) : Type 0 where
+  pub operands : OperandsIn k os
+  pub leaves : OperandsIn k ls
+  pub braces : AllBracesIn k bs
+  pub literal : In k it
+
+abbrev pub StacksIn : Setting → State → Type 0
+StacksIn k st = SkelsIn k st.operands st.leaves st.braces st.literal
 
 module _ (k : Setting) where
   abbrev w : World
@@ -72,13 +76,6 @@ module _ (k : Setting) where
     literal = h.literal;
   }
 
-  -- the same stacks, where other parts change
-  same_in : (st : State) → StacksIn k st → (declarations : List OpenDeclaration) (bases : List ℕ) (passed : ℕ)
-      (rounds : Rounds) →
-      StacksIn k (record st { declarations = declarations; bases = bases; passed = passed; rounds = rounds })
-  same_in st h declarations bases passed rounds =
-      record { operands = h.operands; leaves = h.leaves; braces = h.braces; literal = h.literal }
-
   expr_in : (st : State) (op : ExprOp) → StacksIn k st → ExprFits w k.starts k.function st op →
       StacksIn k (expr_step w st op)
   expr_in st (exprs.Name is_called token name) h fit =
@@ -103,12 +100,10 @@ module _ (k : Setting) where
   expr_in st (exprs.Index token first last) h fit =
       put_in 2 _ st (either_in k (is_ref (value_at 1 st)) (value_at 1 st) (value_at 0 st) (value_at_in 1 st h)
       (value_at_in 0 st h)) h
-  expr_in st (exprs.Arg behind first last) h fit =
-      record { operands = h.operands; leaves = h.leaves; braces = h.braces; literal = h.literal }
+  expr_in st (exprs.Arg behind first last) h fit = h
   expr_in st (exprs.Call token count) h fit =
       put_in (suc count) _ (record st { passed = 0 }) (result_in k (contents (value_at count st))
-      (contents_in k (value_at count st) (value_at_in count st h)))
-      (record { operands = h.operands; leaves = h.leaves; braces = h.braces; literal = h.literal })
+      (contents_in k (value_at count st) (value_at_in count st h))) h
   expr_in st (exprs.Arrow token first last) h fit =
       put_in 1 _ st (contents_in k (value_at 0 st) (value_at_in 0 st h)) h
   expr_in st (exprs.Dot token member name) h fit = put_in 1 _ st (member_skel_in k (value_at 0 st) name) h
@@ -139,8 +134,7 @@ module _ (k : Setting) where
   init_in : (st : State) (op : InitOp) → StacksIn k st → InitOpFits w k.starts k.function st op →
       StacksIn k (init_step w st op)
   init_in st (inits.Value first last) h fit = dropped_in 1 st h
-  init_in st inits.Begin h fit =
-      record { operands = h.operands; leaves = h.leaves; braces = h.braces; literal = h.literal }
+  init_in st inits.Begin h fit = h
   init_in st inits.Rule h fit = record {
     operands = h.operands;
     leaves = within_in st h;
@@ -201,124 +195,50 @@ module _ (k : Setting) where
   }
 
   spec_in : (st : State) (op : SpecOp) → StacksIn k st → StacksIn k (spec_step st op)
-  spec_in st (specs.Word token) h = h
-  spec_in st (specs.Storage keyword) h = h
-  spec_in st specs.Void h = h
-  spec_in st (specs.Typedef token name) h = h
-  spec_in st (specs.TagUse kind token name) h = h
-  spec_in st (specs.TagAlone kind token name) h = h
-  spec_in st (specs.TagBody kind token name) h = h
-  spec_in st (specs.Untagged kind token) h = h
-  spec_in st specs.BodyEnd h = h
-  spec_in st (specs.Enumerator token name) h = h
-  spec_in st (specs.UnnamedMember token) h = h
-  spec_in st specs.SpecsEnd h =
-      record { operands = h.operands; leaves = h.leaves; braces = h.braces; literal = h.literal }
+  spec_in st specs.SpecsEnd h = h
+  spec_in st op h = h
 
   declr_in : (st : State) (op : DeclrOp) → StacksIn k st → StacksIn k (declr_step w st op)
-  declr_in st (declrs.DeclName token name) h =
-      record { operands = h.operands; leaves = h.leaves; braces = h.braces; literal = h.literal }
-  declr_in st (declrs.ParamsBegin is_own) h = h
-  declr_in st declrs.Param h =
-      record { operands = h.operands; leaves = h.leaves; braces = h.braces; literal = h.literal }
-  declr_in st declrs.ParamsEnd h = h
-  declr_in st declrs.Pointer h = h
-  declr_in st declrs.Array h = h
-  declr_in st (declrs.Function has_ellipsis) h = h
-  declr_in st declrs.Declare h =
-      record { operands = h.operands; leaves = h.leaves; braces = h.braces; literal = h.literal }
-  declr_in st declrs.Member h =
-      record { operands = h.operands; leaves = h.leaves; braces = h.braces; literal = h.literal }
   declr_in st (declrs.TypeName first) h =
       record { operands = (tt, h.operands); leaves = h.leaves; braces = h.braces; literal = h.literal }
-  declr_in st declrs.DeclarationEnd h =
-      record { operands = h.operands; leaves = h.leaves; braces = h.braces; literal = h.literal }
+  declr_in st op h = h
 
   stmt_in : (st : State) (op : StmtOp) → StacksIn k st → StacksIn k (stmt_step st op)
-  stmt_in st stmts.Quiet h = h
   stmt_in st stmts.Loud h = dropped_in 1 st h
   stmt_in st stmts.Pop h = dropped_in 1 st h
   stmt_in st (stmts.Return token last) h = dropped_in 1 st h
-  stmt_in st stmts.Enter h = h
-  stmt_in st stmts.Leave h = h
-  stmt_in st stmts.FunctionBody h = h
-  stmt_in st stmts.FunctionEnd h = h
-
-  stack_in : (st : State) (op : Op) → StacksIn k st → OpFits w k.starts k.function st op →
-      StacksIn k (stack_step w st op)
-  stack_in st (ops.Expr op) h fit = expr_in st op h fit
-  stack_in st (ops.Form op) h fit = form_in st op h fit
-  stack_in st (ops.Init op) h fit = init_in st op h fit
-  stack_in st (ops.Spec op) h fit = spec_in st op h
-  stack_in st (ops.Declr op) h fit = declr_in st op h
-  stack_in st (ops.Stmt op) h fit = stmt_in st op h
+  stmt_in st op h = h
 
   step_in : (st : State) (op : Op) → StacksIn k st → OpFits w k.starts k.function st op → StacksIn k (step w st op)
-  step_in st op h fit =
-      let next = stack_in st op h fit in
-      record { operands = next.operands; leaves = next.leaves; braces = next.braces; literal = next.literal }
+  step_in st (ops.Expr op) h fit = expr_in st op h fit
+  step_in st (ops.Form op) h fit = form_in st op h fit
+  step_in st (ops.Init op) h fit = init_in st op h fit
+  step_in st (ops.Spec op) h fit = spec_in st op h
+  step_in st (ops.Declr op) h fit = declr_in st op h
+  step_in st (ops.Stmt op) h fit = stmt_in st op h
 
   -- the function whose body this is
 
   abbrev BodyFits : Rounds → Type 0
   BodyFits r = FunctionFits w k.starts k.function r.body
 
-  form_body : (r : Rounds) (op : FormOp) → BodyFits r → BodyFits (form_round r op)
-  form_body r (forms.Cast token last) h = h
-  form_body r (forms.Sizeof token) h = h
-  form_body r (forms.StmtExpr has_value token) h = h
-  form_body r (forms.VaArg token last) h = h
-  form_body r (forms.VaStart token last) h = h
-  form_body r (forms.VaCopy token last) h = h
-  form_body r (forms.OffsetMember token name) h = h
-  form_body r (forms.OffsetIndex token) h = h
-  form_body r (forms.Offset token) h = h
-
-  spec_body : (r : Rounds) (op : SpecOp) → BodyFits r → BodyFits (spec_round r op)
-  spec_body r (specs.Word token) h = h
-  spec_body r (specs.Storage keyword) h = h
-  spec_body r specs.Void h = h
-  spec_body r (specs.Typedef token name) h = h
-  spec_body r (specs.TagUse kind token name) h = h
-  spec_body r (specs.TagAlone kind token name) h = h
-  spec_body r (specs.TagBody kind token name) h = h
-  spec_body r (specs.Untagged kind token) h = h
-  spec_body r specs.BodyEnd h = h
-  spec_body r (specs.Enumerator token name) h = h
-  spec_body r (specs.UnnamedMember token) h = h
-  spec_body r specs.SpecsEnd h = h
-
-  declr_body : (ds : List OpenDeclaration) (r : Rounds) (op : DeclrOp) → BodyFits r → BodyFits (declr_round ds r op)
-  declr_body ds r (declrs.DeclName token name) h = h
-  declr_body ds r (declrs.ParamsBegin is_own) h = h
-  declr_body ds r declrs.Param h = h
-  declr_body ds r declrs.ParamsEnd h = h
-  declr_body ds r declrs.Pointer h = h
-  declr_body ds r declrs.Array h = h
-  declr_body ds r (declrs.Function has_ellipsis) h = h
-  declr_body ds r declrs.Declare h = h
-  declr_body ds r declrs.Member h = h
-  declr_body ds r (declrs.TypeName first) h = h
-  declr_body ds r declrs.DeclarationEnd h = h
+  same_body : (new old : Option ℕ) → new ≡ old → FunctionFits w k.starts k.function old →
+      FunctionFits w k.starts k.function new
+  same_body new old e h = subst (FunctionFits w k.starts k.function) (sym e) h
 
   stmt_body : (st : State) (op : StmtOp) → BodyFits st.rounds → StmtFits w k.starts k.function st op →
       BodyFits (stmt_round st.declarations st.rounds op)
-  stmt_body st stmts.Quiet h fit = h
-  stmt_body st stmts.Loud h fit = h
-  stmt_body st stmts.Pop h fit = h
-  stmt_body st (stmts.Return token last) h fit = h
-  stmt_body st stmts.Enter h fit = h
-  stmt_body st stmts.Leave h fit = h
   stmt_body st stmts.FunctionBody h fit = fit
   stmt_body st stmts.FunctionEnd h fit = tt
+  stmt_body st op h fit = h
 
   step_body : (st : State) (op : Op) → BodyFits st.rounds → OpFits w k.starts k.function st op →
       BodyFits (round_step st.declarations st.rounds op)
   step_body st (ops.Expr op) h fit = h
-  step_body st (ops.Form op) h fit = form_body st.rounds op h
+  step_body st (ops.Form op) h fit = same_body _ _ (form_body st.rounds op) h
   step_body st (ops.Init op) h fit = h
-  step_body st (ops.Spec op) h fit = spec_body st.rounds op h
-  step_body st (ops.Declr op) h fit = declr_body st.declarations st.rounds op h
+  step_body st (ops.Spec op) h fit = same_body _ _ (spec_body st.rounds op) h
+  step_body st (ops.Declr op) h fit = same_body _ _ (declr_body st.declarations st.rounds op) h
   step_body st (ops.Stmt op) h fit = stmt_body st op h fit
 
   -- rows
@@ -364,12 +284,6 @@ module _ (k : Setting) where
   expr_fits st (exprs.Name is_called token name) loud h fit =
       use_row token (use_at w.names.uses (at w token)) (subst (λ (q : Bool).
       UseFits w k.starts k.function q token (use_at w.names.uses (at w token))) loud fit)
-  expr_fits st (exprs.Number token) loud h fit = tt
-  expr_fits st (exprs.Char token) loud h fit = tt
-  expr_fits st (exprs.Text token) loud h fit = tt
-  expr_fits st (exprs.Paren token) loud h fit = tt
-  expr_fits st (exprs.Ext token) loud h fit = tt
-  expr_fits st (exprs.Comma token) loud h fit = tt
   expr_fits st (exprs.Assign sign token first last) loud h fit =
       rows.assignment sign (is_zero_at 0 st) (val_at 1 st).skel (value_at 0 st) (span w first last) (val_in 1 st h)
       (value_at_in 0 st h)
@@ -392,17 +306,14 @@ module _ (k : Setting) where
       rows.argument (is_zero_at behind st) (value_at behind st) (param_at (parameters f) st.passed) (further f)
       (span w first last) (value_at_in behind st h)
       (arg_in f st.passed inside (param_at (parameters f) st.passed) refl) (further_in k f inside)
-  expr_fits st (exprs.Call token count) loud h fit = tt
   expr_fits st (exprs.Arrow token first last) loud h fit = rows.dereference (value_at 0 st) (span w first last)
-  expr_fits st (exprs.Dot token member name) loud h fit = tt
+  expr_fits st op loud h fit = tt
 
   form_fits : (st : State) (op : FormOp) → StacksIn k st → BodyFits st.rounds →
       FormFits w k.starts k.function op → AllFit (sys k) (form_row w st op)
   form_fits st (forms.Cast token last) h b fit =
       rows.cast (type_at 1 st) (is_zero_at 0 st) (value_at 0 st) (own w token) (span w token last)
       (value_at_in 0 st h) (own_in k token fit)
-  form_fits st (forms.Sizeof token) h b fit = tt
-  form_fits st (forms.StmtExpr has_value token) h b fit = tt
   form_fits st (forms.VaArg token last) h b fit =
       k.law.lists (sys k) (annotating_some w (type_at 0 st) (own w token)) _
       (annotating_some_fits (type_at 0 st) (own w token))
@@ -413,9 +324,7 @@ module _ (k : Setting) where
   form_fits st (forms.VaCopy token last) h b fit =
       rows.flow_into (is_zero_at 0 st) (value_at 0 st) (value_at 1 st) (all_lattices w) (span w token last)
       (value_at_in 0 st h) (value_at_in 1 st h)
-  form_fits st (forms.OffsetMember token name) h b fit = tt
-  form_fits st (forms.OffsetIndex token) h b fit = tt
-  form_fits st (forms.Offset token) h b fit = tt
+  form_fits st op h b fit = tt
 
   target_fits : (t : Option Skel) (it : Operand) (where_ : Span) → SomeSkelIn k t →
       In k (vals.value (val_of_operand it)) → AllFit (sys k) (into_target w t it where_)
@@ -428,19 +337,13 @@ module _ (k : Setting) where
   init_fits st (inits.Value first last) h fit =
       target_fits (initialised_by w (declared_last st.declarations)) (first_operand st.operands) (span w first last)
       (initialised_in k (declared_last st.declarations) fit) (first_value_in k st.operands h.operands)
-  init_fits st inits.Begin h fit = tt
-  init_fits st inits.Rule h fit = tt
-  init_fits st (inits.Literal token) h fit = annotating_place_fits (type_of_operand (first_operand (operands_below st))) (own w token)
-  init_fits st inits.ListBegin h fit = tt
-  init_fits st (inits.Member token name) h fit = tt
-  init_fits st (inits.Index token) h fit = tt
+  init_fits st (inits.Literal token) h fit =
+      annotating_place_fits (type_of_operand (first_operand (operands_below st))) (own w token)
   init_fits st (inits.Leaf first last) h fit =
       target_fits (target_in w (first_braces st.braces)) (first_operand st.leaves) (span w first last)
       (target_in_in k (first_braces st.braces) (first_braces_in k st.braces h.braces))
       (first_value_in k st.leaves h.leaves)
-  init_fits st inits.ListEnd h fit = tt
-  init_fits st inits.End h fit = tt
-  init_fits st inits.LiteralEnd h fit = tt
+  init_fits st op h fit = tt
 
   -- declared names
 
@@ -485,28 +388,13 @@ module _ (k : Setting) where
   declr_fits : (st : State) (op : DeclrOp) → DeclrFits w k.starts k.function st op →
       AllFit (sys k) (declr_row w st op)
   declr_fits st (declrs.DeclName token name) fit = naming_fits token (naming st.rounds) fit
-  declr_fits st (declrs.ParamsBegin is_own) fit = tt
-  declr_fits st declrs.Param fit = tt
-  declr_fits st declrs.ParamsEnd fit = tt
-  declr_fits st declrs.Pointer fit = tt
-  declr_fits st declrs.Array fit = tt
-  declr_fits st (declrs.Function has_ellipsis) fit = tt
-  declr_fits st declrs.Declare fit = tt
-  declr_fits st declrs.Member fit = tt
-  declr_fits st (declrs.TypeName first) fit = tt
-  declr_fits st declrs.DeclarationEnd fit = tt
+  declr_fits st op fit = tt
 
   stmt_fits : (st : State) (op : StmtOp) → StacksIn k st → BodyFits st.rounds → AllFit (sys k) (stmt_row w st op)
-  stmt_fits st stmts.Quiet h b = tt
-  stmt_fits st stmts.Loud h b = tt
-  stmt_fits st stmts.Pop h b = tt
   stmt_fits st (stmts.Return token last) h b =
       rows.returning (function_skeleton w st.rounds.body) (is_zero_at 0 st) (value_at 0 st) (span w token last)
       (function_in k st.rounds.body b) (value_at_in 0 st h)
-  stmt_fits st stmts.Enter h b = tt
-  stmt_fits st stmts.Leave h b = tt
-  stmt_fits st stmts.FunctionBody h b = tt
-  stmt_fits st stmts.FunctionEnd h b = tt
+  stmt_fits st op h b = tt
 
   loud_fits : (st : State) (op : Op) → is_quiet st.rounds ≡ false → StacksIn k st → BodyFits st.rounds →
       OpFits w k.starts k.function st op → AllFit (sys k) (loud_row w st op)

@@ -25,21 +25,23 @@ use Rattle.row_laws.specs.Laws.{RowsAreFound}
 use Rattle.start_laws.specs.Laws.{StartsAreFound}
 use Rattle.meaning_laws.specs.Meanings.{Differ, NamesAreFirst, MeaningsAreFirst}
 use Rattle.name_laws.specs.NameLaws.{tape_of_source, IsSound, NamesOfTapes}
-use Rattle.key_laws.specs.Keys.{key_place, op_key, key_places, KeysAreApart}
+use Rattle.key_laws.specs.Keys.{key_places, KeysAreApart}
 use Rattle.key_laws.specs.Differing.{IsRead, UnitsDiffer, keys_among, KeysDiffer}
+use Rattle.scope_laws.specs.Apart.{AllApart, DeclarationsDiffer, NamesAreApart}
 use Rattle.scope_laws.specs.Staying.{AreWithin, ItemsStay, SourcesStay, NamesStay}
 use Rattle.owner_laws.specs.Fitting.{AllFit, FittingIsWellOwned, ListsFit, start_at}
 use Rattle.tape_laws.specs.Marks.{function_token, DeclaresIts, ItemsAreBracketed}
 use Rattle.owned_laws.specs.Around.{Settled}
 use Rattle.owned_laws.specs.Tapes.{TapesFit}
-use Rattle.owned_laws.specs.Programs.{AllApart, SystemsAreOwned}
-use Rattle.owned_laws.proofs.Places.{Kept, none_kept, joined_kept, none_before, none_behind, has_left, differ_before, differ_apart, differ_right}
-use Rattle.owned_laws.proofs.Apart.{declared_differ, names_apart}
+use Rattle.owned_laws.specs.Programs.{SystemsAreOwned}
+use Rattle.scope_laws.proofs.Places.{has_left, differ_before, differ_apart, differ_right, keys_joined}
+use Rattle.owned_laws.proofs.Places.{Kept, none_kept, joined_kept, none_before, none_behind}
 use Rattle.owned_laws.proofs.Begin.{IsPlaced, AllPlaced, placed_at, tape_kept, ExactAlong, exact, regroup}
 use Rattle.owned_laws.proofs.Placed.{tape_placed}
+use Rattle.tape_laws.proofs.Turns.{declares_its}
 use Rattle.owned_laws.proofs.Contexts.{contexts_along}
 use Rattle.owned_laws.proofs.Fits.{Scene, Item as ItemScene, members, along}
-use Rattle.owned_laws.proofs.Functions.{functions_begin, declares_its}
+use Rattle.owned_laws.proofs.Functions.{functions_begin}
 
 pub record Laws : Type 0 where
   pub tapes : TapesFit
@@ -51,13 +53,9 @@ pub record Laws : Type 0 where
   pub meanings : MeaningsAreFirst
   pub bracketed : ItemsAreBracketed
   pub keys : KeysDiffer
+  pub differ : DeclarationsDiffer
+  pub apart : NamesAreApart
   pub stays : NamesStay
-
-keys_joined : (u : Spelling) (xs ys : List Op) → key_places u (xs ++ ys) ≡ key_places u xs ++ key_places u ys
-keys_joined u [] ys = refl
-keys_joined u (op ∷ xs) ys =
-    ap (λ (ps : List Place). key_place u (op_key op) ++ ps) (keys_joined u xs ys)
-    ∙ sym (append_assoc (key_place u (op_key op)) (key_places u xs) (key_places u ys))
 
 apart_left : (u : Spelling) (s : Names) (xs ys : List Op) → KeysAreApart u s (xs ++ ys) → KeysAreApart u s xs
 apart_left u s [] ys h = tt
@@ -146,7 +144,7 @@ module _ (law : Laws) where
         subst NamesAreFirst (law.names p.sources sound)
         (law.meanings (map tape_of_source p.sources)
         (subst (λ (names : Names). Differ names.declared) (sym (law.names p.sources sound))
-        (declared_differ p.sources s differ (law.names p.sources sound))))
+        (law.differ p.sources sound differ)))
 
     -- the function of an item
     abbrev function_of : Source → Item → Option Place
@@ -167,7 +165,8 @@ module _ (law : Laws) where
         (some_of s (function_of it item) (item_starts it.spelling s item)
         (item_placed it item (declares_its all item (All-head (IsItem all) item items rules))
         (apart_left it.spelling s (item_tape item) (tape_of items) apart)))
-        (items_some it all items (All-tail (IsItem all) item items rules) (apart_right it.spelling s (item_tape item) (tape_of items) apart))
+        (items_some it all items (All-tail (IsItem all) item items rules)
+        (apart_right it.spelling s (item_tape item) (tape_of items) apart))
 
     sources_some : (sources : List Source) → All IsRead sources → AllApart s sources → AllSome s (starts_among s sources)
     sources_some [] h apart = tt
@@ -177,7 +176,7 @@ module _ (law : Laws) where
         (sources_some sources (All-tail IsRead it sources h) apart.1)
 
     apart_all : AllApart s p.sources
-    apart_all = names_apart p.sources s differ (law.names p.sources sound)
+    apart_all = law.apart p.sources sound differ
 
     abbrev scene : Source → Scene
     scene it = record {
@@ -248,7 +247,8 @@ module _ (law : Laws) where
         (item_fits it item xs (more ++ zs) ps (others ++ rs) h (joined_kept others rs more zs (unit_kept u s items) l)
         (ap (λ (ys : List Start). xs ++ ys) (sym (append_assoc here_ more zs)) ∙ e)
         (subst AreDifferent (ap (λ (qs : List Place). ps ++ qs) (append_assoc keys_ others rs)) apart)
-        (declares_its lexemes item (All-head (IsItem lexemes) item items rules)) (apart_left u s (item_tape item) (tape_of items) keys_apart) stay.0))
+        (declares_its lexemes item (All-head (IsItem lexemes) item items rules))
+        (apart_left u s (item_tape item) (tape_of items) keys_apart) stay.0))
         (items_fit it lexemes items (xs ++ here_) zs (ps ++ keys_) rs
         (joined_kept ps keys_ xs here_ h (item_kept u s item)) l (regroup xs here_ more zs ∙ e)
         (subst AreDifferent (sym (regroup ps keys_ others rs)) apart) (All-tail (IsItem lexemes) item items rules)
@@ -282,16 +282,16 @@ module _ (law : Laws) where
     sources_fit [] xs ps h e d rules keys_apart stay = tt
     sources_fit (it ∷ sources) xs ps h e d rules keys_apart stay =
         law.lists (system_of p) (items_demand (world_of p it) it.items) (demands_among p sources)
-        (items_fit it (All-head IsRead it sources rules).all it.items xs (starts_among s sources) ps (keys_among sources) h (sources_kept s sources)
-        e d (All-head IsRead it sources rules).rules.parts keys_apart.0 stay.0)
+        (items_fit it (All-head IsRead it sources rules).all it.items xs (starts_among s sources) ps (keys_among sources) h
+        (sources_kept s sources) e d (All-head IsRead it sources rules).rules.parts keys_apart.0 stay.0)
         (sources_fit sources (xs ++ items_starts it.spelling s it.items)
         (ps ++ key_places it.spelling (tape_of it.items))
         (joined_kept ps (key_places it.spelling (tape_of it.items)) xs (items_starts it.spelling s it.items) h
         (unit_kept it.spelling s it.items))
         (append_assoc xs (items_starts it.spelling s it.items) (starts_among s sources) ∙ e)
         (subst AreDifferent
-        (sym (append_assoc ps (key_places it.spelling (tape_of it.items)) (keys_among sources))) d) (All-tail IsRead it sources rules) keys_apart.1
-        stay.1)
+        (sym (append_assoc ps (key_places it.spelling (tape_of it.items)) (keys_among sources))) d)
+        (All-tail IsRead it sources rules) keys_apart.1 stay.1)
 
     owned : IsWellOwned (system_of p)
     owned = law.whole (system_of p)

@@ -8,7 +8,7 @@ use meaning_laws::meanings_are_first;
 use name_laws::names_of_tapes;
 use owner_laws::{fitting_is_well_owned, instances_fit, parts_stay, rows_fit, skeletons_are_owned};
 use row_laws::rows_are_found;
-use scope_laws::names_stay;
+use scope_laws::{declarations_differ, names_are_apart, names_stay};
 use start_laws::starts_are_found;
 use tape_laws::items_are_bracketed;
 
@@ -37,5 +37,7 @@ pub fn systems_are_owned()
     meanings_are_first();
     items_are_bracketed();
     keys_differ();
+    declarations_differ();
+    names_are_apart();
     names_stay();
 }

@@ -18,7 +18,7 @@ use Rattle.owner_laws.proofs.Sites.{place_is}
 use Rattle.owner_laws.proofs.Fitting.{leading_fits, found_at}
 
 -- what begins first at a place begins there
-begins_at : (starts : List Start) (p : Place) (start : Start) → start_at starts p ≡ Some start → start.at ≡ p
+pub begins_at : (starts : List Start) (p : Place) (start : Start) → start_at starts p ≡ Some start → start.at ≡ p
 begins_at [] p start e = absurd cc
 begins_at (head ∷ starts) p start e = by (is_place head.at p) (place_is head.at p) e (begins_at starts p start)
   where

@@ -1,7 +1,6 @@
-mod Belonging
 mod Fitting
 mod Indexing
-mod Instances
+pub mod Instances
 mod Intervals
 mod Rows
 mod Sites

@@ -1,7 +1,7 @@
 -- Each instance of a function is the site of its number, where no two are at one place.
 use Rattle.std.proofs.Common.{◌≡◌, ℕ, zero, suc, ◌+◌, ◌<◌, Bool, true, false, Contains, List, [], ◌∷◌, ◌++◌, length, Option, None, Some, nat_eq, refl, ◌∙◌, ap, subst, arith}
-use Rattle.std.specs.Prelude.{◌&&◌, if◌then◌else◌, slice_get}
-use Rattle.std.proofs.lemmas.Bool.{eq-eqb, eqb-true}
+use Rattle.std.specs.Prelude.{if◌then◌else◌, slice_get}
+use Rattle.std.proofs.lemmas.Bool.{and_parts, eq-eqb, eqb-true}
 use Rattle.qual_base.specs.declared.places.Owner.{Owner}
 use Rattle.qual_base.specs.declared.places.Owner.TheVariants.{Function}
 use Rattle.flow_graph.specs.declared.constraint.Site.{Site}
@@ -19,22 +19,13 @@ use Rattle.owner_laws.proofs.Intervals.{skeletons_are_owned}
 
 -- places
 
-left : (a b : Bool) → (a && b) ≡ true → a ≡ true
-left true b e = refl
-left false b e = e
-
-right : (a b : Bool) → (a && b) ≡ true → b ≡ true
-right true b e = e
-right false b e = absurd cc
-
 pub place_itself : (p : Place) → is_place p p ≡ true
 place_itself p = rw (eq-eqb p.0 p.0 refl, eq-eqb p.1 p.1 refl) refl
 
 pub place_is : (p q : Place) → is_place p q ≡ true → p ≡ q
 place_is p q e =
-    let unit : p.0 ≡ q.0 = eqb-true p.0 q.0 (left (nat_eq p.0 q.0) (nat_eq p.1 q.1) e) in
-    let token : p.1 ≡ q.1 = eqb-true p.1 q.1 (right (nat_eq p.0 q.0) (nat_eq p.1 q.1) e) in
-    ap (λ (n : ℕ). pair n p.1) unit ∙ ap (λ (n : ℕ). pair q.0 n) token
+    let both = and_parts (nat_eq p.0 q.0) (nat_eq p.1 q.1) e in
+    ap (λ (n : ℕ). pair n p.1) (eqb-true p.0 q.0 both.0) ∙ ap (λ (n : ℕ). pair q.0 n) (eqb-true p.1 q.1 both.1)
   where
     pair : ℕ → ℕ → Place
     pair m n = (m, n)

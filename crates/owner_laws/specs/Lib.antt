@@ -1,4 +1,3 @@
-pub mod Belonging
 pub mod Fitting
 pub mod Laws
 pub mod Rows

@@ -1,6 +1,5 @@
 //! Laws of the owners of variables.
 
-ghost use Rattle.owner_laws.specs.Belonging.{MeaningsBelong, ChangesKeep, AnotherComes, UnitsBelong};
 ghost use Rattle.owner_laws.specs.Fitting.{FittingIsWellOwned, ListsFit, StayingFits, LeadingFits, SkeletonsAtAreOwned};
 ghost use Rattle.owner_laws.specs.Laws.{SkeletonsAreOwned, CallsLead};
 ghost use Rattle.owner_laws.specs.Rows.{AllPartsInside, RowsFit, InstancesFit};
@@ -21,20 +20,6 @@ pub fn calls_lead()
 {
     crossings_lead();
 }
-
-/// Where names may mean no more than they may in the body of a function, one that means a thing
-/// means a function, or an object of that function or of nobody.
-pub fn meanings_belong()
-    ensures { MeaningsBelong }
-{}
-
-/// Each change of scopes and of declarations keeps this, where new declarations stand at places of
-/// their own; so does the end of a function, and of a unit.
-pub fn changes_keep()
-    ensures changes { ChangesKeep }
-    ensures functions { AnotherComes }
-    ensures units { UnitsBelong }
-{}
 
 /// Where all variables of a skeleton belong to one owner or to nobody, so do those of what is in
 /// it; what is in no skeleton is none.

@@ -4,6 +4,5 @@
 mod laws;
 
 pub use laws::{
-    calls_lead, changes_keep, fitting_is_well_owned, instances_fit, meanings_belong, parts_stay,
-    rows_fit, skeletons_are_owned,
+    calls_lead, fitting_is_well_owned, instances_fit, parts_stay, rows_fit, skeletons_are_owned,
 };

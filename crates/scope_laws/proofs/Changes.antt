@@ -13,9 +13,8 @@ use Rattle.name_rules.specs.Declaring.{use_by, used, Numbered, found_or_new, tag
 use Rattle.row_rules.specs.Sites.{has_place}
 use Rattle.meaning_laws.specs.Meanings.{Differ, MeaningIs, ThingsAre, UseIs}
 use Rattle.scope_laws.specs.Staying.{IsOfFile, IsWithin}
-use Rattle.scope_laws.proofs.Places.{place_itself}
-use Rattle.scope_laws.proofs.Growing.{Grown}
-use Rattle.scope_laws.proofs.Meanings.{through_is, at_more, at_new, differ_before, last_is_new, some_thing_is, named_is}
+use Rattle.meaning_laws.proofs.Growing.{Grown}
+use Rattle.meaning_laws.proofs.Lists.{place_itself, through_is, at_more, at_new, differ_before, last_is_new, some_thing_is, named_is}
 use Rattle.scope_laws.proofs.Fitting.{around_within, NameIn, Around, AtTop, around_top, around_with, file_at_top, top_within, inside_at_top, Keeps}
 
 -- of each one of a list

@@ -9,8 +9,8 @@ use Rattle.name_rules.specs.Declaring.{scope_kept}
 use Rattle.name_steps.specs.State.{OpenDeclaration, OpenParameters, no_declaration, no_parameters, innermost_or, with_innermost, without_innermost}
 use Rattle.row_rules.specs.Sites.{has_place}
 use Rattle.meaning_laws.specs.Meanings.{NamesAre, ScopesAre}
-use Rattle.scope_laws.proofs.Apart.{names}
-use Rattle.scope_laws.proofs.Meanings.{names_map}
+use Rattle.meaning_laws.proofs.Growing.{names}
+use Rattle.meaning_laws.proofs.Lists.{names_map}
 
 -- places of the file, and places of an item
 module _ (N P : Place → Type 0) where

@@ -1,9 +1,6 @@
 mod Apart
 mod Changes
 mod Fitting
-mod Growing
-mod Marks
-mod Meanings
-mod Places
+pub mod Places
 mod Steps
 mod Whole

@@ -1,30 +1,12 @@
 -- Lists of places, and of what is declared at places.
-use Rattle.std.proofs.Common.{◌≡◌, ℕ, Bool, true, false, List, [], ◌∷◌, ◌++◌, Some, nat_eq, refl, ◌∙◌, ap, subst}
-use Rattle.std.specs.Prelude.{◌&&◌, if◌then◌else◌}
-use Rattle.std.proofs.lemmas.Bool.{eq-eqb, eqb-true}
-use Rattle.name_rules.specs.Spellings.{Place}
+use Rattle.std.proofs.Common.{◌≡◌, ◌⊎◌, inl, inr, Bool, true, false, List, [], ◌∷◌, ◌++◌, Some, refl, ◌∙◌, ap, subst, sym, append_assoc}
+use Rattle.std.specs.Prelude.{if◌then◌else◌}
+use Rattle.tape_ops.specs.declared.op.Op.{Op}
+use Rattle.name_rules.specs.Spellings.{Spelling, Place}
 use Rattle.name_rules.specs.Scopes.{Declared, declared_at, is_place}
 use Rattle.row_rules.specs.Sites.{has_place, AreDifferent}
-
-left : (a b : Bool) → (a && b) ≡ true → a ≡ true
-left true b e = refl
-left false b e = e
-
-right : (a b : Bool) → (a && b) ≡ true → b ≡ true
-right true b e = e
-right false b e = absurd cc
-
-pub place_itself : (p : Place) → is_place p p ≡ true
-place_itself p = rw (eq-eqb p.0 p.0 refl, eq-eqb p.1 p.1 refl) refl
-
-pub place_is : (p q : Place) → is_place p q ≡ true → p ≡ q
-place_is p q e =
-    let unit : p.0 ≡ q.0 = eqb-true p.0 q.0 (left (nat_eq p.0 q.0) (nat_eq p.1 q.1) e) in
-    let token : p.1 ≡ q.1 = eqb-true p.1 q.1 (right (nat_eq p.0 q.0) (nat_eq p.1 q.1) e) in
-    ap (λ (n : ℕ). pair n p.1) unit ∙ ap (λ (n : ℕ). pair q.0 n) token
-  where
-    pair : ℕ → ℕ → Place
-    pair m n = (m, n)
+use Rattle.key_laws.specs.Keys.{op_key, key_place, key_places}
+use Rattle.meaning_laws.proofs.Lists.{place_itself, place_is}
 
 pub declared_place : (ds : List Declared) (p : Place) (d : Declared) → declared_at ds p ≡ Some d → d.at ≡ p
 declared_place [] p d e = absurd cc
@@ -34,6 +16,17 @@ declared_place (other ∷ ds) p d e = by (is_place other.at p) (place_is other.a
         (declared_at ds p ≡ Some d → d.at ≡ p) → d.at ≡ p
     by true is e more = let same : other ≡ d = cc in subst (λ (it : Declared). it.at ≡ p) same (is refl)
     by false is e more = more e
+
+pub has_not : (xs ys : List Place) (p : Place) → has_place xs p ≡ false → has_place ys p ≡ false →
+    has_place (xs ++ ys) p ≡ false
+has_not [] ys p e d = d
+has_not (x ∷ xs) ys p e d = by (is_place x p) e (λ h. has_not xs ys p h d)
+  where
+    by : (b : Bool) → (if b then true else has_place xs p) ≡ false →
+        (has_place xs p ≡ false → has_place (xs ++ ys) p ≡ false) →
+        (if b then true else has_place (xs ++ ys) p) ≡ false
+    by true e more = absurd cc
+    by false e more = more e
 
 pub has_not_left : (xs ys : List Place) (p : Place) → has_place (xs ++ ys) p ≡ false → has_place xs p ≡ false
 has_not_left [] ys p e = refl
@@ -96,3 +89,60 @@ has_left xs ys p e = by (has_place (xs ++ ys) p) refl
     by : (b : Bool) → has_place (xs ++ ys) p ≡ b → b ≡ true
     by true d = refl
     by false d = let none = has_not_left xs ys p d in absurd cc
+
+pub differ_joined : (xs ys : List Place) → AreDifferent xs → AreDifferent ys →
+    ((p : Place) → has_place xs p ≡ true → has_place ys p ≡ false) → AreDifferent (xs ++ ys)
+differ_joined [] ys h k apart = k
+differ_joined (x ∷ xs) ys h k apart = (
+  has_not xs ys x h.0 (apart x (has_itself x xs)),
+  differ_joined xs ys h.1 k (λ p e. apart p (more p (is_place x p) e)),
+)
+  where
+    more : (p : Place) (b : Bool) → has_place xs p ≡ true → (if b then true else has_place xs p) ≡ true
+    more p true e = refl
+    more p false e = e
+
+pub not_same : (p q : Place) (xs : List Place) → has_place xs p ≡ true → has_place xs q ≡ false → is_place p q ≡ false
+not_same p q xs h k = by (is_place p q) (place_is p q)
+  where
+    by : (b : Bool) → (b ≡ true → p ≡ q) → b ≡ false
+    by true is =
+        let there : has_place xs q ≡ true = subst (λ (x : Place). has_place xs x ≡ true) (is refl) h in absurd cc
+    by false is = refl
+
+pub last_or_before : (xs : List Place) (p q : Place) → has_place (xs ++ p ∷ []) q ≡ true →
+    (has_place xs q ≡ true) ⊎ (p ≡ q)
+last_or_before [] p q e = by (is_place p q) (place_is p q) e
+  where
+    by : (b : Bool) → (b ≡ true → p ≡ q) → (if b then true else false) ≡ true → (false ≡ true) ⊎ (p ≡ q)
+    by true is e = inr (is refl)
+    by false is e = absurd cc
+last_or_before (x ∷ xs) p q e = by (is_place x q) e (last_or_before xs p q)
+  where
+    by : (b : Bool) → (if b then true else has_place (xs ++ p ∷ []) q) ≡ true →
+        (has_place (xs ++ p ∷ []) q ≡ true → (has_place xs q ≡ true) ⊎ (p ≡ q)) →
+        ((if b then true else has_place xs q) ≡ true) ⊎ (p ≡ q)
+    by true e next = inl refl
+    by false e next = next e
+
+pub tail_has : (p q : Place) (xs : List Place) → has_place xs q ≡ true → has_place (p ∷ xs) q ≡ true
+tail_has p q xs e = by (is_place p q)
+  where
+    by : (b : Bool) → (if b then true else has_place xs q) ≡ true
+    by true = refl
+    by false = e
+
+pub tail_has_not : (p q : Place) (xs : List Place) → has_place (p ∷ xs) q ≡ false → has_place xs q ≡ false
+tail_has_not p q xs e = has_not_right (p ∷ []) xs q e
+
+pub head_has_not : (p q : Place) (xs : List Place) → is_place p q ≡ false → has_place xs q ≡ false →
+    has_place (p ∷ xs) q ≡ false
+head_has_not p q xs e k = ap (λ (b : Bool). if b then true else has_place xs q) e ∙ k
+
+-- of the ops of joined tapes
+
+pub keys_joined : (u : Spelling) (xs ys : List Op) → key_places u (xs ++ ys) ≡ key_places u xs ++ key_places u ys
+keys_joined u [] ys = refl
+keys_joined u (op ∷ xs) ys =
+    ap (λ (ps : List Place). key_place u (op_key op) ++ ps) (keys_joined u xs ys)
+    ∙ sym (append_assoc (key_place u (op_key op)) (key_places u xs) (key_places u ys))

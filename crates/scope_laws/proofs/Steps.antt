@@ -1,9 +1,8 @@
 -- Each op of an item keeps of which places its names are.
 use Rattle.std.proofs.Common.{◌≡◌, ℕ, Bool, true, false, List, [], ◌∷◌, ◌++◌, length, Option, None, Some, refl, sym, ◌∙◌, ap, subst}
-use Rattle.std.specs.Prelude.{◌||◌, if◌then◌else◌}
+use Rattle.std.specs.Prelude.{if◌then◌else◌}
 use Rattle.std.specs.List.{last_or}
 use Rattle.c_words.specs.declared.kinds.Keyword.{Keyword}
-use Rattle.c_words.specs.declared.kinds.Keyword.TheVariants as keywords
 use Rattle.tape_ops.specs.declared.op.Op.{Op}
 use Rattle.tape_ops.specs.declared.op.Op.TheVariants as ops
 use Rattle.tape_ops.specs.declared.expression.ExprOp.{ExprOp}
@@ -19,9 +18,9 @@ use Rattle.tape_ops.specs.declared.statement.StmtOp.TheVariants as stmts
 use Rattle.type_table.specs.Types.{CType, base}
 use Rattle.tape_laws.specs.Marks.{IsBracketed, named, params_begun, Mark, in_declaration, in_params, in_tag, in_scope, in_quiet, in_body, turn, form_turn, spec_turn, declr_turn, stmt_turn}
 use Rattle.name_rules.specs.Spellings.{Spelling, Place, place, Named}
-use Rattle.name_rules.specs.Scopes.{enumerator_role, object_role, Declared, Names, is_at_file, innermost, sized}
-use Rattle.name_rules.specs.Pieces.{piece_of, to_pointer, to_function, is_function, decayed}
-use Rattle.name_rules.specs.Declaring.{used, declared_member, declared_param, tag_used, tag_begun, untagged_begun, unnamed_member, own_where, keep, declared_here, declared_thing, declared_typedef, declared_some, has_word}
+use Rattle.name_rules.specs.Scopes.{enumerator_role, Declared, Names, innermost}
+use Rattle.name_rules.specs.Pieces.{piece_of, to_pointer, to_function, decayed}
+use Rattle.name_rules.specs.Declaring.{used, declared_member, declared_param, tag_used, tag_begun, untagged_begun, unnamed_member, own_where, keep, declared_here, declared_some}
 use Rattle.name_steps.specs.State.{types_in, OpenDeclaration, State, without_innermost, innermost_or}
 use Rattle.name_steps.specs.Steps.{let_go, ellipsis_where, run, with_declared, declaration, body, parameters, linked_some, expression_step, specifier_step, declarator_step, body_entered_by, statement_step, step}
 use Rattle.row_rules.specs.Sites.{has_place}
@@ -29,9 +28,8 @@ use Rattle.meaning_laws.specs.Meanings.{Differ}
 use Rattle.key_laws.specs.Keys.{key_place, key_places, op_key, spec_key, declr_key, expr_key}
 use Rattle.scope_laws.specs.Staying.{IsOfFile, IsWithin}
 use Rattle.scope_laws.proofs.Places.{has_itself, has_left, has_right}
-use Rattle.scope_laws.proofs.Apart.{names, names_kept}
-use Rattle.scope_laws.proofs.Growing.{run_grown, then_grown, Grown, keep_same}
-use Rattle.scope_laws.proofs.Marks.{quiet_was, tag_was, scope_was, Declaring, declaration_was, named_was, declared_was, member_was, param_was, Beginning, begun_was, Ending, params_were, body_begins, body_was}
+use Rattle.meaning_laws.proofs.Growing.{adds_some, names, names_kept, run_grown, then_grown, Grown, keep_same}
+use Rattle.tape_laws.proofs.Turns.{quiet_was, tag_was, scope_was, Declaring, declaration_was, named_was, declared_was, member_was, param_was, Beginning, begun_was, Ending, params_were, body_begins, body_was}
 use Rattle.scope_laws.proofs.Fitting.{Around, params_left, scope_left, body_left, Keeps, keeps_some, body_ends_alone, body_around, owns, owns_kept, OwnIs, Owning, owning_top, HasName, HasLast, NameIn, Reading, reading_more, reading_top, reading_with, reading_own}
 use Rattle.scope_laws.proofs.Changes.{adds_then, adds_none, Fits, AddsTo, Goes, enumerator_goes, param_goes, member_goes, unnamed_goes, use_goes, tag_used_goes, tag_begun_goes, untagged_goes, some_goes}
 
@@ -53,20 +51,8 @@ last_declared : (u : Spelling) (name : Option ℕ) (it : Option Named) (words : 
 last_declared u None it words t s h = tt
 last_declared u (Some token) None words t s h = absurd h
 last_declared u (Some token) (Some it) words t s h =
-    by (has_word keywords.Typedef words) (is_at_file old || (is_function t || has_word keywords.Extern words))
-  where
-    old : Names
-    old = sized (place u it.token) t s
-
-    own : Option Place
-    own = if has_word keywords.Static words then None else old.enclosing
-
-    by : (b c : Bool) → HasLast (Some token) (if b then declared_typedef (place u it.token) (u.key it.name) t old
-        else if c then declared_thing (place u it.token) (u.key it.name) t old
-        else declared_here (place u it.token) (u.key it.name) object_role t own old).declared
-    by true c = last_new token s.declared _
-    by false true = last_new token s.declared _
-    by false false = last_new token s.declared _
+    let adds = adds_some u (Some it) words t s in
+    subst (HasLast (Some token)) (sym adds.2) (last_new token s.declared adds.0)
 
 own_begun : (u : Spelling) (own : Bool) (name : Option Named) (s : Names) →
     (own ≡ true → (token : ℕ) × HasName (Some token) name) → OwnIs own (own_where own (linked_some u name s))
@@ -254,7 +240,8 @@ module _ (S : Names) (differ : Differ S.declared) (keys : List Place) (u : Spell
           ),
           adds_none,
         )
-    stmt_next t stmts.FunctionBody e = let it = body_begins t m n e in body_next it.0 it.1 it.2 it.3
+    stmt_next t stmts.FunctionBody e = let it = body_begins t m n e in
+        body_next it.0 it.1 it.2 (it.3 ∙ ap (λ (marks : List Mark). in_body ∷ marks) it.2)
     stmt_next t stmts.FunctionEnd e = let it = body_was m n e in body_ends it.0 it.1 it.2 it.3 it.4 it.5
     stmt_next t op e = same e
 
@@ -304,7 +291,7 @@ module _ (S : Names) (differ : Differ S.declared) (keys : List Place) (u : Spell
         next_is (in_params own ∷ m) n st (declarator_step u st (declrs.ParamsBegin own)) it.is (
           (
             h.0,
-            (own_begun u own (declaration st).name st.names (λ is. named (it.name is)), h.1),
+            (own_begun u own (declaration st).name st.names named, h.1),
             record {
               around = (tt, h.2.around);
               keeps = h.2.keeps;
@@ -315,16 +302,20 @@ module _ (S : Names) (differ : Differ S.declared) (keys : List Place) (u : Spell
           adds_none,
         )
       where
-        it : Beginning own m n
+        it : Beginning t own m n
         it = begun_was t own m n e
 
-        named : (token : ℕ) × (last : Option ℕ) × (b : Bool) × (rest : List Mark)
-            × (m ≡ in_declaration (Some token) last b ∷ rest) → (token : ℕ) × HasName (Some token) (declaration st).name
-        named (token, last, b, rest, was) = (
-          token,
-          (reading_top u keys (Some token) last b rest ds st.names.declared
-              (back m (in_declaration (Some token) last b ∷ rest) st was h).0).0,
-        )
+        d : Declaring m
+        d = it.declaring
+
+        named : own ≡ true → (token : ℕ) × HasName (Some token) (declaration st).name
+        named is =
+            let name = it.named is in (
+              name.0,
+              subst (λ (it : Option ℕ). HasName it (declaration st).name) name.1
+                  (reading_top u keys d.name d.last d.own d.outer ds st.names.declared
+                  (back m (in_declaration d.name d.last d.own ∷ d.outer) st d.is h).0).0,
+            )
 
     param_next : (name last : Option ℕ) (b own : Bool) (rest : List Mark) →
         m ≡ in_declaration name last b ∷ (in_params own ∷ rest) → n ≡ in_params own ∷ rest →

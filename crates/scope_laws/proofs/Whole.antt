@@ -1,29 +1,31 @@
 -- What names mean stays in the item, or is of the file.
-use Rattle.std.proofs.Common.{◌≡◌, ◌⊎◌, inl, inr, ℕ, Bool, true, false, List, [], ◌∷◌, ◌++◌, map, Some, refl, sym, ◌∙◌, ap, subst, append_assoc}
+use Rattle.std.proofs.Common.{◌≡◌, ◌⊎◌, inl, inr, ℕ, Bool, true, false, List, [], ◌∷◌, ◌++◌, map, Some, refl, sym, ◌∙◌, ap, subst}
 use Rattle.std.specs.Prelude.{All, if◌then◌else◌}
 use Rattle.std.proofs.lemmas.List.Elements.{All-head, All-tail}
 use Rattle.tape_ops.specs.declared.op.Op.{Op}
 use Rattle.c_tree.specs.declared.lexeme.Lexeme.{Lexeme}
-use Rattle.c_tree.specs.Unit.{Item, function_item, decl_item, asm_item, semi_item, IsItem}
+use Rattle.c_tree.specs.Unit.{Item, IsItem}
 use Rattle.c_tape.specs.Tape.{item_tape, tape_of}
-use Rattle.tape_laws.specs.Marks.{DeclaresIts, function_token, ItemsAreBracketed}
+use Rattle.tape_laws.specs.Marks.{function_token, ItemsAreBracketed}
+use Rattle.tape_laws.proofs.Turns.{declares_its}
 use Rattle.name_rules.specs.Spellings.{Spelling, Place}
-use Rattle.name_rules.specs.Scopes.{Meaning, means_type, means_thing, Scope, Declared, declared_at, means, NameUse, Names, is_place, innermost}
+use Rattle.name_rules.specs.Scopes.{Scope, Declared, declared_at, means, NameUse, Names, is_place, innermost}
 use Rattle.name_rules.specs.Uses.{use_at}
-use Rattle.name_rules.specs.Units.{no_names, is_shared, shared_name, shared, unit_begun}
+use Rattle.name_rules.specs.Units.{no_names, shared, unit_begun}
 use Rattle.name_steps.specs.State.{State, with_names}
 use Rattle.name_steps.specs.Steps.{step, run}
 use Rattle.name_steps.specs.Units.{tape_named, tapes_named}
 use Rattle.name_laws.specs.NameLaws.{tape_of_source, IsSound, NamesOfTapes}
 use Rattle.type_rules.specs.Program.{Source}
 use Rattle.row_rules.specs.Sites.{has_place, AreDifferent}
-use Rattle.meaning_laws.specs.Meanings.{Differ, MeaningIs, NamesAre, ThingsAre, UseIs}
-use Rattle.key_laws.specs.Keys.{op_key, key_place, key_places}
+use Rattle.meaning_laws.specs.Meanings.{Differ, ThingsAre, UseIs}
+use Rattle.key_laws.specs.Keys.{key_places}
 use Rattle.key_laws.specs.Differing.{keys_among}
 use Rattle.scope_laws.specs.Staying.{IsOfFile, IsWithin, ItemsStay, SourcesStay, NamesStay}
-use Rattle.scope_laws.proofs.Places.{place_is, declared_place, differ_left, differ_right, differ_apart, has_left, has_right}
+use Rattle.meaning_laws.proofs.Lists.{place_is, things_joined, shared_are}
+use Rattle.scope_laws.proofs.Places.{keys_joined, declared_place, differ_left, differ_right, differ_apart, has_left, has_right}
 use Rattle.scope_laws.proofs.Apart.{declared_differ}
-use Rattle.scope_laws.proofs.Growing.{Grown, then_grown, same, run_grown, tapes_grown}
+use Rattle.meaning_laws.proofs.Growing.{Grown, then_grown, same, run_grown, tapes_grown}
 use Rattle.scope_laws.proofs.Fitting.{Around, around_top}
 use Rattle.scope_laws.proofs.Changes.{Every, Adds, adds_none, adds_then, adds_map, UseWithin, DeclaredWithin}
 use Rattle.scope_laws.proofs.Steps.{Holds, Next, run_next}
@@ -33,18 +35,6 @@ use Rattle.scope_laws.proofs.Steps.{Holds, Next, run_next}
 run_joined : (u : Spelling) (xs ys : List Op) (st : State) → run u (xs ++ ys) st ≡ run u ys (run u xs st)
 run_joined u [] ys st = refl
 run_joined u (op ∷ xs) ys st = run_joined u xs ys (step u st op)
-
-keys_joined : (u : Spelling) (xs ys : List Op) → key_places u (xs ++ ys) ≡ key_places u xs ++ key_places u ys
-keys_joined u [] ys = refl
-keys_joined u (op ∷ xs) ys =
-    ap (λ (ps : List Place). key_place u (op_key op) ++ ps) (keys_joined u xs ys)
-    ∙ sym (append_assoc (key_place u (op_key op)) (key_places u xs) (key_places u ys))
-
-declares : (all : List Lexeme) (item : Item) → IsItem all item → DeclaresIts item
-declares all (function_item exts ws d attrs opening items closing) h = h.4
-declares all (decl_item d) h = tt
-declares all (asm_item keyword group semi) h = tt
-declares all (semi_item semi) h = tt
 
 -- some item of a unit, and of a program, by the places of its ops
 
@@ -113,34 +103,13 @@ module _ (S : Names) (differ : Differ S.declared) where
       Adds (λ it. SomeSource sources (λ keys. UseWithin S differ keys it))
       (λ d. SomeSource sources (λ keys. DeclaredWithin S differ keys d)) s.uses s.declared next.uses next.declared
 
-  -- what a unit leaves to later ones
-
-  things_joined : (xs ys : List (ℕ × Place)) → ThingsAre (IsOfFile S) xs → ThingsAre (IsOfFile S) ys →
-      ThingsAre (IsOfFile S) (xs ++ ys)
-  things_joined [] ys h k = k
-  things_joined (x ∷ xs) ys h k = (h.0, things_joined xs ys h.1 k)
-
-  shared_one : (s : Names) (name : ℕ) (it : Meaning) → MeaningIs (IsOfFile S) it →
-      ThingsAre (IsOfFile S) (shared_name s name it)
-  shared_one s name (means_type t) h = tt
-  shared_one s name (means_thing at) h = by (is_shared (declared_at s.declared at))
-    where
-      by : (b : Bool) → ThingsAre (IsOfFile S) (if b then (name, at) ∷ [] else [])
-      by true = (h, tt)
-      by false = tt
-
-  shared_are : (s : Names) (names : List (ℕ × Meaning)) → NamesAre (IsOfFile S) names →
-      ThingsAre (IsOfFile S) (shared s names)
-  shared_are s [] h = tt
-  shared_are s (it ∷ names) h =
-      things_joined (shared_name s it.0 it.1) (shared s names) (shared_one s it.0 it.1 h.0) (shared_are s names h.1)
-
   unit_at_file : (s : Names) → AtFile s → AtFile (unit_begun s)
   unit_at_file s h = record {
     around = tt;
     things = h.things;
-    round = things_joined (shared s (innermost s.scopes).names) s.round
-        (shared_are s (innermost s.scopes).names (around_top (IsOfFile S) (IsOfFile S) [] s.scopes h.around)) h.round;
+    round = things_joined (IsOfFile S) (shared s (innermost s.scopes).names) s.round
+        (shared_are (IsOfFile S) s (innermost s.scopes).names
+        (around_top (IsOfFile S) (IsOfFile S) [] s.scopes h.around)) h.round;
   }
 
   module _ (bracketed : ItemsAreBracketed) where
@@ -166,7 +135,7 @@ module _ (S : Names) (differ : Differ S.declared) where
 
         one : Next S differ keys u [] st next
         one = run_next S differ keys u (function_token item) (item_tape item) [] [] st
-            (bracketed item (declares all item (All-head (IsItem all) item items rules))) (λ p e. e)
+            (bracketed item (declares_its all item (All-head (IsItem all) item items rules))) (λ p e. e)
             (then_grown next.names.declared (run u (tape_of items) next).names.declared S.declared
             (run_grown u (tape_of items) next) later) (begins keys u st h)
 
@@ -330,7 +299,7 @@ names_stay named bracketed sources sound apart =
     S = tapes_named (map tape_of_source sources) no_names
 
     differ : Differ S.declared
-    differ = declared_differ sources apart
+    differ = declared_differ sources S apart refl
 
     adds : SourceAdds S differ sources no_names S
     adds = sources_next S differ bracketed sources no_names sound (same S.declared S.declared refl)

@@ -1,2 +1,3 @@
 mod Passing
 mod Trees
+pub mod Turns

@@ -12,7 +12,7 @@ use Rattle.tape_ops.specs.declared.specifier.TagKind.{TagKind}
 use Rattle.tape_ops.specs.declared.specifier.TagKind.TheVariants as tags
 use Rattle.c_tape.specs.Tests.{is_void, tag_kind, says_none, is_name}
 use Rattle.c_tape.specs.Tape.{expr_tape, middle_tape, some_expr_tape, exprs_tape, dropped_tape, steps_tape, step_tape, words_tape, word_tape, struct_tape, struct_items_tape, struct_item_tape, members_tape, mem_declrs_tape, mem_declr_tape, some_value_tape, enum_tape, enum_body_tape, enumerators_tape, some_declr_tape, contents, some_contents, some_size_tape, size_tape, params_tape, init_tape, list_tape, init_items_tape, indices_tape, index_tape, some_init_tape, declared_init_tape, init_declrs_tape, declaration_tape, decl_tape, block_items_tape, block_item_tape, stmt_tape, some_else_tape, for_start_tape, return_tape, item_tape}
-use Rattle.tape_laws.specs.Marks.{Mark, in_declaration, in_params, in_tag, in_quiet, in_body, is_open, is_token, body_begun, name_token, some_name_token, function_token, DeclaresIts, ItemsAreBracketed}
+use Rattle.tape_laws.specs.Marks.{Mark, in_declaration, in_params, in_tag, in_body, is_open, is_token, body_begun, name_token, some_name_token, function_token, DeclaresIts, ItemsAreBracketed}
 use Rattle.tape_laws.specs.Marks as marks
 use Rattle.tape_laws.proofs.Passing.{Passes, Declares, none, join, one, quiet_passes, scope_passes, specs_pass, type_name_passes, params_pass, declared_passes, pieces_pass, rule_list_passes, arguments_pass, operator_passes, tag_passes, body_passes, unnamed_passes, void_passes}
 

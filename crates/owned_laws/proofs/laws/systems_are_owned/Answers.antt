@@ -12,5 +12,7 @@ returns c = systems_are_owned (record {
   meanings = c.meanings_are_first.ensures;
   bracketed = c.items_are_bracketed.ensures;
   keys = c.keys_differ.ensures;
+  differ = c.declarations_differ.ensures;
+  apart = c.names_are_apart.ensures;
   stays = c.names_stay.ensures;
 })

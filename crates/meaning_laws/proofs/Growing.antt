@@ -1,4 +1,4 @@
--- Each step adds declarations behind those that are there.
+-- What each step adds to the declarations, behind those that are there, and what it leaves as it is.
 use Rattle.std.proofs.Common.{◌≡◌, ℕ, Bool, true, false, List, [], ◌∷◌, ◌++◌, length, Option, None, Some, refl, sym, ◌∙◌, ap, append_assoc, append-nil}
 use Rattle.std.specs.Prelude.{◌||◌, if◌then◌else◌}
 use Rattle.std.specs.List.{last_or}
@@ -21,7 +21,7 @@ use Rattle.name_rules.specs.Scopes.{object_role, Declared, Names, is_at_file, in
 use Rattle.name_rules.specs.Pieces.{is_function, decayed}
 use Rattle.name_rules.specs.Declaring.{Numbered, found_or_new, tag_used, untagged, begun_in, declared_here, declared_thing, declared_typedef, declared_some, declared_param, declared_member, has_word, keep}
 use Rattle.name_rules.specs.Units.{unit_begun}
-use Rattle.name_steps.specs.State.{State, with_names}
+use Rattle.name_steps.specs.State.{OpenDeclaration, State, no_declaration, innermost_or, with_innermost, with_names}
 use Rattle.name_steps.specs.Steps.{declaration, body, parameters, expression_step, specifier_step, declarator_step, body_entered_by, statement_step, step, run}
 use Rattle.name_steps.specs.Units.{Tape, tape_named, tapes_named}
 
@@ -39,12 +39,15 @@ then_grown a b c g h = record {
   is = h.is ∙ (ap (λ (ds : List Declared). ds ++ h.added) g.is ∙ append_assoc a g.added h.added);
 }
 
--- by each change
+-- what a declarator that ends adds: a declaration at its name, where it has one
+abbrev pub Adds : Spelling → Option Named → List Declared → List Declared → Type 0
+Adds u None old new = new ≡ old
+Adds u (Some it) old new = (d : Declared) × (d.at ≡ place u it.token) × (new ≡ old ++ d ∷ [])
 
-grown_some : (u : Spelling) (it : Option Named) (words : List Keyword) (t : CType) (s : Names) →
-    Grown s.declared (declared_some u it words t s).declared
-grown_some u None words t s = same _ _ refl
-grown_some u (Some it) words t s =
+pub adds_some : (u : Spelling) (it : Option Named) (words : List Keyword) (t : CType) (s : Names) →
+    Adds u it s.declared (declared_some u it words t s).declared
+adds_some u None words t s = refl
+adds_some u (Some it) words t s =
     by (has_word keywords.Typedef words) (is_at_file old || (is_function t || has_word keywords.Extern words))
   where
     old : Names
@@ -53,22 +56,26 @@ grown_some u (Some it) words t s =
     own : Option Place
     own = if has_word keywords.Static words then None else old.enclosing
 
-    by : (b c : Bool) → Grown s.declared (if b then declared_typedef (place u it.token) (u.key it.name) t old
+    by : (b c : Bool) → Adds u (Some it) s.declared (if b then declared_typedef (place u it.token) (u.key it.name) t old
         else if c then declared_thing (place u it.token) (u.key it.name) t old
         else declared_here (place u it.token) (u.key it.name) object_role t own old).declared
-    by true c = record { added = _; is = refl }
-    by false true = record { added = _; is = refl }
-    by false false = record { added = _; is = refl }
+    by true c = (_, refl, refl)
+    by false true = (_, refl, refl)
+    by false false = (_, refl, refl)
 
-grown_param : (u : Spelling) (it : Option Named) (i : ℕ) (own : Option Place) (t : CType) (s : Names) →
-    Grown s.declared (declared_param u it i own t s).declared
-grown_param u None i own t s = same _ _ refl
-grown_param u (Some it) i own t s = record { added = _; is = refl }
+pub adds_param : (u : Spelling) (it : Option Named) (i : ℕ) (own : Option Place) (t : CType) (s : Names) →
+    Adds u it s.declared (declared_param u it i own t s).declared
+adds_param u None i own t s = refl
+adds_param u (Some it) i own t s = (_, refl, refl)
 
-grown_member : (u : Spelling) (it : Option Named) (n : ℕ) (t : CType) (s : Names) →
-    Grown s.declared (declared_member u it n t s).declared
-grown_member u None n t s = same _ _ refl
-grown_member u (Some it) n t s = record { added = _; is = refl }
+pub adds_member : (u : Spelling) (it : Option Named) (n : ℕ) (t : CType) (s : Names) →
+    Adds u it s.declared (declared_member u it n t s).declared
+adds_member u None n t s = refl
+adds_member u (Some it) n t s = (_, refl, refl)
+
+adds_grown : (u : Spelling) (it : Option Named) (old new : List Declared) → Adds u it old new → Grown old new
+adds_grown u None old new e = same old new e
+adds_grown u (Some it) old new a = record { added = a.0 ∷ []; is = a.2 }
 
 tag_same : (found : Option ℕ) (u : Spelling) (kind : TagKind) (token tag : ℕ) (s : Names) →
     (found_or_new found u kind token tag s).names.declared ≡ s.declared
@@ -81,7 +88,7 @@ used_same u alone kind token tag s =
     tag_same (if alone then tag_in (innermost s.scopes).tags kind (u.key tag) else tag_through s.scopes kind (u.key tag))
     u kind token tag s
 
-pub begun_same : (b : Bool) (at : Place) (kind : TagKind) (it : Numbered) →
+begun_same : (b : Bool) (at : Place) (kind : TagKind) (it : Numbered) →
     (begun_in b at kind it).names.declared ≡ it.names.declared
 begun_same true at kind it = refl
 begun_same false at kind it = refl
@@ -94,41 +101,66 @@ pub entered_same : (d : Option Declared) (s : Names) → (body_entered_by d s).d
 entered_same None s = refl
 entered_same (Some d) s = refl
 
+-- the names that are read
+
+abbrev pub names : List OpenDeclaration → List (Option Named)
+names [] = []
+names (d ∷ ds) = d.name ∷ names ds
+
+pub names_kept : (ds : List OpenDeclaration) (t : CType) →
+    names (with_innermost (record (innermost_or no_declaration ds) { declared = t }) ds) ≡ names ds
+names_kept [] t = refl
+names_kept (d ∷ ds) t = refl
+
 -- steps
 
 module _ (u : Spelling) where
+  pub tag_body_same : (st : State) (kind : TagKind) (token name : ℕ) →
+      (specifier_step u st (specs.TagBody kind token name)).names.declared ≡ st.names.declared
+  tag_body_same st kind token name =
+      begun_same (has_body (body_of (tag_used u true kind token name st.names).names.aggregates
+      (tag_used u true kind token name st.names).number)) (place u token) kind
+      (tag_used u true kind token name st.names) ∙ used_same u true kind token name st.names
+
+  pub untagged_same : (st : State) (kind : TagKind) (token : ℕ) →
+      (specifier_step u st (specs.Untagged kind token)).names.declared ≡ st.names.declared
+  untagged_same st kind token =
+      begun_same (has_body (body_of (untagged (place u token) kind st.names).names.aggregates
+      (untagged (place u token) kind st.names).number)) (place u token) kind (untagged (place u token) kind st.names)
+
   spec_grown : (st : State) (op : SpecOp) → Grown st.names.declared (specifier_step u st op).names.declared
   spec_grown st (specs.TagUse kind token name) = same _ _ (used_same u false kind token name st.names)
   spec_grown st (specs.TagAlone kind token name) = same _ _ (used_same u true kind token name st.names)
-  spec_grown st (specs.TagBody kind token name) =
-      same _ _ (begun_same (has_body (body_of (tag_used u true kind token name st.names).names.aggregates
-      (tag_used u true kind token name st.names).number)) (place u token) kind
-      (tag_used u true kind token name st.names) ∙ used_same u true kind token name st.names)
-  spec_grown st (specs.Untagged kind token) =
-      same _ _ (begun_same (has_body (body_of (untagged (place u token) kind st.names).names.aggregates
-      (untagged (place u token) kind st.names).number)) (place u token) kind (untagged (place u token) kind st.names))
+  spec_grown st (specs.TagBody kind token name) = same _ _ (tag_body_same st kind token name)
+  spec_grown st (specs.Untagged kind token) = same _ _ (untagged_same st kind token)
   spec_grown st (specs.Enumerator token name) = record { added = _; is = refl }
   spec_grown st (specs.UnnamedMember token) = record { added = _; is = refl }
   spec_grown st op = same _ _ refl
 
   declr_grown : (st : State) (op : DeclrOp) → Grown st.names.declared (declarator_step u st op).names.declared
   declr_grown st declrs.Param =
-      grown_param u (declaration st).name (length (parameters st).types) (parameters st).own
-      (decayed (declaration st).declared) st.names
+      adds_grown u (declaration st).name _ _ (adds_param u (declaration st).name (length (parameters st).types)
+      (parameters st).own (decayed (declaration st).declared) st.names)
   declr_grown st declrs.ParamsEnd = same _ _ (keep_same (parameters st).own st.names)
   declr_grown st declrs.Declare =
-      grown_some u (declaration st).name (declaration st).storage (declaration st).declared st.names
+      adds_grown u (declaration st).name _ _
+      (adds_some u (declaration st).name (declaration st).storage (declaration st).declared st.names)
   declr_grown st declrs.Member =
-      grown_member u (declaration st).name (body st).members_of (declaration st).declared st.names
+      adds_grown u (declaration st).name _ _
+      (adds_member u (declaration st).name (body st).members_of (declaration st).declared st.names)
   declr_grown st op = same _ _ refl
 
   stmt_grown : (st : State) (op : StmtOp) → Grown st.names.declared (statement_step u st op).names.declared
   stmt_grown st stmts.FunctionBody = same _ _ (entered_same (last_or None st.names.declared) st.names)
   stmt_grown st op = same _ _ refl
 
-  expr_same : (st : State) (op : ExprOp) → (expression_step u st op).names.declared ≡ st.names.declared
+  pub expr_same : (st : State) (op : ExprOp) → (expression_step u st op).names.declared ≡ st.names.declared
   expr_same st (exprs.Name is_called token name) = refl
   expr_same st op = refl
+
+  pub expr_declarations : (st : State) (op : ExprOp) → (expression_step u st op).declarations ≡ st.declarations
+  expr_declarations st (exprs.Name is_called token name) = refl
+  expr_declarations st op = refl
 
   step_grown : (st : State) (op : Op) → Grown st.names.declared (step u st op).names.declared
   step_grown st (ops.Expr op) = same _ _ (expr_same st op)

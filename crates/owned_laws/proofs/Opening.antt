@@ -1,0 +1,87 @@
+-- What each op of a tape opens and ends of declarations, by the steps of shapes and by those of skeletons.
+use Rattle.std.proofs.Common.{◌≡◌, true, false, List, ◌∷◌, None, refl, sym, ◌∙◌, ap}
+use Rattle.tape_ops.specs.declared.op.Op.{Op}
+use Rattle.tape_ops.specs.declared.op.Op.TheVariants as ops
+use Rattle.tape_ops.specs.declared.expression.ExprOp.TheVariants as exprs
+use Rattle.tape_ops.specs.declared.form.FormOp.TheVariants as forms
+use Rattle.tape_ops.specs.declared.initialiser.InitOp.TheVariants as inits
+use Rattle.tape_ops.specs.declared.specifier.SpecOp.TheVariants as specs
+use Rattle.tape_ops.specs.declared.declarator.DeclrOp.TheVariants as declrs
+use Rattle.tape_ops.specs.declared.statement.StmtOp.TheVariants as stmts
+use Rattle.name_rules.specs.Spellings.{Spelling}
+use Rattle.name_rules.specs.Scopes.{Names}
+use Rattle.shape_steps.specs.State as shapes
+use Rattle.shape_steps.specs.State.{OpenDeclaration, with_name, with_declared, without_name, without_innermost, changed}
+use Rattle.shape_steps.specs.Steps as shape_steps
+use Rattle.row_rules.specs.Worlds.{World}
+use Rattle.row_steps.specs.State.{State}
+use Rattle.tape_ops.specs.declared.form.FormOp.{FormOp}
+use Rattle.tape_ops.specs.declared.specifier.SpecOp.{SpecOp}
+use Rattle.tape_ops.specs.declared.declarator.DeclrOp.{DeclrOp}
+use Rattle.row_steps.specs.Rounds.{Rounds}
+use Rattle.row_steps.specs.Rounds as rounds
+use Rattle.row_steps.specs.Steps.{step}
+
+abbrev pub opens : Op → List OpenDeclaration → List OpenDeclaration
+opens (ops.Spec specs.SpecsEnd) ds = record { name = None; declared = None } ∷ ds
+opens (ops.Declr (declrs.DeclName token name)) ds = changed (with_name token) ds
+opens (ops.Declr declrs.Param) ds = without_innermost ds
+opens (ops.Declr declrs.Declare) ds = changed with_declared ds
+opens (ops.Declr declrs.Member) ds = changed without_name ds
+opens (ops.Declr (declrs.TypeName first)) ds = without_innermost ds
+opens (ops.Declr declrs.DeclarationEnd) ds = without_innermost ds
+opens op ds = ds
+
+pub row_opens : (w : World) (st : State) (op : Op) → (step w st op).declarations ≡ opens op st.declarations
+row_opens w st (ops.Expr (exprs.Comma token)) = refl
+row_opens w st (ops.Expr op) = refl
+row_opens w st (ops.Form (forms.StmtExpr true token)) = refl
+row_opens w st (ops.Form (forms.StmtExpr false token)) = refl
+row_opens w st (ops.Form op) = refl
+row_opens w st (ops.Init inits.Begin) = refl
+row_opens w st (ops.Init op) = refl
+row_opens w st (ops.Spec specs.SpecsEnd) = refl
+row_opens w st (ops.Spec op) = refl
+row_opens w st (ops.Declr declrs.Param) = refl
+row_opens w st (ops.Declr op) = refl
+row_opens w st (ops.Stmt stmts.Quiet) = refl
+row_opens w st (ops.Stmt op) = refl
+
+pub shape_opens : (u : Spelling) (s : Names) (st : shapes.State) (op : Op) →
+    (shape_steps.step u s st op).declarations ≡ opens op st.declarations
+shape_opens u s st (ops.Expr (exprs.Comma token)) = refl
+shape_opens u s st (ops.Expr op) = refl
+shape_opens u s st (ops.Form (forms.StmtExpr true token)) = refl
+shape_opens u s st (ops.Form (forms.StmtExpr false token)) = refl
+shape_opens u s st (ops.Form op) = refl
+shape_opens u s st (ops.Init inits.Begin) = refl
+shape_opens u s st (ops.Init op) = refl
+shape_opens u s st (ops.Spec specs.SpecsEnd) = refl
+shape_opens u s st (ops.Spec op) = refl
+shape_opens u s st (ops.Declr declrs.Param) = refl
+shape_opens u s st (ops.Declr op) = refl
+shape_opens u s st (ops.Stmt stmts.Quiet) = refl
+shape_opens u s st (ops.Stmt op) = refl
+
+-- both kinds of steps have the same open declarations
+abbrev pub Alike : World → shapes.State → State → Type 0
+Alike w sst st = sst.declarations ≡ st.declarations
+
+pub alike : (w : World) (sst : shapes.State) (st : State) (op : Op) → Alike w sst st →
+    Alike w (shape_steps.step w.spelling w.names sst op) (step w st op)
+alike w sst st op e = shape_opens w.spelling w.names sst op ∙ ap (opens op) e ∙ sym (row_opens w st op)
+
+-- the function whose body this is
+
+pub form_body : (r : Rounds) (op : FormOp) → (rounds.form_round r op).body ≡ r.body
+form_body r (forms.Sizeof token) = refl
+form_body r op = refl
+
+pub spec_body : (r : Rounds) (op : SpecOp) → (rounds.spec_round r op).body ≡ r.body
+spec_body r specs.BodyEnd = refl
+spec_body r op = refl
+
+pub declr_body : (declarations : List OpenDeclaration) (r : Rounds) (op : DeclrOp) →
+    (rounds.declr_round declarations r op).body ≡ r.body
+declr_body declarations r declrs.Param = refl
+declr_body declarations r op = refl
