@@ -71,8 +71,9 @@ other_way n m e = by (nat_eq m n) refl
     by true is = let same : nat_eq n m ≡ true = eq-eqb n m (sym (eqb-true m n is)) in absurd cc
     by false is = refl
 
-no_unit_on : (n : ℕ) (earlier : List Lexed) (units : List UnitRead) (it : UnitRead) → has_unit n (sources_behind earlier units) ≡ false
-    → nat_eq it.lexed.unit n ≡ false → has_unit n (sources_behind earlier (units ++ it ∷ [])) ≡ false
+no_unit_on : (n : ℕ) (earlier : List Lexed) (units : List UnitRead) (it : UnitRead)
+    → has_unit n (sources_behind earlier units) ≡ false → nat_eq it.lexed.unit n ≡ false
+    → has_unit n (sources_behind earlier (units ++ it ∷ [])) ≡ false
 no_unit_on n earlier [] it none other = rw other refl
 no_unit_on n earlier (u ∷ units) it none other =
     by (nat_eq u.lexed.unit n) none (λ rest. no_unit_on n (earlier ++ u.lexed ∷ []) units it rest other)
@@ -95,7 +96,8 @@ differ_on earlier (u ∷ units) it differ none =
     behind : List Lexed
     behind = earlier ++ u.lexed ∷ []
 
-    by : (b : Bool) → nat_eq u.lexed.unit it.lexed.unit ≡ b → (if b then true else has_unit it.lexed.unit (sources_behind behind units)) ≡ false
+    by : (b : Bool) → nat_eq u.lexed.unit it.lexed.unit ≡ b
+        → (if b then true else has_unit it.lexed.unit (sources_behind behind units)) ≡ false
         → (has_unit it.lexed.unit (sources_behind behind units) ≡ false → UnitsDiffer (sources_behind behind (units ++ it ∷ [])))
         → UnitsDiffer (sources_behind earlier (u ∷ (units ++ it ∷ [])))
     by true e own more = absurd cc

@@ -302,7 +302,8 @@ pub data TaskStarts (task : Task) (files : Option (List (List ℕ × List ℕ)))
   MadeAlone : (number : ℕ) → task ≡ Generate number → TaskStarts task files []
 
 -- The files that are started: none for words without a meaning, nor where memory is wanting before their meaning is found.
-pub data StartsFor (words : List (List ℕ)) (files : Option (List (List ℕ × List ℕ))) (status : Status) : List (List ℕ) → Type 0 where
+pub data StartsFor (words : List (List ℕ)) (files : Option (List (List ℕ × List ℕ))) (status : Status)
+    : List (List ℕ) → Type 0 where
   NoFile : meaning_of words ≡ None → StartsFor words files status []
   NoMeaningYet : status ≡ NoMemory → StartsFor words files status []
   ForTask : (task : Task) (names : List (List ℕ)) → meaning_of words ≡ Some task → TaskStarts task files names →

@@ -28,8 +28,8 @@ pub record AreEarlier (units : List UnitRead) : Type 0 where
   pub differ : UnitsDiffer (sources_in units)
   pub none_is_source : has_unit 1 (sources_in units) ≡ false
 
--- A program of the units before a source and of that source, within the limits, with its constraints: no flow leaves a function but
--- by a call, and each constant and bound names an element.
+-- A program of the units before a source and of that source, within the limits, with its constraints: no flow leaves a
+-- function but by a call, and each constant and bound names an element.
 pub record IsReady (named : FileNames) (lattices : List LatticeView) (before : List UnitRead) (marks : List IndexMark) (bytes : List ℕ) (it : Ready) : Type 0 where
   pub unit : UnitRead
   pub counted : IsCounted named lattices before marks bytes unit

@@ -36,8 +36,9 @@ pub of_program-requires : goal.of_program-requires
 of_program-requires c =
     let names = names_in c.made_names-named.result in
     let before = units_of c.nothing_before.result.sources.items in
-    let is : IsReady names c.args.lattices.now before c.nothing_before.result.prelude c.args.bytes.now c.in-Program.ready =
-    subst (IsPrepared names c.args.lattices.now before c.nothing_before.result.prelude c.args.bytes.now) c.in-Program.is c.in_ok-answer.ensures in
+    let marks = c.nothing_before.result.prelude in
+    let is : IsReady names c.args.lattices.now before marks c.args.bytes.now c.in-Program.ready =
+    subst (IsPrepared names c.args.lattices.now before marks c.args.bytes.now) c.in-Program.is c.in_ok-answer.ensures in
     record { named = is.elements; owned = is.owned }
 
 pub returns-in-Program-clause-outcome : goal.returns-in-Program-clause-outcome

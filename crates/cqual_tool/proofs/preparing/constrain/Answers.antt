@@ -8,10 +8,12 @@ use Rattle.cqual_tool.proofs.Joining.{refused, counted, generated, many_variable
 use Rattle.cqual_tool.proofs.preparing.constrain.Goals as goal
 
 pub generate-requires-clause-read : goal.generate-requires-clause-read
-generate-requires-clause-read c = subst (λ (ss : List Source). All IsRead (sources_of ss)) (sym c.deref.ensures.value) c.requires.read
+generate-requires-clause-read c =
+    subst (λ (ss : List Source). All IsRead (sources_of ss)) (sym c.deref.ensures.value) c.requires.read
 
 pub generate-requires-clause-units : goal.generate-requires-clause-units
-generate-requires-clause-units c = subst (λ (ss : List Source). UnitsDiffer (sources_of ss)) (sym c.deref.ensures.value) c.requires.units
+generate-requires-clause-units c =
+    subst (λ (ss : List Source). UnitsDiffer (sources_of ss)) (sym c.deref.ensures.value) c.requires.units
 
 pub returns-in-Ok : goal.returns-in-Ok
 returns-in-Ok c = λ before unit bytes are is.

@@ -1,6 +1,6 @@
 use Rattle.std.proofs.Common.{List, sym, ap, subst, ◌∙◌}
 use Rattle.std.specs.Prelude.{All}
-use Rattle.name_laws.specs.NameLaws.{IsSound}
+use Rattle.key_laws.specs.Differing.{IsRead}
 use Rattle.type_rules.specs.Program.{faults_of}
 use Rattle.unit_types.specs.Faults.{IsFirstUnlessMemory}
 use Rattle.c_types.specs.declared.source.Source.{Source}
@@ -28,4 +28,5 @@ returns c = λ before unit bytes are parses.
 
 pub resolve-requires : goal.resolve-requires
 resolve-requires c =
-    record { formed = subst (λ (ss : List Source). All IsSound (sources_of ss)) (sym c.deref.ensures.value) (sound _ c.requires.read) }
+    let formed = subst (λ (ss : List Source). All IsRead (sources_of ss)) (sym c.deref.ensures.value) c.requires.read in
+    record { formed = sound _ formed }

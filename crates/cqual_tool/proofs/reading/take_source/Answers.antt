@@ -15,10 +15,12 @@ use Rattle.cqual_tool.proofs.reading.take_source.Goals as goal
 
 pub end-requires : goal.end-requires
 end-requires g c =
-    let is : IsReady (names_in c.args.named.now) c.args.lattices.now (units_of c.args.earlier.sources.items) c.args.earlier.prelude
-    c.deref.result.now c.in-Program.ready =
-    subst (IsPrepared (names_in c.args.named.now) c.args.lattices.now (units_of c.args.earlier.sources.items) c.args.earlier.prelude
-    c.deref.result.now) c.in-Program.is c.in_ok-answer-in-Some.ensures in
+    let named = names_in c.args.named.now in
+    let lattices = c.args.lattices.now in
+    let before = units_of c.args.earlier.sources.items in
+    let marks = c.args.earlier.prelude in
+    let is : IsReady named lattices before marks c.deref.result.now c.in-Program.ready =
+    subst (IsPrepared named lattices before marks c.deref.result.now) c.in-Program.is c.in_ok-answer-in-Some.ensures in
     record { named = is.elements; owned = is.owned }
 
 pub returns-in_err-bytes-clause-started : goal.returns-in_err-bytes-clause-started

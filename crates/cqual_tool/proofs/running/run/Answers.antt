@@ -50,7 +50,8 @@ pub returns-in-Ok-None-clause-started : goal.returns-in-Ok-None-clause-started
 returns-in-Ok-None-clause-started g c = (
   [],
   records_none (g.F.Files.started c.args.files.now),
-  NoFile (unmeant (map string_bytes c.args.words.now) task_of c.in-Ok-None.field-0 c.in-Ok-None.ensures.meaning c.in-Ok-None.field-0-is),
+  NoFile (unmeant (map string_bytes c.args.words.now) task_of c.in-Ok-None.field-0 c.in-Ok-None.ensures.meaning
+      c.in-Ok-None.field-0-is),
 )
 
 pub returns-in-Err-clause-started : goal.returns-in-Err-clause-started
