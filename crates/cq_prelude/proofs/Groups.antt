@@ -7,7 +7,8 @@ use Rattle.std.proofs.lemmas.List.{append-nil}
 use Rattle.std.proofs.lemmas.List.Elements.{All-cons, All-head, All-tail, All-nil, All-weaker}
 use Rattle.std.proofs.lemmas.List.Splits.{slice_split_at, slice_split_none, slice_split-cons_yes, slice_split-cons_no}
 use Rattle.index_words.specs.Words.{AreDifferent, IsDigit, IsIndexWord, IsNumeral, group, most_index, number_of}
-use Rattle.cq_prelude.specs.Written.{Arranges, IsSetOf, IsWritten, SayAll, is_low_line}
+use Rattle.cq_prelude.specs.Rules.{IsSetOf}
+use Rattle.cq_prelude.specs.Written.{Arranges, IsWritten, SayAll, is_low_line}
 
 onto : (c : ℕ) (rest : List ℕ) (parts : List (List ℕ)) → flat_map group parts ≡ 95 ∷ rest →
     flat_map group (onto_first c parts) ≡ 95 ∷ c ∷ rest

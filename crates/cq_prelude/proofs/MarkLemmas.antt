@@ -8,8 +8,7 @@ use Rattle.c_lexer.specs.declared.token.Token.{Token}
 use Rattle.c_lexer.specs.Tokens.{Lexed, end_of, start_of, text_of}
 use Rattle.index_words.specs.Marks.{IndexMark, numbers_at}
 use Rattle.cq_prelude.specs.Marking.{AreMarkedTo, is_marked}
-use Rattle.cq_prelude.specs.Rules.{IsIndex, Says}
-use Rattle.cq_prelude.specs.Written.{IsSetOf}
+use Rattle.cq_prelude.specs.Rules.{IsIndex, IsSetOf, Says}
 
 abbrev mark_at : ℕ → List ℕ → IndexMark
 mark_at at set = record { token = at; numbers = set }
@@ -69,6 +68,4 @@ text_is lexed at bytes is = by_token (slice_get lexed.tokens at) refl where
 pub set_says : (lexed : Lexed) (at : ℕ) (bytes set : List ℕ) →
     option_map (λ (token : Token). slice_range lexed.bytes token.start token.end) (slice_get lexed.tokens at) ≡ Some bytes →
     Says lexed at set → IsSetOf bytes set
-set_says lexed at bytes set is h =
-    subst (λ (text : List ℕ). IsSetOf text set) (sym (text_is lexed at bytes is))
-    (record { written = h.written; spelled = h.spelled; same = h.same; ascending = h.ascending })
+set_says lexed at bytes set is h = subst (λ (text : List ℕ). IsSetOf text set) (sym (text_is lexed at bytes is)) h

@@ -11,12 +11,16 @@ use Rattle.cq_prelude.specs.Placing.{bodies, index_places}
 abbrev pub IsIndex : Lexed → ℕ → Type 0
 IsIndex lexed token = option_map (λ it. it.kind) (slice_get lexed.tokens token) ≡ Some kinds.Index
 
--- what its bytes say are these numbers
-pub record Says (lexed : Lexed) (token : ℕ) (set : List ℕ) : Type 0 where
+-- the bytes of an index word say these numbers
+pub record IsSetOf (bytes set : List ℕ) : Type 0 where
   pub written : List ℕ
-  pub spelled : IsIndexWord (text_of lexed token) written
+  pub spelled : IsIndexWord bytes written
   pub same : (n : ℕ) → Contains set n ↔ Contains written n
   pub ascending : AreAscending set
+
+-- so do those at a token
+abbrev pub Says : Lexed → ℕ → List ℕ → Type 0
+Says lexed token set = IsSetOf (text_of lexed token) set
 
 -- it stands where it may, and its bytes say numbers
 pub record IsRight (lexed : Lexed) (items : List Item) (token : ℕ) : Type 0 where

@@ -2,7 +2,7 @@
 use Rattle.std.specs.Prelude.{◌≡◌, ℕ, ◌≤◌, ◌↔◌, ◌==◌, Bool, Contains, List}
 use Rattle.std.specs.List.{AllZip, slice_split}
 use Rattle.index_words.specs.Marks.{AreAscending}
-use Rattle.index_words.specs.Words.{AreDifferent, IsIndexWord, IsNumeral, most_index, number_of}
+use Rattle.index_words.specs.Words.{AreDifferent, IsNumeral, most_index, number_of}
 
 abbrev pub is_low_line : ℕ → Bool
 is_low_line c = c == 95
@@ -21,11 +21,4 @@ SayAll bytes numbers = AllZip IsWritten (slice_split is_low_line bytes) numbers
 pub record Arranges (numbers set : List ℕ) : Type 0 where
   pub different : AreDifferent numbers
   pub same : (n : ℕ) → Contains set n ↔ Contains numbers n
-  pub ascending : AreAscending set
-
--- the bytes of an index word say these numbers
-pub record IsSetOf (bytes set : List ℕ) : Type 0 where
-  pub written : List ℕ
-  pub spelled : IsIndexWord bytes written
-  pub same : (n : ℕ) → Contains set n ↔ Contains written n
   pub ascending : AreAscending set

@@ -4,7 +4,8 @@ ghost use Rattle.std.specs.Prelude.{◌≡◌, ℕ, List, ◌∷◌, ◌+◌, �
 ghost use Rattle.std.specs.Prelude.{IfOk, IfSome, None, Ok, true, false};
 ghost use Rattle.index_words.specs.Marks.{AreAscending};
 ghost use Rattle.index_words.specs.Words.{AreDifferent, IsDigit, IsIndexWord, most_index};
-ghost use Rattle.cq_prelude.specs.Written.{Arranges, IsSetOf, IsWritten, SayAll};
+ghost use Rattle.cq_prelude.specs.Rules.{IsSetOf};
+ghost use Rattle.cq_prelude.specs.Written.{Arranges, IsWritten, SayAll};
 
 use qual_base::NoMemory;
 use std::alloc::Global;

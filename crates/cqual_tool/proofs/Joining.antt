@@ -1,17 +1,22 @@
 -- Units that are joined, and what is made of them.
-use Rattle.std.proofs.Common.{arith, ◌≡◌, ◌≢◌, ℕ, zero, suc, ◌+◌, ◌<◌, ◌≤◌, List, [], ◌∷◌, ◌++◌, length, map, drop, slice_index_or, codes, refl, sym, ◌∙◌, ap, subst, append_assoc}
-use Rattle.std.specs.Prelude.{All}
-use Rattle.std.proofs.lemmas.List.Elements.{All-nil, All-cons, All-head, All-tail, All-push, All-same}
+use Rattle.std.proofs.Common.{arith, ◌≡◌, ◌≢◌, Bool, true, false, ℕ, zero, suc, ◌+◌, ◌<◌, ◌≤◌, List, [], ◌∷◌, ◌++◌, length, drop, slice_index_or, codes, refl, sym, ◌∙◌, ap, subst, append_assoc}
+use Rattle.std.specs.Prelude.{All, nat_eq, if◌then◌else◌}
+use Rattle.std.proofs.lemmas.Bool.{eq-eqb, eqb-true}
+use Rattle.std.proofs.lemmas.List.Elements.{All-nil, All-cons, All-head, All-tail, All-push, All-same, All-weaker}
 use Rattle.lattice_core.specs.View.{LatticeView}
+use Rattle.c_lexer.specs.declared.token.Token.{Token}
 use Rattle.c_lexer.specs.Tokens.{Lexed}
+use Rattle.c_parser.specs.Parsing.{lexemes_of, numbered}
 use Rattle.flow_graph.specs.System.{most_constraints, most_variables}
 use Rattle.type_rules.specs.Program.{HasNoFault, faults_of}
+use Rattle.type_rules.specs.Program as rules
 use Rattle.name_laws.specs.NameLaws.{IsSound}
+use Rattle.key_laws.specs.Differing.{AreNumbered, IsRead, UnitsDiffer, has_number, has_unit}
 use Rattle.unit_types.specs.declared.fault.ShapeFault.{ShapeFault}
 use Rattle.unit_types.specs.declared.fault.ShapeFault.TheVariants.{NoMemory as OutOfNames}
 use Rattle.unit_types.specs.Faults.{IsFirstUnlessMemory}
 use Rattle.c_types.specs.declared.source.Source.{Source}
-use Rattle.c_types.specs.Sources.{UnitRead, sources_behind, sources_in, unit_of, units_of}
+use Rattle.c_types.specs.Sources.{UnitRead, sources_behind, sources_in, sources_of, unit_of, units_of}
 use Rattle.annotate.specs.Texts.{UnitText}
 use Rattle.annotate.specs.declared.scene.UnitText.{UnitText as LentUnit}
 use Rattle.annotate.specs.Scenes as scenes
@@ -28,24 +33,104 @@ use Rattle.cqual_tool.specs.Shapes.{shape_line}
 use Rattle.cqual_tool.specs.Words.{FileNames}
 use Rattle.cqual_tool.specs.Programs.{judging_of, text_of, texts_of}
 use Rattle.cqual_tool.specs.Outcome.{IsCounted, IsRefused, Faulty, ManyConstraints, ManyVariables, SourceParses, SourceReads}
-use Rattle.cqual_tool.specs.Preparing.{IsFormed, IsPrepared}
+use Rattle.cqual_tool.specs.Preparing.{AreEarlier, IsFormed}
 
-pub sound_behind : (earlier : List Lexed) (units : List UnitRead) → All IsFormed units → All IsSound (sources_behind earlier units)
-sound_behind earlier [] formed = All-nil IsSound
-sound_behind earlier (it ∷ units) formed =
-    All-cons IsSound _ (sources_behind (earlier ++ it.lexed ∷ []) units) (All-head IsFormed it units formed)
-    (sound_behind (earlier ++ it.lexed ∷ []) units (All-tail IsFormed it units formed))
+-- tokens that are numbered by their places have numbers of their own
+
+no_number : (n m : ℕ) (ts : List Token) → n < m → has_number n (numbered m ts) ≡ false
+no_number n m [] lt = refl
+no_number n m (t ∷ ts) lt = by (nat_eq m n) refl (no_number n (suc m) ts (omega arith))
+  where
+    by : (b : Bool) → nat_eq m n ≡ b → has_number n (numbered (suc m) ts) ≡ false
+        → (if b then true else has_number n (numbered (suc m) ts)) ≡ false
+    by true e none = let same : m ≡ n = eqb-true m n e in absurd (omega arith)
+    by false e none = none
+
+are_numbered : (n : ℕ) (ts : List Token) → AreNumbered (numbered n ts)
+are_numbered n [] = tt
+are_numbered n (t ∷ ts) = (no_number n (suc n) ts (omega arith), are_numbered (suc n) ts)
+
+read_behind : (earlier : List Lexed) (units : List UnitRead) → All IsFormed units → All IsRead (sources_behind earlier units)
+read_behind earlier [] formed = All-nil IsRead
+read_behind earlier (it ∷ units) formed =
+    let own : IsFormed it = All-head IsFormed it units formed in
+    All-cons IsRead _ (sources_behind (earlier ++ it.lexed ∷ []) units)
+    (record { all = lexemes_of it.lexed; tokens = own.tokens; rules = own.rules; numbers = are_numbered 0 it.lexed.tokens })
+    (read_behind (earlier ++ it.lexed ∷ []) units (All-tail IsFormed it units formed))
+
+-- what is well formed of some tokens obeys the rules of units
+pub sound : (sources : List rules.Source) → All IsRead sources → All IsSound sources
+sound sources read = All-weaker IsRead IsSound (λ it h. (h.all, h.rules)) sources read
+
+-- one more unit of another number
+
+other_way : (n m : ℕ) → nat_eq n m ≡ false → nat_eq m n ≡ false
+other_way n m e = by (nat_eq m n) refl
+  where
+    by : (b : Bool) → nat_eq m n ≡ b → b ≡ false
+    by true is = let same : nat_eq n m ≡ true = eq-eqb n m (sym (eqb-true m n is)) in absurd cc
+    by false is = refl
+
+no_unit_on : (n : ℕ) (earlier : List Lexed) (units : List UnitRead) (it : UnitRead)
+    → has_unit n (sources_behind earlier units) ≡ false → nat_eq it.lexed.unit n ≡ false
+    → has_unit n (sources_behind earlier (units ++ it ∷ [])) ≡ false
+no_unit_on n earlier [] it none other = rw other refl
+no_unit_on n earlier (u ∷ units) it none other =
+    by (nat_eq u.lexed.unit n) none (λ rest. no_unit_on n (earlier ++ u.lexed ∷ []) units it rest other)
+  where
+    behind : List Lexed
+    behind = earlier ++ u.lexed ∷ []
+
+    by : (b : Bool) → (if b then true else has_unit n (sources_behind behind units)) ≡ false
+        → (has_unit n (sources_behind behind units) ≡ false → has_unit n (sources_behind behind (units ++ it ∷ [])) ≡ false)
+        → (if b then true else has_unit n (sources_behind behind (units ++ it ∷ []))) ≡ false
+    by true e more = absurd cc
+    by false e more = more e
+
+differ_on : (earlier : List Lexed) (units : List UnitRead) (it : UnitRead) → UnitsDiffer (sources_behind earlier units)
+    → has_unit it.lexed.unit (sources_behind earlier units) ≡ false → UnitsDiffer (sources_behind earlier (units ++ it ∷ []))
+differ_on earlier [] it differ none = (refl, tt)
+differ_on earlier (u ∷ units) it differ none =
+    by (nat_eq u.lexed.unit it.lexed.unit) refl none (λ rest. differ_on (earlier ++ u.lexed ∷ []) units it differ.1 rest)
+  where
+    behind : List Lexed
+    behind = earlier ++ u.lexed ∷ []
+
+    by : (b : Bool) → nat_eq u.lexed.unit it.lexed.unit ≡ b
+        → (if b then true else has_unit it.lexed.unit (sources_behind behind units)) ≡ false
+        → (has_unit it.lexed.unit (sources_behind behind units) ≡ false → UnitsDiffer (sources_behind behind (units ++ it ∷ [])))
+        → UnitsDiffer (sources_behind earlier (u ∷ (units ++ it ∷ [])))
+    by true e own more = absurd cc
+    by false e own more =
+        (no_unit_on u.lexed.unit behind units it differ.0 (other_way u.lexed.unit it.lexed.unit e), more own)
 
 -- one more unit
 pub units_on : (sources : List Source) (source : Source) → units_of (sources ++ source ∷ []) ≡ units_of sources ++ unit_of source ∷ []
 units_on [] source = refl
 units_on (it ∷ sources) source = ap (λ (units : List UnitRead). unit_of it ∷ units) (units_on sources source)
 
-pub formed_on : (sources : List Source) (source : Source) → All IsFormed (units_of sources) → IsFormed (unit_of source)
-    → All IsFormed (units_of (sources ++ source ∷ []))
-formed_on sources source formed own =
-    All-same IsFormed (units_of (sources ++ source ∷ [])) (units_of sources ++ unit_of source ∷ []) (units_on sources source)
-    (All-push IsFormed (units_of sources) (unit_of source) formed own)
+-- a source behind units that may stand before it
+pub read_on : (sources : List Source) (source : Source) → AreEarlier (units_of sources) → IsFormed (unit_of source)
+    → All IsRead (sources_of (sources ++ source ∷ []))
+read_on sources source before own =
+    read_behind [] (units_of (sources ++ source ∷ []))
+    (All-same IsFormed (units_of (sources ++ source ∷ [])) (units_of sources ++ unit_of source ∷ []) (units_on sources source)
+    (All-push IsFormed (units_of sources) (unit_of source) before.formed own))
+
+pub units_differ : (sources : List Source) (source : Source) → AreEarlier (units_of sources) → (unit_of source).lexed.unit ≡ 1
+    → UnitsDiffer (sources_of (sources ++ source ∷ []))
+units_differ sources source before one =
+    subst (λ (units : List UnitRead). UnitsDiffer (sources_in units)) (sym (units_on sources source))
+    (differ_on [] (units_of sources) (unit_of source) before.differ
+    (subst (λ (n : ℕ). has_unit n (sources_in (units_of sources)) ≡ false) (sym one) before.none_is_source))
+
+-- a prelude alone, which is unit 0
+pub prelude_alone : (it : UnitRead) → it.lexed.unit ≡ 0 → IsFormed it → AreEarlier (it ∷ [])
+prelude_alone it unit formed = record {
+  formed = All-cons IsFormed it [] formed (All-nil IsFormed);
+  differ = (refl, tt);
+  none_is_source = subst (λ (n : ℕ). (if nat_eq n 1 then true else false) ≡ false) (sym unit) refl;
+}
 
 -- an answer that says a line which refuses the source
 pub refused : (named : FileNames) (lattices : List LatticeView) (before : List UnitRead) (marks : List IndexMark) (bytes line : List ℕ) (answer : Answer)

@@ -1,5 +1,5 @@
 -- Programs that are judged, and reports that are checked.
-use Rattle.std.proofs.Common.{◌≡◌, ℕ, Bool, true, false, List, refl, sym, ap, subst}
+use Rattle.std.proofs.Common.{◌≡◌, ℕ, Bool, true, false, List, refl, sym, subst}
 use Rattle.std.specs.declared.option.Option.{Option}
 use Rattle.lattice_core.specs.View.{LatticeView, orders_of}
 use Rattle.flow_graph.specs.System.{System}
@@ -9,7 +9,6 @@ use Rattle.report_checks.specs.declared.judging.Checked.TheVariants.{Hold, Bad}
 use Rattle.report_checks.specs.Checks.{ComesTo, Refutes}
 use Rattle.report_checks.specs.Texts.{checked_text}
 use Rattle.cqual_tool.specs.declared.status.Status.{Status}
-use Rattle.cqual_tool.specs.declared.status.Status.TheVariants.{PathsHold, PathBad}
 use Rattle.cqual_tool.specs.Statuses.{status_of, checked_status}
 use Rattle.cqual_tool.specs.Programs.{Judging}
 use Rattle.cqual_tool.specs.Words.{FileNames}
@@ -32,10 +31,6 @@ judged_as named it sys unit accepted status text words system which same spelled
 pub decided : (accepted : Bool) → IsDecided (status_of accepted)
 decided true = tt
 decided false = tt
-
-pub checked_decided : (found : Checked) → IsDecided (checked_status found)
-checked_decided Hold = tt
-checked_decided (Bad line code) = tt
 
 checked : (it : Judging) (bytes : List ℕ) (found : Checked) → ComesTo it.system (orders_of it.scene.lattices) bytes found
     → (found ≡ Hold → Refutes it.system (orders_of it.scene.lattices)) → IsChecked it bytes (checked_status found) (checked_text found)

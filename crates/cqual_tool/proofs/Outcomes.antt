@@ -1,5 +1,5 @@
 -- Answers and their outcomes.
-use Rattle.std.proofs.Common.{◌≡◌, inl, inr, ℕ, zero, suc, ◌<◌, ◌≤◌, List, [], ◌∷◌, ◌++◌, length, take, slice_get, Some, None, codes, IfSome, MatchOption, append_assoc, append-nil, refl, sym, ◌∙◌, ap, subst}
+use Rattle.std.proofs.Common.{◌≡◌, inl, inr, ℕ, ◌<◌, ◌≤◌, List, [], ◌∷◌, length, Some, None, codes, IfSome, MatchOption, append-nil, sym, ◌∙◌, ap, subst}
 use Rattle.std.specs.declared.option.Option.{Option}
 use Rattle.std.specs.declared.alloc.Global.{Global}
 use Rattle.std.specs.declared.vec.Vec.{Vec}
@@ -7,7 +7,7 @@ use Rattle.std.specs.Io.KnownBytes.{Appends}
 use Rattle.qual_base.specs.Outside.{content_of, Records}
 use Rattle.lattice_core.specs.View.{LatticeView}
 use Rattle.cqual_tool.specs.declared.status.Status.{Status}
-use Rattle.cqual_tool.specs.declared.status.Status.TheVariants.{Accepted, Rejected, PathsHold, PathBad, NotYet, Malformed, BadWords, ReadFault, WriteFault, NoMemory}
+use Rattle.cqual_tool.specs.declared.status.Status.TheVariants.{Malformed, BadWords, WriteFault}
 use Rattle.cqual_words.specs.Words.{Task, meaning_of}
 use Rattle.cqual_tool.specs.Words.{FileNames}
 use Rattle.cqual_tool.specs.Texts.{malformed_line, usage_line}
@@ -28,23 +28,11 @@ at_equal Is one other text same status words is =
     let With : List ℕ → Type 0 = λ t. Is other t in
     subst At (sym status) (subst With (sym words) is)
 
--- one more item of a list
-pub take_next : {A : Type 0} (xs : List A) (n : ℕ) (x : A) → slice_get xs n ≡ Some x → take (suc n) xs ≡ take n xs ++ x ∷ []
-take_next [] n x is = absurd cc
-take_next (y ∷ ys) zero x is = let same : y ≡ x = cc in ap (λ z. z ∷ []) same
-take_next (y ∷ ys) (suc n) x is = ap (λ zs. y ∷ zs) (take_next ys n x is)
-
 -- names that were recorded one after the other
 pub records_one : (old new : Option (List (List ℕ))) (name : List ℕ) → Records old new name → RecordsAll old new (name ∷ [])
 records_one old None name is = tt
 records_one None (Some new) name is = is
 records_one (Some old) (Some new) name is = is
-
-pub records_two : (old middle new : Option (List (List ℕ))) (one other : List ℕ) → Records old middle one → Records middle new other → RecordsAll old new (one ∷ other ∷ [])
-records_two old middle None one other first second = tt
-records_two old None (Some new) one other first second = absurd second
-records_two None (Some middle) (Some new) one other first second = absurd first
-records_two (Some old) (Some middle) (Some new) one other first second = second ∙ ap (λ (names : List (List ℕ)). names ++ other ∷ []) first ∙ append_assoc old (one ∷ []) (other ∷ [])
 
 -- what is told of the files
 pub when_told : {P Q : List (List ℕ × List ℕ) → Type 0} (told : Option (List (List ℕ × List ℕ))) → IfSome told P → ((all : List (List ℕ × List ℕ)) → P all → Q all) → IfSome told Q
@@ -54,9 +42,6 @@ when_told (Some all) p f = f all p
 -- what was taken, where it was too large or was all there
 pub none_found : (size : ℕ) (content : List ℕ) (limit : ℕ) (found : Option (Vec ℕ Global)) → MatchOption found (limit < size) (λ bytes. bytes.items ≡ content) → found ≡ None → limit < size
 none_found size content limit found is none = let Found : Option (Vec ℕ Global) → Type 0 = λ o. MatchOption o (limit < size) (λ bytes. bytes.items ≡ content) in subst Found none is
-
-pub decided_as : (one other : Status) → one ≡ other → IsDecided other → IsDecided one
-decided_as one other same is = subst IsDecided (sym same) is
 
 pub records_none : (told : Option (List (List ℕ))) → RecordsAll told told []
 records_none None = tt
@@ -76,12 +61,6 @@ module _ (named : FileNames) (all : List (List ℕ × List ℕ)) where
 
 -- what is sent of a decided answer
 module _ (words : List (List ℕ)) (old new : Option (List ℕ)) (status given : Status) (text : List ℕ) (sends : Sends old new status text given) (decided : IsDecided status) where
-  pub given_not : (bad : Status) → (IsDecided bad → ⊥) → (WriteFault ≡ bad → ⊥) → given ≡ bad → ⊥
-  given_not bad undecided other is = elim sends [
-    | inl all ↦ undecided (subst IsDecided (sym all.0 ∙ is) decided)
-    | inr part ↦ other (sym part.0 ∙ is)
-  ]
-
   module _ (told : Option (List (List ℕ × List ℕ))) (task : Task) (meaning : meaning_of words ≡ Some task)
       (outcome : IfSome told (λ all. OfTask (content_of all) task status text)) where
     pub sent_all : IsAnswer given → IfSome told (λ all. (written : List ℕ) × Outcome words all given written × Appends old new written)
@@ -173,16 +152,3 @@ pub lattices_fail : (taken content : List ℕ) → taken ≡ content → length 
 lattices_fail taken content same short fault refused reason =
     let Refused : List ℕ → Type 0 = λ b. IsFileFault b fault in
     record { within = short; refused = subst Refused same refused; reason = reason }
-
--- a count that did not rise
-pub complete : (status : Status) → (status ≡ ReadFault → ⊥) → (status ≡ WriteFault → ⊥) → (status ≡ NoMemory → ⊥) → IsAnswer status
-complete Accepted read write memory = tt
-complete Rejected read write memory = tt
-complete PathsHold read write memory = tt
-complete PathBad read write memory = tt
-complete NotYet read write memory = tt
-complete Malformed read write memory = tt
-complete BadWords read write memory = tt
-complete ReadFault read write memory = absurd (read refl)
-complete WriteFault read write memory = absurd (write refl)
-complete NoMemory read write memory = absurd (memory refl)

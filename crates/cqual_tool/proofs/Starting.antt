@@ -1,13 +1,13 @@
 -- Which files are started, and what was read before them.
-use Rattle.std.proofs.Common.{◌≡◌, ℕ, List, [], ◌∷◌, ◌++◌, length, Some, None, IfSome, ◌∙◌, ap, subst, append_assoc}
+use Rattle.std.proofs.Common.{◌≡◌, ℕ, List, [], ◌∷◌, ◌++◌, Some, None, IfSome, ◌∙◌, ap, subst, append_assoc}
 use Rattle.std.specs.declared.option.Option.{Option}
 use Rattle.qual_base.specs.Outside.{content_of, Records}
 use Rattle.lattice_core.specs.View.{LatticeView}
 use Rattle.c_types.specs.Sources.{UnitRead}
 use Rattle.index_words.specs.Marks.{IndexMark}
 use Rattle.cqual_tool.specs.Words.{FileNames}
-use Rattle.cqual_tool.specs.Outcome.{AreBefore, IsCounted, LatticesRead, RecordsAll, Starts, LatticeAlone, ThenPrelude, ThenSource, ThenReport, named_one}
-use Rattle.cqual_tool.specs.Preparing.{EndStarts, NoReport, OneReport, SourceStarts, SourceAlone, ReportBehind, UnitsStart, PreludeAlone, SourceToo, ReportToo, BeforeIsRead, CountedIsRead}
+use Rattle.cqual_tool.specs.Outcome.{AreBefore, IsCounted, LatticesRead, RecordsAll, Starts, ThenPrelude, ThenSource, ThenReport, named_one}
+use Rattle.cqual_tool.specs.Preparing.{EndStarts, NoReport, OneReport, SourceStarts, SourceAlone, ReportBehind, UnitsStart, PreludeAlone, SourceToo, ReportToo}
 use Rattle.cqual_tool.proofs.Outcomes.{when_told}
 
 -- names that were recorded behind one, and behind one that may be named

@@ -1,5 +1,5 @@
 -- What the tool answers and writes, for the words and the contents of the files.
-use Rattle.std.specs.Prelude.{◌≡◌, ◌≢◌, ℕ, zero, suc, Bool, true, false, ◌<◌, ◌≤◌, List, [], ◌∷◌, ◌++◌, length, slice_get, Some, None, codes, IfSome, Option}
+use Rattle.std.specs.Prelude.{◌≡◌, ◌≢◌, ℕ, zero, suc, Bool, true, false, ◌<◌, ◌≤◌, List, [], ◌∷◌, ◌++◌, length, Some, None, codes, IfSome, Option}
 use Rattle.qual_base.specs.Outside.{content_of}
 use Rattle.qual_base.specs.Words.{MeansTheSame}
 use Rattle.lattice_core.specs.Names.{words_of}
@@ -26,21 +26,20 @@ use Rattle.index_words.specs.Marks.{IndexMark}
 use Rattle.cq_prelude.specs.Preludes.{IsPrelude, IsFaultOf}
 use Rattle.cq_prelude.specs.declared.fault.PreludeFault.{PreludeFault}
 use Rattle.cq_prelude.specs.declared.fault.PreludeFault.TheVariants.{NoMemory as OutOfSpace}
-use Rattle.flow_graph.specs.System.{System, IsWellOwned, most_constraints, most_variables}
-use Rattle.flow_graph.specs.Unfolding.{IsAccepted, NamesElementsIn}
-use Rattle.annotate.specs.Texts.{Scene}
+use Rattle.flow_graph.specs.System.{most_constraints, most_variables}
+use Rattle.flow_graph.specs.Unfolding.{IsAccepted}
 use Rattle.annotate.specs.Reports.{IsJudgedWith, ErrorCount}
 use Rattle.report_checks.specs.declared.judging.Checked.TheVariants.{Hold, Bad}
 use Rattle.report_checks.specs.declared.judging.Code.{Code}
 use Rattle.report_checks.specs.Checks.{ComesTo, Refutes}
 use Rattle.report_checks.specs.Texts.{checked_text}
 use Rattle.cqual_tool.specs.declared.status.Status.{Status}
-use Rattle.cqual_tool.specs.declared.status.Status.TheVariants.{Accepted, Rejected, PathsHold, PathBad, NotYet, Malformed, BadWords, ReadFault, WriteFault, NoMemory}
+use Rattle.cqual_tool.specs.declared.status.Status.TheVariants.{Accepted, Rejected, PathsHold, PathBad, Malformed, BadWords, ReadFault, WriteFault, NoMemory}
 use Rattle.cqual_words.specs.Words.{Task, Generate, meaning_of}
 use Rattle.generated_source.specs.Source.{generated_text, lattice_text}
 use Rattle.generated_source.specs.Summary.{summary_text}
 use Rattle.cqual_tool.specs.Words.{FileNames, names_of}
-use Rattle.cqual_tool.specs.Texts.{usage_line, not_yet_line, malformed_line}
+use Rattle.cqual_tool.specs.Texts.{usage_line, malformed_line}
 use Rattle.cqual_tool.specs.Faults.{lattice_line, lex_line}
 use Rattle.cqual_tool.specs.Syntax.{syntax_line}
 use Rattle.cqual_tool.specs.Shapes.{shape_line}
@@ -142,19 +141,13 @@ pub record IsCounted (named : FileNames) (lattices : List LatticeView) (before :
   pub few_variables : length (judging_of named lattices marks (before ++ it ∷ [])).scene.positions ≤ most_variables
   pub few_constraints : length (judging_of named lattices marks (before ++ it ∷ [])).system.constraints ≤ most_constraints
 
--- each constant and bound of a lattice names an element of it
-abbrev pub AreNamed : List LatticeView → System → Type 0
-AreNamed lattices sys = (n : ℕ) (view : LatticeView) → slice_get lattices n ≡ Some view → NamesElementsIn sys n view.order
-
 -- the unit of which the annotated source is asked for: 1 is the source
 abbrev pub annotated_unit : Bool → Option ℕ
 annotated_unit true = Some 1
 annotated_unit false = None
 
--- The status and the whole text for the constraints of a program. Constraints whose flows leave their functions, or that name
--- elements which there are not, are not judged.
+-- The status and the whole text for the constraints of a program.
 pub data IsReport (named : FileNames) (it : Judging) : Status → List ℕ → Type 0 where
-  NotJudged : (IsWellOwned it.system → AreNamed it.scene.lattices it.system → ⊥) → IsReport named it NotYet (not_yet_line named.source)
   IsRight : (text : List ℕ) → IsJudgedWith it.scene it.system (annotated_unit named.annotated) true text → IsReport named it Accepted text
   IsWrong : (text : List ℕ) → IsJudgedWith it.scene it.system (annotated_unit named.annotated) false text → IsReport named it Rejected text
 
@@ -211,7 +204,6 @@ sum_status (suc errors) = Rejected
 -- The status and the whole text for the program of a source that the tool makes itself: the counts of its variables, its constraints,
 -- its call sites and its exceeded bounds. It is accepted exactly where there are none of these.
 pub data IsSummed (number : ℕ) (it : Judging) : Status → List ℕ → Type 0 where
-  NotSummed : (IsWellOwned it.system → AreNamed it.scene.lattices it.system → ⊥) → IsSummed number it NotYet (not_yet_line made_names.source)
   SummedUp : (errors : ℕ) → ErrorCount it.scene it.system (length it.system.constraints) errors →
       (errors ≡ 0 → IsAccepted it.system (orders_of it.scene.lattices)) →
       (0 < errors → IsAccepted it.system (orders_of it.scene.lattices) → ⊥) →
@@ -259,7 +251,6 @@ IsDecided Accepted = Unit {0}
 IsDecided Rejected = Unit {0}
 IsDecided PathsHold = Unit {0}
 IsDecided PathBad = Unit {0}
-IsDecided NotYet = Unit {0}
 IsDecided Malformed = Unit {0}
 IsDecided _ = ⊥
 
@@ -310,7 +301,10 @@ pub data TaskStarts (task : Task) (files : Option (List (List ℕ × List ℕ)))
   InOrder : (named : FileNames) (names : List (List ℕ)) → names_of task ≡ Some named → Starts named files names → TaskStarts task files names
   MadeAlone : (number : ℕ) → task ≡ Generate number → TaskStarts task files []
 
--- no file is started for words without a meaning, nor where memory is wanting before a meaning is found
-pub data StartsFor (words : List (List ℕ)) (files : Option (List (List ℕ × List ℕ))) : List (List ℕ) → Type 0 where
-  NoFile : StartsFor words files []
-  ForTask : (task : Task) (names : List (List ℕ)) → meaning_of words ≡ Some task → TaskStarts task files names → StartsFor words files names
+-- The files that are started: none for words without a meaning, nor where memory is wanting before their meaning is found.
+pub data StartsFor (words : List (List ℕ)) (files : Option (List (List ℕ × List ℕ))) (status : Status)
+    : List (List ℕ) → Type 0 where
+  NoFile : meaning_of words ≡ None → StartsFor words files status []
+  NoMeaningYet : status ≡ NoMemory → StartsFor words files status []
+  ForTask : (task : Task) (names : List (List ℕ)) → meaning_of words ≡ Some task → TaskStarts task files names →
+      StartsFor words files status names

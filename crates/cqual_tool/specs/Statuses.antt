@@ -4,7 +4,7 @@ use Rattle.report_checks.specs.declared.judging.Checked.{Checked}
 use Rattle.report_checks.specs.declared.judging.Checked.TheVariants.{Hold, Bad}
 use Rattle.cqual_tool.specs.declared.answer.Answer.{Answer}
 use Rattle.cqual_tool.specs.declared.status.Status.{Status}
-use Rattle.cqual_tool.specs.declared.status.Status.TheVariants.{Accepted, Rejected, PathsHold, PathBad, NotYet, Malformed, BadWords, ReadFault, WriteFault, NoMemory}
+use Rattle.cqual_tool.specs.declared.status.Status.TheVariants.{Accepted, Rejected, PathsHold, PathBad, Malformed, BadWords, ReadFault, WriteFault, NoMemory}
 
 abbrev pub exit_of : Status → ℕ
 exit_of Accepted = 0
@@ -16,7 +16,6 @@ exit_of BadWords = 3
 exit_of ReadFault = 4
 exit_of WriteFault = 5
 exit_of NoMemory = 6
-exit_of NotYet = 7
 
 -- an answer of this status and this text
 abbrev pub Says : Status → List ℕ → Answer → Type 0

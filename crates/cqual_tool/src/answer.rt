@@ -1,7 +1,7 @@
 //! A status with the whole text that is to be written.
 
 ghost use Rattle.std.specs.Prelude.{◌≡◌, ℕ, ◌++◌, [], ◌∷◌, IfOk, codes};
-ghost use Rattle.cqual_tool.specs.Texts.{not_yet_line, malformed_line};
+ghost use Rattle.cqual_tool.specs.Texts.{malformed_line};
 ghost use Rattle.cqual_tool.specs.Faults.{placed_line};
 ghost use Rattle.cqual_tool.specs.Statuses.{Says};
 
@@ -14,17 +14,6 @@ use std::alloc::{AllocError, Global};
 pub struct Answer {
     pub status: Status,
     pub text: Vec<u8>,
-}
-
-/// The line of a source whose program is not judged.
-pub fn not_yet(alloc: Global, file: &str) -> Result<Answer, AllocError>
-    ensures { IfOk result (Says Status.NotYet (not_yet_line file.now)) }
-{
-    let text = format!(in alloc; "not yet {file}\n")?;
-    Ok(Answer {
-        status: Status::NotYet,
-        text: text.into_bytes(),
-    })
 }
 
 /// The line of a fault, by where it is: a file, or a place in one.

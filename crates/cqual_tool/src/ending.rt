@@ -7,7 +7,9 @@ ghost use Rattle.index_words.specs.Marks.{IndexMark};
 ghost use Rattle.c_types.specs.Sources.{UnitRead, units_of};
 ghost use Rattle.constraint_gen.specs.Programs.{program_in};
 ghost use Rattle.constraint_gen.specs.Generating.{IsGenerated};
+ghost use Rattle.flow_graph.specs.System.{IsWellOwned};
 ghost use Rattle.annotate.specs.Scenes.{Shows};
+ghost use Rattle.annotate.specs.Solutions.{AllNamed};
 ghost use Rattle.cqual_tool.specs.Statuses.{status_of, checked_status};
 ghost use Rattle.cqual_tool.specs.Words.{names_in as files_in};
 ghost use Rattle.cqual_tool.specs.Programs.{Judging, judging_of};
@@ -15,13 +17,13 @@ ghost use Rattle.cqual_tool.specs.Outcome as rules;
 ghost use Rattle.cqual_tool.specs.Outcome.{IsChecked, IsDecided, IsEnd, IsReport, RecordsAll};
 ghost use Rattle.cqual_tool.specs.Preparing.{EndStarts, IsReady};
 
-use crate::answer::{Answer, not_yet};
+use crate::answer::Answer;
 use crate::preparing::{Ready, texts};
 use crate::status::Status;
 use crate::taking::{REPORT_LIMIT, Stop, taken, too_large};
 use crate::words::Named;
-use annotate::{Judged, Scene, are_named, judge_with};
-use flow_graph::{FlowGraph, is_well_owned};
+use annotate::{Judged, Scene, judge_with};
+use flow_graph::FlowGraph;
 use lattice_core::Lattices;
 use qual_base::{Files, NoMemory, Numbered, UnitNo};
 use report_checks::{Checked, judge_report, put_checked};
@@ -61,17 +63,13 @@ fn report(
     scene: &Scene<'_>,
     graph: &FlowGraph,
 ) -> Result<Answer, NoMemory>
+    requires named { AllNamed scene.now.lattices.now graph.now }
+    requires owned { IsWellOwned graph.now }
     ensures report { IfOk result (λ answer. (it : Judging) → Shows scene.now it.scene →
         it.system ≡ graph.now →
         IsReport (files_in named.now) it answer.status answer.text.items) }
     ensures decided { IfOk result (λ answer. IsDecided answer.status) }
 {
-    if !is_well_owned(graph) {
-        return Ok(not_yet(alloc, named.source)?);
-    }
-    if !are_named(scene.lattices, graph) {
-        return Ok(not_yet(alloc, named.source)?);
-    }
     let judged = judge_with(alloc, scene, graph, annotated_unit(named.annotated))?;
     Ok(reported(judged))
 }
@@ -83,6 +81,8 @@ fn inferred(
     lattices: &Lattices,
     ready: &Ready<'_>,
 ) -> Result<Answer, NoMemory>
+    requires named { AllNamed lattices.now ready.now.made.graph }
+    requires owned { IsWellOwned ready.now.made.graph }
     ensures report { (units : List UnitRead) (marks : List IndexMark) →
         units_of ready.now.sources.items ≡ units →
         IsGenerated units (program_in lattices.now marks units) ready.now.made →
@@ -140,6 +140,8 @@ pub fn end<F: Files>(
     ready: &Ready<'_>,
     files: &mut F,
 ) -> Result<Answer, Stop>
+    requires named { AllNamed lattices.now ready.now.made.graph }
+    requires owned { IsWellOwned ready.now.made.graph }
     ensures outcome { (before : List UnitRead) (marks : List IndexMark) (bytes : List ℕ) →
         (is : IsReady (files_in named.now) lattices.now before marks bytes ready.now) →
         IfOk result (λ answer. IfSome (F.contents files.old) (λ all. IsEnd (files_in named.now)

@@ -1,7 +1,9 @@
 //! The source that the tool makes itself, and the sum of what is found in it.
 
 ghost use Rattle.std.specs.Prelude.{◌≡◌, ℕ, [], ◌∷◌, List, IfOk};
+ghost use Rattle.flow_graph.specs.System.{IsWellOwned};
 ghost use Rattle.annotate.specs.Scenes.{Shows};
+ghost use Rattle.annotate.specs.Solutions.{AllNamed};
 ghost use Rattle.generated_source.specs.Source.{generated_text, lattice_text};
 ghost use Rattle.cqual_words.specs.Words.{IsMade};
 ghost use Rattle.cqual_tool.specs.Words.{names_in as files_in};
@@ -10,14 +12,14 @@ ghost use Rattle.cqual_tool.specs.Outcome as rules;
 ghost use Rattle.cqual_tool.specs.Outcome.{IsDecided, IsSummed, LatticesRead, OfMade};
 ghost use Rattle.cqual_tool.specs.Preparing.{IsReady};
 
-use crate::answer::{Answer, not_yet};
+use crate::answer::Answer;
 use crate::faults::lattice_refused;
 use crate::preparing::{Prepared, Ready, nothing_before, prepare, texts};
 use crate::status::Status;
 use crate::taking::{SOURCE_LIMIT, too_large};
 use crate::words::Named;
-use annotate::{Scene, are_named, count_errors};
-use flow_graph::{FlowGraph, is_well_owned};
+use annotate::{Scene, count_errors};
+use flow_graph::FlowGraph;
 use generated_source::{Counts, generated_source, lattice_bytes, put_summary};
 use lattice_core::Lattices;
 use lattice_file::read_lattices;
@@ -59,16 +61,12 @@ fn summed(
     scene: &Scene<'_>,
     graph: &FlowGraph,
 ) -> Result<Answer, NoMemory>
+    requires named { AllNamed scene.now.lattices.now graph.now }
+    requires owned { IsWellOwned graph.now }
     ensures sum { IfOk result (λ answer. (it : Judging) → Shows scene.now it.scene →
         it.system ≡ graph.now → IsSummed number it answer.status answer.text.items) }
     ensures decided { IfOk result (λ answer. IsDecided answer.status) }
 {
-    if !is_well_owned(graph) {
-        return Ok(not_yet(alloc, SOURCE)?);
-    }
-    if !are_named(scene.lattices, graph) {
-        return Ok(not_yet(alloc, SOURCE)?);
-    }
     let errors = count_errors(alloc, scene, graph)?;
     let counts = Counts {
         variables: scene.vars.count(),
@@ -91,6 +89,8 @@ fn of_program(
     lattices: &Lattices,
     ready: &Ready<'_>,
 ) -> Result<Answer, NoMemory>
+    requires named { AllNamed lattices.now ready.now.made.graph }
+    requires owned { IsWellOwned ready.now.made.graph }
     ensures sum { (bytes : List ℕ) →
         (is : IsReady rules.made_names lattices.now [] [] bytes ready.now) → IfOk result
         (λ answer. IsSummed number (judging_of rules.made_names lattices.now [] (is.unit ∷ []))

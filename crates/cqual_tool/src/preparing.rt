@@ -1,12 +1,13 @@
 //! From the bytes of a source to a program with its constraints.
 
 ghost use Rattle.std.specs.Prelude.{◌≡◌, ◌≢◌, ◌≤◌, ◌∷◌, ◌++◌, [], ℕ, List, All, IfOk, length, map};
-ghost use Rattle.name_laws.specs.NameLaws.{IsSound, tape_of_source};
+ghost use Rattle.name_laws.specs.NameLaws.{tape_of_source};
 ghost use Rattle.type_rules.specs.Program.{names_of};
 ghost use Rattle.unit_shapes.specs.Views.{names_in};
 ghost use Rattle.unit_types.specs.Resolved.{tapes_of};
 ghost use Rattle.unit_types.specs.declared.fault.ShapeFault.TheVariants as Stops;
 ghost use Rattle.c_types.specs.Sources.{UnitRead, sources_of, unit_of, units_of};
+ghost use Rattle.key_laws.specs.Differing.{IsRead, UnitsDiffer};
 ghost use Rattle.annotate.specs.Scenes as scenes;
 ghost use Rattle.cqual_tool.specs.declared.status.Status.TheVariants as Statuses;
 ghost use Rattle.cqual_tool.specs.Statuses.{Says};
@@ -14,7 +15,7 @@ ghost use Rattle.cqual_tool.specs.Words.{names_in as files_in};
 ghost use Rattle.cqual_tool.specs.Programs.{file_of, texts_of};
 ghost use Rattle.cqual_tool.specs.Shapes.{shape_line};
 ghost use Rattle.cqual_tool.specs.Outcome.{SourceLexes, SourceParses, SourceReads, source_limit};
-ghost use Rattle.cqual_tool.specs.Preparing.{IsFormed, IsPrepared};
+ghost use Rattle.cqual_tool.specs.Preparing.{AreEarlier, IsFormed, IsPrepared};
 
 use crate::answer::{Answer, malformed};
 use crate::faults::source_refused;
@@ -119,6 +120,8 @@ fn constrain<'a>(
     prelude: &Prelude,
     program: &Resolved,
 ) -> Result<Prepared<'a>, NoMemory>
+    requires read { All IsRead (sources_of sources.items) }
+    requires units { UnitsDiffer (sources_of sources.items) }
     requires names { names_in program.now.rows program.now.names
         ≡ names_of (sources_of sources.items) }
     requires tapes { tapes_of program.now.units ≡ map tape_of_source (sources_of sources.items) }
@@ -147,7 +150,8 @@ fn resolved<'a>(
     sources: Vec<Source<'a>>,
     prelude: &Prelude,
 ) -> Result<Prepared<'a>, NoMemory>
-    requires { All IsSound (sources_of sources.items) }
+    requires read { All IsRead (sources_of sources.items) }
+    requires units { UnitsDiffer (sources_of sources.items) }
     ensures { (before : List UnitRead) (unit : UnitRead) (bytes : List ℕ) →
         units_of sources.entry.items ≡ before ++ unit ∷ [] →
         SourceParses lattices.now bytes unit → IfOk result
@@ -167,7 +171,8 @@ fn joined<'a>(
     earlier: Earlier<'a>,
     source: Source<'a>,
 ) -> Result<Prepared<'a>, NoMemory>
-    requires before { All IsFormed (units_of earlier.sources.items) }
+    requires before { AreEarlier (units_of earlier.sources.items) }
+    requires unit { (unit_of source).lexed.unit ≡ 1 }
     requires formed { IsFormed (unit_of source) }
     ensures { (bytes : List ℕ) → SourceParses lattices.now bytes (unit_of source.entry) →
         IfOk result (IsPrepared (files_in named.now) lattices.now
@@ -189,7 +194,8 @@ fn parsed<'a>(
     earlier: Earlier<'a>,
     tokens: Tokens<'a>,
 ) -> Result<Prepared<'a>, NoMemory>
-    requires { All IsFormed (units_of earlier.sources.items) }
+    requires before { AreEarlier (units_of earlier.sources.items) }
+    requires unit { tokens.unit ≡ 1 }
     ensures { (bytes : List ℕ) → SourceLexes lattices.now bytes tokens.entry →
         IfOk result (IsPrepared (files_in named.now) lattices.now
         (units_of earlier.entry.sources.items) earlier.entry.prelude bytes) }
@@ -208,7 +214,7 @@ pub fn prepare<'a>(
     earlier: Earlier<'a>,
     bytes: &'a [u8],
 ) -> Result<Prepared<'a>, NoMemory>
-    requires before { All IsFormed (units_of earlier.sources.items) }
+    requires before { AreEarlier (units_of earlier.sources.items) }
     requires within { length bytes.now ≤ source_limit }
     ensures { IfOk result (IsPrepared (files_in named.now) lattices.now
         (units_of earlier.entry.sources.items) earlier.entry.prelude bytes.now) }

@@ -1,12 +1,12 @@
 //! Taking the files in order, and what is answered of their bytes.
 
-ghost use Rattle.std.specs.Prelude.{◌≡◌, ◌∷◌, [], ℕ, List, All, Some, IfOk, IfSome, IsErrOf};
+ghost use Rattle.std.specs.Prelude.{◌≡◌, ◌∷◌, [], ℕ, List, Some, IfOk, IfSome, IsErrOf};
 ghost use Rattle.qual_base.specs.Counts.{GoesOn, Rose};
 ghost use Rattle.qual_base.specs.Outside.{content_of};
 ghost use Rattle.c_types.specs.Sources.{unit_of, units_of};
 ghost use Rattle.cqual_tool.specs.Words.{names_in as files_in};
 ghost use Rattle.cqual_tool.specs.Outcome.{IsDecided, OfFiles, OfSource, OfUnits, RecordsAll, Starts};
-ghost use Rattle.cqual_tool.specs.Preparing.{IsFormed, SourceStarts, UnitsStart};
+ghost use Rattle.cqual_tool.specs.Preparing.{AreEarlier, SourceStarts, UnitsStart};
 
 use crate::answer::Answer;
 use crate::ending::end;
@@ -40,7 +40,7 @@ fn take_source<F: Files>(
     earlier: Earlier<'_>,
     files: &mut F,
 ) -> Result<Answer, Stop>
-    requires { All IsFormed (units_of earlier.sources.items) }
+    requires { AreEarlier (units_of earlier.sources.items) }
     ensures outcome { IfOk result (λ answer. IfSome (F.contents files.old) (λ all.
         OfSource (files_in named.now) (content_of all) lattices.now
         (units_of earlier.entry.sources.items) earlier.entry.prelude answer.status answer.text.items)) }

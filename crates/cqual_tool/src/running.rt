@@ -95,7 +95,7 @@ pub fn run<F: Files, O: Sink>(alloc: Global, words: &[String], files: &mut F, ou
         ⊎ (result ≡ Statuses.NoMemory)) }
     ensures started { (names : List (List ℕ))
         × RecordsAll (F.started files.old) (F.started files.new) names
-        × StartsFor (map string_bytes words.now) (F.contents files.old) names }
+        × StartsFor (map string_bytes words.now) (F.contents files.old) result names }
     ensures reads { GoesOn (F.faults files.old) (F.faults files.new) }
     ensures writes { GoesOn (O.faults out.old) (O.faults out.new) }
 

@@ -14,8 +14,6 @@ pub enum Status {
     PathsHold,
     /// The report does not read, or a path proof of it fails.
     PathBad,
-    /// The flows of the program leave their functions, so that it is not judged.
-    NotYet,
     /// A file is past its limit or does not read, or the program has too many variables or constraints.
     Malformed,
     /// The words have no meaning.
@@ -43,7 +41,6 @@ impl Status {
             Status::ReadFault => 4,
             Status::WriteFault => 5,
             Status::NoMemory => 6,
-            Status::NotYet => 7,
         }
     }
 }

@@ -1,10 +1,7 @@
 -- The source that the tool makes itself, and the lattice under which it is read.
-use Rattle.std.specs.Prelude.{ℕ, zero, suc, List, [], ◌∷◌, ◌++◌, codes}
+use Rattle.std.specs.Prelude.{ℕ, zero, suc, List, ◌++◌, codes}
 use Rattle.std.specs.Fmt.{decimal}
-
--- a line with its line feed
-abbrev pub line : List ℕ → List ℕ
-line text = text ++ 10 ∷ []
+use Rattle.annotate.specs.Texts.{line}
 
 -- Two elements at the level of values: what is declared `$tainted` is at least that, what is declared `$untainted` at most that.
 abbrev pub lattice_text : List ℕ

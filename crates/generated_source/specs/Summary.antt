@@ -1,7 +1,7 @@
 -- The summary of what is found in the generated source.
 use Rattle.std.specs.Prelude.{ℕ, zero, suc, List, ◌++◌, codes}
 use Rattle.std.specs.Fmt.{decimal}
-use Rattle.generated_source.specs.Source.{line}
+use Rattle.annotate.specs.Texts.{line}
 use Rattle.generated_source.specs.declared.summary.Counts.{Counts}
 
 -- a number behind a word

@@ -4,7 +4,8 @@ ghost use Rattle.std.specs.Prelude.{◌≡◌, ◌++◌, ◌≤◌, IfOk, OnOk};
 ghost use Rattle.generated_source.specs.Source.{lattice_text, caller_line, end_text};
 ghost use Rattle.generated_source.specs.Source.{generated_text};
 
-use crate::writing::{put, put_numbered};
+use crate::writing::put_numbered;
+use annotate::put;
 use qual_base::NoMemory;
 use std::alloc::{AllocError, Global};
 

@@ -3,7 +3,8 @@
 ghost use Rattle.std.specs.Prelude.{◌≡◌, ◌++◌, OnOk};
 ghost use Rattle.generated_source.specs.Summary.{count_line, verdict_text, summary_text};
 
-use crate::writing::{put, put_numbered};
+use crate::writing::put_numbered;
+use annotate::put;
 use qual_base::NoMemory;
 use std::alloc::AllocError;
 

@@ -1,5 +1,4 @@
-use Rattle.std.proofs.Common.{ℕ, List, [], ◌∷◌, ◌++◌, length, IfSome, refl, ap, sym, subst, ◌∙◌}
-use Rattle.std.specs.declared.option.Option.{Option}
+use Rattle.std.proofs.Common.{ℕ, List, [], ◌∷◌, ◌++◌, length, refl, ap, sym, subst}
 use Rattle.std.specs.Option.{option_map}
 use Rattle.qual_base.specs.Outside.{content_of}
 use Rattle.cqual_tool.specs.declared.status.Status.TheVariants.{Malformed}

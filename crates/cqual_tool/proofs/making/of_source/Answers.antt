@@ -1,9 +1,8 @@
-use Rattle.std.proofs.Common.{arith, ℕ, ◌<◌, List, [], length, refl, sym, ap, subst}
+use Rattle.std.proofs.Common.{arith, ℕ, ◌<◌, List, [], length, refl, ap, subst}
 use Rattle.std.proofs.lemmas.Result.{IfOk-weaker}
 use Rattle.generated_source.specs.Source.{generated_text}
 use Rattle.c_types.specs.Sources.{units_of}
 use Rattle.cqual_tool.specs.declared.status.Status.TheVariants.{Malformed}
-use Rattle.cqual_tool.specs.declared.preparing.Prepared.TheVariants.{Refused}
 use Rattle.cqual_tool.specs.Words.{names_in}
 use Rattle.cqual_tool.specs.Outcome.{IsRefused, OfMade, MadeRead, MadeRefused, MadeTooLarge, made_names, source_limit}
 use Rattle.cqual_tool.specs.Preparing.{IsPrepared, IsReady}
@@ -32,6 +31,15 @@ returns-in-Refused-clause-outcome c = λ read.
     (at_made (λ ns us ms bs. IsRefused ns lattices us ms bs answer.text.items) names before marks c.args.bytes.now made_names [] []
     (generated_text c.args.number) c.made_names-named.ensures (ap units_of c.nothing_before.ensures.sources) c.nothing_before.ensures.prelude
     c.requires is.1))
+
+pub of_program-requires : goal.of_program-requires
+of_program-requires c =
+    let names = names_in c.made_names-named.result in
+    let before = units_of c.nothing_before.result.sources.items in
+    let marks = c.nothing_before.result.prelude in
+    let is : IsReady names c.args.lattices.now before marks c.args.bytes.now c.in-Program.ready =
+    subst (IsPrepared names c.args.lattices.now before marks c.args.bytes.now) c.in-Program.is c.in_ok-answer.ensures in
+    record { named = is.elements; owned = is.owned }
 
 pub returns-in-Program-clause-outcome : goal.returns-in-Program-clause-outcome
 returns-in-Program-clause-outcome c = λ read.

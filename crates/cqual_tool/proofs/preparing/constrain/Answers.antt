@@ -1,8 +1,19 @@
-use Rattle.std.proofs.Common.{Err, List, ap, ◌∙◌}
-use Rattle.c_types.specs.Sources.{units_of}
+use Rattle.std.proofs.Common.{Err, List, ap, sym, subst, ◌∙◌}
+use Rattle.std.specs.Prelude.{All}
+use Rattle.key_laws.specs.Differing.{IsRead, UnitsDiffer}
+use Rattle.c_types.specs.declared.source.Source.{Source}
+use Rattle.c_types.specs.Sources.{sources_of, units_of}
 use Rattle.cqual_tool.specs.Words.{names_in}
 use Rattle.cqual_tool.proofs.Joining.{refused, counted, generated, many_variables, many_constraints}
 use Rattle.cqual_tool.proofs.preparing.constrain.Goals as goal
+
+pub generate-requires-clause-read : goal.generate-requires-clause-read
+generate-requires-clause-read c =
+    subst (λ (ss : List Source). All IsRead (sources_of ss)) (sym c.deref.ensures.value) c.requires.read
+
+pub generate-requires-clause-units : goal.generate-requires-clause-units
+generate-requires-clause-units c =
+    subst (λ (ss : List Source). UnitsDiffer (sources_of ss)) (sym c.deref.ensures.value) c.requires.units
 
 pub returns-in-Ok : goal.returns-in-Ok
 returns-in-Ok c = λ before unit bytes are is.
@@ -15,6 +26,8 @@ returns-in-Ok c = λ before unit bytes are is.
           c.in-Ok.ensures.few_variables c.in-Ok.ensures.few_constraints;
       units = are;
       made = generated named c.args.lattices.now before c.args.prelude.now bytes unit units same c.in-Ok.made c.in-Ok.ensures.made;
+      owned = c.in-Ok.ensures.owned;
+      elements = c.in-Ok.ensures.named;
     }
 
 pub returns-in-Err-TooManyVariables : goal.returns-in-Err-TooManyVariables

@@ -1,9 +1,9 @@
-use Rattle.std.proofs.Common.{List, [], ◌∷◌, ◌++◌, ap, ◌∙◌, sym, subst}
+use Rattle.std.proofs.Common.{List, ap, ◌∙◌, sym, subst}
 use Rattle.std.specs.Prelude.{All}
-use Rattle.name_laws.specs.NameLaws.{IsSound}
+use Rattle.key_laws.specs.Differing.{IsRead, UnitsDiffer}
 use Rattle.c_types.specs.declared.source.Source.{Source}
 use Rattle.c_types.specs.Sources.{sources_of, unit_of, units_of}
-use Rattle.cqual_tool.proofs.Joining.{formed_on, sound_behind, units_on}
+use Rattle.cqual_tool.proofs.Joining.{read_on, units_differ, units_on}
 use Rattle.cqual_tool.proofs.preparing.joined.Goals as goal
 
 pub returns : goal.returns
@@ -14,5 +14,9 @@ returns c = λ bytes parses.
 pub resolved-requires : goal.resolved-requires
 resolved-requires c =
     let before = c.args.earlier.sources.items in
-    subst (λ (ss : List Source). All IsSound (sources_of ss)) (sym c.in_ok-push.ensures.items)
-    (sound_behind [] (units_of (before ++ c.args.source ∷ [])) (formed_on before c.args.source c.requires.before c.requires.formed))
+    record {
+      read = subst (λ (ss : List Source). All IsRead (sources_of ss)) (sym c.in_ok-push.ensures.items)
+          (read_on before c.args.source c.requires.before c.requires.formed);
+      units = subst (λ (ss : List Source). UnitsDiffer (sources_of ss)) (sym c.in_ok-push.ensures.items)
+          (units_differ before c.args.source c.requires.before c.requires.unit);
+    }

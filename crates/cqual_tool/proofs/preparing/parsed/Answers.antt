@@ -5,7 +5,7 @@ use Rattle.cqual_tool.proofs.Joining.{refused}
 use Rattle.cqual_tool.proofs.preparing.parsed.Goals as goal
 
 pub joined-requires-clause-formed : goal.joined-requires-clause-formed
-joined-requires-clause-formed c = (_, c.in-Ok.ensures.unit.rules)
+joined-requires-clause-formed c = c.in-Ok.ensures.unit
 
 pub returns-in-Ok : goal.returns-in-Ok
 returns-in-Ok c = λ bytes lexes. c.joined.ensures bytes (record { lexes = lexes; formed = c.in-Ok.ensures.unit })

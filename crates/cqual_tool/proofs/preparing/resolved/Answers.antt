@@ -1,12 +1,12 @@
 use Rattle.std.proofs.Common.{List, sym, ap, subst, ◌∙◌}
 use Rattle.std.specs.Prelude.{All}
-use Rattle.name_laws.specs.NameLaws.{IsSound}
+use Rattle.key_laws.specs.Differing.{IsRead}
 use Rattle.type_rules.specs.Program.{faults_of}
 use Rattle.unit_types.specs.Faults.{IsFirstUnlessMemory}
 use Rattle.c_types.specs.declared.source.Source.{Source}
 use Rattle.c_types.specs.Sources.{sources_of, units_of}
 use Rattle.cqual_tool.specs.Words.{names_in}
-use Rattle.cqual_tool.proofs.Joining.{faulty, reads, refused}
+use Rattle.cqual_tool.proofs.Joining.{faulty, reads, refused, sound}
 use Rattle.cqual_tool.proofs.preparing.resolved.Goals as goal
 
 pub returns-in-Ok : goal.returns-in-Ok
@@ -27,4 +27,6 @@ returns c = λ before unit bytes are parses.
     (c.deref.ensures.value ∙ sym c.deref-in-Err.ensures.value) c.in-Err.ensures.first))
 
 pub resolve-requires : goal.resolve-requires
-resolve-requires c = record { formed = subst (λ (ss : List Source). All IsSound (sources_of ss)) (sym c.deref.ensures.value) c.requires }
+resolve-requires c =
+    let formed = subst (λ (ss : List Source). All IsRead (sources_of ss)) (sym c.deref.ensures.value) c.requires.read in
+    record { formed = sound _ formed }

@@ -1,6 +1,5 @@
 use Rattle.std.proofs.Common.{arith, ℕ, ◌+◌, ◌++◌, ◌<◌, ◌≤◌, List, length, drop, sym, ◌∙◌, ap, append-nil}
 use Rattle.std.proofs.lemmas.List.{drop_all}
-use Rattle.annotate.specs.Texts.{UnitText}
 use Rattle.annotate.specs.declared.scene.UnitText.{UnitText as LentUnit}
 use Rattle.annotate.specs.Scenes as scenes
 use Rattle.c_types.specs.declared.source.Source.{Source}

@@ -3,7 +3,7 @@ use Rattle.std.specs.declared.option.Option.{Option}
 use Rattle.std.proofs.lemmas.Result.{IfOk-weaker}
 use Rattle.qual_base.specs.Outside.{content_of}
 use Rattle.cqual_tool.specs.Words.{names_in}
-use Rattle.cqual_tool.specs.Outcome.{OfUnits, LatticesRead, LatticeRead, LatticeAlone, lattice_limit}
+use Rattle.cqual_tool.specs.Outcome.{OfUnits, LatticeRead, LatticeAlone, lattice_limit}
 use Rattle.cqual_tool.specs.Preparing.{UnitsStart}
 use Rattle.cqual_tool.proofs.Outcomes.{none_found, some_found, when_told, both_told, records_one, lattice_too_large, lattice_refused, lattices_read, lattices_fail, short, taken_is}
 use Rattle.cqual_tool.proofs.Starting.{records_then, all_start}

@@ -1,17 +1,16 @@
 use Rattle.std.proofs.Common.{ℕ, List, [], ◌∷◌, IfSome, length, sym, ◌∙◌, ap, subst}
-use Rattle.std.specs.Prelude.{All}
-use Rattle.std.proofs.lemmas.List.Elements.{All-nil, All-cons}
 use Rattle.std.specs.declared.option.Option.{Option}
 use Rattle.std.proofs.lemmas.Result.{IfOk-weaker}
 use Rattle.qual_base.specs.Outside.{content_of}
-use Rattle.c_types.specs.Sources.{UnitRead, unit_of, units_of}
+use Rattle.c_types.specs.Sources.{unit_of, units_of}
 use Rattle.c_types.specs.declared.source.Source.{Source}
 use Rattle.cq_prelude.specs.Preludes.{IsFaultOf, IsPrelude}
 use Rattle.cqual_tool.specs.declared.status.Status.TheVariants.{Malformed}
 use Rattle.cqual_tool.specs.Words.{names_in}
 use Rattle.cqual_tool.specs.Preludes.{prelude_line}
 use Rattle.cqual_tool.specs.Outcome.{OfSource, OfUnits, OnePrelude, PreludeReads, PreludeFails, PreludeRead, PreludeRefused, PreludeTooLarge, named_one, source_limit}
-use Rattle.cqual_tool.specs.Preparing.{IsFormed, PreludeAlone, SourceStarts}
+use Rattle.cqual_tool.specs.Preparing.{AreEarlier, PreludeAlone, SourceStarts}
+use Rattle.cqual_tool.proofs.Joining.{prelude_alone}
 use Rattle.cqual_tool.proofs.Outcomes.{at_equal, both_told, when_told, none_found, some_found, short, taken_is, records_one}
 use Rattle.cqual_tool.proofs.Starting.{at_units, records_then, units_start}
 use Rattle.cqual_tool.proofs.reading.take_prelude.Goals as goal
@@ -41,8 +40,9 @@ returns-clause-started g c = (c.args.file.now ∷ [], records_one _ _ _ c.in_ok-
 pub take_source-requires : goal.take_source-requires
 take_source-requires g c =
     let unit = unit_of c.in-Ok.read.source in
-    subst (λ (ss : List Source). All IsFormed (units_of ss)) (sym c.in_ok-earlier-in-Ok.ensures.sources)
-    (All-cons IsFormed unit [] (_, c.in-Ok.ensures.reads.parses.formed.rules) (All-nil IsFormed))
+    let parses = c.in-Ok.ensures.reads.parses in
+    subst (λ (ss : List Source). AreEarlier (units_of ss)) (sym c.in_ok-earlier-in-Ok.ensures.sources)
+    (prelude_alone unit parses.lexes.unit parses.formed)
 
 pub returns-clause-outcome : goal.returns-clause-outcome
 returns-clause-outcome g c =

@@ -9,9 +9,19 @@ use Rattle.cqual_tool.specs.Programs.{judging_of}
 use Rattle.cqual_tool.specs.Outcome.{IsCounted, IsEnd, IsRefused, OfSource, SourceTooLarge, SourceRefused, SourceRead, source_limit}
 use Rattle.cqual_tool.specs.Preparing.{IsPrepared, IsReady, SourceAlone}
 use Rattle.cqual_tool.specs.declared.preparing.Prepared.TheVariants.{Refused}
-use Rattle.cqual_tool.proofs.Outcomes.{at_equal, both_told, when_told, none_found, some_found, short, taken_is, records_one}
+use Rattle.cqual_tool.proofs.Outcomes.{at_equal, both_told, when_told, none_found, some_found, taken_is, records_one}
 use Rattle.cqual_tool.proofs.Starting.{records_then, behind_source}
 use Rattle.cqual_tool.proofs.reading.take_source.Goals as goal
+
+pub end-requires : goal.end-requires
+end-requires g c =
+    let named = names_in c.args.named.now in
+    let lattices = c.args.lattices.now in
+    let before = units_of c.args.earlier.sources.items in
+    let marks = c.args.earlier.prelude in
+    let is : IsReady named lattices before marks c.deref.result.now c.in-Program.ready =
+    subst (IsPrepared named lattices before marks c.deref.result.now) c.in-Program.is c.in_ok-answer-in-Some.ensures in
+    record { named = is.elements; owned = is.owned }
 
 pub returns-in_err-bytes-clause-started : goal.returns-in_err-bytes-clause-started
 returns-in_err-bytes-clause-started g c = (c.args.named.now.source.now ∷ [], records_one _ _ _ c.taken.ensures.started, SourceAlone)

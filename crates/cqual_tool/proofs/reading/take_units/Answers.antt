@@ -1,13 +1,10 @@
-use Rattle.std.proofs.Common.{ℕ, List, [], IfSome, refl, sym, ap, subst}
-use Rattle.std.specs.declared.option.Option.{Option}
+use Rattle.std.proofs.Common.{[], ap}
 use Rattle.std.specs.Option.{option_map}
 use Rattle.std.proofs.lemmas.Result.{IfOk-weaker}
 use Rattle.qual_base.specs.Outside.{content_of}
-use Rattle.c_types.specs.Sources.{UnitRead, units_of}
-use Rattle.c_types.specs.declared.source.Source.{Source}
-use Rattle.index_words.specs.Marks.{IndexMark}
+use Rattle.c_types.specs.Sources.{units_of}
 use Rattle.cqual_tool.specs.Words.{names_in}
-use Rattle.cqual_tool.specs.Outcome.{OfSource, OfUnits, NoPrelude, PreludeRead, named_one}
+use Rattle.cqual_tool.specs.Outcome.{OfSource, NoPrelude, PreludeRead, named_one}
 use Rattle.cqual_tool.specs.Preparing.{SourceStarts}
 use Rattle.cqual_tool.proofs.Outcomes.{when_told, always_told}
 use Rattle.cqual_tool.proofs.Starting.{at_units, units_start}

@@ -1,7 +1,7 @@
-use Rattle.std.proofs.Common.{[], map, string_bytes, subst}
+use Rattle.std.proofs.Common.{[], map, string_bytes, refl, subst}
 use Rattle.cqual_words.specs.Asked.{task_of}
 use Rattle.cqual_tool.specs.Sending.{Sends}
-use Rattle.cqual_tool.specs.Outcome.{NoFile, ForTask}
+use Rattle.cqual_tool.specs.Outcome.{NoFile, NoMeaningYet, ForTask}
 use Rattle.cqual_tool.proofs.Outcomes.{sent_all, sent_front, usage_all, usage_front, meant, unmeant, records_none}
 use Rattle.cqual_tool.proofs.running.run.Goals as goal
 
@@ -47,7 +47,12 @@ returns-in-Ok-None-clause-front g c =
     (unmeant (map string_bytes c.args.words.now) task_of c.in-Ok-None.field-0 c.in-Ok-None.ensures.meaning c.in-Ok-None.field-0-is) (g.F.Files.contents c.args.files.now)
 
 pub returns-in-Ok-None-clause-started : goal.returns-in-Ok-None-clause-started
-returns-in-Ok-None-clause-started g c = ([], records_none (g.F.Files.started c.args.files.now), NoFile)
+returns-in-Ok-None-clause-started g c = (
+  [],
+  records_none (g.F.Files.started c.args.files.now),
+  NoFile (unmeant (map string_bytes c.args.words.now) task_of c.in-Ok-None.field-0 c.in-Ok-None.ensures.meaning
+      c.in-Ok-None.field-0-is),
+)
 
 pub returns-in-Err-clause-started : goal.returns-in-Err-clause-started
-returns-in-Err-clause-started g c = ([], records_none (g.F.Files.started c.args.files.now), NoFile)
+returns-in-Err-clause-started g c = ([], records_none (g.F.Files.started c.args.files.now), NoMeaningYet refl)
