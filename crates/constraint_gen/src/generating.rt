@@ -2,6 +2,8 @@
 
 ghost use Rattle.std.specs.Prelude.{◌≡◌, ◌<◌, ◌≤◌, All, length, map, IfOk, OnOk, IsErrOf};
 ghost use Rattle.flow_graph.specs.System.{IsWellOwned, most_constraints, most_variables};
+ghost use Rattle.flow_graph.specs.Unfolding.{NamesElements};
+ghost use Rattle.lattice_core.specs.View.{orders_of};
 ghost use Rattle.name_laws.specs.NameLaws.{tape_of_source};
 ghost use Rattle.type_rules.specs.Program.{names_of};
 ghost use Rattle.unit_shapes.specs.Views.{names_in};
@@ -106,6 +108,7 @@ pub fn generate(
         (program_in lattices.now prelude.now (units_of sources.now))) }
     ensures owned { IfOk result (λ it. IsWellOwned it.graph) }
     ensures named { IfOk result (λ it. AreNamed lattices.now it.graph) }
+    ensures elements { IfOk result (λ it. NamesElements it.graph (orders_of lattices.now)) }
     ensures few_variables { OnOk result (length (positions_in
         (program_in lattices.now prelude.now (units_of sources.now))) ≤ most_variables) }
     ensures few_constraints { OnOk result (length (system_of

@@ -31,7 +31,7 @@ use Rattle.flow_graph.specs.Unfolding.{IsAccepted}
 use Rattle.annotate.specs.Reports.{IsJudgedWith, ErrorCount}
 use Rattle.report_checks.specs.declared.judging.Checked.TheVariants.{Hold, Bad}
 use Rattle.report_checks.specs.declared.judging.Code.{Code}
-use Rattle.report_checks.specs.Checks.{ComesTo, Refutes}
+use Rattle.report_checks.specs.Checks.{ComesTo}
 use Rattle.report_checks.specs.Texts.{checked_text}
 use Rattle.cqual_tool.specs.declared.status.Status.{Status}
 use Rattle.cqual_tool.specs.declared.status.Status.TheVariants.{Accepted, Rejected, PathsHold, PathBad, Malformed, BadWords, ReadFault, WriteFault, NoMemory}
@@ -154,7 +154,7 @@ pub data IsReport (named : FileNames) (it : Judging) : Status → List ℕ → T
 -- The status and the whole text for a report that is checked over the constraints of a program. Where its paths hold, the program
 -- is not accepted.
 pub data IsChecked (it : Judging) (bytes : List ℕ) : Status → List ℕ → Type 0 where
-  Holding : ComesTo it.system (orders_of it.scene.lattices) bytes Hold → Refutes it.system (orders_of it.scene.lattices) →
+  Holding : ComesTo it.system (orders_of it.scene.lattices) bytes Hold → (IsAccepted it.system (orders_of it.scene.lattices) → ⊥) →
       IsChecked it bytes PathsHold (checked_text Hold)
   Failing : (line : ℕ) (code : Code) → ComesTo it.system (orders_of it.scene.lattices) bytes (Bad line code) →
       IsChecked it bytes PathBad (checked_text (Bad line code))

@@ -1,12 +1,13 @@
 -- What is made of a source: a line that refuses it, or a program with its constraints.
 use Rattle.std.specs.Prelude.{◌≡◌, ℕ, false, All, List, [], ◌∷◌, ◌++◌, Option, Some, IfSome}
 use Rattle.qual_base.specs.Outside.{content_of}
-use Rattle.lattice_core.specs.View.{LatticeView}
+use Rattle.lattice_core.specs.View.{LatticeView, orders_of}
 use Rattle.c_units.specs.Units.{IsWellFormed}
 use Rattle.c_parser.specs.Parsing.{lexemes_of}
 use Rattle.c_types.specs.Sources.{UnitRead, sources_in, units_of}
 use Rattle.key_laws.specs.Differing.{UnitsDiffer, has_unit}
 use Rattle.flow_graph.specs.System.{IsWellOwned}
+use Rattle.flow_graph.specs.Unfolding.{NamesElements}
 use Rattle.annotate.specs.Solutions.{AllNamed}
 use Rattle.index_words.specs.Marks.{IndexMark}
 use Rattle.constraint_gen.specs.Programs.{program_in}
@@ -29,14 +30,15 @@ pub record AreEarlier (units : List UnitRead) : Type 0 where
   pub none_is_source : has_unit 1 (sources_in units) ≡ false
 
 -- A program of the units before a source and of that source, within the limits, with its constraints: no flow leaves a
--- function but by a call, and each constant and bound names an element.
+-- function but by a call, and each constant and bound names a lattice and an element of it.
 pub record IsReady (named : FileNames) (lattices : List LatticeView) (before : List UnitRead) (marks : List IndexMark) (bytes : List ℕ) (it : Ready) : Type 0 where
   pub unit : UnitRead
   pub counted : IsCounted named lattices before marks bytes unit
   pub units : units_of it.sources.items ≡ before ++ unit ∷ []
   pub made : IsGenerated (before ++ unit ∷ []) (program_in lattices marks (before ++ unit ∷ [])) it.made
   pub owned : IsWellOwned it.made.graph
-  pub elements : AllNamed lattices it.made.graph
+  pub named : AllNamed lattices it.made.graph
+  pub elements : NamesElements it.made.graph (orders_of lattices)
 
 abbrev pub IsPrepared : FileNames → List LatticeView → List UnitRead → List IndexMark → List ℕ → Prepared → Type 0
 IsPrepared named lattices before marks bytes (Refused answer) = (answer.status ≡ Malformed) × IsRefused named lattices before marks bytes answer.text.items

@@ -3,11 +3,13 @@
 ghost use Rattle.std.specs.Prelude.{◌≡◌, ◌∷◌, ◌++◌, [], ◌<◌, ◌-◌, ◌^◌, ℕ, List, IfOk, IfSome, IsErrOf, length};
 ghost use Rattle.qual_base.specs.Counts.{GoesOn, Rose};
 ghost use Rattle.qual_base.specs.Outside.{content_of};
+ghost use Rattle.lattice_core.specs.View.{orders_of};
 ghost use Rattle.index_words.specs.Marks.{IndexMark};
 ghost use Rattle.c_types.specs.Sources.{UnitRead, units_of};
 ghost use Rattle.constraint_gen.specs.Programs.{program_in};
 ghost use Rattle.constraint_gen.specs.Generating.{IsGenerated};
 ghost use Rattle.flow_graph.specs.System.{IsWellOwned};
+ghost use Rattle.flow_graph.specs.Unfolding.{NamesElements};
 ghost use Rattle.annotate.specs.Scenes.{Shows};
 ghost use Rattle.annotate.specs.Solutions.{AllNamed};
 ghost use Rattle.cqual_tool.specs.Statuses.{status_of, checked_status};
@@ -118,7 +120,9 @@ fn checked(
     graph: &FlowGraph,
     text: &[u8],
 ) -> Result<Answer, NoMemory>
-    requires { length text.now < 2 ^ 32 - 1 }
+    requires length { length text.now < 2 ^ 32 - 1 }
+    requires owned { IsWellOwned graph.now }
+    requires elements { NamesElements graph.now (orders_of lattices.now) }
     ensures checked { IfOk result (λ answer. (it : Judging) → it.scene.lattices ≡ lattices.now →
         it.system ≡ graph.now → IsChecked it text.now answer.status answer.text.items) }
     ensures decided { IfOk result (λ answer. IsDecided answer.status) }
@@ -142,6 +146,7 @@ pub fn end<F: Files>(
 ) -> Result<Answer, Stop>
     requires named { AllNamed lattices.now ready.now.made.graph }
     requires owned { IsWellOwned ready.now.made.graph }
+    requires elements { NamesElements ready.now.made.graph (orders_of lattices.now) }
     ensures outcome { (before : List UnitRead) (marks : List IndexMark) (bytes : List ℕ) →
         (is : IsReady (files_in named.now) lattices.now before marks bytes ready.now) →
         IfOk result (λ answer. IfSome (F.contents files.old) (λ all. IsEnd (files_in named.now)

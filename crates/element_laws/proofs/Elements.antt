@@ -1,15 +1,16 @@
 -- Constraints whose constants and bounds name elements.
-use Rattle.std.proofs.Common.{◌≡◌, inl, ℕ, zero, suc, ◌<◌, Bool, true, false, List, [], ◌∷◌, ◌++◌, length, Some, refl, sym, subst}
+use Rattle.std.proofs.Common.{◌≡◌, inl, ℕ, zero, suc, ◌<◌, Bool, true, false, List, [], ◌∷◌, ◌++◌, length, Some, refl, sym, ap, subst}
 use Rattle.std.specs.Prelude.{slice_get, if◌then◌else◌}
 use Rattle.qual_base.specs.declared.places.Owner.{Owner}
 use Rattle.qual_base.specs.declared.places.Owner.TheVariants.{Nobody}
 use Rattle.qual_base.specs.declared.places.Span.{Span}
-use Rattle.lattice_core.specs.Order.{size}
-use Rattle.lattice_core.specs.View.{LatticeView, IsElement, AreSized}
+use Rattle.lattice_core.specs.Order.{Order, size}
+use Rattle.lattice_core.specs.View.{LatticeView, IsElement, AreSized, orders_of}
 use Rattle.flow_graph.specs.declared.constraint.Link.{Link}
 use Rattle.flow_graph.specs.declared.constraint.Link.TheVariants.{Le, Const, Bound, Enter, Leave}
 use Rattle.flow_graph.specs.declared.constraint.Constraint.{Constraint}
-use Rattle.flow_graph.specs.System.{System, Stands}
+use Rattle.flow_graph.specs.System.{System, Has, Stands}
+use Rattle.flow_graph.specs.Unfolding.{NamesElements}
 use Rattle.flow_rules.specs.Owners.{AllIn, Stays, AllStay, AllOwned, Leads, AllLead}
 use Rattle.row_rules.specs.Worlds.{constraints}
 use Rattle.constraint_rules.specs.Systems.{AreNamed}
@@ -88,6 +89,27 @@ module _ (lattices : List LatticeView) where
   system_named sys sized h n view there = record {
     const = λ k e v it. below_size n e view sized there (stands_named sys n k (Const n e v) h it);
     bound = λ k v b it. below_size n b view sized there (stands_named sys n k (Bound v n b) h it);
+  }
+
+  has_named : (sys : System) (n : ℕ) (link : Link) → AllNamed sys.constraints → Has sys n link → IsNamed link
+  has_named sys n link h it = subst IsNamed it.link_is (named_at sys.constraints n it.constraint h it.there)
+
+  order_there : (views : List LatticeView) (n : ℕ) (view : LatticeView) → slice_get views n ≡ Some view →
+      slice_get (orders_of views) n ≡ Some view.order
+  order_there [] n view e = absurd cc
+  order_there (it ∷ views) zero view e = let same : it ≡ view = cc in ap (λ (v : LatticeView). Some v.order) same
+  order_there (it ∷ views) (suc n) view e = order_there views n view e
+
+  order_of : (n e : ℕ) → AreSized lattices → IsElement lattices n e →
+      (order : Order) × (slice_get (orders_of lattices) n ≡ Some order) × (e < size order)
+  order_of n e sized it =
+      (it.view.order, order_there lattices n it.view it.there, below_size n e it.view sized it.there it)
+
+  pub lattices_named : (sys : System) → AreSized lattices → AllNamed sys.constraints →
+      NamesElements sys (orders_of lattices)
+  lattices_named sys sized h = record {
+    const = λ k n e v it. order_of n e sized (has_named sys k (Const n e v) h it);
+    bound = λ k n e v it. order_of n e sized (has_named sys k (Bound v n e) h it);
   }
 
 -- variables that are all nobody's

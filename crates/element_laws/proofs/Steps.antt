@@ -32,8 +32,8 @@ use Rattle.row_steps.specs.OpRows.{function_skeleton, naming_row, into_target, c
 use Rattle.row_steps.specs.Found.{rows_found, unit_rows}
 use Rattle.constraint_rules.specs.Systems.{Program, system_of, world_of}
 use Rattle.row_laws.specs.Laws.{ConstraintsAreFound, rows_among}
-use Rattle.element_laws.specs.Naming.{ElementsAreNamed}
-use Rattle.element_laws.proofs.Elements.{AllNamed, lists_named, none_where, system_named}
+use Rattle.element_laws.specs.Naming.{ElementsAreNamed, LatticesAreNamed}
+use Rattle.element_laws.proofs.Elements.{AllNamed, lists_named, none_where, system_named, lattices_named}
 use Rattle.element_laws.proofs.Rows.{Flows, writes_named, dereferenced_named, annotating_some_named, annotating_place_named, flowing_named, assigned_named, computed_named, chosen_named, prefixed_named, passed_named, returned_named, cast_named, started_named, taken_named, use_named, row_named}
 
 module _ (law : Flows) (w : World) where
@@ -154,3 +154,7 @@ units_named law p (it ∷ sources) =
 pub elements_are_named : Flows → ConstraintsAreFound → ElementsAreNamed
 elements_are_named law found p sized =
     system_named p.lattices (system_of p) sized (subst (AllNamed p.lattices) (found p) (units_named law p p.sources))
+
+pub lattices_are_named : Flows → ConstraintsAreFound → LatticesAreNamed
+lattices_are_named law found p sized =
+    lattices_named p.lattices (system_of p) sized (subst (AllNamed p.lattices) (found p) (units_named law p p.sources))

@@ -1,13 +1,14 @@
 //! Laws of the elements that constraints name.
 
-ghost use Rattle.element_laws.specs.Naming.{ElementsAreNamed};
+ghost use Rattle.element_laws.specs.Naming.{ElementsAreNamed, LatticesAreNamed};
 
 use flow_rules::{crossings_lead, flows_stay};
 use row_laws::constraints_are_found;
 
-/// Each constant and bound of the system of a program names an element of its lattice.
+/// Each constant and bound of the system of a program names a lattice that is there and an element of it.
 pub fn elements_are_named()
-    ensures { ElementsAreNamed }
+    ensures named { ElementsAreNamed }
+    ensures lattices { LatticesAreNamed }
 {
     constraints_are_found();
     flows_stay();

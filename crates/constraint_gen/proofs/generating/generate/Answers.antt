@@ -1,5 +1,7 @@
 use Rattle.std.proofs.Common.{sym, subst}
+use Rattle.lattice_core.specs.View.{orders_of}
 use Rattle.flow_graph.specs.System.{System, IsWellOwned}
+use Rattle.flow_graph.specs.Unfolding.{NamesElements}
 use Rattle.c_types.specs.Sources.{units_of}
 use Rattle.constraint_rules.specs.Systems.{AreNamed, Program}
 use Rattle.constraint_gen.specs.Programs.{program_in}
@@ -16,4 +18,9 @@ returns-in-Ok-listed-clause-owned c =
 pub returns-in-Ok-listed-clause-named : goal.returns-in-Ok-listed-clause-named
 returns-in-Ok-listed-clause-named c =
     subst (λ (sys : System). AreNamed c.args.lattices.now sys) (sym c.in-Ok.ensures.made.system)
-    (c.elements_are_named.ensures (program c) c.law.ensures.sized)
+    (c.elements_are_named.ensures.named (program c) c.law.ensures.sized)
+
+pub returns-in-Ok-listed-clause-elements : goal.returns-in-Ok-listed-clause-elements
+returns-in-Ok-listed-clause-elements c =
+    subst (λ (sys : System). NamesElements sys (orders_of c.args.lattices.now)) (sym c.in-Ok.ensures.made.system)
+    (c.elements_are_named.ensures.lattices (program c) c.law.ensures.sized)

@@ -9,4 +9,4 @@ returns-clause-checked c = λ it lattices system.
     checked_as it c.args.lattices.now c.args.graph.now c.args.text.now found c.status_for.result c.put_checked.new.out.items lattices system
     c.status_for.ensures
     (c.in_ok-put_checked.ensures ∙ ap (λ (bytes : List ℕ). bytes ++ checked_text found) c.new-text.ensures.items)
-    c.in_ok-found.ensures.is c.in_ok-found.ensures.rejects
+    c.in_ok-found.ensures.is (λ holds. c.in_ok-found.ensures.rejects holds c.requires.owned c.requires.elements)

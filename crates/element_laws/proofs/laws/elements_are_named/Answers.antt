@@ -1,13 +1,16 @@
+use Rattle.std.proofs.Common.{inl, refl}
 use Rattle.qual_base.specs.declared.places.Owner.TheVariants.{Nobody}
 use Rattle.qual_types.specs.Skel.{nodes}
 use Rattle.element_laws.proofs.Elements.{nobodys, all_nobodys, all_of_nobody}
 use Rattle.element_laws.proofs.Rows.{Flows}
-use Rattle.element_laws.proofs.Steps.{elements_are_named}
+use Rattle.element_laws.proofs.Steps.{elements_are_named, lattices_are_named}
 use Rattle.element_laws.proofs.laws.elements_are_named.Goals as goal
-use Rattle.std.proofs.Common.{inl, refl}
 
 pub returns : goal.returns
-returns c = elements_are_named law c.constraints_are_found.ensures
+returns c = record {
+  named = elements_are_named law c.constraints_are_found.ensures;
+  lattices = lattices_are_named law c.constraints_are_found.ensures;
+}
   where
     law : Flows
     law = record {
