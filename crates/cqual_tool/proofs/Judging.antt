@@ -1,5 +1,5 @@
 -- Programs that are judged, and reports that are checked.
-use Rattle.std.proofs.Common.{◌≡◌, ⊥, ℕ, Bool, true, false, List, refl, sym, subst}
+use Rattle.std.proofs.Common.{◌≡◌, ℕ, Bool, true, false, List, refl, sym, subst}
 use Rattle.std.specs.declared.option.Option.{Option}
 use Rattle.lattice_core.specs.View.{LatticeView, orders_of}
 use Rattle.flow_graph.specs.System.{System}

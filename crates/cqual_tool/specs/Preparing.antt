@@ -37,7 +37,7 @@ pub record IsReady (named : FileNames) (lattices : List LatticeView) (before : L
   pub units : units_of it.sources.items ≡ before ++ unit ∷ []
   pub made : IsGenerated (before ++ unit ∷ []) (program_in lattices marks (before ++ unit ∷ [])) it.made
   pub owned : IsWellOwned it.made.graph
-  pub named : AllNamed lattices it.made.graph
+  pub within : AllNamed lattices it.made.graph
   pub elements : NamesElements it.made.graph (orders_of lattices)
 
 abbrev pub IsPrepared : FileNames → List LatticeView → List UnitRead → List IndexMark → List ℕ → Prepared → Type 0

@@ -39,7 +39,7 @@ of_program-requires c =
     let marks = c.nothing_before.result.prelude in
     let is : IsReady names c.args.lattices.now before marks c.args.bytes.now c.in-Program.ready =
     subst (IsPrepared names c.args.lattices.now before marks c.args.bytes.now) c.in-Program.is c.in_ok-answer.ensures in
-    record { named = is.named; owned = is.owned }
+    record { named = is.within; owned = is.owned }
 
 pub returns-in-Program-clause-outcome : goal.returns-in-Program-clause-outcome
 returns-in-Program-clause-outcome c = λ read.

@@ -27,7 +27,7 @@ returns-in-Ok c = λ before unit bytes are is.
       units = are;
       made = generated named c.args.lattices.now before c.args.prelude.now bytes unit units same c.in-Ok.made c.in-Ok.ensures.made;
       owned = c.in-Ok.ensures.owned;
-      named = c.in-Ok.ensures.named;
+      within = c.in-Ok.ensures.named;
       elements = c.in-Ok.ensures.elements;
     }
 

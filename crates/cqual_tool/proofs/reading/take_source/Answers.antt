@@ -21,7 +21,7 @@ end-requires g c =
     let marks = c.args.earlier.prelude in
     let is : IsReady named lattices before marks c.deref.result.now c.in-Program.ready =
     subst (IsPrepared named lattices before marks c.deref.result.now) c.in-Program.is c.in_ok-answer-in-Some.ensures in
-    record { named = is.named; owned = is.owned; elements = is.elements }
+    record { named = is.within; owned = is.owned; elements = is.elements }
 
 pub returns-in_err-bytes-clause-started : goal.returns-in_err-bytes-clause-started
 returns-in_err-bytes-clause-started g c = (c.args.named.now.source.now ∷ [], records_one _ _ _ c.taken.ensures.started, SourceAlone)
