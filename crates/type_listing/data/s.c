@@ -1,0 +1,1 @@
+$tainted int a; int c; void f(void) { c = a; }
