@@ -1,6 +1,7 @@
 //! The lines at each token.
 
 use crate::text::{Listed, put, put_number, put_place, put_token, put_type, put_value_type};
+use c_words::TokenKind;
 use expr_types::{ExpressionTypes, Typed};
 use name_records::{Declared, Role, Use};
 use qual_base::{NoMemory, Numbered, TokenId};
@@ -16,6 +17,11 @@ fn kind(role: Role) -> Option<&'static [u8]> {
         Role::Field(_, _) => Some(b"field"),
         Role::Enumerator => None,
     }
+}
+
+/// Whether a token is a name. A member without a name is declared at its `struct` or `union`.
+fn is_name(it: &Listed, at: TokenId) -> bool {
+    at.number() < it.tokens.len() && matches!(it.tokens.kind(at), TokenKind::Name(_))
 }
 
 /// Adds the line of a declared name.
@@ -94,7 +100,9 @@ fn put_lines_at(
 ) -> Result<(), NoMemory> {
     let place = (it.tokens.unit(), at);
     if let Some(declared) = it.program.found_names().declared_at(&place) {
-        put_name(it, out, &declared)?;
+        if is_name(it, at) {
+            put_name(it, out, &declared)?;
+        }
     }
     if let Some(typed) = types.typed_at(it.tokens.unit(), at) {
         put_typed(it, out, at, &typed)?;

@@ -96,9 +96,11 @@ fn put_struct(
 #[derive(Clone, Copy, Drop)]
 enum Piece {
     Type(TypeId),
-    Text(&'static [u8]),
     /// The ellipsis of a function, with its words.
     Ellipsis(TypeId),
+    Open,
+    Comma,
+    Gives,
 }
 
 /// Has these pieces be written next, a function's parameters in their order.
@@ -107,7 +109,7 @@ fn await_params(pending: &mut Vec<Piece>, params: &[TypeId]) -> Result<(), NoMem
         let at = params.len() - 1 - number;
         pending.push(Piece::Type(params[at]))?;
         if at != 0 {
-            pending.push(Piece::Text(b", "))?;
+            pending.push(Piece::Comma)?;
         }
     }
     Ok(())
@@ -122,15 +124,15 @@ fn await_function(
     ellipsis: bool,
 ) -> Result<(), NoMemory> {
     pending.push(Piece::Type(gives))?;
-    pending.push(Piece::Text(b")->"))?;
+    pending.push(Piece::Gives)?;
     if ellipsis {
         pending.push(Piece::Ellipsis(ty))?;
         if !params.is_empty() {
-            pending.push(Piece::Text(b", "))?;
+            pending.push(Piece::Comma)?;
         }
     }
     await_params(pending, params)?;
-    pending.push(Piece::Text(b"("))?;
+    pending.push(Piece::Open)?;
     Ok(())
 }
 
@@ -173,22 +175,41 @@ fn put_node(
     }
 }
 
-/// Adds a type.
-pub fn put_type(it: &Listed, out: &mut Vec<u8>, ty: TypeId) -> Result<(), NoMemory> {
-    let mut pending = Vec::new(it.alloc);
-    pending.push(Piece::Type(ty))?;
+/// Adds a piece, or a node and has its parts be written next.
+fn put_piece(
+    it: &Listed,
+    out: &mut Vec<u8>,
+    pending: &mut Vec<Piece>,
+    piece: &Piece,
+) -> Result<(), NoMemory> {
+    match piece {
+        Piece::Type(ty) => put_node(it, out, pending, *ty),
+        Piece::Open => put(out, b"("),
+        Piece::Comma => put(out, b", "),
+        Piece::Gives => put(out, b")->"),
+        Piece::Ellipsis(ty) => {
+            put(out, b"...")?;
+            put_words(it, out, it.program.types().ellipsis_words(*ty))
+        }
+    }
+}
+
+/// Adds what is pending.
+fn put_pending(it: &Listed, out: &mut Vec<u8>, pending: &mut Vec<Piece>) -> Result<(), NoMemory> {
     for _ in 0..u64::MAX {
         match pending.pop() {
-            Some(Piece::Type(ty)) => put_node(it, out, &mut pending, ty)?,
-            Some(Piece::Text(text)) => put(out, text)?,
-            Some(Piece::Ellipsis(ty)) => {
-                put(out, b"...")?;
-                put_words(it, out, it.program.types().ellipsis_words(ty))?;
-            }
+            Some(piece) => put_piece(it, out, pending, &piece)?,
             None => return Ok(()),
         }
     }
     Ok(())
+}
+
+/// Adds a type.
+pub fn put_type(it: &Listed, out: &mut Vec<u8>, ty: TypeId) -> Result<(), NoMemory> {
+    let mut pending = Vec::new(it.alloc);
+    pending.push(Piece::Type(ty))?;
+    put_pending(it, out, &mut pending)
 }
 
 /// Adds the type of a value.
