@@ -8,21 +8,21 @@ use Rattle.name_rules.specs.Scopes.{Names}
 use Rattle.shape_steps.specs.State.{State}
 use Rattle.shape_steps.specs.Steps.{step, run}
 use Rattle.expr_types.specs.Keys.{op_key}
-use Rattle.expr_types.specs.Along.{Keyed, literal_on, op_typed, keyed, typed_along}
+use Rattle.expr_types.specs.Along.{Keyed, literal_on, op_shape, keyed, shapes_along}
 
 module _ (u : Spelling) (s : Names) where
   pub run_append : (xs ys : List Op) (st : State) → run u s st (xs ++ ys) ≡ run u s (run u s st xs) ys
   run_append [] ys st = refl
   run_append (op ∷ xs) ys st = run_append xs ys (step u s st op)
 
-  pub typed_append : (xs ys : List Op) (st : State)
-      → typed_along u s st (xs ++ ys) ≡ typed_along u s st xs ++ typed_along u s (run u s st xs) ys
-  typed_append [] ys st = refl
-  typed_append (op ∷ xs) ys st =
-      let here = keyed u (op_key op) (op_typed st (step u s st op) op) in
-      ap (λ (it : List Keyed). here ++ it) (typed_append xs ys (step u s st op))
-      ∙ sym (append_assoc here (typed_along u s (step u s st op) xs)
-      (typed_along u s (run u s (step u s st op) xs) ys))
+  pub shapes_append : (xs ys : List Op) (st : State)
+      → shapes_along u s st (xs ++ ys) ≡ shapes_along u s st xs ++ shapes_along u s (run u s st xs) ys
+  shapes_append [] ys st = refl
+  shapes_append (op ∷ xs) ys st =
+      let here = keyed u (op_key op) (op_shape st (step u s st op) op) in
+      ap (λ (it : List Keyed). here ++ it) (shapes_append xs ys (step u s st op))
+      ∙ sym (append_assoc here (shapes_along u s (step u s st op) xs)
+      (shapes_along u s (run u s (step u s st op) xs) ys))
 
   -- a tape that leaves the literal on the stack as it was
   pub record Keeps (tape : List Op) : Type 0 where

@@ -1,6 +1,6 @@
 //! Laws of what stands at key tokens, on trees.
 
-ghost use Rattle.expr_type_laws.specs.Standing.{ExpressionsStand, TypeNamesStand};
+ghost use Rattle.expr_type_laws.specs.Standing.{ExpressionsStand};
 
 use shape_laws::shapes_are_left;
 
@@ -10,8 +10,3 @@ pub fn expressions_stand()
 {
     shapes_are_left();
 }
-
-/// Each type's name stands at its first token, with the type that it names.
-pub fn type_names_stand()
-    ensures { TypeNamesStand }
-{}

@@ -3,4 +3,4 @@
 
 mod laws;
 
-pub use laws::{expressions_stand, type_names_stand};
+pub use laws::expressions_stand;

@@ -1,4 +1,4 @@
--- The key tokens of expressions and of types' names: that of the one that an op ends, a line an op.
+-- The key tokens of expressions: that of the one that an op ends, a line an op.
 --
 -- Of an operator that is the token of the operator, of a form that begins with `(` this one, else mostly the first token. What is
 -- found behind `->` has its key in the `Dot` that comes next, and a compound literal in its `Literal`.
@@ -11,8 +11,6 @@ use Rattle.tape_ops.specs.declared.form.FormOp.{FormOp}
 use Rattle.tape_ops.specs.declared.form.FormOp.TheVariants as forms
 use Rattle.tape_ops.specs.declared.initialiser.InitOp.{InitOp}
 use Rattle.tape_ops.specs.declared.initialiser.InitOp.TheVariants as inits
-use Rattle.tape_ops.specs.declared.declarator.DeclrOp.{DeclrOp}
-use Rattle.tape_ops.specs.declared.declarator.DeclrOp.TheVariants as declrs
 
 abbrev pub expr_op_key : ExprOp → Option ℕ
 expr_op_key (exprs.Name is_called token name) = Some token
@@ -57,24 +55,11 @@ init_op_key inits.ListEnd = None
 init_op_key inits.End = None
 init_op_key inits.LiteralEnd = None
 
-abbrev pub declr_op_key : DeclrOp → Option ℕ
-declr_op_key (declrs.DeclName token name) = None
-declr_op_key (declrs.ParamsBegin is_own) = None
-declr_op_key declrs.Param = None
-declr_op_key declrs.ParamsEnd = None
-declr_op_key declrs.Pointer = None
-declr_op_key declrs.Array = None
-declr_op_key (declrs.Function has_ellipsis) = None
-declr_op_key declrs.Declare = None
-declr_op_key declrs.Member = None
-declr_op_key (declrs.TypeName first) = Some first
-declr_op_key declrs.DeclarationEnd = None
-
--- specifiers and statements end neither
+-- specifiers, declarators and statements end none
 abbrev pub op_key : Op → Option ℕ
 op_key (ops.Expr op) = expr_op_key op
 op_key (ops.Form op) = form_op_key op
 op_key (ops.Init op) = init_op_key op
 op_key (ops.Spec op) = None
-op_key (ops.Declr op) = declr_op_key op
+op_key (ops.Declr op) = None
 op_key (ops.Stmt op) = None

@@ -1,10 +1,10 @@
 //! Key tokens.
 
 ghost use Rattle.std.specs.Prelude.{◌≡◌};
-ghost use Rattle.expr_types.specs.Keys.{expr_op_key, form_op_key, init_op_key, declr_op_key, op_key};
+ghost use Rattle.expr_types.specs.Keys.{expr_op_key, form_op_key, init_op_key, op_key};
 
 use qual_base::TokenId;
-use tape_ops::{DeclrOp, ExprOp, FormOp, InitOp, Op};
+use tape_ops::{ExprOp, FormOp, InitOp, Op};
 
 /// The key token of an operand or operator.
 fn expression_key(op: ExprOp) -> Option<TokenId>
@@ -67,26 +67,7 @@ fn literal_key(op: InitOp) -> Option<TokenId>
     }
 }
 
-/// The key token of a type's name.
-fn name_key(op: DeclrOp) -> Option<TokenId>
-    ensures { result ≡ declr_op_key op }
-{
-    match op {
-        DeclrOp::DeclName { .. } => None,
-        DeclrOp::ParamsBegin { .. } => None,
-        DeclrOp::Param => None,
-        DeclrOp::ParamsEnd => None,
-        DeclrOp::Pointer => None,
-        DeclrOp::Array => None,
-        DeclrOp::Function { .. } => None,
-        DeclrOp::Declare => None,
-        DeclrOp::Member => None,
-        DeclrOp::TypeName { first } => Some(first),
-        DeclrOp::DeclarationEnd => None,
-    }
-}
-
-/// The key token of the expression or of the type's name that an op ends.
+/// The key token of the expression that an op ends.
 pub(crate) fn key(op: Op) -> Option<TokenId>
     ensures { result ≡ op_key op }
 {
@@ -95,7 +76,7 @@ pub(crate) fn key(op: Op) -> Option<TokenId>
         Op::Form(op) => form_key(op),
         Op::Init(op) => literal_key(op),
         Op::Spec(_) => None,
-        Op::Declr(op) => name_key(op),
+        Op::Declr(_) => None,
         Op::Stmt(_) => None,
     }
 }

@@ -6,8 +6,6 @@
 
 mod along;
 mod keys;
-mod typed;
 mod types;
 
-pub use typed::Typed;
 pub use types::ExpressionTypes;

@@ -6,11 +6,10 @@ ghost use Rattle.place_map.specs.Values.{or_else};
 ghost use Rattle.shape_values.specs.Views.{some_value_type};
 ghost use Rattle.unit_shapes.specs.Views.{names_in, AreImplicit};
 ghost use Rattle.unit_types.specs.Resolved.{tapes_of};
-ghost use Rattle.expr_types.specs.Along.{typed_among, first_at, shape_of_some, type_of_some};
-ghost use Rattle.expr_types.specs.Views.{some_typed_in, some_shape_in, found_at, typed_at};
+ghost use Rattle.expr_types.specs.Along.{shapes_among, first_at};
+ghost use Rattle.expr_types.specs.Views.{some_shape_in, found_at, shape_of_place, type_of_place};
 
 use crate::along::find_unit;
-use crate::typed::Typed;
 use place_map::PlaceMap;
 use qual_base::{NoMemory, TokenId, UnitNo};
 use shape_values::{ExprShape, ValueType, value};
@@ -20,17 +19,17 @@ use type_table::TypeTable;
 use unit_shapes::{FoundNames, ImplicitTypes};
 use unit_types::{Program, UnitTape};
 
-/// What stands at the key tokens of units. Linear in their tapes, but for growth.
+/// What is at the key tokens of units. Linear in their tapes, but for growth.
 fn find_all(
     alloc: Global,
     names: &FoundNames,
     types: &TypeTable,
     implicit: &ImplicitTypes,
     units: &[UnitTape],
-) -> Result<PlaceMap<Typed>, NoMemory>
+) -> Result<PlaceMap<ExprShape>, NoMemory>
     requires { AreImplicit types.now implicit.now }
     ensures { IfOk result (λ found. (at : Place) → found_at types.now found at
-        ≡ first_at (typed_among (names_in types.now names.now) (tapes_of units.now)) at) }
+        ≡ first_at (shapes_among (names_in types.now names.now) (tapes_of units.now)) at) }
 {
     let mut found = PlaceMap::new(alloc);
     for unit in units {
@@ -47,15 +46,15 @@ fn find_all(
     Ok(found)
 }
 
-/// The types of the expressions and of the types' names of a program, each found at once by the key token that it has there.
+/// The types of the expressions of a program, each found at once by the key token that it has there.
 ///
 /// The key token of an expression is its operator's, for `?:` the `?`; the first `(` of a cast, a compound literal, a parenthesis
-/// and a statement expression; `[` of an index and `(` of a call; and else its first token, as for names, numbers and texts. A
-/// type's name has its first token. Clauses see the program. Memory is linear in its tapes.
+/// and a statement expression; `[` of an index and `(` of a call; and else its first token, as for names, numbers and texts.
+/// Clauses see the program. Memory is linear in its tapes.
 #[derive(Drop)]
 pub struct ExpressionTypes<'a> {
     program: &'a Program,
-    found: PlaceMap<Typed>,
+    found: PlaceMap<ExprShape>,
 }
 
 impl<'a> Model for ExpressionTypes<'a> {
@@ -84,34 +83,24 @@ impl<'a> ExpressionTypes<'a> {
         Ok(ExpressionTypes { program, found })
     }
 
-    /// The expression or type's name with this key token. Constant time.
-    pub fn typed_at(&self, unit: UnitNo, token: TokenId) -> Option<Typed>
-        ensures { some_typed_in self.now.rows result ≡ typed_at self.now (unit, token) }
+    /// What the expression with this key token is: a place or a value, and of which type. None where there is none. Constant time.
+    pub fn shape_at(&self, unit: UnitNo, token: TokenId) -> Option<ExprShape>
+        ensures { some_shape_in self.now.rows result ≡ shape_of_place self.now (unit, token) }
     {
         self.found.get(&(unit, token))
     }
 
-    /// What the expression with this key token is: a place or a value, and of which type. Constant time.
-    pub fn shape_at(&self, unit: UnitNo, token: TokenId) -> Option<ExprShape>
-        ensures { some_shape_in self.now.rows result ≡ shape_of_some (typed_at self.now (unit, token)) }
-    {
-        match self.typed_at(unit, token) {
-            Some(Typed::Expression(shape)) => Some(shape),
-            Some(Typed::TypeName(_)) => None,
-            None => None,
-        }
-    }
-
-    /// The type of the value of the expression, or the type of the type's name, with this key token. Constant time.
+    /// The type of the value of the expression with this key token, or else the type of the type's name that begins there. None
+    /// where there is neither. Constant time.
     pub fn type_at(&self, unit: UnitNo, token: TokenId) -> Option<ValueType>
-        ensures { some_value_type self.now.rows result
-            ≡ type_of_some (typed_at self.now (unit, token)) }
+        ensures { some_value_type self.now.rows result ≡ type_of_place self.now (unit, token) }
     {
-        match self.typed_at(unit, token) {
-            Some(Typed::Expression(shape)) => value(self.program.types(), &shape),
-            Some(Typed::TypeName(Some(ty))) => Some(ValueType::Of(ty)),
-            Some(Typed::TypeName(None)) => None,
-            None => None,
+        match self.shape_at(unit, token) {
+            Some(shape) => value(self.program.types(), &shape),
+            None => match self.program.found_names().type_at(&(unit, token)) {
+                Some(ty) => Some(ValueType::Of(ty)),
+                None => None,
+            },
         }
     }
 }
