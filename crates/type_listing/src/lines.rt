@@ -2,7 +2,7 @@
 
 use crate::text::{Listed, put, put_number, put_place, put_token, put_type, put_value_type};
 use c_words::TokenKind;
-use expr_types::{ExpressionTypes, Typed};
+use expr_types::ExpressionTypes;
 use name_records::{Declared, Role, Use};
 use qual_base::{NoMemory, Numbered, TokenId};
 use shape_values::ExprShape;
@@ -70,25 +70,43 @@ fn put_use(it: &Listed, out: &mut Vec<u8>, at: TokenId, first: TokenId) -> Resul
     put(out, b"\n")
 }
 
-/// Adds the line of an expression or of a type's name up to its type.
-fn put_typed(it: &Listed, out: &mut Vec<u8>, at: TokenId, typed: &Typed) -> Result<(), NoMemory> {
-    match typed {
-        Typed::Expression(shape) => {
-            put(out, b"expression ")?;
-            put_place(it, out, at)?;
-            put(out, b" ")?;
-            put_token(it, out, at)?;
-            match shape {
-                ExprShape::Place(_) => put(out, b" place | "),
-                ExprShape::Value(_) => put(out, b" value | "),
-            }
-        }
-        Typed::TypeName(_) => {
+/// Adds the line of an expression up to its type.
+fn put_shape(
+    it: &Listed,
+    out: &mut Vec<u8>,
+    at: TokenId,
+    shape: &ExprShape,
+) -> Result<(), NoMemory> {
+    put(out, b"expression ")?;
+    put_place(it, out, at)?;
+    put(out, b" ")?;
+    put_token(it, out, at)?;
+    match shape {
+        ExprShape::Place(_) => put(out, b" place | "),
+        ExprShape::Value(_) => put(out, b" value | "),
+    }
+}
+
+/// Adds the line of an expression or else of a type's name, where there is one.
+fn put_typed(
+    it: &Listed,
+    out: &mut Vec<u8>,
+    types: &ExpressionTypes,
+    at: TokenId,
+) -> Result<(), NoMemory> {
+    let Some(ty) = types.type_at(it.tokens.unit(), at) else {
+        return Ok(());
+    };
+    match types.shape_at(it.tokens.unit(), at) {
+        Some(shape) => put_shape(it, out, at, &shape)?,
+        None => {
             put(out, b"typename ")?;
             put_place(it, out, at)?;
-            put(out, b" | ")
+            put(out, b" | ")?;
         }
     }
+    put_value_type(it, out, &ty)?;
+    put(out, b"\n")
 }
 
 /// Adds the lines at a token.
@@ -104,11 +122,7 @@ fn put_lines_at(
             put_name(it, out, &declared)?;
         }
     }
-    if let Some(typed) = types.typed_at(it.tokens.unit(), at) {
-        put_typed(it, out, at, &typed)?;
-        put_value_type(it, out, &types.type_at(it.tokens.unit(), at))?;
-        put(out, b"\n")?;
-    }
+    put_typed(it, out, types, at)?;
     if let Use::Means(first) = it.program.found_names().use_at(&place) {
         put_use(it, out, at, first.1)?;
     }

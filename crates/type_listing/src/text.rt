@@ -213,17 +213,12 @@ pub fn put_type(it: &Listed, out: &mut Vec<u8>, ty: TypeId) -> Result<(), NoMemo
 }
 
 /// Adds the type of a value.
-pub fn put_value_type(
-    it: &Listed,
-    out: &mut Vec<u8>,
-    ty: &Option<ValueType>,
-) -> Result<(), NoMemory> {
+pub fn put_value_type(it: &Listed, out: &mut Vec<u8>, ty: &ValueType) -> Result<(), NoMemory> {
     match ty {
-        Some(ValueType::Of(ty)) => put_type(it, out, *ty),
-        Some(ValueType::PointerTo(ty)) => {
+        ValueType::Of(ty) => put_type(it, out, *ty),
+        ValueType::PointerTo(ty) => {
             put(out, b"*")?;
             put_type(it, out, *ty)
         }
-        None => put(out, b"?"),
     }
 }
