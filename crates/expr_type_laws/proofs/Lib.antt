@@ -1,2 +1,4 @@
+mod Finding
 mod Parts
+mod Once
 mod Standing

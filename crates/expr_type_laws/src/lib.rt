@@ -3,4 +3,4 @@
 
 mod laws;
 
-pub use laws::expressions_stand;
+pub use laws::{expressions_stand, shapes_are_found};
