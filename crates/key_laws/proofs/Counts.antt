@@ -1,18 +1,8 @@
 -- How often a number is that of an op's key and of a token, and parts of tapes against their texts.
-use Rattle.std.proofs.Common.{◌≡◌, ℕ, ◌+◌, ◌≤◌, List, [], ◌∷◌, ◌++◌, Option, None, Some, ap, arith, nat_eq}
-use Rattle.std.specs.Prelude.{if◌then◌else◌}
+use Rattle.std.proofs.Common.{◌≡◌, ℕ, ◌+◌, ◌≤◌, List, [], ◌∷◌, ◌++◌, None, Some, ap, arith}
 use Rattle.tape_ops.specs.declared.op.Op.{Op}
 use Rattle.c_tree.specs.declared.lexeme.Lexeme.{Lexeme}
-use Rattle.key_laws.specs.Keys.{op_key}
-
-abbrev pub added : ℕ → Option ℕ → ℕ
-added n None = 0
-added n (Some token) = if nat_eq token n then 1 else 0
-
--- how many ops have this key
-abbrev pub counted : ℕ → List Op → ℕ
-counted n [] = 0
-counted n (op ∷ tape) = added n (op_key op) + counted n tape
+use Rattle.key_laws.specs.Tokens.{op_token, added, counted}
 
 -- how many tokens have this number
 abbrev pub numbered : ℕ → List Lexeme → ℕ
@@ -43,14 +33,14 @@ module _ {n : ℕ} where
   pub empty : IsMute n []
   empty = record { none = omega arith }
 
-  pub mute : {op : Op} → op_key op ≡ None → IsMute n (op ∷ [])
+  pub mute : {op : Op} → op_token op ≡ None → IsMute n (op ∷ [])
   mute e = record { none = ap (λ key. added n key + 0) e }
 
   pub mutes : {xs ys : List Op} → IsMute n xs → IsMute n ys → IsMute n (xs ++ ys)
   mutes {xs} {ys} p q =
       record { none = (let e = counted_append n xs ys in let a = p.none in let b = q.none in omega (arith, e, a, b)) }
 
-  pub own : {op : Op} {token : ℕ} → op_key op ≡ Some token → StandsAt n (op ∷ []) token
+  pub own : {op : Op} {token : ℕ} → op_token op ≡ Some token → StandsAt n (op ∷ []) token
   own {op} {token} e = record {
     one = (let one : counted n (op ∷ []) ≡ added n (Some token) + 0 = ap (λ key. added n key + 0) e in
         omega (arith, one));
@@ -96,6 +86,25 @@ module _ {n : ℕ} where
         let w = counted_append n xs ys in
         let a = p.most in let b = q.most in let c = r.most in let d = s.one in omega (arith, u, v, w, a, b, c, d));
   }
+
+  -- an op at the token behind its operand
+  pub behind : {it : Lexeme} {xs ws : List Op} {t l k : List Lexeme} → Covers n xs t (it ∷ l) → Covers n [] l k →
+      StandsAt n ws it.at → Covers n (xs ++ ws) t k
+  behind {xs = xs} {ws = ws} p q r = record {
+    most = (let u = counted_append n xs ws in let a = p.most in let b = q.most in let c = r.one in omega (arith, u, a, b, c));
+  }
+
+  -- an op at the token between its operands
+  pub amid : {it : Lexeme} {xs ys ws : List Op} {t l k : List Lexeme} → Covers n xs t (it ∷ l) → Covers n ys l k →
+      StandsAt n ws it.at → Covers n (xs ++ ys ++ ws) t k
+  amid {xs = xs} {ys = ys} {ws = ws} p q r = record {
+    most = (let u = counted_append n (xs ++ ys) ws in let v = counted_append n xs ys in let a = p.most in let b = q.most in
+        let c = r.one in omega (arith, u, v, a, b, c));
+  }
+
+  -- ops without a token over no text
+  pub mute_only : {xs : List Op} {k : List Lexeme} → IsMute n xs → Covers n xs k k
+  mute_only p = record { most = (let a = p.none in omega (arith, a)) }
 
   -- tokens of no op behind
   pub past : {xs : List Op} {t m k : List Lexeme} → Covers n xs t m → Covers n [] m k → Covers n xs t k

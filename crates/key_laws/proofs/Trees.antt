@@ -18,7 +18,7 @@ use Rattle.c_tree.specs.Ends.{first_token, last_token, first_text}
 use Rattle.c_tree.specs.Firsts.{first_word}
 use Rattle.c_tape.specs.Tests.{is_void, tag_kind, says_none}
 use Rattle.c_tape.specs.Tape.{expr, expr_tape, operator_tape, middle_tape, some_expr_tape, exprs_tape, dropped_tape, steps_tape, step_tape, words_tape, word_tape, unnamed_tape, unnamed_word_tape, specs_with, struct_tape, struct_items_tape, struct_item_tape, members_tape, mem_declrs_tape, mem_declr_tape, some_value_tape, enum_tape, enum_body_tape, enumerators_tape, some_declr_tape, contents, some_contents, some_size_tape, size_tape, params_tape, init_tape, list_tape, init_items_tape, indices_tape, index_tape, some_init_tape, declared_init_tape, init_declrs_tape, declaration_tape, decl_tape, block_items_tape, block_item_tape, stmt_tape, some_else_tape, for_start_tape, return_tape, item_tape, tape_of}
-use Rattle.key_laws.proofs.Counts.{Covers, CoversBoth, nothing, join, skip, mute, own, then_mute, mute_then, keyed, between, past, ends, alone, side_by_side, keyed_beside, one_by_one}
+use Rattle.key_laws.proofs.Counts.{Covers, CoversBoth, nothing, join, skip, mute, own, then_mute, mute_then, keyed, between, behind, amid, mute_only, past, ends, alone, side_by_side, keyed_beside, one_by_one}
 use Rattle.key_laws.proofs.Parts.{pieces_mute, rule_list_mute, arguments_mute, tag_mute, body_mute, void_mute, quiet_covers, scope_covers, specs_cover, type_name_covers, params_cover, some_sign_skip, tag_skip, words_skip, extensions_skip, texts_skip, group_skip, attr_skip, attrs_skip, label_skip, assert_skip, qual_skip, pointer_words_skip, array_words_skip, dots_skip}
 
 type_words : (all : List Lexeme) (ws : SpecWords) → AreTypeWords all ws → AreSpecWords all ws
@@ -58,15 +58,15 @@ module _ {n : ℕ} (all : List Lexeme) where
     expr_covers (sizeof_type word opening ws d closing) h called =
         keyed (mute_then (mute refl) (skip (ends (type_name_covers (first_word ws) (words_cover ws (type_words all ws h.1) false)
         (some_declr_covers d (abstract_is all d h.2)))))) (own refl)
-    expr_covers (extension keyword e) h called = then_mute (skip (expr_covers e h.0 false)) (mute refl)
+    expr_covers (extension keyword e) h called = keyed (expr_covers e h.0 false) (own refl)
     expr_covers (index e opening e2 closing) h called =
-        then_mute (ends (join (expr_covers e h.0 false) (skip (expr_covers e2 h.1 false)))) (mute refl)
+        amid (expr_covers e h.0 false) (ends (expr_covers e2 h.1 false)) (own refl)
     expr_covers (call e opening es closing) h called =
-        then_mute (then_mute (ends (join (expr_covers e h.0 true) (skip (exprs_cover es h.1)))) (arguments_mute es)) (mute refl)
-    expr_covers (dot e token name) h called = then_mute (ends (ends (expr_covers e h.0 false))) (mute refl)
+        between (expr_covers e h.0 true) (exprs_cover es h.1) (skip (mute_only (arguments_mute es))) (own refl)
+    expr_covers (dot e token name) h called = behind (expr_covers e h.0 false) (skip nothing) (own refl)
     expr_covers (arrow e token name) h called =
-        then_mute (then_mute (ends (ends (expr_covers e h.0 false))) (mute refl)) (mute refl)
-    expr_covers (post e token p) h called = then_mute (ends (expr_covers e h.0 false)) (mute refl)
+        behind (then_mute (expr_covers e h.0 false) (mute refl)) (skip nothing) (own refl)
+    expr_covers (post e token p) h called = behind (expr_covers e h.0 false) nothing (own refl)
     expr_covers (compound opening ws d closing list) h called =
         then_mute (then_mute (keyed (join (then_mute (type_name_covers (first_word ws) (words_cover ws
         (type_words all ws h.1) false)
@@ -76,7 +76,7 @@ module _ {n : ℕ} (all : List Lexeme) where
     expr_covers (number_use token) h called = keyed nothing (own refl)
     expr_covers (char_use token) h called = keyed nothing (own refl)
     expr_covers (text_use texts) h called = texts_cover texts h
-    expr_covers (paren opening e closing) h called = then_mute (skip (ends (expr_covers e h false))) (mute refl)
+    expr_covers (paren opening e closing) h called = keyed (ends (expr_covers e h false)) (own refl)
     expr_covers (statement_expr opening opening2 items closing closing2) h called =
         keyed (scope_covers (skip (ends (ends (block_items_cover items h true))))) (own refl)
     expr_covers (va_arg keyword opening e separator ws d closing) h called =
@@ -95,8 +95,8 @@ module _ {n : ℕ} (all : List Lexeme) where
     operator_covers : (op : Operator) → IsMiddle all op → (token first last : ℕ) → {xs ys : List Op} {t m k : List Lexeme} →
         Covers n xs t (operator_text all op token m) → Covers n ys m k →
         Covers n (xs ++ middle_tape op ++ ys ++ operator_tape op token first last) t k
-    operator_covers comma h token first last p q = then_mute (join (join p (skip nothing)) q) (mute refl)
-    operator_covers (assign sign) h token first last p q = then_mute (join (join p (skip nothing)) q) (mute refl)
+    operator_covers comma h token first last p q = between p nothing q (own refl)
+    operator_covers (assign sign) h token first last p q = between p nothing q (own refl)
     operator_covers (cond middle colon) h token first last p q = between p (some_expr_covers middle h) (skip q) (own refl)
     operator_covers (binary sign) h token first last p q = between p nothing q (own refl)
 

@@ -4,6 +4,8 @@ use Rattle.std.proofs.lemmas.List.Elements.{All-head, All-tail}
 use Rattle.std.proofs.lemmas.Bool.{eqb-true, eq-eqb}
 use Rattle.std.specs.Prelude.{if◌then◌else◌}
 use Rattle.tape_ops.specs.declared.op.Op.{Op}
+use Rattle.tape_ops.specs.declared.op.Op.TheVariants as ops
+use Rattle.tape_ops.specs.declared.expression.ExprOp.TheVariants as exprs
 use Rattle.c_words.specs.declared.kinds.TokenKind.TheVariants as kinds
 use Rattle.c_tree.specs.declared.lexeme.Lexeme.{Lexeme}
 use Rattle.c_tape.specs.Tape.{tape_of}
@@ -13,7 +15,8 @@ use Rattle.type_rules.specs.Program.{Source}
 use Rattle.row_rules.specs.Sites.{AreDifferent, has_place}
 use Rattle.key_laws.specs.Keys.{op_key, key_place, key_places}
 use Rattle.key_laws.specs.Differing.{has_number, AreNumbered, IsRead, has_unit, keys_among, KeysDiffer}
-use Rattle.key_laws.proofs.Counts.{added, counted, numbered}
+use Rattle.key_laws.specs.Tokens.{op_token, added, counted, TokensAreOnce}
+use Rattle.key_laws.proofs.Counts.{numbered}
 use Rattle.key_laws.proofs.Trees.{items_cover}
 
 both_false : (b c : Bool) → (if b then true else c) ≡ false → (b ≡ false) × (c ≡ false)
@@ -42,6 +45,40 @@ once n (it ∷ k) h =
     one_at_most (nat_eq it.at n) (numbered n k)
     (λ e. absent n k (subst (λ (at : ℕ). has_number at k ≡ false) (eqb-true it.at n e) h.0)) (once n k h.1)
 
+-- keys are among the tokens of ops
+
+abbrev counted_keys : ℕ → List Op → ℕ
+counted_keys n [] = 0
+counted_keys n (op ∷ tape) = added n (op_key op) + counted_keys n tape
+
+is_token : (n : ℕ) (op : Op) → added n (op_key op) ≤ added n (op_token op)
+is_token n (ops.Expr (exprs.Name is_called token name)) = omega arith
+is_token n (ops.Expr (exprs.Number token)) = omega arith
+is_token n (ops.Expr (exprs.Char token)) = omega arith
+is_token n (ops.Expr (exprs.Text token)) = omega arith
+is_token n (ops.Expr (exprs.Paren token)) = omega arith
+is_token n (ops.Expr (exprs.Ext token)) = omega arith
+is_token n (ops.Expr (exprs.Comma token)) = omega arith
+is_token n (ops.Expr (exprs.Assign sign token first last)) = omega arith
+is_token n (ops.Expr (exprs.Cond has_middle token first last)) = omega arith
+is_token n (ops.Expr (exprs.Binary sign token first last)) = omega arith
+is_token n (ops.Expr (exprs.Prefix sign token last)) = omega arith
+is_token n (ops.Expr (exprs.Post sign token first)) = omega arith
+is_token n (ops.Expr (exprs.Index token first last)) = omega arith
+is_token n (ops.Expr (exprs.Arg behind first last)) = omega arith
+is_token n (ops.Expr (exprs.Call token count)) = omega arith
+is_token n (ops.Expr (exprs.Arrow token first last)) = omega arith
+is_token n (ops.Expr (exprs.Dot token member name)) = omega arith
+is_token n (ops.Form op) = omega arith
+is_token n (ops.Init op) = omega arith
+is_token n (ops.Spec op) = omega arith
+is_token n (ops.Declr op) = omega arith
+is_token n (ops.Stmt op) = omega arith
+
+are_tokens : (n : ℕ) (tape : List Op) → counted_keys n tape ≤ counted n tape
+are_tokens n [] = omega arith
+are_tokens n (op ∷ tape) = let a = is_token n op in let b = are_tokens n tape in omega (arith, a, b)
+
 -- keys of one unit
 
 elsewhere : (b : Bool) (m : ℕ) → (if b then 1 else 0) + m ≡ 0 → (b ≡ false) × (m ≡ 0)
@@ -52,16 +89,16 @@ not_here : (a b c : Bool) → b ≡ false → c ≡ false → (if a && b then tr
 not_here true b c e h = rw e h
 not_here false b c e h = h
 
-no_place : (u : Spelling) (token : ℕ) (tape : List Op) → counted token tape ≡ 0 →
+no_place : (u : Spelling) (token : ℕ) (tape : List Op) → counted_keys token tape ≡ 0 →
     has_place (key_places u tape) (place u token) ≡ false
 no_place u token [] h = refl
 no_place u token (op ∷ tape) h = by_key (op_key op) h (no_place u token tape)
   where
-    by_key : (key : Option ℕ) → added token key + counted token tape ≡ 0 →
-        (counted token tape ≡ 0 → has_place (key_places u tape) (place u token) ≡ false) →
+    by_key : (key : Option ℕ) → added token key + counted_keys token tape ≡ 0 →
+        (counted_keys token tape ≡ 0 → has_place (key_places u tape) (place u token) ≡ false) →
         has_place (key_place u key ++ key_places u tape) (place u token) ≡ false
     by_key None e rest = rest (omega (arith, e))
-    by_key (Some other) e rest = let parts = elsewhere (nat_eq other token) (counted token tape) e in
+    by_key (Some other) e rest = let parts = elsewhere (nat_eq other token) (counted_keys token tape) e in
         not_here (nat_eq u.unit u.unit) (nat_eq other token) (has_place (key_places u tape) (place u token)) parts.0
         (rest parts.1)
 
@@ -69,15 +106,15 @@ no_more : (b : Bool) (m : ℕ) → b ≡ true → (if b then 1 else 0) + m ≤ 1
 no_more true m e h = omega (arith, h)
 no_more false m e h = absurd cc
 
-keys_of_one : (u : Spelling) (tape : List Op) → ((n : ℕ) → counted n tape ≤ 1) → AreDifferent (key_places u tape)
+keys_of_one : (u : Spelling) (tape : List Op) → ((n : ℕ) → counted_keys n tape ≤ 1) → AreDifferent (key_places u tape)
 keys_of_one u [] h = tt
 keys_of_one u (op ∷ tape) h = by_key (op_key op) h (keys_of_one u tape (λ n. (let e = h n in omega (arith, e))))
   where
-    by_key : (key : Option ℕ) → ((n : ℕ) → added n key + counted n tape ≤ 1) → AreDifferent (key_places u tape) →
+    by_key : (key : Option ℕ) → ((n : ℕ) → added n key + counted_keys n tape ≤ 1) → AreDifferent (key_places u tape) →
         AreDifferent (key_place u key ++ key_places u tape)
     by_key None e rest = rest
     by_key (Some token) e rest =
-        (no_place u token tape (no_more (nat_eq token token) (counted token tape) (eq-eqb token token refl) (e token)), rest)
+        (no_place u token tape (no_more (nat_eq token token) (counted_keys token tape) (eq-eqb token token refl) (e token)), rest)
 
 -- keys of units
 
@@ -119,13 +156,17 @@ no_unit (it ∷ sources) p h =
     has_none p (key_places it.spelling (tape_of it.items)) (keys_among sources)
     (other_unit it.spelling (tape_of it.items) p parts.0) (no_unit sources p parts.1)
 
-keys_once : (it : Source) → IsRead it → (n : ℕ) → counted n (tape_of it.items) ≤ 1
-keys_once it read n =
+pub tokens_are_once : TokensAreOnce
+tokens_are_once it read n =
     let end : List Lexeme = record { kind = kinds.End; at = read.tokens.last } ∷ [] in
     let covers = (items_cover {n = n} read.all it.items read.rules.parts end).most in
     let total = ap (numbered n) read.tokens.spelled in
     let one = once n read.all read.numbers in
     omega (arith, covers, total, one)
+
+keys_once : (it : Source) → IsRead it → (n : ℕ) → counted_keys n (tape_of it.items) ≤ 1
+keys_once it read n =
+    let a = are_tokens n (tape_of it.items) in let b = tokens_are_once it read n in omega (arith, a, b)
 
 pub keys_differ : KeysDiffer
 keys_differ [] reads units = tt

@@ -3,4 +3,4 @@
 
 mod laws;
 
-pub use laws::keys_differ;
+pub use laws::{keys_differ, tokens_are_once};

@@ -1,0 +1,4 @@
+mod Finding
+mod Parts
+mod Once
+mod Standing

@@ -1,0 +1,16 @@
+use Rattle.std.proofs.Common.{◌≡◌, drop}
+use Rattle.name_rules.specs.Spellings.{Place}
+use Rattle.place_map.specs.Values.{or_else}
+use Rattle.shape_stacks.specs.Views.{state_in}
+use Rattle.unit_spelling.specs.Spelled.{spelling_of}
+use Rattle.unit_shapes.specs.Views.{names_in}
+use Rattle.expr_types.specs.Along.{shapes_along, first_at}
+use Rattle.expr_types.specs.Views.{found_at}
+use Rattle.expr_types.proofs.along.find.Given as goal
+
+abbrev pub invariant-loop-op : goal.invariant-loop-op
+invariant-loop-op l = (at : Place) →
+    or_else (found_at l.types l.found at) (first_at (shapes_along (spelling_of l.spelling) (names_in l.types l.names)
+    (state_in l.types l.stacks) (drop l.op-index l.tape)) at)
+    ≡ or_else (found_at l.types l.initial.found at) (first_at (shapes_along (spelling_of l.spelling) (names_in l.types l.names)
+    (state_in l.types l.initial.stacks) l.tape) at)

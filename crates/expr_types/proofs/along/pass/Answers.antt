@@ -1,0 +1,28 @@
+use Rattle.std.proofs.Common.{ℕ, Option, ◌∙◌, ap}
+use Rattle.name_rules.specs.Spellings.{Place}
+use Rattle.name_rules.specs.Values.{Shape}
+use Rattle.shape_values.specs.Views.{shape_in}
+use Rattle.shape_steps.specs.State.{State}
+use Rattle.shape_stacks.specs.Views.{state_in}
+use Rattle.place_map.specs.Values.{or_else}
+use Rattle.unit_spelling.specs.Spelled.{spelling_of}
+use Rattle.expr_types.specs.Along.{op_shape, keyed, first_at}
+use Rattle.expr_types.specs.Keys.{op_key}
+use Rattle.expr_types.specs.Views.{found_at}
+use Rattle.expr_types.proofs.Adding.{on_ok}
+use Rattle.expr_types.proofs.along.pass.Goals as goal
+
+pub returns-clause-ended : goal.returns-clause-ended
+returns-clause-ended c =
+    let rows = c.args.types.now in
+    let u = spelling_of c.args.spelling.now in
+    let before = state_in rows c.args.stacks.now in
+    let op = c.args.op.now in
+    let known : Place → Option Shape = λ at. found_at rows c.args.found.now at in
+    on_ok c.add.result
+    (λ added at. added at
+    ∙ ap (λ (key : Option ℕ). or_else (known at) (first_at (keyed u key (shape_in rows c.ended-shape.result)) at)) c.key.ensures
+    ∙ ap (λ (it : Shape). or_else (known at) (first_at (keyed u (op_key op) it) at))
+    (c.ended-shape.ensures before c.literal-literal.ensures)
+    ∙ ap (λ (st : State). or_else (known at) (first_at (keyed u (op_key op) (op_shape before st op)) at)) c.in_ok-step.ensures)
+    c.add.ensures

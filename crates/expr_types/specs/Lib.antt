@@ -1,0 +1,4 @@
+pub mod Along
+pub mod Held
+pub mod Keys
+pub mod Views

@@ -1,0 +1,11 @@
+//! The type of each expression and of each type's name of a program, by key token (C99, 6.5 and 6.7.6).
+//!
+//! The loop over a unit's tape that judges expressions lets their types go. Here it is gone through once more, for callers that
+//! ask for them, and what each expression is stays in a table by place.
+#![tactic(auto)]
+
+mod along;
+mod keys;
+mod types;
+
+pub use types::ExpressionTypes;

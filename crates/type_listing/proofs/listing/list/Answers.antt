@@ -1,0 +1,10 @@
+use Rattle.std.proofs.Common.{List, sym, subst}
+use Rattle.std.specs.Prelude.{All}
+use Rattle.name_laws.specs.NameLaws.{IsSound}
+use Rattle.c_types.specs.declared.source.Source.{Source}
+use Rattle.c_types.specs.Sources.{sources_of}
+use Rattle.type_listing.proofs.listing.list.Goals as goal
+
+pub resolve-requires : goal.resolve-requires
+resolve-requires c =
+    record { formed = subst (λ (all : List Source). All IsSound (sources_of all)) (sym c.deref.ensures.value) c.in_ok-all.ensures }
