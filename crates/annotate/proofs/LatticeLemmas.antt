@@ -1,14 +1,13 @@
 -- Lattices by their numbers, and a solution for each.
-use Rattle.std.proofs.Common.{◌≡◌, ℕ, zero, suc, ◌+◌, ◌<◌, ◌≤◌, ◌⊎◌, inl, inr, List, [], ◌∷◌, length, Some, slice_get, refl, sym, ◌∙◌, ap, subst, arith}
+use Rattle.std.proofs.Common.{◌≡◌, ℕ, zero, suc, ◌≤◌, List, [], ◌∷◌, length, Some, slice_get, refl, sym, ◌∙◌, ap, subst, arith}
 use Rattle.std.specs.Option.{option_map}
-use Rattle.std.proofs.lemmas.Bool.{cases_order}
 use Rattle.std.proofs.lemmas.Option.{slice_get-map, slice_get_within}
 use Rattle.lattice_core.specs.Order.{Order}
 use Rattle.lattice_core.specs.View.{LatticeView, orders_of}
 use Rattle.flow_graph.specs.declared.constraint.Constraint.{Constraint}
 use Rattle.flow_graph.specs.declared.constraint.Link.TheVariants.{Bound}
 use Rattle.flow_graph.specs.System.{System}
-use Rattle.flow_graph.specs.Unfolding.{IsAccepted, IsAcceptedIn, IsExceeded, NamesElementsIn}
+use Rattle.flow_graph.specs.Unfolding.{IsAccepted, IsAcceptedIn, IsExceeded}
 use Rattle.annotate.specs.Texts.{Scene}
 use Rattle.annotate.specs.declared.solving.Solved.{Solved}
 use Rattle.annotate.specs.Solutions.{AreSolutions, AreKept, IsNoBound}
@@ -90,23 +89,3 @@ none_there scene sys n c v lattice limit there link past over =
     let view = view_of scene.lattices over.lattice over.order over.there in
     let within = slice_get_within scene.lattices over.lattice view.view view.there in
     omega (arith, within, named, past)
-
--- the first so many lattices have their elements named
-abbrev pub NamedBelow : System → List LatticeView → ℕ → Type 0
-NamedBelow sys lattices count = (n : ℕ) (view : LatticeView) → n < count → slice_get lattices n ≡ Some view → NamesElementsIn sys n view.order
-
-view_is : {x y : LatticeView} → Some x ≡ Some y → x ≡ y
-view_is e = cc
-
-pub named_next : (sys : System) (lattices : List LatticeView) (count : ℕ) (view : LatticeView) → slice_get lattices count ≡ Some view → NamesElementsIn sys count view.order →
-    NamedBelow sys lattices count → NamedBelow sys lattices (count + 1)
-named_next sys lattices count view there named below n other within found = by_order (cases_order n count)
-  where
-    by_order : (n ≡ count) ⊎ ((n < count) ⊎ (count < n)) → NamesElementsIn sys n other.order
-    by_order (inl same) =
-        let other_is : view ≡ other = view_is (sym there ∙ ap (slice_get lattices) (sym same) ∙ found) in
-        let At : ℕ → Type 0 = λ k. NamesElementsIn sys k view.order in
-        let By : LatticeView → Type 0 = λ w. NamesElementsIn sys n w.order in
-        subst By other_is (subst At (sym same) named)
-    by_order (inr (inl before)) = below n other before found
-    by_order (inr (inr past)) = absurd (omega (arith, past, within))

@@ -1,6 +1,6 @@
 //! Whether a program is accepted, and its report.
 
-ghost use Rattle.std.specs.Prelude.{◌≡◌, ◌<◌, ◌↔◌, ℕ, IfOk, IsTrue, length};
+ghost use Rattle.std.specs.Prelude.{◌≡◌, ◌<◌, IfOk, length};
 ghost use Rattle.std.specs.Bool.{OnTrue, OnFalse};
 ghost use Rattle.flow_graph.specs.System.{IsWellOwned};
 ghost use Rattle.flow_graph.specs.Unfolding.{IsAccepted};
@@ -13,9 +13,8 @@ ghost use Rattle.annotate.specs.Reports.{ErrorCount, IsJudged, IsJudgedWith};
 use crate::reports::{accepted, over_in, rejected};
 use crate::scene::Scene;
 use crate::solving::{Solved, solve_all, solved_of};
-use flow_graph::{FlowGraph, names_elements};
+use flow_graph::FlowGraph;
 use flow_laws::exceeded_is_refuted;
-use lattice_core::Lattices;
 use qual_base::{EdgeId, LatticeNo, NoMemory, Numbered, UnitNo};
 use std::alloc::Global;
 
@@ -24,20 +23,6 @@ use std::alloc::Global;
 pub struct Judged {
     pub accepted: bool,
     pub text: Vec<u8>,
-}
-
-/// Whether each constant and bound of each lattice names an element of it. Linear in the constraints times the lattices,
-/// and takes no memory.
-pub fn are_named(lattices: &Lattices, graph: &FlowGraph) -> bool
-    ensures { IsTrue result ↔ AllNamed lattices.now graph.now }
-{
-    for n in 0..lattices.len() {
-        let number = LatticeNo::new(n);
-        if !names_elements(graph, number, lattices.get(number)) {
-            return false;
-        }
-    }
-    true
 }
 
 /// Whether a bound of some lattice is exceeded. Linear in the constraints and the lattices.
@@ -69,8 +54,7 @@ fn is_exceeded(scene: &Scene<'_>, graph: &FlowGraph, solutions: &[Solved]) -> bo
 /// bytes of memory for each token; the rejected report takes a search for each exceeded bound. A text is not longer than
 /// memory.
 ///
-/// `flow_graph::is_well_owned` and `are_named` test what is asked of the graph. Any variables may be listed. Of a unit that
-/// is not there the line stands alone.
+/// Any variables may be listed. Of a unit that is not there the line stands alone.
 pub fn judge_with(
     alloc: Global,
     scene: &Scene<'_>,
@@ -125,8 +109,6 @@ fn count_over(scene: &Scene<'_>, graph: &FlowGraph, solutions: &[Solved]) -> u32
 
 /// How many bounds of a program are exceeded: 0 exactly where it is accepted, at most as many as it has constraints. Each
 /// lattice is solved once; beside that, linear in the constraints times the lattices.
-///
-/// `flow_graph::is_well_owned` and `are_named` test what is asked of the graph.
 pub fn count_errors(alloc: Global, scene: &Scene<'_>, graph: &FlowGraph) -> Result<u32, NoMemory>
     requires named { AllNamed scene.now.lattices.now graph.now }
     requires owned { IsWellOwned graph.now }

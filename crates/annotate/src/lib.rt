@@ -13,7 +13,7 @@ mod scene;
 mod solving;
 mod texts;
 
-pub use judging::{Judged, are_named, count_errors, judge, judge_with};
+pub use judging::{Judged, count_errors, judge, judge_with};
 pub use laws::comments_come_out;
 pub use places::{put, put_at, put_decimal, put_spot};
 pub use scene::{Scene, UnitText, find_unit};

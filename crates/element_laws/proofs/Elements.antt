@@ -1,6 +1,8 @@
 -- Constraints whose constants and bounds name elements.
-use Rattle.std.proofs.Common.{◌≡◌, inl, ℕ, zero, suc, ◌<◌, Bool, true, false, List, [], ◌∷◌, ◌++◌, length, Some, refl, sym, ap, subst}
+use Rattle.std.proofs.Common.{◌≡◌, inl, ℕ, zero, suc, ◌<◌, Bool, true, false, List, [], ◌∷◌, ◌++◌, length, Some, refl, sym, ◌∙◌, ap, subst}
 use Rattle.std.specs.Prelude.{slice_get, if◌then◌else◌}
+use Rattle.std.specs.Option.{option_map}
+use Rattle.std.proofs.lemmas.Option.{slice_get-map}
 use Rattle.qual_base.specs.declared.places.Owner.{Owner}
 use Rattle.qual_base.specs.declared.places.Owner.TheVariants.{Nobody}
 use Rattle.qual_base.specs.declared.places.Span.{Span}
@@ -94,16 +96,15 @@ module _ (lattices : List LatticeView) where
   has_named : (sys : System) (n : ℕ) (link : Link) → AllNamed sys.constraints → Has sys n link → IsNamed link
   has_named sys n link h it = subst IsNamed it.link_is (named_at sys.constraints n it.constraint h it.there)
 
-  order_there : (views : List LatticeView) (n : ℕ) (view : LatticeView) → slice_get views n ≡ Some view →
-      slice_get (orders_of views) n ≡ Some view.order
-  order_there [] n view e = absurd cc
-  order_there (it ∷ views) zero view e = let same : it ≡ view = cc in ap (λ (v : LatticeView). Some v.order) same
-  order_there (it ∷ views) (suc n) view e = order_there views n view e
+  order_there : (n : ℕ) (view : LatticeView) → slice_get lattices n ≡ Some view →
+      slice_get (orders_of lattices) n ≡ Some view.order
+  order_there n view e =
+      slice_get-map (λ (v : LatticeView). v.order) lattices n ∙ ap (option_map (λ (v : LatticeView). v.order)) e
 
   order_of : (n e : ℕ) → AreSized lattices → IsElement lattices n e →
       (order : Order) × (slice_get (orders_of lattices) n ≡ Some order) × (e < size order)
   order_of n e sized it =
-      (it.view.order, order_there lattices n it.view it.there, below_size n e it.view sized it.there it)
+      (it.view.order, order_there n it.view it.there, below_size n e it.view sized it.there it)
 
   pub lattices_named : (sys : System) → AreSized lattices → AllNamed sys.constraints →
       NamesElements sys (orders_of lattices)
