@@ -65,7 +65,8 @@ symmetric a b h = by_test (nat_eq b a) refl
   where
     by_test : (c : Bool) → nat_eq b a ≡ c → c ≡ false
     by_test false is = refl
-    by_test true is = absurd (let e : nat_eq a b ≡ true = eq-eqb a b (sym (eqb-true b a is)) in let no : true ≡ false = sym e ∙ h in cc)
+    by_test true is =
+        absurd (let e : nat_eq a b ≡ true = eq-eqb a b (sym (eqb-true b a is)) in let no : true ≡ false = sym e ∙ h in cc)
 
 other_unit : (n : ℕ) (sources : List Source) (it : Source) → Contains sources it → has_unit n sources ≡ false
     → nat_eq it.spelling.unit n ≡ false
@@ -79,14 +80,16 @@ other_unit n (x ∷ sources) it h none =
 
 -- what is found first in the list of one of the units is found first in that of all
 
-among : (s : Names) (sources : List Source) → UnitsDiffer sources → (it : Source) → Contains sources it → (token : ℕ) (shape : Shape)
+among : (s : Names) (sources : List Source) → UnitsDiffer sources → (it : Source) → Contains sources it
+    → (token : ℕ) (shape : Shape)
     → first_at (shapes_along it.spelling s nothing (tape_of it.items)) (place it.spelling token) ≡ Some shape
     → first_at (shapes_among s (map tape_of_source sources)) (place it.spelling token) ≡ Some shape
 among s [] units it h token shape found = absurd (none_in it h)
 among s (x ∷ sources) units it h token shape found = elim (cons_cases x sources it h) [
   | inl e ↦ ahead (shapes_along x.spelling s nothing (tape_of x.items)) (shapes_among s (map tape_of_source sources))
       (place it.spelling token) shape
-      (subst (λ (y : Source). first_at (shapes_along y.spelling s nothing (tape_of y.items)) (place it.spelling token) ≡ Some shape)
+      (subst (λ (y : Source). first_at (shapes_along y.spelling s nothing (tape_of y.items))
+      (place it.spelling token) ≡ Some shape)
       (sym e) found)
   | inr g ↦ elsewhere x.spelling s (tape_of x.items) nothing (shapes_among s (map tape_of_source sources))
       (place it.spelling token)
@@ -109,5 +112,7 @@ shapes_are_found stand once sources reads units s it h before called e behind is
     subst (λ (ops : List Op). Contains (shapes_along u s nothing ops) (expression_at u s e)) (sym is)
     (stand u s nothing before called e behind) in
     let one : counted_keys (key_token e) tape ≤ 1 =
-    (let a = are_tokens (key_token e) tape in let b = once it (is_read sources reads it h) (key_token e) in omega (arith, a, b)) in
-    among s sources units it h (key_token e) (shape_of u s e) (found_once u s tape nothing (key_token e) (shape_of u s e) one there)
+    (let a = are_tokens (key_token e) tape in let b = once it (is_read sources reads it h) (key_token e) in
+    omega (arith, a, b)) in
+    among s sources units it h (key_token e) (shape_of u s e)
+    (found_once u s tape nothing (key_token e) (shape_of u s e) one there)

@@ -71,21 +71,40 @@ module _ (u : Spelling) (s : Names) where
   same_token : (t token : ℕ) (x shape : Shape) → keyed_at t x ≡ keyed_at token shape → nat_eq t token ≡ true
   same_token t token x shape e = eq-eqb t token (ap (λ (k : Keyed). k.at.1) e)
 
+  -- the first of a list, with the key of one op, and the others
+  module _ (x : Shape) (rest : List Keyed) (tape : List Op) (token : ℕ) (shape : Shape) where
+    counts : (key : Option ℕ) → Contains (keyed u key x ++ rest) (keyed_at token shape)
+        → (Contains rest (keyed_at token shape) → 1 ≤ counted_keys token tape)
+        → 1 ≤ added token key + counted_keys token tape
+    counts None g others = let a = others g in omega (arith, a)
+    counts (Some t) g others = elim (cons_cases (keyed_at t x) rest (keyed_at token shape) g) [
+      | inl e ↦ one_more (nat_eq t token) (counted_keys token tape) (same_token t token x shape e)
+      | inr f ↦ (let a = others f in omega (arith, a))
+    ]
+
+    finds : (key : Option ℕ) → Contains (keyed u key x ++ rest) (keyed_at token shape)
+        → added token key + counted_keys token tape ≤ 1
+        → (Contains rest (keyed_at token shape) → 1 ≤ counted_keys token tape)
+        → (counted_keys token tape ≤ 1 → Contains rest (keyed_at token shape) → first_at rest (place u token) ≡ Some shape)
+        → first_at (keyed u key x ++ rest) (place u token) ≡ Some shape
+    finds None g most one others = others (omega (arith, most)) g
+    finds (Some t) g most one others = elim (cons_cases (keyed_at t x) rest (keyed_at token shape) g) [
+      | inl e ↦ picks (is_place (place u t) (place u token)) (Some x) (first_at rest (place u token))
+          (both_true (nat_eq u.unit u.unit) (nat_eq t token) (eq-eqb u.unit u.unit refl) (same_token t token x shape e))
+          ∙ ap (λ (k : Keyed). Some k.shape) e
+      | inr f ↦ passes (is_place (place u t) (place u token)) (Some x) (first_at rest (place u token))
+          (last_false (nat_eq u.unit u.unit) (nat_eq t token) (other (nat_eq t token) (counted_keys token tape) most (one f)))
+          ∙ others (omega (arith, most)) f
+    ]
+
   -- an expression that stands along a tape has an op
-  pub stands_once : (tape : List Op) (st : State) (token : ℕ) (shape : Shape)
+  stands_once : (tape : List Op) (st : State) (token : ℕ) (shape : Shape)
       → Contains (shapes_along u s st tape) (keyed_at token shape) → 1 ≤ counted_keys token tape
   stands_once [] st token shape h = absurd (none_in (keyed_at token shape) h)
   stands_once (op ∷ tape) st token shape h =
-      by_key (op_key op) h (λ g. stands_once tape (step u s st op) token shape g)
-    where
-      by_key : (key : Option ℕ) → Contains (keyed u key (op_shape st (step u s st op) op) ++ shapes_along u s (step u s st op) tape) (keyed_at token shape)
-          → (Contains (shapes_along u s (step u s st op) tape) (keyed_at token shape) → 1 ≤ counted_keys token tape)
-          → 1 ≤ added token key + counted_keys token tape
-      by_key None g others = let a = others g in omega (arith, a)
-      by_key (Some t) g others = elim (cons_cases (keyed_at t (op_shape st (step u s st op) op)) (shapes_along u s (step u s st op) tape) (keyed_at token shape) g) [
-        | inl e ↦ one_more (nat_eq t token) (counted_keys token tape) (same_token t token (op_shape st (step u s st op) op) shape e)
-        | inr f ↦ (let a = others f in omega (arith, a))
-      ]
+      let behind = step u s st op in
+      counts (op_shape st behind op) (shapes_along u s behind tape) tape token shape (op_key op) h
+      (stands_once tape behind token shape)
 
   -- and is found first where its token is that of no other one
   pub found_once : (tape : List Op) (st : State) (token : ℕ) (shape : Shape) → counted_keys token tape ≤ 1
@@ -93,24 +112,6 @@ module _ (u : Spelling) (s : Names) where
       → first_at (shapes_along u s st tape) (place u token) ≡ Some shape
   found_once [] st token shape most h = absurd (none_in (keyed_at token shape) h)
   found_once (op ∷ tape) st token shape most h =
-      by_key (op_key op) h most (λ c g. found_once tape (step u s st op) token shape c g)
-      (λ g. stands_once tape (step u s st op) token shape g)
-    where
-      by_key : (key : Option ℕ) → Contains (keyed u key (op_shape st (step u s st op) op) ++ shapes_along u s (step u s st op) tape) (keyed_at token shape)
-          → added token key + counted_keys token tape ≤ 1
-          → (counted_keys token tape ≤ 1 → Contains (shapes_along u s (step u s st op) tape) (keyed_at token shape)
-          → first_at (shapes_along u s (step u s st op) tape) (place u token) ≡ Some shape)
-          → (Contains (shapes_along u s (step u s st op) tape) (keyed_at token shape) → 1 ≤ counted_keys token tape)
-          → first_at (keyed u key (op_shape st (step u s st op) op) ++ shapes_along u s (step u s st op) tape) (place u token) ≡ Some shape
-      by_key None g c others one = others (omega (arith, c)) g
-      by_key (Some t) g c others one = elim (cons_cases (keyed_at t (op_shape st (step u s st op) op)) (shapes_along u s (step u s st op) tape) (keyed_at token shape) g) [
-        | inl e ↦ picks (is_place (place u t) (place u token)) (Some (op_shape st (step u s st op) op))
-            (first_at (shapes_along u s (step u s st op) tape) (place u token))
-            (both_true (nat_eq u.unit u.unit) (nat_eq t token) (eq-eqb u.unit u.unit refl)
-            (same_token t token (op_shape st (step u s st op) op) shape e))
-            ∙ ap (λ (k : Keyed). Some k.shape) e
-        | inr f ↦ passes (is_place (place u t) (place u token)) (Some (op_shape st (step u s st op) op))
-            (first_at (shapes_along u s (step u s st op) tape) (place u token))
-            (last_false (nat_eq u.unit u.unit) (nat_eq t token) (other (nat_eq t token) (counted_keys token tape) c (one f)))
-            ∙ others (omega (arith, c)) f
-      ]
+      let behind = step u s st op in
+      finds (op_shape st behind op) (shapes_along u s behind tape) tape token shape (op_key op) h most
+      (stands_once tape behind token shape) (found_once tape behind token shape)

@@ -35,7 +35,8 @@ ends : (before : List Op) (last : Op) (key : ℕ) → op_key last ≡ Some key
     → ((st behind : State) → op_shape st behind last ≡ shape_at 0 behind) → EndsAt (before ++ last ∷ []) key
 ends before last key has on = record { before = before; last = last; parts = refl; has_key = has; on_top = on }
 
-operator_ends : (before : List Op) (op : Operator) (token first last : ℕ) → EndsAt (before ++ operator_tape op token first last) token
+operator_ends : (before : List Op) (op : Operator) (token first last : ℕ)
+    → EndsAt (before ++ operator_tape op token first last) token
 operator_ends before comma token first last = ends before _ token refl (λ st behind. refl)
 operator_ends before (assign p) token first last = ends before _ token refl (λ st behind. refl)
 operator_ends before (cond middle colon) token first last = ends before _ token refl (λ st behind. refl)
@@ -53,7 +54,8 @@ module _ (u : Spelling) (s : Names) where
       let there : Contains (shapes_along u s old (op ∷ [])) (record { at = place u key; shape = it }) =
       subst (λ k. Contains (keyed u k it ++ []) (record { at = place u key; shape = it })) (sym has)
       (Contains-push [] (record { at = place u key; shape = it })) in
-      subst (λ (b : State). Contains (shapes_along u s st (before ++ op ∷ [])) (record { at = place u key; shape = op_shape old b op }))
+      subst (λ (b : State). Contains (shapes_along u s st (before ++ op ∷ []))
+      (record { at = place u key; shape = op_shape old b op }))
       (sym (run_append u s before (op ∷ []) st))
       (subst (λ (xs : List Keyed). Contains xs (record { at = place u key; shape = it }))
       (sym (shapes_append u s before (op ∷ []) st))
@@ -91,7 +93,8 @@ module _ (u : Spelling) (s : Names) where
         (expression_at u s (compound opening ws d closing list))
     literal_stands opening ws d closing list called st =
         let e = compound opening ws d closing list in
-        let front = type_name_with (words_tape false ws) (some_declr_tape d) (first_word ws) ++ init inits.Begin ++ list_tape list in
+        let front = type_name_with (words_tape false ws) (some_declr_tape d) (first_word ws)
+        ++ init inits.Begin ++ list_tape list in
         let behind = front ++ init (inits.Literal opening) in
         let ruled = behind ++ rule_of_list list in
         let at : Shape → Keyed = λ it. record { at = place u opening; shape = it } in
@@ -150,7 +153,8 @@ module _ (u : Spelling) (s : Names) where
         by_last (paren opening e closing) called st (ends _ _ opening refl (λ st behind. refl))
     expr_stands (statement_expr opening opening2 items closing closing2) called st =
         by_last (statement_expr opening opening2 items closing closing2) called st
-        (ends (in_scope (block_items_tape true items)) (ops.Form (forms.StmtExpr (ends_in_value items) opening)) opening refl (λ st behind. refl))
+        (ends (in_scope (block_items_tape true items))
+        (ops.Form (forms.StmtExpr (ends_in_value items) opening)) opening refl (λ st behind. refl))
     expr_stands (va_arg keyword opening e separator ws d closing) called st =
         by_last (va_arg keyword opening e separator ws d closing) called st (ends _ _ keyword refl (λ st behind. refl))
     expr_stands (va_start keyword opening e separator e2 closing) called st =
@@ -160,7 +164,8 @@ module _ (u : Spelling) (s : Names) where
     expr_stands (offset keyword opening ws d separator name steps closing) called st =
         by_last (offset keyword opening ws d separator name steps closing) called st
         (ends (stmt stmts.Quiet ++ type_name_with (words_tape false ws) (some_declr_tape d) (first_word ws)
-        ++ form (forms.OffsetMember name.token name.name) ++ steps_tape steps) (ops.Form (forms.Offset keyword)) keyword refl (λ st behind. refl))
+        ++ form (forms.OffsetMember name.token name.name) ++ steps_tape steps)
+        (ops.Form (forms.Offset keyword)) keyword refl (λ st behind. refl))
 
 pub expressions_stand : ShapesAreLeft → ExpressionsStand
 expressions_stand left u s st before called e behind =

@@ -1,6 +1,6 @@
 //! The loop over a tape.
 
-ghost use Rattle.std.specs.Prelude.{◌≡◌, OnOk, IfOk};
+ghost use Rattle.std.specs.Prelude.{◌≡◌, OnOk};
 ghost use Rattle.shape_steps.specs.State as states;
 ghost use Rattle.shape_steps.specs.State.{nothing};
 ghost use Rattle.shape_steps.specs.Steps.{step};

@@ -1,8 +1,7 @@
 //! The types of a program's expressions, found by key tokens.
 
-ghost use Rattle.std.specs.Prelude.{◌≡◌, IfOk, OnOk};
+ghost use Rattle.std.specs.Prelude.{◌≡◌, IfOk};
 ghost use Rattle.name_rules.specs.Spellings.{Place};
-ghost use Rattle.place_map.specs.Values.{or_else};
 ghost use Rattle.shape_values.specs.Views.{some_value_type};
 ghost use Rattle.unit_shapes.specs.Views.{names_in, AreImplicit};
 ghost use Rattle.unit_types.specs.Resolved.{tapes_of};
@@ -83,7 +82,8 @@ impl<'a> ExpressionTypes<'a> {
         Ok(ExpressionTypes { program, found })
     }
 
-    /// What the expression with this key token is: a place or a value, and of which type. None where there is none. Constant time.
+    /// What the expression with this key token is: a place or a value, and of which type. None where there is none.
+    /// Constant time.
     pub fn shape_at(&self, unit: UnitNo, token: TokenId) -> Option<ExprShape>
         ensures { some_shape_in self.now.rows result ≡ shape_of_place self.now (unit, token) }
     {

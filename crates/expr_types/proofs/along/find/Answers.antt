@@ -25,5 +25,6 @@ loop-op-preserved c = λ at.
     ap (λ (st : State). or_else added (first_at (shapes_along u s st behind) at)) c.in_ok-pass.ensures.passed
     ∙ goes_on known added (keyed u (op_key op) (op_shape before (step u s before op) op))
     (shapes_along u s (step u s before op) behind) at (c.in_ok-pass.ensures.ended at)
-    ∙ ap (λ (it : List Keyed). or_else known (first_at it at)) (next_op u s c.args.tape.now i op before c.op-item.is c.loop-op-test.true)
+    ∙ ap (λ (it : List Keyed). or_else known (first_at it at))
+    (next_op u s c.args.tape.now i op before c.op-item.is c.loop-op-test.true)
     ∙ c.loop-op.invariant at

@@ -9,5 +9,6 @@ use Rattle.expr_types.proofs.types.find_all.Given as goal
 
 abbrev pub invariant-loop-unit : goal.invariant-loop-unit
 invariant-loop-unit l = (at : Place) →
-    or_else (found_at l.types l.found at) (first_at (shapes_among (names_in l.types l.names) (drop l.unit-index (tapes_of l.units))) at)
+    or_else (found_at l.types l.found at) (first_at (shapes_among (names_in l.types l.names) (drop l.unit-index
+    (tapes_of l.units))) at)
     ≡ first_at (shapes_among (names_in l.types l.names) (tapes_of l.units)) at

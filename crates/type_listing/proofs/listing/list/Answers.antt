@@ -7,4 +7,7 @@ use Rattle.type_listing.proofs.listing.list.Goals as goal
 
 pub resolve-requires : goal.resolve-requires
 resolve-requires c =
-    record { formed = subst (λ (all : List Source). All IsSound (sources_of all)) (sym c.deref.ensures.value) c.in_ok-all.ensures }
+    record {
+      formed = subst (λ (all : List Source). All IsSound (sources_of all))
+          (sym c.deref.ensures.value) c.in_ok-all.ensures;
+    }
