@@ -240,10 +240,15 @@ pub data Outcome (words : List (List ℕ)) (files : List (List ℕ × List ℕ))
 
 -- the answer is that of the words and the files: no read failed, no write did, and memory was found
 abbrev pub IsAnswer : Status → Type 0
+IsAnswer Accepted = Unit {0}
+IsAnswer Rejected = Unit {0}
+IsAnswer PathsHold = Unit {0}
+IsAnswer PathBad = Unit {0}
+IsAnswer Malformed = Unit {0}
+IsAnswer BadWords = Unit {0}
 IsAnswer ReadFault = ⊥
 IsAnswer WriteFault = ⊥
 IsAnswer NoMemory = ⊥
-IsAnswer _ = Unit {0}
 
 -- the status says what was decided of the files that were read
 abbrev pub IsDecided : Status → Type 0
@@ -252,7 +257,10 @@ IsDecided Rejected = Unit {0}
 IsDecided PathsHold = Unit {0}
 IsDecided PathBad = Unit {0}
 IsDecided Malformed = Unit {0}
-IsDecided _ = ⊥
+IsDecided BadWords = ⊥
+IsDecided ReadFault = ⊥
+IsDecided WriteFault = ⊥
+IsDecided NoMemory = ⊥
 
 -- names that are told afterwards were told before, and have grown by these at their end
 abbrev pub RecordsAll : Option (List (List ℕ)) → Option (List (List ℕ)) → List (List ℕ) → Type 0

@@ -22,5 +22,7 @@ task_of (asked.Generate number) = words.Generate number
 
 -- where the report of a made source is asked, there is such a source
 abbrev pub AsksMade : Asked → Type 0
+AsksMade (asked.Infer files) = ⊤
+AsksMade (asked.Annotate files) = ⊤
+AsksMade (asked.Check files report) = ⊤
 AsksMade (asked.Generate number) = IsMade number
-AsksMade _ = ⊤
