@@ -168,6 +168,7 @@ sound-end unit words bytes front tokens marks end small reached whole end_is tok
     record {
       few = (let few = kept.counted.tokens in let size = ap length tokens_are ∙ length-append front.tokens (record { kind = End; start = end; end = end } ∷ []) in omega arith);
       inside = rw tokens_are (before_more front.tokens (record { kind = End; start = end; end = end }) front.at (length bytes) kept.tokens (omega arith) (omega arith) (omega arith));
+      ended = (front.tokens, record { kind = End; start = end; end = end }, tokens_are, refl);
       rising = rw marks_are kept.rising;
     }
 

@@ -1,10 +1,10 @@
 -- The tokens of a unit, as clauses see them, and what is answered of each.
-use Rattle.std.specs.Prelude.{◌≡◌, ℕ, ◌<◌, ◌≤◌, ◌^◌, List, length, map, Option, Some, None, codes, slice_get, slice_range, unwrap_or}
+use Rattle.std.specs.Prelude.{◌≡◌, ℕ, ◌<◌, ◌≤◌, ◌^◌, List, [], ◌∷◌, ◌++◌, length, map, Option, Some, None, codes, slice_get, slice_range, unwrap_or}
 use Rattle.std.specs.List.Sorted.{IsNonDecreasingBy}
 use Rattle.qual_base.specs.Words.{meaning_of, MeansTheSame}
 use Rattle.qual_base.specs.declared.places.Spot.{Spot}
 use Rattle.c_words.specs.declared.kinds.TokenKind.{TokenKind}
-use Rattle.c_words.specs.declared.kinds.TokenKind.TheVariants.{Keyword as IsKeyword, Qual}
+use Rattle.c_words.specs.declared.kinds.TokenKind.TheVariants.{End, Keyword as IsKeyword, Qual}
 use Rattle.c_words.specs.declared.kinds.Keyword.{Keyword}
 use Rattle.c_words.specs.declared.kinds.Keyword.TheVariants.{Const, Volatile, Restrict}
 use Rattle.c_lexer.specs.declared.token.Token.{Token}
@@ -67,8 +67,14 @@ text_of lexed n = slice_range lexed.bytes (start_of lexed.tokens n) (end_of lexe
 abbrev pub token_spot : Lexed → ℕ → Spot
 token_spot lexed n = spot_at lexed.unit lexed.bytes lexed.marks (start_of lexed.tokens n)
 
--- each token stands within the bytes, which are few enough to number, and the lines of the marks come in order
+-- the last token is the end of the unit
+abbrev pub IsEnded : List Token → Type 0
+IsEnded tokens = (front : List Token) × (last : Token) × (tokens ≡ front ++ last ∷ []) × (last.kind ≡ End)
+
+-- each token stands within the bytes, which are few enough to number, the last one is the end of the unit, and the lines
+-- of the marks come in order
 pub record IsSound (bytes : List ℕ) (tokens : List Token) (marks : List Mark) : Type 0 where
   pub few : length tokens < 2 ^ 32
   pub inside : (k : ℕ) (t : Token) → slice_get tokens k ≡ Some t → (t.start ≤ t.end) × (t.end ≤ length bytes)
+  pub ended : IsEnded tokens
   pub rising : IsNonDecreasingBy (λ (m : Mark). m.from) marks

@@ -2,7 +2,7 @@
 #![tactic(auto)]
 
 use cqual_tool::{Status, run};
-use qual_base::{HostFiles, HostSink};
+use outside::{HostFiles, HostSink};
 use std::env;
 use std::io::ErrorKind;
 use std::process::ExitCode;

@@ -4,7 +4,7 @@ use Rattle.std.specs.declared.option.Option.{Option}
 use Rattle.std.specs.declared.alloc.Global.{Global}
 use Rattle.std.specs.declared.vec.Vec.{Vec}
 use Rattle.std.specs.Io.KnownBytes.{Appends}
-use Rattle.qual_base.specs.Outside.{content_of, Records}
+use Rattle.outside.specs.Outside.{content_of, Records}
 use Rattle.lattice_core.specs.View.{LatticeView}
 use Rattle.cqual_tool.specs.declared.status.Status.{Status}
 use Rattle.cqual_tool.specs.declared.status.Status.TheVariants.{Malformed, BadWords, WriteFault}

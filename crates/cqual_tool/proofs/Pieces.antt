@@ -3,7 +3,7 @@ use Rattle.std.proofs.Common.{ℕ, ◌+◌, List, ◌++◌, take, drop, Some, No
 use Rattle.std.specs.declared.option.Option.{Option}
 use Rattle.std.specs.Io.KnownBytes.{Appends}
 use Rattle.std.proofs.Math.Seq.{take-add}
-use Rattle.qual_base.specs.Counts.{GoesOn}
+use Rattle.outside.specs.Counts.{GoesOn}
 
 -- a front of a text and then a front of what is left of it
 pub written_on : (first middle last : Option (List ℕ)) (text : List ℕ) (n m : ℕ) → Appends first middle (take n text) → Appends middle last (take m (drop n text)) →

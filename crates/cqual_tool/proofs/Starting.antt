@@ -1,7 +1,7 @@
 -- Which files are started, and what was read before them.
 use Rattle.std.proofs.Common.{◌≡◌, ℕ, List, [], ◌∷◌, ◌++◌, Some, None, IfSome, ◌∙◌, ap, subst, append_assoc}
 use Rattle.std.specs.declared.option.Option.{Option}
-use Rattle.qual_base.specs.Outside.{content_of, Records}
+use Rattle.outside.specs.Outside.{content_of, Records}
 use Rattle.lattice_core.specs.View.{LatticeView}
 use Rattle.c_types.specs.Sources.{UnitRead}
 use Rattle.index_words.specs.Marks.{IndexMark}

@@ -1,6 +1,6 @@
 -- What the tool answers and writes, for the words and the contents of the files.
 use Rattle.std.specs.Prelude.{◌≡◌, ◌≢◌, ℕ, zero, suc, Bool, true, false, ◌<◌, ◌≤◌, List, [], ◌∷◌, ◌++◌, length, Some, None, codes, IfSome, Option}
-use Rattle.qual_base.specs.Outside.{content_of}
+use Rattle.outside.specs.Outside.{content_of}
 use Rattle.qual_base.specs.Words.{MeansTheSame}
 use Rattle.lattice_core.specs.Names.{words_of}
 use Rattle.lattice_core.specs.View.{LatticeView, orders_of}

@@ -1,6 +1,6 @@
 -- What is made of a source: a line that refuses it, or a program with its constraints.
 use Rattle.std.specs.Prelude.{◌≡◌, ℕ, false, All, List, [], ◌∷◌, ◌++◌, Option, Some, IfSome}
-use Rattle.qual_base.specs.Outside.{content_of}
+use Rattle.outside.specs.Outside.{content_of}
 use Rattle.lattice_core.specs.View.{LatticeView, orders_of}
 use Rattle.c_units.specs.Units.{IsWellFormed}
 use Rattle.c_parser.specs.Parsing.{lexemes_of}

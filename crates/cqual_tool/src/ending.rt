@@ -1,8 +1,8 @@
 //! What is asked of a program whose constraints are there: its report, or what another report comes to.
 
 ghost use Rattle.std.specs.Prelude.{◌≡◌, ◌∷◌, ◌++◌, [], ◌<◌, ◌-◌, ◌^◌, ℕ, List, IfOk, IfSome, IsErrOf, length};
-ghost use Rattle.qual_base.specs.Counts.{GoesOn, Rose};
-ghost use Rattle.qual_base.specs.Outside.{content_of};
+ghost use Rattle.outside.specs.Counts.{GoesOn, Rose};
+ghost use Rattle.outside.specs.Outside.{content_of};
 ghost use Rattle.lattice_core.specs.View.{orders_of};
 ghost use Rattle.index_words.specs.Marks.{IndexMark};
 ghost use Rattle.c_types.specs.Sources.{UnitRead, units_of};
@@ -27,7 +27,8 @@ use crate::words::Named;
 use annotate::{Judged, Scene, judge_with};
 use flow_graph::FlowGraph;
 use lattice_core::Lattices;
-use qual_base::{Files, NoMemory, Numbered, UnitNo};
+use outside::Files;
+use qual_base::{NoMemory, Numbered, UnitNo};
 use report_checks::{Checked, judge_report, put_checked};
 use std::alloc::Global;
 

@@ -1,8 +1,8 @@
 //! Taking the files in order, and what is answered of their bytes.
 
 ghost use Rattle.std.specs.Prelude.{◌≡◌, ◌∷◌, [], ℕ, List, Some, IfOk, IfSome, IsErrOf};
-ghost use Rattle.qual_base.specs.Counts.{GoesOn, Rose};
-ghost use Rattle.qual_base.specs.Outside.{content_of};
+ghost use Rattle.outside.specs.Counts.{GoesOn, Rose};
+ghost use Rattle.outside.specs.Outside.{content_of};
 ghost use Rattle.c_types.specs.Sources.{unit_of, units_of};
 ghost use Rattle.cqual_tool.specs.Words.{names_in as files_in};
 ghost use Rattle.cqual_tool.specs.Outcome.{IsDecided, OfFiles, OfSource, OfUnits, RecordsAll, Starts};
@@ -18,7 +18,8 @@ use crate::words::Named;
 use cq_prelude::{PreludeRead, read_prelude};
 use lattice_core::Lattices;
 use lattice_file::read_lattices;
-use qual_base::{Files, NoMemory};
+use outside::Files;
+use qual_base::NoMemory;
 use std::alloc::Global;
 
 /// A prelude stands before the source.

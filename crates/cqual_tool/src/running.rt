@@ -3,13 +3,13 @@
 ghost use Rattle.std.specs.Prelude.{◌≡◌, ◌⊎◌, ℕ, List, IfOk, IfSome, IsErrOf, IsNone, None, Some, map};
 ghost use Rattle.std.specs.Prelude.{string_bytes, take};
 ghost use Rattle.std.specs.Io.KnownBytes.{Appends};
-ghost use Rattle.qual_base.specs.Counts.{GoesOn, Rose};
+ghost use Rattle.outside.specs.Counts.{GoesOn, Rose};
 ghost use Rattle.cqual_tool.specs.declared.status.Status.TheVariants as Statuses;
 ghost use Rattle.cqual_words.specs.Asked.{AsksMade, task_of};
 ghost use Rattle.cqual_words.specs.Words.{meaning_of};
 ghost use Rattle.cqual_tool.specs.Texts.{usage_line};
 ghost use Rattle.cqual_tool.specs.Sending.{AppendsFront, Sends};
-ghost use Rattle.qual_base.specs.Outside.{content_of};
+ghost use Rattle.outside.specs.Outside.{content_of};
 ghost use Rattle.cqual_tool.specs.Outcome.{Outcome, IsAnswer, IsDecided, OfTask, RecordsAll};
 ghost use Rattle.cqual_tool.specs.Outcome.{StartsFor, TaskStarts};
 
@@ -21,7 +21,7 @@ use crate::status::Status;
 use crate::taking::Stop;
 use crate::words::of_files;
 use cqual_words::{Asked, meaning};
-use qual_base::{Files, Sink};
+use outside::{Files, Sink};
 use std::alloc::Global;
 
 /// What is written for words without a meaning.

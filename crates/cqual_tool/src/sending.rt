@@ -2,10 +2,10 @@
 
 ghost use Rattle.std.specs.Prelude.{◌≡◌, ◌≤◌, ℕ, OnOk, OnErr, length};
 ghost use Rattle.std.specs.Io.KnownBytes.{Appends};
-ghost use Rattle.qual_base.specs.Counts.{GoesOn, Rose};
+ghost use Rattle.outside.specs.Counts.{GoesOn, Rose};
 ghost use Rattle.cqual_tool.specs.Sending.{AppendsFront};
 
-use qual_base::{Failed, Sink};
+use outside::{Failed, Sink};
 
 /// Puts all of a text out, piece by piece, or a front of it where a put fails.
 pub fn send<O: Sink>(out: &mut O, text: &[u8]) -> Result<(), Failed>

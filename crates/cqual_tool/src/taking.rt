@@ -2,14 +2,15 @@
 
 ghost use Rattle.std.specs.Prelude.{◌≡◌, ◌<◌, ◌≤◌, IfOk, IfSome, IsErrOf, MatchOption};
 ghost use Rattle.std.specs.Prelude.{length, codes};
-ghost use Rattle.qual_base.specs.Counts.{GoesOn, Rose};
-ghost use Rattle.qual_base.specs.Outside.{content_of, Records};
+ghost use Rattle.outside.specs.Counts.{GoesOn, Rose};
+ghost use Rattle.outside.specs.Outside.{content_of, Records};
 ghost use Rattle.cqual_tool.specs.declared.status.Status.TheVariants as Statuses;
 ghost use Rattle.cqual_tool.specs.Statuses.{Says};
 ghost use Rattle.cqual_tool.specs.Texts.{malformed_line};
 
 use crate::answer::{Answer, malformed};
-use qual_base::{Files, NoMemory, TakeFault, take_all};
+use outside::{Files, TakeFault, take_all};
+use qual_base::NoMemory;
 use std::alloc::Global;
 
 /// The most bytes that a lattice file may have.

@@ -1,7 +1,7 @@
 //! One call of the tool.
 
 use cqual_tool::run;
-use qual_base::{MemFiles, MemSink};
+use outside::{MemFiles, MemSink};
 use std::alloc::{AllocError, Global};
 
 /// The bytes that a sink has room for.

@@ -16,7 +16,7 @@ mod calls;
 mod lines;
 
 use calls::answers;
-use qual_base::{HostFiles, HostSink, Sink, take_all};
+use outside::{HostFiles, HostSink, Sink, take_all};
 use std::process::ExitCode;
 
 /// The most bytes of the file of calls.

@@ -20,7 +20,7 @@ mod listing;
 mod text;
 
 use listing::list;
-use qual_base::{HostFiles, HostSink, Sink, take_all};
+use outside::{HostFiles, HostSink, Sink, take_all};
 use std::env;
 use std::process::ExitCode;
 

@@ -1,7 +1,7 @@
 use Rattle.std.proofs.Common.{ℕ, List, [], ◌∷◌, IfSome, length, sym, ◌∙◌, ap, subst}
 use Rattle.std.specs.declared.option.Option.{Option}
 use Rattle.std.proofs.lemmas.Result.{IfOk-weaker}
-use Rattle.qual_base.specs.Outside.{content_of}
+use Rattle.outside.specs.Outside.{content_of}
 use Rattle.c_types.specs.Sources.{unit_of, units_of}
 use Rattle.c_types.specs.declared.source.Source.{Source}
 use Rattle.cq_prelude.specs.Preludes.{IsFaultOf, IsPrelude}

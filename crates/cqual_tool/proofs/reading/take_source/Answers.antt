@@ -1,7 +1,7 @@
 use Rattle.std.proofs.Common.{ℕ, List, [], ◌∷◌, ◌++◌, IfSome, length, refl, subst}
 use Rattle.std.specs.declared.option.Option.{Option}
 use Rattle.std.proofs.lemmas.Result.{IfOk-weaker}
-use Rattle.qual_base.specs.Outside.{content_of}
+use Rattle.outside.specs.Outside.{content_of}
 use Rattle.c_types.specs.Sources.{units_of}
 use Rattle.cqual_tool.specs.declared.status.Status.TheVariants.{Malformed}
 use Rattle.cqual_tool.specs.Words.{names_in}

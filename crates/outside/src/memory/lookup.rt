@@ -1,8 +1,8 @@
 //! Finding files by name, and what is left of one.
 
 ghost use Rattle.std.specs.Prelude.{◌≡◌, ◌+◌, ◌^◌, ◌<◌, ◌≤◌, Some, [], length, drop, MatchOption, is_some};
-ghost use Rattle.qual_base.specs.Memory.{files_of, rest_at, names_of, has_file};
-ghost use Rattle.qual_base.specs.Outside.{content_of, Records};
+ghost use Rattle.outside.specs.Memory.{files_of, rest_at, names_of, has_file};
+ghost use Rattle.outside.specs.Outside.{content_of, Records};
 
 /// The number of the first file of that name.
 pub fn find(files: &[(String, Vec<u8>)], name: &str) -> Option<usize>

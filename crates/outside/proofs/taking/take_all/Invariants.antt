@@ -1,8 +1,8 @@
 use Rattle.std.proofs.Common.{◌≡◌, ◌≤◌, ◌+◌, ◌-◌, Some, IfSome, vec_len}
 use Rattle.std.specs.Io.KnownBytes.{prepend_known}
-use Rattle.qual_base.specs.Counts.{GoesOn}
-use Rattle.qual_base.specs.Outside.{Records, content_of}
-use Rattle.qual_base.proofs.taking.take_all.Given as goal
+use Rattle.outside.specs.Counts.{GoesOn}
+use Rattle.outside.specs.Outside.{Records, content_of}
+use Rattle.outside.proofs.taking.take_all.Given as goal
 
 abbrev pub invariant-loop-buffer : goal.invariant-loop-buffer
 invariant-loop-buffer g l = record {

@@ -1,11 +1,10 @@
 //! Files and a sink that never fail.
 
 ghost use Rattle.std.specs.Prelude.{◌≡◌, ℕ, ◌+◌, ◌-◌, ◌^◌, min, Some, None, [], length, IfOk};
-ghost use Rattle.qual_base.specs.Memory.{files_of};
+ghost use Rattle.outside.specs.Memory.{files_of};
 
-use crate::faults::Failed;
 use crate::memory::lookup::{find, moved_on, rest_of};
-use crate::outside::{Files, Sink};
+use crate::traits::{Failed, Files, Sink};
 use std::marker::Model;
 
 /// Files in memory that never fail; a name that no file has is an empty file. Clauses see the files, by name and
@@ -20,7 +19,7 @@ pub struct SteadyFiles {
 
 impl Model for SteadyFiles {
     ghost use Rattle.std.specs.Prelude.{ℕ, List};
-    ghost use Rattle.qual_base.specs.Memory.{files_of, rest_at};
+    ghost use Rattle.outside.specs.Memory.{files_of, rest_at};
 
     ghost Value = { List (List ℕ × List ℕ) × List ℕ };
 

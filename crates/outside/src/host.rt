@@ -2,8 +2,7 @@
 
 ghost use Rattle.std.specs.Prelude.{◌≡◌, ◌<◌, ◌≤◌, ℕ, None, length, IfOk};
 
-use crate::faults::Failed;
-use crate::outside::{Files, Sink};
+use crate::traits::{Failed, Files, Sink};
 use std::io::{Read, Write};
 use std::marker::Model;
 use std::{fs, rt};

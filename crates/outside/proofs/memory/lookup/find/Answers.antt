@@ -2,9 +2,9 @@ use Rattle.std.proofs.Common.{◌≡◌, ℕ, ◌<◌, zero, suc, List, [], ◌�
 use Rattle.std.specs.declared.alloc.Global.{Global}
 use Rattle.std.specs.declared.vec.Vec.{Vec}
 use Rattle.std.specs.declared.string.String.{String}
-use Rattle.qual_base.specs.Memory.{files_of, bytes_from}
-use Rattle.qual_base.specs.Outside.{content_of}
-use Rattle.qual_base.proofs.memory.lookup.find.Goals as goal
+use Rattle.outside.specs.Memory.{files_of, bytes_from}
+use Rattle.outside.specs.Outside.{content_of}
+use Rattle.outside.proofs.memory.lookup.find.Goals as goal
 
 -- the file at a place holds what its name has from that place on
 found : (files : List (String Global × Vec ℕ Global)) (i : ℕ) (name : List ℕ) (d : String Global × Vec ℕ Global) →

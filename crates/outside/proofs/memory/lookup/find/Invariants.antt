@@ -1,7 +1,7 @@
 use Rattle.std.proofs.Common.{◌≡◌, drop}
-use Rattle.qual_base.specs.Memory.{files_of, has_file}
-use Rattle.qual_base.specs.Outside.{content_of}
-use Rattle.qual_base.proofs.memory.lookup.find.Given as goal
+use Rattle.outside.specs.Memory.{files_of, has_file}
+use Rattle.outside.specs.Outside.{content_of}
+use Rattle.outside.proofs.memory.lookup.find.Given as goal
 
 abbrev pub invariant-loop-i : goal.invariant-loop-i
 invariant-loop-i l = record {

@@ -1,10 +1,10 @@
 //! Taking a whole file within a limit.
 
 ghost use Rattle.std.specs.Prelude.{◌≡◌, ◌<◌, ◌≤◌, length, IfOk, IsErrOf, IfSome, vec_len};
-ghost use Rattle.qual_base.specs.Counts.{GoesOn, Rose};
-ghost use Rattle.qual_base.specs.Outside.{Records, content_of};
+ghost use Rattle.outside.specs.Counts.{GoesOn, Rose};
+ghost use Rattle.outside.specs.Outside.{Records, content_of};
 
-use crate::outside::Files;
+use crate::traits::Files;
 use std::alloc::{AllocError, Global};
 use thiserror::Error;
 

@@ -2,13 +2,12 @@
 
 ghost use Rattle.std.specs.Prelude.{◌≡◌, ℕ, ◌<◌, ◌≤◌, ◌||◌, ◌++◌, ◌↔◌, Some, [], length, take, drop, map, min, not, is_err, IfOk, OnOk, OnErr, if◌then◌else◌, string_bytes};
 ghost use Rattle.std.specs.Option.{option_map};
-ghost use Rattle.qual_base.specs.Counts.{GoesOn, one_more};
-ghost use Rattle.qual_base.specs.Memory.{files_of, fails_at, has_file};
-ghost use Rattle.qual_base.specs.Outside.{content_of, Records};
+ghost use Rattle.outside.specs.Counts.{GoesOn, one_more};
+ghost use Rattle.outside.specs.Memory.{files_of, fails_at, has_file};
+ghost use Rattle.outside.specs.Outside.{content_of, Records};
 
-use crate::faults::Failed;
 use crate::memory::lookup::{find, moved_on, rest_of, with_name};
-use crate::outside::Files;
+use crate::traits::{Failed, Files};
 use std::alloc::Global;
 use std::marker::Model;
 
@@ -28,7 +27,7 @@ pub struct MemFiles {
 }
 
 impl Model for MemFiles {
-    ghost use Rattle.qual_base.specs.Memory.{FilesState, files_of, names_of, rest_at};
+    ghost use Rattle.outside.specs.Memory.{FilesState, files_of, names_of, rest_at};
 
     ghost Value = { FilesState };
 

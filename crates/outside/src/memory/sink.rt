@@ -1,11 +1,11 @@
 //! A sink in memory.
 
 ghost use Rattle.std.specs.Prelude.{◌≡◌, ℕ, ◌<◌, ◌≤◌, ◌-◌, ◌||◌, ◌&&◌, ◌++◌, Some, [], length, take, min, is_err, nat_lt, nat_le, IfOk, OnErr, if◌then◌else◌};
-ghost use Rattle.qual_base.specs.Counts.{GoesOn, one_more};
-ghost use Rattle.qual_base.specs.Memory.{fails_at};
+ghost use Rattle.outside.specs.Counts.{GoesOn, one_more};
+ghost use Rattle.outside.specs.Memory.{fails_at};
 
-use crate::faults::{Failed, NoMemory};
-use crate::outside::Sink;
+use crate::traits::{Failed, Sink};
+use qual_base::NoMemory;
 use std::alloc::Global;
 use std::marker::Model;
 
@@ -26,7 +26,7 @@ pub struct MemSink {
 
 impl Model for MemSink {
     ghost use Rattle.std.specs.Prelude.{◌≤◌, vec_len, vec_capacity};
-    ghost use Rattle.qual_base.specs.Memory.{SinkState};
+    ghost use Rattle.outside.specs.Memory.{SinkState};
 
     ghost Value = { SinkState };
 

@@ -2,8 +2,8 @@ use Rattle.std.proofs.Common.{◌≡◌, ℕ, List, ◌++◌, arith, take, Some,
 use Rattle.std.specs.declared.option.Option.{Option}
 use Rattle.std.specs.Io.KnownBytes.{prepend_known, Consumes}
 use Rattle.std.proofs.lemmas.Grind.{common_steps}
-use Rattle.qual_base.specs.Outside.{content_of}
-use Rattle.qual_base.proofs.taking.take_all.Goals as goal
+use Rattle.outside.specs.Outside.{content_of}
+use Rattle.outside.proofs.taking.take_all.Goals as goal
 
 -- what was taken and what is left stay the whole content
 taken_more : (contents : Option (List (List ℕ × List ℕ))) (name taken moved : List ℕ) (before after : Option (List ℕ)) →

@@ -6,10 +6,12 @@
 ghost use Rattle.std.specs.Prelude.{◌≡◌, ℕ, ◌<◌, ◌≤◌, ◌↔◌, List, [], IfOk, IfSome, OnOk, OnErr, length, take, Option};
 ghost use Rattle.std.specs.Io.KnownBytes.{Consumes, WriteAppends};
 ghost use Rattle.std.specs.Option.{option_map};
-ghost use Rattle.qual_base.specs.Counts.{GoesOn, Rose};
-ghost use Rattle.qual_base.specs.Outside.{content_of, Records};
+ghost use Rattle.outside.specs.Counts.{GoesOn, Rose};
+ghost use Rattle.outside.specs.Outside.{content_of, Records};
 
-use crate::faults::Failed;
+/// A read or a write failed.
+#[derive(Clone, Copy, PartialEq, Eq, Debug)]
+pub struct Failed;
 
 /// Files that are read one after the other, each from its start.
 pub trait Files {
