@@ -1,14 +1,16 @@
 -- Each assignment that rises is raised along a path.
-use Rattle.std.proofs.Common.{◌≡◌, ℕ, ◌+◌, ◌≤◌, true, false, List, [], ◌∷◌, length, refl, sym, ◌∙◌, ap, subst, arith, inl, inr}
-use Rattle.qual_base.specs.declared.places.Owner.TheVariants.{Function}
+use Rattle.std.proofs.Common.{◌≡◌, ℕ, ◌+◌, ◌≤◌, Bool, true, false, List, [], ◌∷◌, length, refl, sym, ◌∙◌, ap, subst, arith, inl, inr}
+use Rattle.qual_base.specs.declared.places.Owner.{Owner}
+use Rattle.qual_base.specs.declared.places.Owner.TheVariants.{Nobody, Function}
 use Rattle.lattice_core.specs.Order.{Order, leq, IsOrder}
-use Rattle.flow_graph.specs.declared.constraint.Link.TheVariants.{Bound, Enter, Leave}
+use Rattle.flow_graph.specs.declared.constraint.Link.TheVariants.{Le, Const, Bound, Enter, Leave}
+use Rattle.flow_graph.specs.declared.constraint.Constraint.{Constraint}
 use Rattle.flow_graph.specs.System.{System, owner_of, Stands, IsWellOwned}
-use Rattle.flow_graph.specs.CallStrings.{IsCopy, either}
+use Rattle.flow_graph.specs.CallStrings.{IsCallString, IsCopy, either}
 use Rattle.flow_graph.specs.Unfolding.{Assignment, at, seen_from, Rises}
 use Rattle.flow_graph.specs.Paths.{Matches, stay, longer, Part, flow, group, Returning, start, flows, returns, grouped, anew, Calling, calls, calls_on, flows_on, grouped_on, Lead}
 use Rattle.flow_laws.proofs.Depths.{depth_inside, depth_of_part, open_calls, depth_returning, depth_calling, depth_of}
-use Rattle.flow_laws.specs.Refuting.{LeadsForce, PathsRefute, ExceededIsRefuted}
+use Rattle.flow_laws.specs.Refuting.{LeadsForce, PathsRefute, ExceededIsRefuted, AcceptedKeepsPaths, MoreIsHarder, NoConstantIsAccepted, MeetsAtOnce, OneCopyServes}
 use Rattle.flow_laws.proofs.Leads.{root}
 use Rattle.flow_laws.proofs.Owners.{seen_is, seen_twice, seen_within, copy_on, flow_to, flow_from, start_owner, end_owner, entering, leaving, same_function, same_outer}
 
@@ -179,3 +181,70 @@ refuted_at sys lattice order owned ordered e v n b (inr c) stands over = refl
 
 pub exceeded_is_refuted : ExceededIsRefuted
 exceeded_is_refuted sys lattice order n over accepted = let met = accepted over.depth in over.unmet met.0 met.1.rises (met.1.bound n)
+
+pub accepted_keeps_paths : AcceptedKeepsPaths
+accepted_keeps_paths sys lattice order owned ordered accepted e v n b lead stands = by_test (leq order e b) refl
+  where
+    by_test : (t : Bool) → leq order e b ≡ t → leq order e b ≡ true
+    by_test true is = is
+    by_test false over = absurd (exceeded_is_refuted sys lattice order n (paths_refute sys lattice order owned ordered e v n b lead stands over) accepted)
+
+module _ (sys : System) (more : List Constraint) where
+  abbrev other : System
+  other = record sys { constraints = more }
+
+  strings : (owner : Owner) (sites : List ℕ) → IsCallString sys owner sites → IsCallString other owner sites
+  strings owner [] is = is
+  strings owner (s ∷ []) is = (is.0, record { it = is.1.it; there = is.1.there; outer_is = is.1.outer_is; inner_is = is.1.inner_is })
+  strings owner (s ∷ r ∷ sites) is =
+      (is.0, record { it = is.1.it; there = is.1.there; outer_is = is.1.outer_is; inner_is = is.1.inner_is }, strings is.0 (r ∷ sites) is.2)
+
+  copies : (depth : ℕ) (owner : Owner) (sites : List ℕ) → IsCopy sys depth owner sites → IsCopy other depth owner sites
+  copies depth Nobody sites is = is
+  copies depth (Function f) sites is = (strings (Function f) sites is.0, is.1)
+
+pub more_is_harder : MoreIsHarder
+more_is_harder sys more lattice order has accepted = λ depth.
+    let met = accepted depth in (
+      met.0,
+      record {
+        rises = record {
+          elements = met.1.rises.elements;
+          le = λ n u v sites st copy. let it = has n (Le u v) st in met.1.rises.le it.0 u v sites it.1 (copies sys more depth (either (owner_of sys u) (owner_of sys v)) sites copy);
+          const = λ n e v sites st copy. let it = has n (Const lattice e v) st in met.1.rises.const it.0 e v sites it.1 (copies sys more depth (owner_of sys v) sites copy);
+          enter = λ n s u v site sites st there copy fits. let it = has n (Enter s u v) st in met.1.rises.enter it.0 s u v site sites it.1 there (copies sys more depth site.owner sites copy) fits;
+          leave = λ n s u v site sites st there copy fits. let it = has n (Leave s u v) st in met.1.rises.leave it.0 s u v site sites it.1 there (copies sys more depth site.owner sites copy) fits;
+        };
+        bound = λ n e v sites st copy. let it = has n (Bound v lattice e) st in met.1.bound it.0 e v sites it.1 (copies sys more depth (owner_of sys v) sites copy);
+      },
+    )
+
+pub no_constant_is_accepted : NoConstantIsAccepted
+no_constant_is_accepted sys lattice order ordered names bottom within least none = λ depth. (
+  λ v sites. bottom,
+  record {
+    rises = record {
+      elements = λ v sites. within;
+      le = λ n u v sites st copy. ordered.same bottom within;
+      const = λ n e v sites st copy. absurd (none n e v st);
+      enter = λ n s u v site sites st there copy fits. ordered.same bottom within;
+      leave = λ n s u v site sites st there copy fits. ordered.same bottom within;
+    };
+    bound = λ n e v sites st copy. least e (names.bound n v e st);
+  },
+)
+
+pub one_copy_serves : OneCopyServes
+one_copy_serves sys lattice order one is = λ depth. (
+  λ v sites. one v,
+  record {
+    rises = record {
+      elements = λ v sites. is.elements v;
+      le = λ n u v sites st copy. is.le n u v st;
+      const = λ n e v sites st copy. is.const n e v st;
+      enter = λ n s u v site sites st there copy fits. is.enter n s u v st;
+      leave = λ n s u v site sites st there copy fits. is.leave n s u v st;
+    };
+    bound = λ n e v sites st copy. is.bound n v e st;
+  },
+)

@@ -2,7 +2,7 @@
 
 ghost use Rattle.flow_laws.specs.Laws.{LowerIsMet, SolutionStands, SafeKeepsBounds, NamesInEach};
 ghost use Rattle.flow_laws.specs.Laws.{JoinsAreSolution, ListIsSolution};
-ghost use Rattle.flow_laws.specs.Refuting.{LeadsForce, PathsRefute, ExceededIsRefuted};
+ghost use Rattle.flow_laws.specs.Refuting.{LeadsForce, PathsRefute, ExceededIsRefuted, AcceptedKeepsPaths, MoreIsHarder, NoConstantIsAccepted, OneCopyServes};
 
 /// What meets the unfolding at a depth meets it at each lower one.
 pub fn lower_is_met()
@@ -47,4 +47,24 @@ pub fn paths_refute()
 /// A system with an exceeded bound is not accepted.
 pub fn exceeded_is_refuted()
     ensures { ExceededIsRefuted }
+{}
+
+/// In an accepted system no constant leads to a bound that it is not at or below.
+pub fn accepted_keeps_paths()
+    ensures { AcceptedKeepsPaths }
+{}
+
+/// More constraints are harder to meet.
+pub fn more_is_harder()
+    ensures { MoreIsHarder }
+{}
+
+/// A system without a constant is accepted.
+pub fn no_constant_is_accepted()
+    ensures { NoConstantIsAccepted }
+{}
+
+/// What one copy of each function meets is accepted.
+pub fn one_copy_serves()
+    ensures { OneCopyServes }
 {}

@@ -16,8 +16,9 @@ pub use holding::{
     holds_is_unmet, holds_leads, holds_refutes, holds_refutes_within, holds_rejects,
 };
 pub use laws::{
-    exceeded_is_refuted, joins_are_solution, leads_force, list_is_solution, lower_is_met,
-    names_in_each, paths_refute, safe_keeps_bounds, solution_stands,
+    accepted_keeps_paths, exceeded_is_refuted, joins_are_solution, leads_force, list_is_solution,
+    lower_is_met, more_is_harder, names_in_each, no_constant_is_accepted, one_copy_serves,
+    paths_refute, safe_keeps_bounds, solution_stands,
 };
 pub use paths::{
     calling_goes_on, leads_inside, matches_join, reached_is_tested, reaches_leads,
