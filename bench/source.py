@@ -8,6 +8,10 @@ as a preprocessor writes them; `ordinary` for parts of six forms in turn, with l
 initialisers, every statement, and calls of earlier parts; `nested` for functions of which each has 400 blocks and statements
 inside one another, and an expression with 400 parentheses; or `objects` for global ints and functions that assign them (the
 tool analyses it). All are C of gcc too: `gcc -fsyntax-only` takes them.
+
+usage: source.py errors COUNT
+
+A function that assigns one tainted int to so many untainted ones: each is an exceeded bound of `share/cqual/lattices/taint.q`.
 """
 import sys
 
@@ -242,7 +246,16 @@ def part(kind, n, line):
     return ORDINARY[n % len(ORDINARY)] % words
 
 
+def errors(count):
+    """One source that flows into so many targets."""
+    targets = "".join("$untainted int target%d;\n" % n for n in range(count))
+    return "$tainted int source;\n" + targets + "void flow(void) {\n" + "".join("  target%d = source;\n" % n for n in range(count)) + "}\n"
+
+
 def main():
+    if len(sys.argv) == 3 and sys.argv[1] == "errors" and sys.argv[2].isdigit():
+        sys.stdout.write(errors(int(sys.argv[2])))
+        return 0
     if len(sys.argv) != 3 or sys.argv[1] not in ("preprocessed", "ordinary", "nested", "objects") or not sys.argv[2].isdigit():
         print(__doc__, file=sys.stderr)
         return 2

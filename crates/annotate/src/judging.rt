@@ -51,7 +51,7 @@ fn is_exceeded(scene: &Scene<'_>, graph: &FlowGraph, solutions: &[Solved]) -> bo
 /// asked for: the line `annotated`, and the bytes of the unit with a comment right behind each token that the report names.
 /// Each lattice is solved once. The accepted report takes time linear in its text, in the variables that it lists times the
 /// lattices, in the units of each name and in the path of each position; the annotated source is linear besides, and takes 24
-/// bytes of memory for each token; the rejected report takes a search for each exceeded bound. A text is not longer than
+/// bytes of memory for each token; the rejected report takes a search for each element of a lattice that exceeds a bound. A text is not longer than
 /// memory.
 ///
 /// Any variables may be listed. Of a unit that is not there the line stands alone.

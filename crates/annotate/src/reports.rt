@@ -6,6 +6,7 @@ ghost use Rattle.flow_graph.specs.declared.constraint.Link.TheVariants.{Const, B
 ghost use Rattle.flow_graph.specs.declared.proof.PathStep.TheVariants.{Take};
 ghost use Rattle.flow_graph.specs.PathProofs.{first_of};
 ghost use Rattle.flow_graph.specs.System.{IsWellOwned};
+ghost use Rattle.error_path.specs.Reaches.{AreReaches};
 ghost use Rattle.annotate.specs.Texts.{listing_line, listing_lines, accepted_text};
 ghost use Rattle.annotate.specs.Annotated.{annotation};
 ghost use Rattle.annotate.specs.Scenes.{Shows, Writes, WritesSome};
@@ -21,7 +22,7 @@ use crate::places::put;
 use crate::scene::Scene;
 use crate::solving::{Solved, solved_of};
 use crate::texts::{put_error, put_value};
-use error_path::show;
+use error_path::{Reaches, show};
 use flow_graph::{Constraint, FlowGraph, Link, PathStep};
 use flow_laws::exceeded_is_refuted;
 use qual_base::{EdgeId, Elem, LatticeNo, NoMemory, Numbered, UnitNo};
@@ -133,11 +134,14 @@ fn put_exceeded(
     scene: &Scene<'_>,
     graph: &FlowGraph,
     solved: &Solved,
+    reaches: &mut Reaches,
     bound: EdgeId,
 ) -> Result<(), NoMemory>
     requires owned { IsWellOwned graph.now }
     requires exceeds { IsOverIn scene.now.lattices.now graph.now solved.now bound }
-    ensures { OnOk result (WritesSome scene.now out.old.items out.new.items
+    requires kept { AreReaches graph.now reaches.old }
+    ensures kept { AreReaches graph.now reaches.new }
+    ensures error { OnOk result (WritesSome scene.now out.old.items out.new.items
         (λ s error. IsError s graph.now bound error)) }
 {
     scene.lattices.law();
@@ -147,6 +151,7 @@ fn put_exceeded(
         &solved.summaries,
         &solved.solver,
         scene.lattices,
+        reaches,
         bound,
     )?;
     let constraint = graph.constraint(bound);
@@ -197,22 +202,25 @@ fn put_error_of(
     scene: &Scene<'_>,
     graph: &FlowGraph,
     solutions: &[Solved],
+    reaches: &mut Reaches,
     number: EdgeId,
 ) -> Result<(), NoMemory>
     requires named { AllNamed scene.now.lattices.now graph.now }
     requires owned { IsWellOwned graph.now }
     requires solutions { AreSolutions graph.now scene.now.lattices.now solutions.now }
     requires number { number < length graph.now.constraints }
-    ensures { OnOk result (WritesSome scene.now out.old.items out.new.items
+    requires kept { AreReaches graph.now reaches.old }
+    ensures kept { AreReaches graph.now reaches.new }
+    ensures error { OnOk result (WritesSome scene.now out.old.items out.new.items
         (λ s error. IsErrorOf s graph.now number error)) }
 {
     match over_in(scene, graph, solutions, number) {
-        Some(solved) => put_exceeded(alloc, out, scene, graph, solved, number),
+        Some(solved) => put_exceeded(alloc, out, scene, graph, solved, reaches, number),
         None => Ok(()),
     }
 }
 
-/// The errors of all exceeded bounds, in the order of the constraints.
+/// The errors of all exceeded bounds, in the order of the constraints. What each element leads to is searched for once.
 fn put_errors(
     alloc: Global,
     out: &mut Vec<u8>,
@@ -226,13 +234,16 @@ fn put_errors(
     ensures { OnOk result (WritesSome scene.now out.old.items out.new.items
         (λ s errors. Errors s graph.now (length graph.now.constraints) errors)) }
 {
+    let mut reaches = Reaches::new(alloc);
     for n in 0..graph.len() {
-        put_error_of(alloc, out, scene, graph, solutions, EdgeId::new(n))?;
+        let number = EdgeId::new(n);
+        put_error_of(alloc, out, scene, graph, solutions, &mut reaches, number)?;
     }
     Ok(())
 }
 
-/// The rejected report. Its time is that of a search for each exceeded bound, and of the places of the lines.
+/// The rejected report. It takes a search for each element of a lattice that exceeds some bound; beside that its time is
+/// linear in the constraints, at most 64 steps for each, in its text, and in the places of its lines.
 pub fn rejected(
     alloc: Global,
     scene: &Scene<'_>,

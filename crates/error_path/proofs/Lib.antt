@@ -1,3 +1,4 @@
+mod Found
 mod Holding
 pub mod InLattices
 mod Making

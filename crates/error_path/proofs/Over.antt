@@ -1,5 +1,5 @@
 -- Which groups were followed, and that they still are after a search went on.
-use Rattle.std.proofs.Common.{◌≡◌, ℕ, ◌<◌, ◌≤◌, ◌⊎◌, inl, inr, List, Some, slice_get, length, Bool, true, false, refl, sym, ◌∙◌, ap, subst, arith}
+use Rattle.std.proofs.Common.{◌≡◌, ℕ, ◌≤◌, ◌⊎◌, inl, inr, List, length, Bool, true, false, sym, ◌∙◌, subst}
 use Rattle.flow_graph.specs.declared.constraint.Link.TheVariants.{Enter, Leave}
 use Rattle.flow_graph.specs.declared.phase.Phase.{Phase}
 use Rattle.flow_graph.specs.Parts.{settled}

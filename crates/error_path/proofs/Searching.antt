@@ -1,5 +1,5 @@
 -- How a search grows, and what stays true of it.
-use Rattle.std.proofs.Common.{◌≡◌, ◌≢◌, ℕ, zero, suc, ◌<◌, ◌≤◌, List, [], ◌∷◌, ◌++◌, length, slice_get, Option, Some, None, IfNone, inl, inr, ◌⊎◌, true, false, refl, sym, ◌∙◌, ap, subst, arith, append_assoc, append-nil}
+use Rattle.std.proofs.Common.{◌≡◌, ◌≢◌, ℕ, zero, suc, ◌<◌, ◌≤◌, List, [], ◌∷◌, ◌++◌, length, slice_get, Option, Some, inl, inr, ◌⊎◌, true, false, refl, sym, ◌∙◌, ap, subst, arith, append_assoc, append-nil}
 use Rattle.std.proofs.lemmas.Option.{slice_get_within}
 use Rattle.flow_graph.specs.declared.constraint.Constraint.{Constraint}
 use Rattle.std.proofs.lemmas.Bool.{cases_eq}
@@ -22,6 +22,7 @@ use Rattle.error_path.specs.declared.search.Cause.TheVariants.{Start, Step, Grou
 use Rattle.error_path.specs.declared.search.Reached.{Reached}
 use Rattle.error_path.specs.declared.search.Search.{Search}
 use Rattle.flow_graph.specs.Parts.{settled}
+use Rattle.error_path.specs.Reaches.{HasAll, IsIn}
 use Rattle.error_path.specs.Reaching.{Earlier, LeadsBy, ComesBy, AreSound, IsMarked, IsListed, IsGood, Grows, IsFollowed, IsRounded, IsVisited, AreStarted, StandsAt}
 use Rattle.error_path.proofs.Making.{push_cases, more_get, push_last}
 
@@ -104,7 +105,7 @@ listed_push old new queue r cases listed p v has = elim (cases p v has) [
   | inr here ↦ record { place = length queue; it = r; there = push_last queue r; phase_is = here.0; at_is = here.1 }
 ]
 
--- a search that was closed has reached all that a constant leads to
+-- a search that went on from each of its places has reached all that a constant leads to
 module _ (sys : System) (lattice elem : ℕ) (rows : List Summary) (search : Search) (whole : Summarises sys lattice rows) (good : IsGood sys lattice elem rows search)
     (begun : AreStarted sys lattice elem search) (visited : (place : ℕ) → IsVisited sys lattice rows search place) where
   matches_leads : (g a b : ℕ) → IsInnerEnd sys lattice a → Matches sys lattice g a b → Leads rows a b
@@ -170,11 +171,11 @@ module _ (sys : System) (lattice elem : ℕ) (rows : List Summary) (search : Sea
   lead_marked v (inl p) = inl (returning_in v p)
   lead_marked v (inr p) = called_in v (calling_in v p)
 
-  missed_at : (p : Phase) (v : ℕ) → ((place : ℕ) (r : Reached) → slice_get search.queue.items place ≡ Some r → r.at ≡ v → ⊥) → IsMarked search p v → ⊥
-  missed_at p v missed mark = let l = good.listed p v mark in missed l.place l.it l.there l.at_is
+  listed_in : (p : Phase) (v : ℕ) → IsMarked search p v → IsIn search.queue.items v
+  listed_in p v mark = let l = good.listed p v mark in (l.place, (l.it, l.there, l.at_is))
 
-  pub none_leads : (v : ℕ) → ((place : ℕ) (r : Reached) → slice_get search.queue.items place ≡ Some r → r.at ≡ v → ⊥) → Lead sys lattice elem v → ⊥
-  none_leads v missed lead = elim (lead_marked v lead) [ inl mark ↦ missed_at First v missed mark | inr mark ↦ missed_at Second v missed mark ]
+  pub leads_in : HasAll sys lattice elem search.queue.items
+  leads_in v lead = elim (lead_marked v lead) [ inl mark ↦ listed_in First v mark | inr mark ↦ listed_in Second v mark ]
 
 -- at the start nothing is marked, and nothing stands in the queue
 pub unmarked : (marks : PhaseMarks) (p : Phase) (v : ℕ) → mark_of marks p v ≡ false → mark_of marks p v ≡ true → ⊥
@@ -284,21 +285,5 @@ visited_here sys lattice rows old new place p u g s done r is n =
     let At : ℕ → Type 0 = λ w. IsFollowed sys lattice rows new p w n in
     subst Of (sym s.2 ∙ ap (λ (x : Reached). x.phase) same) (subst At (sym s.3 ∙ ap (λ (x : Reached). x.at) same) (done n))
 
-pub missed_here : (old new : Search) (place : ℕ) (p : Phase) (u target : ℕ) → Grows old new → StandsAt old place p u → (u ≡ target → ⊥) → (r : Reached) →
-    slice_get new.queue.items place ≡ Some r → r.at ≡ target → ⊥
-missed_here old new place p u target g s other r is at =
-    let within = slice_get_within old.queue.items place s.0 s.1 in
-    let item : slice_get old.queue.items place ≡ Some r = old_item old.queue.items g.more place r within (sym (ap (λ xs. slice_get xs place) g.is) ∙ is) in
-    let same : s.0 ≡ r = some_reached (sym s.1 ∙ item) in
-    other (sym s.3 ∙ ap (λ (x : Reached). x.at) same ∙ at)
-
-pub missed_on : (old new : Search) (place : ℕ) (r : Reached) → Grows old new → place < length old.queue.items → slice_get new.queue.items place ≡ Some r →
-    slice_get old.queue.items place ≡ Some r
-missed_on old new place r g within is = old_item old.queue.items g.more place r within (sym (ap (λ xs. slice_get xs place) g.is) ∙ is)
-
 pub grows_length : (old new : Search) → Grows old new → length old.queue.items ≤ length new.queue.items
 grows_length old new g = let size = length-append old.queue.items g.more in let is = ap length g.is in omega (arith, size, is)
-
-pub none_weaker : {A B : Type 0} (o : Option ℕ) → (A → B) → IfNone o A → IfNone o B
-none_weaker None f a = f a
-none_weaker (Some n) f a = tt

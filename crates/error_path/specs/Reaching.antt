@@ -110,12 +110,3 @@ AreStarted sys lattice elem search = (n v : ℕ) → Stands sys lattice n (Const
 -- a place of the queue has this variable and this phase
 abbrev pub StandsAt : Search → ℕ → Phase → ℕ → Type 0
 StandsAt search place p v = (r : Reached) × (slice_get search.queue.items place ≡ Some r) × (r.phase ≡ p) × (r.at ≡ v)
-
--- it has this variable
-abbrev pub IsReachedAt : Search → ℕ → ℕ → Type 0
-IsReachedAt search place v = (r : Reached) × (slice_get search.queue.items place ≡ Some r) × (r.at ≡ v)
-
--- no item of the queue is at the variable, and from each all was marked
-pub record IsClosed (sys : System) (lattice : ℕ) (rows : List Summary) (search : Search) (target : ℕ) : Type 0 where
-  pub visited : (place : ℕ) → IsVisited sys lattice rows search place
-  pub missed : (place : ℕ) (r : Reached) → slice_get search.queue.items place ≡ Some r → r.at ≡ target → ⊥

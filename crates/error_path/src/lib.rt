@@ -4,9 +4,11 @@
 mod marks;
 mod passed;
 mod places;
+mod reaches;
 mod search;
 mod showing;
 mod steps;
 mod sub_paths;
 
+pub use reaches::Reaches;
 pub use showing::show;

@@ -1,21 +1,21 @@
 //! A breadth-first search over pairs of a variable and a phase, forwards from the constants of an element.
 
 ghost use Rattle.std.specs.Prelude.{◌≡◌, ◌≢◌, ℕ, ◌<◌, ◌↔◌, List, length, slice_get, Some, IsTrue};
-ghost use Rattle.std.specs.Prelude.{IfOk, IfSome, IfNone, OnOk};
+ghost use Rattle.std.specs.Prelude.{IfOk, OnOk};
 ghost use Rattle.flow_graph.specs.Index.{IsIndexOf, IsKeyed, link_site};
 ghost use Rattle.flow_graph.specs.PathRules.{link_begins};
 ghost use Rattle.error_path.specs.Marks.{size_of};
 ghost use Rattle.flow_graph.specs.declared.constraint.Link.TheVariants.{Const, Enter};
 ghost use Rattle.flow_graph.specs.System.{System, AllBelow, Stands, owner_of};
-ghost use Rattle.flow_graph.specs.Paths.{Lead};
 ghost use Rattle.flow_graph.specs.declared.phase.Phase.TheVariants.{First, Second};
 ghost use Rattle.match_summary.specs.declared.reason.Summary.{Summary};
 ghost use Rattle.match_summary.specs.Crossings.{AreCrossings};
 ghost use Rattle.match_summary.specs.Summary.{HasPair, Summarises};
 ghost use Rattle.flow_graph.specs.Parts.{settled};
-ghost use Rattle.error_path.specs.Reaching.{AreStarted, ComesBy, Grows, IsClosed, IsFollowed};
-ghost use Rattle.error_path.specs.Reaching.{IsGood, IsMarked, IsOver, IsReachedAt, IsRounded};
-ghost use Rattle.error_path.specs.Reaching.{IsRoundedFrom, StandsAt, StaysGood};
+ghost use Rattle.error_path.specs.Reaching.{AreSound, AreStarted, ComesBy, Grows, IsFollowed};
+ghost use Rattle.error_path.specs.Reaching.{IsGood, IsMarked, IsOver, IsRounded};
+ghost use Rattle.error_path.specs.Reaching.{IsRoundedFrom, IsVisited, StandsAt, StaysGood};
+ghost use Rattle.error_path.specs.Reaches.{HasAll};
 
 use crate::marks::Marks;
 use crate::passed::Passed;
@@ -55,13 +55,6 @@ pub struct Search {
     marks: Marks,
 }
 
-/// A search, and the place of its queue that is at its target.
-#[derive(Drop)]
-pub struct Found {
-    pub search: Search,
-    pub place: Option<usize>,
-}
-
 /// A place of the queue with its variable and phase.
 #[derive(Clone, Copy)]
 struct Origin {
@@ -90,13 +83,6 @@ impl Search {
             queue: Vec::new(alloc),
             marks,
         })
-    }
-
-    /// What was reached, in its order.
-    pub fn reached(&self) -> &[Reached]
-        ensures { result.now ≡ self.now.queue.items }
-    {
-        self.queue.as_slice()
     }
 
     /// Notes that a variable is reached in a phase, if it was not before. At a variable of nobody the first phase starts
@@ -470,7 +456,7 @@ impl Search {
         }
     }
 
-    /// Goes on from each place of the queue, until one is at the variable. Answers that place.
+    /// Goes on from each place of the queue, until none is left.
     fn run(
         &mut self,
         passed: &mut Passed,
@@ -479,8 +465,7 @@ impl Search {
         crossings: &Crossings,
         summaries: &Summaries,
         lattice: LatticeNo,
-        target: VarId,
-    ) -> Result<Option<usize>, NoMemory>
+    ) -> Result<(), NoMemory>
         requires index { IsIndexOf graph.now index.now }
         requires crossings { AreCrossings graph.now crossings.now }
         requires lattice { lattice < 16 }
@@ -488,20 +473,16 @@ impl Search {
         requires over { IsOver graph.now lattice summaries.now passed.old self.old }
         ensures good { OnOk result (StaysGood graph.now lattice summaries.now self.old self.new) }
         ensures grows { OnOk result (Grows self.old self.new) }
-        ensures found { IfOk result (λ place. IfSome place (λ n. IsReachedAt self.new n target)) }
-        ensures none { IfOk result
-            (λ place. IfNone place (IsClosed graph.now lattice summaries.now self.new target)) }
+        ensures visited { OnOk result
+            ((place : ℕ) → IsVisited graph.now lattice summaries.now self.new place) }
     {
         let mut place = 0;
         while place < self.queue.len() {
             let origin = self.origin_at(place);
-            if origin.at == target {
-                return Ok(Some(place));
-            }
             self.visit(passed, graph, index, crossings, summaries, lattice, &origin)?;
             place += 1;
         }
-        Ok(None)
+        Ok(())
     }
 }
 
@@ -526,14 +507,13 @@ fn settled(graph: &FlowGraph, at: VarId, phase: Phase) -> Phase
     }
 }
 
-/// Reaches variables from the constants of an element until one is the target: the search and the place of its queue. None
-/// where no path leads there.
+/// All that the constants of an element lead to, in the order in which a breadth-first search comes to it.
 ///
 /// It takes each variable once in each phase, with a step for each constraint that begins there. The groups of a site that
 /// begin at one variable are followed once in each phase, with a step for each pair from that variable, and the `Leave`s of
 /// the site from one variable once; before that it goes once over all constraints. 2 bytes for each variable and for each
-/// constraint, and an item of the queue for each variable and phase that it reaches.
-pub fn reach(
+/// constraint while it goes on, and an item of the queue for each variable and phase that it reaches.
+pub fn search_from(
     alloc: Global,
     graph: &FlowGraph,
     index: &Adjacency,
@@ -541,28 +521,18 @@ pub fn reach(
     summaries: &Summaries,
     lattice: LatticeNo,
     elem: Elem,
-    target: VarId,
-) -> Result<Found, NoMemory>
+) -> Result<Vec<Reached>, NoMemory>
     requires index { IsIndexOf graph.now index.now }
     requires crossings { AreCrossings graph.now crossings.now }
     requires lattice { lattice < 16 }
-    ensures good { IfOk result (λ found. IsGood graph.now lattice elem summaries.now found.search) }
-    ensures found { IfOk result
-        (λ found. IfSome found.place (λ n. IsReachedAt found.search n target)) }
-    ensures none { IfOk result (λ found. Summarises graph.now lattice summaries.now →
-        IfNone found.place (Lead graph.now lattice elem target → ⊥)) }
+    ensures sound { IfOk result
+        (λ queue. AreSound graph.now lattice elem summaries.now queue.items) }
+    ensures whole { IfOk result (λ queue. Summarises graph.now lattice summaries.now →
+        HasAll graph.now lattice elem queue.items) }
 {
     let mut search = Search::new(alloc, graph)?;
     search.start(graph, lattice, elem)?;
     let mut passed = Passed::new(alloc, graph.len())?;
-    let place = search.run(
-        &mut passed,
-        graph,
-        index,
-        crossings,
-        summaries,
-        lattice,
-        target,
-    )?;
-    Ok(Found { search, place })
+    search.run(&mut passed, graph, index, crossings, summaries, lattice)?;
+    Ok(search.queue)
 }

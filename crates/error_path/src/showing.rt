@@ -4,29 +4,29 @@ ghost use Rattle.std.specs.Prelude.{◌≡◌, ℕ, ◌<◌, List, length, slice
 ghost use Rattle.std.specs.Prelude.{MatchOption, Some, reverse};
 ghost use Rattle.lattice_core.specs.View.{orders_of};
 ghost use Rattle.flow_graph.specs.declared.constraint.Link.TheVariants.{Bound};
-ghost use Rattle.flow_graph.specs.Index.{IsIndexOf};
 ghost use Rattle.flow_graph.specs.System.{IsWellOwned, Stands};
 ghost use Rattle.flow_graph.specs.Unfolding.{NamesElementsIn};
 ghost use Rattle.flow_graph.specs.Paths.{Lead};
 ghost use Rattle.flow_graph.specs.PathProofs.{steps_of, Holds, AreApart};
 ghost use Rattle.flow_graph.specs.declared.phase.Phase.{Phase};
 ghost use Rattle.lattice_solver.specs.Solution.{Exceeds, IsSolved};
-ghost use Rattle.match_summary.specs.Crossings.{AreCrossings};
 ghost use Rattle.match_summary.specs.Summary.{Leads, Summarises};
 ghost use Rattle.error_path.specs.declared.search.Reached.{Reached};
 ghost use Rattle.flow_graph.specs.Parts.{IsPath, Onward};
 ghost use Rattle.error_path.specs.Made.{subs_in, Extends, IsMade};
+ghost use Rattle.error_path.specs.Reaches.{AreReaches, IsReach};
 ghost use Rattle.error_path.specs.Reaching.{AreSound, ComesBy, Earlier};
 ghost use Rattle.error_path.specs.Shown.{BeginsOver, EndsWith, HasNoLines, InLattice};
 ghost use Rattle.error_path.specs.Shown.{IsExceededBySome, IsJoinedBy, IsShown};
 
-use crate::search::{Cause, Reached, reach};
+use crate::reaches::{Reach, Reaches};
+use crate::search::{Cause, Reached};
 use crate::steps::{Pair, inner_ends, push_group, push_take};
 use crate::sub_paths::SubPaths;
-use flow_graph::{Adjacency, FlowGraph, PathProof, PathStep};
+use flow_graph::{FlowGraph, PathProof, PathStep};
 use lattice_core::Lattices;
 use lattice_solver::Solver;
-use match_summary::{Crossings, Summaries};
+use match_summary::Summaries;
 use qual_base::{EdgeId, Elem, LatticeNo, NoMemory, VarId};
 use std::alloc::Global;
 
@@ -139,36 +139,25 @@ struct Target {
     bound: EdgeId,
 }
 
-/// A path proof that leads from a constant of an element to a bound.
+/// A path proof that leads from a constant of an element to a bound. Linear in its steps and those of its sub-paths.
 fn show_from(
     alloc: Global,
     graph: &FlowGraph,
-    index: &Adjacency,
-    crossings: &Crossings,
     summaries: &Summaries,
+    reach: &Reach,
     target: &Target,
 ) -> Result<PathProof, NoMemory>
-    requires index { IsIndexOf graph.now index.now }
-    requires crossings { AreCrossings graph.now crossings.now }
-    requires lattice { target.now.lattice < 16 }
     requires summaries { Summarises graph.now target.now.lattice summaries.now }
+    requires reach { IsReach graph.now reach.now }
+    requires lattice { reach.now.lattice ≡ target.now.lattice }
+    requires elem { reach.now.elem ≡ target.now.elem }
     requires bound { (e : ℕ) × Stands graph.now target.now.lattice target.now.bound
         (Bound target.now.at target.now.lattice e) }
     requires lead { Lead graph.now target.now.lattice target.now.elem target.now.at }
     ensures { IfOk result
         (λ proof. IsShown graph.now target.now.lattice target.now.elem target.now.bound proof) }
 {
-    let found = reach(
-        alloc,
-        graph,
-        index,
-        crossings,
-        summaries,
-        target.lattice,
-        target.elem,
-        target.at,
-    )?;
-    let place = found.place.unwrap();
+    let place = reach.place_of(target.at).unwrap();
     let mut subs = SubPaths::new(alloc, target.lattice);
     let mut steps = Vec::new(alloc);
     push_take(&mut steps, target.bound)?;
@@ -176,7 +165,7 @@ fn show_from(
         alloc,
         graph,
         summaries,
-        found.search.reached(),
+        reach.queue(),
         place,
         &mut subs,
         &mut steps,
@@ -192,17 +181,19 @@ fn show_from(
 /// A path proof of a bound that an element exceeds: it leads from a constant of such an element to the bound, and names each
 /// sub-path once. All lines are 0. Fails for want of memory alone.
 ///
-/// The search takes each variable once in each phase, with a step for each constraint that begins there. The groups of a
-/// site that begin at one variable are followed once in each phase, with a step for each pair from that variable, and the
-/// `Leave`s of the site from one variable once; before that it goes once over all constraints. It takes 2 bytes for each
-/// variable and for each constraint, and an item for each variable and phase that it reaches. The sub-paths are made from the reasons
-/// of the summaries, each pair once, in time and memory linear in the steps that are made.
+/// The first bound that an element exceeds costs a search from the constants of that element, which `reaches` keeps for the
+/// bounds that come: it takes each variable once in each phase, with a step for each constraint that begins there. The groups
+/// of a site that begin at one variable are followed once in each phase, with a step for each pair from that variable, and the
+/// `Leave`s of the site from one variable once; before that it goes once over all constraints. It keeps 4 bytes for each
+/// variable and an item for each variable and phase that it reaches. Beside it a bound costs time and memory linear in its
+/// steps and those of its sub-paths, which are made from the reasons of the summaries, each pair once.
 pub fn show(
     alloc: Global,
     graph: &FlowGraph,
     summaries: &Summaries,
     solver: &Solver,
     lattices: &Lattices,
+    reaches: &mut Reaches,
     bound: EdgeId,
 ) -> Result<PathProof, NoMemory>
     requires solved { IsSolved graph.now solver.now }
@@ -213,6 +204,8 @@ pub fn show(
     requires bound { bound < length graph.now.constraints }
     requires exceeded { InLattice lattices.now solver.now.lattice
         (λ order. IsExceededBySome graph.now solver.now order bound) }
+    requires kept { AreReaches graph.now reaches.old }
+    ensures kept { AreReaches graph.now reaches.new }
     ensures holds { IfOk result
         (λ proof. IsWellOwned graph.now → Holds graph.now (orders_of lattices.now) proof) }
     ensures ends { IfOk result (EndsWith bound) }
@@ -222,14 +215,16 @@ pub fn show(
     ensures lines { IfOk result HasNoLines }
 {
     let target = target_of(graph, solver, lattices, bound);
-    show_from(
+    let place = reaches.ask(
         alloc,
         graph,
         solver.index(),
         solver.crossings(),
         summaries,
-        &target,
-    )
+        target.lattice,
+        target.elem,
+    )?;
+    show_from(alloc, graph, summaries, reaches.at(place), &target)
 }
 
 /// The bound with an element that exceeds it.

@@ -7,7 +7,7 @@ ghost use Rattle.lattice_solver.specs.Solution.{IsSolved};
 
 use crate::fault::Fault;
 use crate::words::Goal;
-use error_path::show;
+use error_path::{Reaches, show};
 use flow_graph::{FlowGraph, PathProof, is_well_owned, names_elements};
 use lattice_core::{Entry, Lattice, Lattices, Level, Name, Pair, Sign};
 use lattice_solver::Solver;
@@ -92,7 +92,8 @@ fn steps(
     for n in 0..graph.len() {
         let at = EdgeId::new(n);
         if solver.exceeded(graph, lattice, at).is_some() {
-            let proof = show(alloc, graph, summaries, solver, lattices, at)?;
+            let mut reaches = Reaches::new(alloc);
+            let proof = show(alloc, graph, summaries, solver, lattices, &mut reaches, at)?;
             return Ok(steps_of(&proof));
         }
     }

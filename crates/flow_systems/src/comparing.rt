@@ -8,7 +8,7 @@ ghost use Rattle.lattice_solver.specs.Solution.{IsSolved};
 
 use crate::building::{graph_of, lattices_of};
 use crate::case::{Answers, Case};
-use error_path::show;
+use error_path::{Reaches, show};
 use flow_graph::{FlowGraph, PathProof, PathStep, is_well_owned, names_elements};
 use flow_unfolding::is_met;
 use lattice_core::{Lattice, Lattices};
@@ -81,7 +81,16 @@ pub fn shown(
     requires bound { bound < length graph.now.constraints }
 {
     if solver.exceeded(graph, lattice, bound).is_some() {
-        let proof = show(alloc, graph, summaries, solver, lattices, bound)?;
+        let mut reaches = Reaches::new(alloc);
+        let proof = show(
+            alloc,
+            graph,
+            summaries,
+            solver,
+            lattices,
+            &mut reaches,
+            bound,
+        )?;
         return Ok(Some(proof));
     }
     Ok(None)

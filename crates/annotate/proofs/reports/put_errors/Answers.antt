@@ -4,11 +4,16 @@ use Rattle.annotate.proofs.Writing.{none_of, then_some}
 use Rattle.annotate.proofs.reports.put_errors.Goals as goal
 
 pub loop-n-init : goal.loop-n-init
-loop-n-init c = none_of c.args.scene.now c.args.out.now.items (λ s errors. Errors s c.args.graph.now 0 errors) (λ s shows. NoConstraint)
+loop-n-init c = record {
+  kept = c.new-reaches.ensures c.args.graph.now;
+  errors = none_of c.args.scene.now c.args.out.now.items (λ s errors. Errors s c.args.graph.now 0 errors) (λ s shows. NoConstraint);
+}
 
 pub loop-n-preserved : goal.loop-n-preserved
-loop-n-preserved c =
-    then_some (λ s errors. Errors s c.args.graph.now (c.loop-n.n + 1) errors) c.loop-n.invariant c.in_ok-put_error_of.ensures
-    (λ s shows text error before here.
-    let Error : ℕ → Type 0 = λ number. IsErrorOf s c.args.graph.now number error in
-    NextError c.loop-n.n text error before (subst Error c.new.ensures here))
+loop-n-preserved c = record {
+  kept = c.in_ok-put_error_of.ensures.kept;
+  errors = then_some (λ s errors. Errors s c.args.graph.now (c.loop-n.n + 1) errors) c.loop-n.invariant.errors c.in_ok-put_error_of.ensures.error
+      (λ s shows text error before here.
+      let Error : ℕ → Type 0 = λ number. IsErrorOf s c.args.graph.now number error in
+      NextError c.loop-n.n text error before (subst Error c.new-number.ensures here));
+}

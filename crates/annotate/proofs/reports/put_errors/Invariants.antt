@@ -1,6 +1,10 @@
+use Rattle.error_path.specs.Reaches.{AreReaches}
 use Rattle.annotate.specs.Scenes.{WritesSome}
 use Rattle.annotate.specs.Reports.{Errors}
 use Rattle.annotate.proofs.reports.put_errors.Given as goal
 
 abbrev pub invariant-loop-n : goal.invariant-loop-n
-invariant-loop-n l = WritesSome l.scene l.fn.out.items l.out.items (λ s errors. Errors s l.graph l.n errors)
+invariant-loop-n l = record {
+  kept : AreReaches l.graph l.reaches;
+  errors : WritesSome l.scene l.fn.out.items l.out.items (λ s errors. Errors s l.graph l.n errors);
+}

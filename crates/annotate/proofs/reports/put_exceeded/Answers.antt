@@ -52,8 +52,8 @@ unwrap-limit-requires c =
     let At : ℕ → Type 0 = λ lattice. c.constraint-constraint.result.link ≡ Bound e.exceeds.var lattice e.exceeds.limit in
     bound_found c.constraint-constraint.result.link c.lattice-lattice.result e.exceeds.var e.exceeds.limit _ c.bound_in.result (subst At (sym c.lattice-lattice.ensures) link) c.bound_in.ensures
 
-pub returns : goal.returns
-returns c =
+pub returns-clause-error : goal.returns-clause-error
+returns-clause-error c =
     let e = c.requires.exceeds in
     let b = c.in_ok-proof.ensures.begins e.view e.there in
     let edge = c.first_edge.ensures b.number 0 (ap first_of c.deref.ensures.value ∙ b.first) in

@@ -13,8 +13,12 @@ use Rattle.error_path.proofs.Holding.{path_first, path_holds, path_last, path_li
 use Rattle.error_path.proofs.Tracing.{bound_over, order_there, view_at}
 use Rattle.error_path.proofs.showing.show.Goals as goal
 
-pub show_from-requires-clause-index : goal.show_from-requires-clause-index
-show_from-requires-clause-index c = subst (IsIndexOf c.args.graph.now) (sym c.index.ensures) c.requires.solved.fits.indexed
+pub ask-requires-clause-index : goal.ask-requires-clause-index
+ask-requires-clause-index c = subst (IsIndexOf c.args.graph.now) (sym c.index.ensures) c.requires.solved.fits.indexed
+
+pub ask-requires-clause-summaries : goal.ask-requires-clause-summaries
+ask-requires-clause-summaries c =
+    let Of : ℕ → Type 0 = λ l. Summarises c.args.graph.now l c.args.summaries.now in subst Of (sym c.target_of-target.ensures.lattice) c.requires.summaries
 
 pub show_from-requires-clause-summaries : goal.show_from-requires-clause-summaries
 show_from-requires-clause-summaries c =

@@ -1,4 +1,4 @@
-use Rattle.std.proofs.Common.{◌≡◌, ℕ, ◌⊎◌, inl, inr, true, sym, ◌∙◌, subst}
+use Rattle.std.proofs.Common.{◌≡◌, inl, inr, true, sym, ◌∙◌, subst}
 use Rattle.error_path.specs.Marks.{PhaseMarks, mark_of}
 use Rattle.error_path.proofs.Searching.{mark_cases}
 use Rattle.error_path.proofs.passed.Passed.add.Goals as goal

@@ -1,4 +1,4 @@
-use Rattle.std.proofs.Common.{◌≡◌, ℕ, ap, arith, refl}
+use Rattle.std.proofs.Common.{◌≡◌, ap, arith, refl}
 use Rattle.match_summary.specs.Chained.{link_of}
 use Rattle.match_summary.proofs.Crossing.{crosses_within, leave_crosses}
 use Rattle.error_path.proofs.Over.{leave_covered, leave_over, over_on}

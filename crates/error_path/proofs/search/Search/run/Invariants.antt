@@ -1,6 +1,5 @@
-use Rattle.std.proofs.Common.{◌≡◌, ℕ, ◌+◌, ◌-◌, ◌<◌, ◌≤◌, length, slice_get, Some}
+use Rattle.std.proofs.Common.{ℕ, ◌+◌, ◌-◌, ◌<◌, ◌≤◌, length}
 use Rattle.error_path.specs.Marks.{free_of}
-use Rattle.error_path.specs.declared.search.Reached.{Reached}
 use Rattle.error_path.specs.Reaching.{Grows, IsGood, IsOver, IsVisited}
 use Rattle.error_path.proofs.search.Search.run.Given as goal
 
@@ -9,7 +8,6 @@ invariant-loop-place l = record {
   good : (elem : ℕ) → IsGood l.graph l.lattice elem l.summaries l.fn.self → IsGood l.graph l.lattice elem l.summaries l.self;
   grows : Grows l.fn.self l.self;
   visited : (k : ℕ) → k < l.place → IsVisited l.graph l.lattice l.summaries l.self k;
-  missed : (k : ℕ) (r : Reached) → k < l.place → slice_get l.self.queue.items k ≡ Some r → r.at ≡ l.target → ⊥;
   over : IsOver l.graph l.lattice l.summaries l.passed l.self;
   low : l.place ≤ length l.self.queue.items;
 }

@@ -1,0 +1,12 @@
+use Rattle.std.proofs.Common.{List, subst, sym}
+use Rattle.error_path.specs.Reaches.{AreBelow}
+use Rattle.error_path.specs.declared.search.Reached.{Reached}
+use Rattle.error_path.proofs.Found.{sound_below}
+use Rattle.error_path.proofs.reaches.Reach.new.Goals as goal
+
+pub first_places-requires : goal.first_places-requires
+first_places-requires c =
+    let Of : List Reached → Type 0 = λ xs. AreBelow c.vars.result xs in
+    subst Of (sym c.as_slice.ensures.value)
+    (sound_below c.args.graph.now c.args.lattice c.args.elem c.vars.result c.args.summaries.now c.in_ok-queue.queue.items c.vars.ensures.above
+    c.in_ok-queue.ensures.sound)
