@@ -1,0 +1,165 @@
+-- A unit that is well formed but for its height is read with room for it.
+use Rattle.std.proofs.Common.{◌≡◌, ℕ, zero, suc, ◌<◌, ◌≤◌, true, false, List, [], ◌∷◌, Some, refl, sym, ◌∙◌, ap, arith}
+use Rattle.std.specs.Prelude.{◌+◌, ◌-◌, max, not, All}
+use Rattle.std.proofs.lemmas.List.Elements.{All-head, All-tail}
+use Rattle.c_words.specs.declared.kinds.TokenKind.{TokenKind}
+use Rattle.c_words.specs.declared.kinds.TokenKind.TheVariants as kinds
+use Rattle.c_tree.specs.declared.lexeme.Lexeme.{Lexeme}
+use Rattle.c_tree.specs.Tree.{SpecWords, declaration, decl_declaration, decl_assert}
+use Rattle.c_tree.specs.Text.{spec_words_text, extensions_text}
+use Rattle.c_tree.specs.Specifiers.{IsMix}
+use Rattle.c_tree.specs.WellFormed.{AreSpecWords}
+use Rattle.c_tree.specs.Unit.{Item, function_item, decl_item, asm_item, semi_item, item_text, items_text, item_height, unit_height, IsItem}
+use Rattle.c_specs.specs.Laws.{WholeAreMixes, MixesGoOn}
+use Rattle.c_units.specs.HeldScopes.{HeldScopes, file_scope}
+use Rattle.c_units.specs.Scoping.{spec_words_scopes}
+use Rattle.c_units.specs.Units.{items_scopes, item_scopes}
+use Rattle.c_reading.specs.Reading.{kind_at, IsNumbered, repeated}
+use Rattle.c_reading.specs.Tokens.{is_end}
+use Rattle.c_reading.specs.Parts.{Inner, never}
+use Rattle.c_reading.specs.Specifying.{begins_specs}
+use Rattle.c_reading.specs.Items.{item_with, items_with}
+use Rattle.c_reading.specs.Knot.{tied, knot}
+use Rattle.c_reading.proofs.Binding.{found, done, bind_is}
+use Rattle.c_reading.proofs.Forms.{always, behind_ok, behind_same}
+use Rattle.c_reading.proofs.Rows.{AllFit, row_text, row_scopes, row_height, repeated_complete}
+use Rattle.c_reading.proofs.KindFacts.{not_false}
+use Rattle.c_reading.proofs.Aims.{item_form, TokenLaws, FirstLaws, Laws, declr_number}
+use Rattle.c_reading.proofs.TokensShown.{token_laws}
+use Rattle.c_reading.proofs.Firsts.{first_laws}
+use Rattle.c_reading.proofs.ExprShown.{expr_laws}
+use Rattle.c_reading.proofs.SpecsShown.{specs_laws}
+use Rattle.c_reading.proofs.DeclrShown.{declr_laws, type_name_laws}
+use Rattle.c_reading.proofs.InitShown.{init_list_laws}
+use Rattle.c_reading.proofs.StmtShown.{block_laws, stmt_laws}
+use Rattle.c_reading.proofs.StmtComplete.{block_body_read}
+use Rattle.c_reading.proofs.ItemsFalls.{item_shrinks}
+use Rattle.c_reading.proofs.ItemsComplete.{item_complete}
+use Rattle.refusal_rules.specs.Allowed.{IsWellFormedAtAnyHeight}
+use Rattle.room_laws.specs.Rooms.{unit_of, AnyHeightIsRead}
+
+specs_no_end : (s : HeldScopes) (kind : TokenKind) → begins_specs s kind ≡ true → is_end kind ≡ false
+specs_no_end s kinds.End e = absurd cc
+specs_no_end s kind e = refl
+
+lower : (room : ℕ) → room < 0 → ⊥
+lower room h = absurd (omega (arith, h))
+
+module _ (whole_are : WholeAreMixes) (goes : MixesGoOn) (all : List Lexeme) (numbered : IsNumbered all) where
+  tokens : TokenLaws all
+  tokens = token_laws all numbered
+
+  firsts : FirstLaws all
+  firsts = first_laws goes all numbered
+
+  -- readers that are never called
+  never_laws : Laws all 0 never
+  never_laws = record {
+    exprs = record {
+      shrinks = λ reach begun room s ts x e. absurd cc;
+      sound = λ reach room s ts x tail e. absurd cc;
+      complete = λ reach room less. absurd (lower room less);
+      begun_sound = λ reach begun room row s ts x tail e. absurd cc;
+      begun_complete = λ reach begun room row less. absurd (lower room less);
+    };
+    types = record {
+      shrinks = λ room s ts x e. absurd cc;
+      sound = λ room s ts x tail e. absurd cc;
+      complete = λ room less. absurd (lower room less);
+    };
+    words = record {
+      falls = λ role words room s ts x e. absurd cc;
+      shrinks = λ role room s ts x e. absurd cc;
+      sound = λ role words room s ts x tail e. absurd cc;
+      complete = λ role words rest room less. absurd (lower room less);
+    };
+    declrs = record {
+      falls = λ mode wanted flag room s ts x e. absurd cc;
+      shrinks = λ wanted flag room s ts x e. absurd cc;
+      sound = λ mode wanted flag room s ts x tail e. absurd cc;
+      complete = λ mode wanted flag room less. absurd (lower (declr_number flag room) less);
+    };
+    lists = record {
+      shrinks = λ room s ts x e. absurd cc;
+      sound = λ room s ts x tail e. absurd cc;
+      complete = λ room less. absurd (lower room less);
+    };
+    blocks = record {
+      shrinks = λ room s ts x e. absurd cc;
+      sound = λ room s ts x tail e. absurd cc;
+      complete = λ room less. absurd (lower room less);
+    };
+    stmts = record {
+      shrinks = λ room s ts x e. absurd cc;
+      sound = λ room s ts x tail e. absurd cc;
+      ended = λ room s ts x e. absurd cc;
+      complete = λ room less. absurd (lower room less);
+    };
+  }
+
+  tied_laws : (n : ℕ) (inner : Inner) → Laws all n inner → Laws all (suc n) (tied inner)
+  tied_laws n inner laws = record {
+    exprs = expr_laws all numbered tokens firsts n inner laws;
+    types = type_name_laws all numbered tokens goes n inner laws;
+    words = specs_laws all numbered tokens firsts n inner laws whole_are goes;
+    declrs = declr_laws all numbered tokens goes n inner laws;
+    lists = init_list_laws all numbered tokens firsts n inner laws;
+    blocks = block_laws all numbered tokens firsts n inner laws goes;
+    stmts = stmt_laws all numbered tokens firsts n inner laws goes;
+  }
+
+  knot_laws : (n : ℕ) → Laws all (suc n) (knot n)
+  unfolding knot
+  knot_laws zero = tied_laws 0 never never_laws
+  knot_laws (suc n) = tied_laws (suc n) (knot n) (knot_laws n)
+
+  -- Rows of items.
+
+  rows_are : (xs : List Item) (k : List Lexeme) → row_text (item_form all) xs k ≡ items_text all xs k
+  rows_are [] k = refl
+  rows_are (x ∷ xs) k = ap (item_text all x) (rows_are xs k)
+
+  rows_named : (xs : List Item) (s : HeldScopes) → row_scopes (item_form all) xs s ≡ items_scopes xs s
+  rows_named [] s = refl
+  rows_named (x ∷ xs) s = behind_same (item_scopes x s) (row_scopes (item_form all) xs) (items_scopes xs) (rows_named xs)
+
+  rows_fit : (xs : List Item) → All (IsItem all) xs → AllFit (item_form all) xs
+  rows_fit [] h = tt
+  rows_fit (x ∷ xs) h = (All-head (IsItem all) x xs h, rows_fit xs (All-tail (IsItem all) x xs h))
+
+  one_up : (h r u : ℕ) → u ≡ r + 1 → max (h + 1) u ≡ max h r + 1
+  one_up h r u e = omega (arith, e)
+
+  rows_high : (xs : List Item) → unit_height xs ≡ row_height (item_form all) xs + 1
+  rows_high [] = refl
+  rows_high (x ∷ xs) = one_up (item_height x) (row_height (item_form all) xs) (unit_height xs) (rows_high xs)
+
+  words_no_end : (exts : List ℕ) (ws : SpecWords) (s t : HeldScopes) (k : List Lexeme) → IsMix ws → AreSpecWords all ws → spec_words_scopes ws s ≡ Some t → not (is_end (kind_at (extensions_text exts (spec_words_text all ws k)))) ≡ true
+  words_no_end [] ws s t k mix fit named = not_false (specs_no_end s (kind_at (spec_words_text all ws k)) (firsts.words_begin ws s t k mix fit named))
+  words_no_end (e ∷ exts) ws s t k mix fit named = refl
+
+  item_starts : (x : Item) (s t : HeldScopes) (k : List Lexeme) → IsItem all x → item_scopes x s ≡ Some t → not (is_end (kind_at (item_text all x k))) ≡ true
+  item_starts (semi_item semi) s t k fit named = refl
+  item_starts (asm_item keyword group semi) s t k fit named = refl
+  item_starts (decl_item (decl_assert it)) s t k fit named = refl
+  item_starts (decl_item (decl_declaration (declaration exts ws ds semi))) s t k fit named =
+      let b = behind_ok (spec_words_scopes ws s) _ t named in
+      words_no_end exts ws s b.0 _ fit.0 fit.1 b.1
+  item_starts (function_item exts ws d attrs opening items closing) s t k fit named =
+      let b = behind_ok (spec_words_scopes ws s) _ t named in
+      words_no_end exts ws s b.0 _ fit.0 fit.1 b.1
+
+  unit_read : (room : ℕ) → 1 ≤ room → (items : List Item) → IsWellFormedAtAnyHeight all items → unit_height items ≤ room → unit_of room all ≡ done (found items file_scope [])
+  unfolding items_with
+  unit_read room one items w low =
+      let end : List Lexeme = record { kind = kinds.End; at = w.tokens.last } ∷ [] in
+      let spelled : all ≡ row_text (item_form all) items end = w.tokens.spelled ∙ sym (rows_are items end) in
+      let high = rows_high items in
+      bind_is _ (ap (repeated (λ kind. not (is_end kind)) (item_with (knot room) (room - 1)) file_scope) spelled ∙
+      repeated_complete (λ kind. not (is_end kind)) (item_with (knot room) (room - 1)) (item_form all) always (room - 1) (item_shrinks all tokens (suc room) (knot room) (knot_laws room) (room - 1))
+      (item_complete all numbered tokens firsts (suc room) (knot room) (knot_laws room) (block_body_read all numbered tokens goes firsts (suc room) (knot room) (knot_laws room)) (room - 1) (omega arith)) item_starts (λ x kind e. refl) items file_scope w.scopes end
+      (rows_fit items w.parts) (rows_named items file_scope ∙ w.named) (omega (arith, high, low)) refl (λ x. refl))
+      (bind_is _ refl refl)
+
+pub any_height_is_read : WholeAreMixes → MixesGoOn → AnyHeightIsRead
+any_height_is_read whole_are goes all numbered room items one w low = unit_read whole_are goes all numbered room one items w low

@@ -1,0 +1,8 @@
+use Rattle.std.proofs.Common.{suc}
+use Rattle.c_reading.specs.Knot.{knot}
+use Rattle.c_reading.proofs.KnotLaws.{knot_laws}
+use Rattle.stmt_places.proofs.Blocks.{block_places}
+use Rattle.stmt_places.proofs.laws.blocks_are_placed.Goals as goal
+
+pub returns : goal.returns
+returns c n places = block_places (suc n) (knot n) (knot_laws c.whole_are_mixes.ensures c.mixes_go_on.ensures n) places

@@ -1,0 +1,8 @@
+//! Laws of rows and groups of tokens.
+
+ghost use Rattle.token_places.specs.Laws.{GroupsAreCompleted};
+
+/// A group is refused as it should be, and is completed by the brackets that are open in it.
+pub fn groups_are_completed()
+    ensures { GroupsAreCompleted }
+{}

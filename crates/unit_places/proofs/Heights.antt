@@ -1,0 +1,71 @@
+-- The laws of the place at the top: over the readers of all numbers, and over what more room does.
+use Rattle.std.proofs.Common.{◌≡◌, ℕ, false, List, [], ◌++◌, take, inl, inr, Ok, Err, refl, sym, ◌∙◌, arith}
+use Rattle.std.specs.Prelude.{◌+◌, ◌-◌, max}
+use Rattle.c_tree.specs.declared.lexeme.Lexeme.{Lexeme}
+use Rattle.c_tree.specs.Unit.{Item, unit_height}
+use Rattle.c_specs.specs.Laws.{WholeAreMixes, MixesGoOn}
+use Rattle.c_units.specs.HeldScopes.{file_scope}
+use Rattle.c_units.specs.Units.{numbered}
+use Rattle.c_reading.specs.declared.kinds.Fault.TheVariants.{Unexpected}
+use Rattle.c_reading.specs.Reading.{Refusal, Found, Read}
+use Rattle.c_reading.specs.Tokens.{is_end}
+use Rattle.c_reading.specs.Items.{items_with}
+use Rattle.c_reading.specs.Knot.{knot, most, unit_at}
+use Rattle.c_reading.specs.UnitLaws.{UnitIsWellFormed, WellFormedIsRead}
+use Rattle.c_reading.proofs.Binding.{found, done}
+use Rattle.c_reading.proofs.KnotLaws.{knot_laws}
+use Rattle.refusal_rules.specs.Laws.{FirstBadIsAllowed}
+use Rattle.room_laws.specs.Rooms.{More, unit_of, MoreRoomIsMore, AnyHeightIsRead}
+use Rattle.reading_steps.specs.Steps.{any, Law}
+use Rattle.stmt_places.proofs.Items.{items_law}
+use Rattle.unit_places.specs.Laws.{PlaceIsFirst, HeightAlone, SyntaxIsAllowed}
+use Rattle.unit_places.proofs.Place.{are_numbered, placed}
+use Rattle.unit_places.proofs.Knot.{knot_places}
+
+abbrev refused : Refusal → Read (List Item)
+refused d = Err d
+
+not_both : (r : Read (List Item)) (e : Refusal) (x : Found (List Item)) → r ≡ Err e → r ≡ done x → ⊥
+not_both r e x is also = absurd cc
+
+-- the reader of units is that with a room of 500
+unit_is : (all : List Lexeme) → unit_of most all ≡ unit_at all
+unfolding unit_at
+unit_is all = refl
+
+module _ (formed : UnitIsWellFormed) (read_back : WellFormedIsRead) (whole_are : WholeAreMixes) (goes : MixesGoOn) where
+  the_items : Law false (items_with (knot most) (most - 1)) any is_end
+  the_items = items_law 501 (knot most) (knot_laws whole_are goes most) (knot_places whole_are goes most) (most - 1) (omega arith) (omega arith)
+
+  pub place_is_first : PlaceIsFirst
+  place_is_first tokens fault at ended e = (placed formed read_back the_items tokens fault at ended e).first
+
+  -- With more room the same token is refused with the same fault, and a unit of any height would be read with room for it.
+  pub height_alone : AnyHeightIsRead → MoreRoomIsMore → HeightAlone
+  height_alone any_height more tokens fault at ended e other u =
+      let a = (placed formed read_back the_items tokens fault at ended e).alike u.behind in
+      by_more a.0 a.1 (more most wide (omega arith) (omega arith) all)
+    where
+      all : List Lexeme
+      all = numbered (take (at + 1) tokens ++ u.behind)
+
+      wide : ℕ
+      wide = max most (unit_height u.items)
+
+      read : unit_of wide all ≡ done (found u.items file_scope [])
+      read = any_height all (are_numbered (take (at + 1) tokens ++ u.behind)) wide u.items (omega arith) u.formed (omega arith)
+
+      by_result : (n : ℕ) (r : Read (List Item)) → r ≡ refused (fault, n) → More r (unit_of wide all) → ⊥
+      by_result n (Ok x) is m = absurd cc
+      by_result n (Err d) is (inl deep) = other (sym (fault_is d (fault, n) is) ∙ deep)
+        where
+          fault_is : (a b : Refusal) → refused a ≡ refused b → a.0 ≡ b.0
+          fault_is a b e = cc
+      by_result n (Err d) is (inr same) = not_both (unit_of wide all) d (found u.items file_scope []) same read
+
+      by_more : (n : ℕ) → unit_at all ≡ refused (fault, n) → More (unit_of most all) (unit_of wide all) → ⊥
+      by_more n is m = by_result n (unit_of most all) (unit_is all ∙ is) m
+
+pub syntax_is_allowed : PlaceIsFirst → HeightAlone → FirstBadIsAllowed → SyntaxIsAllowed
+syntax_is_allowed first alone allowed tokens at ended e =
+    allowed tokens at (first tokens Unexpected at ended e) (alone tokens Unexpected at ended e (λ same. absurd cc))
