@@ -1,13 +1,16 @@
-/* Functions of the C library that answer a part of what they are given: include this file before a source for the lattice `const.q`
-   (`gcc -E -include const-parts.h ..`, with `-D_GNU_SOURCE` where the source defines that).
+/* Functions of the C library that answer a part of what they are given, for the lattice `const.q`: `cqual-cc --model const-parts.h`.
+   Without `cqual-cc` include this file before the source (`gcc -E -include const-parts.h ..`, with `-D_GNU_SOURCE` where the source
+   defines that).
 
    Their declarations in the library's headers take `const char *` and answer `char *`, so that a text loses its `const` on the way
    through them. Here each has a name of its own and a body, which says that what is answered is what was given. Each call has a copy
    of its own: what it answers may be written to exactly where what it was given may. The bodies say only that, and are not to be
    run. */
 
+#ifndef __CQUAL_CALLS__
 #include <string.h>
 #include <strings.h>
+#endif
 
 static char *cqual_strchr(char *s, int c) { return s; }
 static char *cqual_strrchr(char *s, int c) { return s; }

@@ -5,6 +5,8 @@
    answers a part of a `const` text, as `strchr` does, answers a place that may be written to: the headers lose the `const`, and
    so does this prelude, since index words speak of lattices of values alone. `const-parts.h` says what can be said of them.
 
+   A string literal has no `const` in C (its type is an array of `char`), so a write to one is no error here.
+
    Each signature has the shape that the headers of Debian 12 (glibc 2.36) give it after preprocessing. */
 
 typedef unsigned long size_t;
@@ -20,6 +22,7 @@ struct sockaddr;
 struct stat;
 struct tm;
 struct timespec;
+struct pollfd;
 
 /* Memory and strings */
 
@@ -44,6 +47,12 @@ char *strtok_r($nonconst char *s, const char *delim, char *$nonconst *save_ptr);
 char *strsep($nonconst char *$nonconst *stringp, const char *delim);
 wchar_t *wcscpy($nonconst wchar_t *dest, const wchar_t *src);
 wchar_t *wcscat($nonconst wchar_t *dest, const wchar_t *src);
+wchar_t *wcsncpy($nonconst wchar_t *dest, const wchar_t *src, size_t n);
+wchar_t *wcsncat($nonconst wchar_t *dest, const wchar_t *src, size_t n);
+wchar_t *wmemcpy($nonconst wchar_t *dest, const wchar_t *src, size_t n);
+wchar_t *wmemmove($nonconst wchar_t *dest, const wchar_t *src, size_t n);
+wchar_t *wmemset($nonconst wchar_t *s, wchar_t c, size_t n);
+char *dirname($nonconst char *path);
 size_t mbstowcs($nonconst wchar_t *dest, const char *src, size_t n);
 size_t wcstombs($nonconst char *dest, const wchar_t *src, size_t n);
 
@@ -58,10 +67,20 @@ int vasprintf(char *$nonconst *ptr, const char *format, __builtin_va_list arg);
 int scanf(const char *format, $nonconst ...);
 int fscanf(FILE *stream, const char *format, $nonconst ...);
 int sscanf(const char *s, const char *format, $nonconst ...);
+/* (A list of arguments is a pointer here: a word before `__builtin_va_list` would stand at the list and not at what it leads to.) */
+int vscanf(const char *format, $nonconst void *arg);
+int vfscanf(FILE *s, const char *format, $nonconst void *arg);
+int vsscanf(const char *s, const char *format, $nonconst void *arg);
 size_t strftime($nonconst char *s, size_t maxsize, const char *format, const struct tm *tp);
+
+/* For models: what is given goes into the text (that it is written to is said by the function that does so) */
+
+void cqual_into(void *to, ...);
 
 /* Files and sockets */
 
+int poll($nonconst struct pollfd *fds, unsigned long nfds, int timeout);
+wchar_t *fgetws($nonconst wchar_t *ws, int n, FILE *stream);
 char *fgets($nonconst char *s, int n, FILE *stream);
 size_t fread($nonconst void *ptr, size_t size, size_t n, FILE *stream);
 ssize_t getline(char *$nonconst *lineptr, $nonconst size_t *n, FILE *stream);
@@ -89,6 +108,8 @@ long strtol(const char *nptr, char *$nonconst *endptr, int base);
 unsigned long strtoul(const char *nptr, char *$nonconst *endptr, int base);
 long long strtoll(const char *nptr, char *$nonconst *endptr, int base);
 unsigned long long strtoull(const char *nptr, char *$nonconst *endptr, int base);
+long strtoimax(const char *nptr, char *$nonconst *endptr, int base);
+unsigned long strtoumax(const char *nptr, char *$nonconst *endptr, int base);
 double strtod(const char *nptr, char *$nonconst *endptr);
 double frexp(double x, $nonconst int *exponent);
 double modf(double x, $nonconst double *iptr);
@@ -98,6 +119,7 @@ struct tm *localtime_r(const time_t *timer, $nonconst struct tm *tp);
 struct tm *gmtime_r(const time_t *timer, $nonconst struct tm *tp);
 char *ctime_r(const time_t *timer, $nonconst char *buf);
 int clock_gettime(int clock_id, $nonconst struct timespec *tp);
+int nanosleep(const struct timespec *requested, $nonconst struct timespec *remaining);
 pid_t waitpid(pid_t pid, $nonconst int *stat_loc, int options);
 int sigemptyset($nonconst __sigset_t *set);
 int sigfillset($nonconst __sigset_t *set);

@@ -8,7 +8,15 @@
 
    Each signature has the shape that the headers of Debian 12 (glibc 2.36) give it after preprocessing, so that a program's own
    declarations, by its headers, are equated with it node by node. Functions that programs often define themselves stand in
-   `taint-names.h`. */
+   `taint-names.h`, functions of other libraries in `taint-libraries.h`, names of files that are opened or changed in `taint-files.h`,
+   and arguments of programs that are run in `taint-arguments.h`.
+
+   No word here stands below a struct: the struct of a prelude and that of a source are two, whatever they are called, and a word at the
+   member of the one says nothing of the other. Sources that answer structs (`readdir`, `gethostbyname`, `getpwnam`, ..) are in the first
+   of the models that `cqual-cc` uses with this prelude; what the scanf family reads is in the second. Without them none of that is found.
+
+   models: taint-members.h taint-scan.h
+*/
 
 typedef unsigned long size_t;
 typedef long ssize_t;
@@ -17,7 +25,12 @@ typedef int wchar_t;
 typedef unsigned int wint_t;
 typedef struct _IO_FILE FILE;
 typedef unsigned int socklen_t;
-typedef struct __dirstream DIR;
+typedef int pid_t;
+typedef struct { int cqual_fields; } posix_spawn_file_actions_t;
+typedef struct { int cqual_fields; } posix_spawnattr_t;
+typedef struct { int cqual_fields; } wordexp_t;
+typedef struct { int cqual_fields; } mbstate_t;
+typedef void *iconv_t;
 struct sockaddr;
 struct tm;
 
@@ -50,37 +63,42 @@ ssize_t pread64(int fd, $tainted void *buf, size_t nbytes, off_t offset);
 ssize_t readlink(const char *path, $tainted char *buf, size_t len);
 ssize_t readlinkat(int fd, const char *path, $tainted char *buf, size_t len);
 $tainted char *getpass(const char *prompt);
+$tainted char *gets($tainted char *s);
 $tainted wchar_t *fgetws($tainted wchar_t *ws, int n, FILE *stream);
 $tainted wint_t fgetwc(FILE *stream);
 $tainted wint_t getwc(FILE *stream);
 $tainted wint_t getwchar(void);
 
-/* The names of files in a directory: each struct is one for the whole program, and so is what its members hold */
+/* Names that the system gives, and what is kept with a file */
 
-struct dirent {
-    unsigned long d_ino;
-    off_t d_off;
-    unsigned short d_reclen;
-    unsigned char d_type;
-    $tainted char d_name[256];
-};
-struct dirent *readdir(DIR *dirp);
+$tainted char *getcwd($tainted char *buf, size_t size);
+$tainted char *getwd($tainted char *buf);
+$tainted char *get_current_dir_name(void);
+$tainted char *getlogin(void);
+int getlogin_r($tainted char *name, size_t name_len);
+int gethostname($tainted char *name, size_t len);
+int getdomainname($tainted char *name, size_t len);
+int ttyname_r(int fd, $tainted char *buf, size_t buflen);
+ssize_t getxattr(const char *path, const char *name, $tainted void *value, size_t size);
+ssize_t lgetxattr(const char *path, const char *name, $tainted void *value, size_t size);
+ssize_t fgetxattr(int fd, const char *name, $tainted void *value, size_t size);
+ssize_t listxattr(const char *path, $tainted char *list, size_t size);
+ssize_t llistxattr(const char *path, $tainted char *list, size_t size);
+ssize_t flistxattr(int fd, $tainted char *list, size_t size);
 
-/* Sockets and what their other end is called */
+/* Messages, sockets and what their other end is called. What is read into a struct by way of `void *` does not taint its members. */
+
+ssize_t msgrcv(int msqid, $tainted void *msgp, size_t msgsz, long msgtyp, int msgflg);
+ssize_t mq_receive(int mqdes, $tainted char *msg_ptr, size_t msg_len, unsigned int *msg_prio);
 
 ssize_t recv(int fd, $tainted void *buf, size_t n, int flags);
 ssize_t recvfrom(int fd, $tainted void *buf, size_t n, int flags, struct sockaddr *addr, socklen_t *addr_len);
 int getnameinfo(const struct sockaddr *sa, socklen_t salen, $tainted char *host, socklen_t hostlen, $tainted char *serv,
     socklen_t servlen, int flags);
-struct hostent {
-    $tainted char *h_name;
-    $tainted char **h_aliases;
-    int h_addrtype;
-    int h_length;
-    char **h_addr_list;
-};
-struct hostent *gethostbyname(const char *name);
-struct hostent *gethostbyaddr(const void *addr, socklen_t len, int type);
+
+/* For models: what is given goes into the text */
+
+void cqual_into($_1_2 void *to, $_1 ...);
 
 /* Formats, and what is written by them. What the scanf family reads is in `models/taint-scan.h`: no word can say it here. */
 
@@ -110,7 +128,26 @@ void syslog(int pri, $untainted const char *fmt, ...);
 void vsyslog(int pri, $untainted const char *fmt, __builtin_va_list ap);
 size_t strftime($_1_2 char *s, size_t maxsize, const $_1 char *format, const struct tm *tp);
 
-/* What runs programs and loads libraries */
+/* The same as headers with `_FORTIFY_SOURCE` name them */
+
+int __printf_chk(int flag, $untainted const char *format, ...);
+int __fprintf_chk(FILE *stream, int flag, $untainted const char *format, ...);
+int __dprintf_chk(int fd, int flag, $untainted const char *format, ...);
+int __sprintf_chk($_1_2 char *s, int flag, size_t slen, $untainted const char *format, $_1 ...);
+int __snprintf_chk($_1_2 char *s, size_t n, int flag, size_t slen, $untainted const char *format, $_1 ...);
+int __asprintf_chk($_1_2 char **ptr, int flag, $untainted const char *format, $_1 ...);
+int __vprintf_chk(int flag, $untainted const char *format, __builtin_va_list ap);
+int __vfprintf_chk(FILE *stream, int flag, $untainted const char *format, __builtin_va_list ap);
+int __vsprintf_chk($_1_2 char *s, int flag, size_t slen, $untainted const char *format, $_1 __builtin_va_list ap);
+int __vsnprintf_chk($_1_2 char *s, size_t n, int flag, size_t slen, $untainted const char *format, $_1 __builtin_va_list ap);
+int __vasprintf_chk($_1_2 char **ptr, int flag, $untainted const char *format, $_1 __builtin_va_list ap);
+int __wprintf_chk(int flag, $untainted const wchar_t *format, ...);
+int __fwprintf_chk(FILE *stream, int flag, $untainted const wchar_t *format, ...);
+int __swprintf_chk($_1_2 wchar_t *s, size_t n, int flag, size_t slen, $untainted const wchar_t *format, $_1 ...);
+void __syslog_chk(int pri, int flag, $untainted const char *format, ...);
+void __vsyslog_chk(int pri, int flag, $untainted const char *format, __builtin_va_list ap);
+
+/* What runs programs and loads libraries; what names the environment that they get. In `putenv` the value stands behind the name. */
 
 int system($untainted const char *command);
 FILE *popen($untainted const char *command, const char *modes);
@@ -121,6 +158,17 @@ int execv($untainted const char *path, char *const argv[]);
 int execvp($untainted const char *file, char *const argv[]);
 int execvpe($untainted const char *file, char *const argv[], char *const envp[]);
 int execve($untainted const char *path, char *const argv[], char *const envp[]);
+int execveat(int dirfd, $untainted const char *path, char *const argv[], char *const envp[], int flags);
+int fexecve($untainted int fd, char *const argv[], char *const envp[]);
+int posix_spawn(pid_t *pid, $untainted const char *path, const posix_spawn_file_actions_t *actions, const posix_spawnattr_t *attributes,
+    char *const argv[], char *const envp[]);
+int posix_spawnp(pid_t *pid, $untainted const char *file, const posix_spawn_file_actions_t *actions, const posix_spawnattr_t *attributes,
+    char *const argv[], char *const envp[]);
+int wordexp($untainted const char *words, wordexp_t *result, int flags);
+int putenv($untainted char *string);
+int setenv($untainted const char *name, const char *value, int replace);
+void *dlsym(void *handle, $untainted const char *name);
+void *dlvsym(void *handle, $untainted const char *name, const char *version);
 void *dlopen($untainted const char *file, int mode);
 void *dlmopen(long nsid, $untainted const char *file, int mode);
 
@@ -142,6 +190,16 @@ size_t strxfrm($_1_2 char *dest, const $_1 char *src, size_t n);
 $_1_2 wchar_t *wcscpy($_1_2 wchar_t *dest, const $_1 wchar_t *src);
 $_1_2 wchar_t *wcsncpy($_1_2 wchar_t *dest, const $_1 wchar_t *src, size_t n);
 $_1_2 wchar_t *wcscat($_1_2 wchar_t *dest, const $_1 wchar_t *src);
+$_1_2 wchar_t *wcsncat($_1_2 wchar_t *dest, const $_1 wchar_t *src, size_t n);
+$_1_2 wchar_t *wmemcpy($_1_2 wchar_t *dest, const $_1 wchar_t *src, size_t n);
+$_1_2 wchar_t *wmemmove($_1_2 wchar_t *dest, const $_1 wchar_t *src, size_t n);
+$_1_2 wchar_t *wmemset($_1_2 wchar_t *s, $_1 wchar_t c, size_t n);
+size_t strlcpy($_1_2 char *dest, const $_1 char *src, size_t n);
+size_t strlcat($_1_2 char *dest, const $_1 char *src, size_t n);
+size_t mbsrtowcs($_1_2 wchar_t *dest, const $_1 char **src, size_t len, mbstate_t *state);
+size_t wcsrtombs($_1_2 char *dest, const $_1 wchar_t **src, size_t len, mbstate_t *state);
+size_t iconv(iconv_t cd, $_1 char **inbuf, size_t *inbytesleft, $_1_2 char **outbuf, size_t *outbytesleft);
+$_1_2 const char *inet_ntop(int family, const $_1 void *address, $_1_2 char *text, socklen_t size);
 size_t mbstowcs($_1_2 wchar_t *dest, const $_1 char *src, size_t n);
 size_t wcstombs($_1_2 char *dest, const $_1 wchar_t *src, size_t n);
 
@@ -190,6 +248,9 @@ $_1_2 long long strtoll(const $_1 char *nptr, $_1 char **endptr, int base);
 $_1_2 unsigned long long strtoull(const $_1 char *nptr, $_1 char **endptr, int base);
 $_1_2 double atof(const $_1 char *nptr);
 $_1_2 double strtod(const $_1 char *nptr, $_1 char **endptr);
+$_1_2 long double strtold(const $_1 char *nptr, $_1 char **endptr);
+$_1_2 long strtoimax(const $_1 char *nptr, $_1 char **endptr, int base);
+$_1_2 unsigned long strtoumax(const $_1 char *nptr, $_1 char **endptr, int base);
 $_1_2 float strtof(const $_1 char *nptr, $_1 char **endptr);
 $_1_2 int toupper($_1 int c);
 $_1_2 int tolower($_1 int c);

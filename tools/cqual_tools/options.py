@@ -1,0 +1,155 @@
+"""The words of cqual-cc: its options, and behind `--` the flags of a compiler with one source."""
+
+import os
+import sys
+from dataclasses import dataclass, field
+
+USAGE = """usage: cqual-cc [OPTION]... -- [FLAG]... FILE.c
+
+Preprocesses FILE.c with the flags of a compiler and runs cqual on it.
+
+What is looked for:
+  --lattice FILE     the lattice file; a name alone is also looked for in share/cqual/lattices (taint.q where none is named)
+  --prelude FILE     a prelude, likewise in share/cqual/preludes; may stand more than once: the files are put one behind the other
+                     (where there is no --lattice and no --prelude: taint.h). A line `models: NAME..` in it names models to use
+  --model FILE       a model, likewise in share/cqual/models, whose macros are put over the calls of the source; may stand more than once
+  --no-models        uses none that a prelude names
+  --include FILE     a file to include before the source and behind what the flags include; likewise in share/cqual/models
+  --fortify          leaves _FORTIFY_SOURCE as the flags have it
+
+What is printed:
+  --style=gcc        errors and notes as gcc writes them, with the lines of the source; the default on a terminal
+  --style=plain      what cqual prints; the default elsewhere
+  --color=WHEN       always, never, or auto: colours on a terminal (with --style=gcc)
+  --all              each error in full, also those of one cause (with --style=gcc)
+  --annotate         the annotated source behind an accepted report (implies --style=plain)
+  --check REPORT     checks the paths of a report (implies --style=plain)
+
+For make and CI:
+  --baseline FILE    errors that the file lists are known: only others are printed, and make the run fail
+  --update-baseline  writes the errors of this source into the file of --baseline
+  --no-fail          ends with 0 where cqual rejects, or refuses the source (statuses 1 and 2), for a make that should go on
+
+  --help, --version  prints this; prints the version
+
+Options may also be written --lattice=FILE and so on. The compiler is $CC, or gcc. cqual is $CQUAL, or the program beside this script,
+or the one on the path, or that of crates/cqual/out. Flags that say what is made (-c, -S, -o FILE, -M..) are left out. __CQUAL__ is
+defined as 1.
+
+Status: that of cqual; 3 where the words have no meaning, 8 where the preprocessor fails, 9 where a file or a program is not there.
+"""
+
+VALUES = ("--lattice", "--prelude", "--model", "--include", "--check", "--style", "--color", "--baseline")
+SWITCHES = ("--annotate", "--fortify", "--no-fail", "--no-models", "--all", "--update-baseline")
+CHOICES = {"--style": ("gcc", "plain"), "--color": ("auto", "always", "never")}
+
+# flags that say what is made: alone, with the next word, with the rest of the word
+MADE = {"-c", "-S", "-E", "-M", "-MM", "-MD", "-MMD", "-MG", "-MP", "-pipe"}
+MADE_WITH = ("-o", "-MF", "-MT", "-MQ")
+WITH_WORD = {"-include", "-I", "-D", "-U", "-isystem", "-iquote", "-idirafter", "-imacros", "-x", "-L", "-l", "-T", "-Xlinker", "--param"}
+
+
+class Stop(Exception):
+    """An end with a status and a line for the user."""
+
+    def __init__(self, status, line):
+        super().__init__(line)
+        self.status, self.line = status, line
+
+
+@dataclass
+class Options:
+    lattice: str = ""
+    preludes: list = field(default_factory=list)
+    models: list = field(default_factory=list)
+    includes: list = field(default_factory=list)
+    check: str = ""
+    style: str = ""
+    color: str = "auto"
+    baseline: str = ""
+    switches: set = field(default_factory=set)
+    flags: list = field(default_factory=list)
+    source: str = ""
+
+    def has(self, switch):
+        return switch in self.switches
+
+
+def options_of(words):
+    """The options that the words mean."""
+    made, at = Options(), 0
+    while at < len(words) and words[at] != "--":
+        name, equals, value = words[at].partition("=")
+        at += 1
+        if name in SWITCHES and not equals:
+            made.switches.add(name)
+        elif name in VALUES:
+            if not equals:
+                if at == len(words) or words[at] == "--":
+                    raise Stop(3, f"{name} wants a value")
+                value = words[at]
+                at += 1
+            take_value(made, name, value)
+        else:
+            raise Stop(3, f"there is no option {words[at - 1]}: cqual-cc --help lists them; the flags and the file stand behind --")
+    take_flags(made, words[at + 1 :])
+    if made.has("--update-baseline") and not made.baseline:
+        raise Stop(3, "--update-baseline wants --baseline FILE")
+    if made.check or made.has("--annotate"):
+        if made.style == "gcc" or made.baseline:
+            raise Stop(3, "--check and --annotate print what cqual prints: no --style=gcc and no --baseline")
+        made.style = "plain"
+    return made
+
+
+def take_value(made, name, value):
+    if not value:
+        raise Stop(3, f"{name} wants a value")
+    if name in CHOICES and value not in CHOICES[name]:
+        raise Stop(3, f"{name} is one of {', '.join(CHOICES[name])}")
+    if name == "--prelude":
+        made.preludes.append(value)
+    elif name == "--model":
+        made.models.append(value)
+    elif name == "--include":
+        made.includes.append(value)
+    elif name == "--lattice" and made.lattice:
+        raise Stop(3, "--lattice stands twice: run cqual-cc once for each lattice, with its preludes")
+    else:
+        setattr(made, name[2:], value)
+
+
+def take_flags(made, words):
+    """The flags without those that say what is made, and the source."""
+    at = 0
+    while at < len(words):
+        word = words[at]
+        at += 1
+        if word in MADE or word.startswith("-Wp,-M"):
+            continue
+        if word in MADE_WITH:
+            at += 1
+        elif word.startswith(MADE_WITH):
+            continue
+        elif word in WITH_WORD:
+            made.flags += words[at - 1 : at + 1]
+            at += 1
+        elif word.endswith((".c", ".i")) and not word.startswith("-"):
+            if made.source:
+                raise Stop(3, f"two sources, {made.source} and {word}: cqual-cc takes one")
+            made.source = word
+        else:
+            made.flags.append(word)
+    if not made.source:
+        raise Stop(3, "there is no source: cqual-cc [OPTION]... -- [FLAG]... FILE.c")
+
+
+def is_gcc_style(options, out=None):
+    """Whether diagnoses as gcc writes them are wanted."""
+    return options.style == "gcc" or (not options.style and (out or sys.stdout).isatty())
+
+
+def is_coloured(options, out=None):
+    if options.color == "auto":
+        return (out or sys.stdout).isatty() and os.environ.get("TERM", "dumb") != "dumb" and "NO_COLOR" not in os.environ
+    return options.color == "always"
