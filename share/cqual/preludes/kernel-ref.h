@@ -56,3 +56,14 @@ int strcmp(const $kernel char *a, const $kernel char *b);
 int strncmp(const $kernel char *a, const $kernel char *b, size_t n);
 size_t strlen(const $kernel char *s);
 void kfree(const $kernel void *object);
+
+/* The same as the compiler's builtins, into which headers with fortification turn them */
+
+void *__builtin_memcpy($kernel void *dest, const $kernel void *src, size_t n);
+void *__builtin_memmove($kernel void *dest, const $kernel void *src, size_t n);
+void *__builtin_memset($kernel void *s, int c, size_t n);
+int __builtin_memcmp(const $kernel void *a, const $kernel void *b, size_t n);
+char *__builtin_strcpy($kernel char *dest, const $kernel char *src);
+char *__builtin_strncpy($kernel char *dest, const $kernel char *src, size_t n);
+char *__builtin_strcat($kernel char *dest, const $kernel char *src);
+size_t __builtin_strlen(const $kernel char *s);

@@ -53,3 +53,14 @@ int strcmp(const char *$kernel a, const char *$kernel b);
 int strncmp(const char *$kernel a, const char *$kernel b, size_t n);
 size_t strlen(const char *$kernel s);
 void kfree(const void *$kernel object);
+
+/* The same as the compiler's builtins, into which headers with fortification turn them */
+
+void *__builtin_memcpy(void *$kernel dest, const void *$kernel src, size_t n);
+void *__builtin_memmove(void *$kernel dest, const void *$kernel src, size_t n);
+void *__builtin_memset(void *$kernel s, int c, size_t n);
+int __builtin_memcmp(const void *$kernel a, const void *$kernel b, size_t n);
+char *__builtin_strcpy(char *$kernel dest, const char *$kernel src);
+char *__builtin_strncpy(char *$kernel dest, const char *$kernel src, size_t n);
+char *__builtin_strcat(char *$kernel dest, const char *$kernel src);
+size_t __builtin_strlen(const char *$kernel s);
