@@ -3,8 +3,8 @@
 ghost use Rattle.std.specs.Prelude.{ℕ, ◌≡◌, ◌+◌, ◌-◌, ◌<◌, ◌≤◌, ◌^◌, length, Some, option_map};
 ghost use Rattle.std.specs.Prelude.{slice_get, slice_range, IfSome, IfOk, IfErr};
 ghost use Rattle.c_lexer.specs.Places.{IsSpot};
-ghost use Rattle.c_lexer.specs.Tokens.{Lexed, IsSound, keyword_meaning, mark_of_kind, start_of};
-ghost use Rattle.c_lexer.specs.Tokens.{token_spot};
+ghost use Rattle.c_lexer.specs.Tokens.{Lexed, IsEnded, IsSound, keyword_meaning, mark_of_kind};
+ghost use Rattle.c_lexer.specs.Tokens.{start_of, token_spot};
 
 use crate::places::Mark;
 use crate::text::Text;
@@ -108,6 +108,13 @@ impl<'a> Tokens<'a> {
         ensures { result ≡ length self.now.tokens }
     {
         self.tokens.len() as u32
+    }
+
+    /// The last token is the end of the unit.
+    pub fn is_ended(&self)
+        ensures { IsEnded self.now.tokens }
+    {
+        let _ = &self.tokens;
     }
 
     fn token(&self, at: TokenId) -> Token

@@ -1,9 +1,11 @@
 //! Units read from their tokens.
 
-ghost use Rattle.std.specs.Prelude.{◌≡◌, ◌≢◌, ℕ, List, Err, IfOk};
+ghost use Rattle.std.specs.Prelude.{◌≡◌, ◌≢◌, ◌+◌, ℕ, false, List, take, Err, IfOk};
 ghost use Rattle.c_tree.specs.Unit.{Item, items_of};
 ghost use Rattle.c_units.specs.HeldScopes.{file_scope};
 ghost use Rattle.c_units.specs.Units.{IsWellFormed};
+ghost use Rattle.c_units.specs.FirstBad.{IsFirstBad};
+ghost use Rattle.refusal_rules.specs.Allowed.{syntax, BeginsUnitOfAnyHeight, IsAllowed};
 ghost use Rattle.c_reading.specs.Knot.{alone, unit_at};
 ghost use Rattle.reader_base.specs.Gives.{Gives};
 ghost use Rattle.reader_base.specs.Lent.{ReadsAsked, asked_at};
@@ -12,6 +14,7 @@ ghost use Rattle.c_parser.specs.declared.parsing.ParseFault.{ParseFault};
 ghost use Rattle.c_parser.specs.declared.parsing.ParseFault.TheVariants as faults;
 ghost use Rattle.c_parser.specs.Parsing.{lexemes_of};
 ghost use Rattle.c_parser.specs.Whole.{unit_found};
+ghost use Rattle.c_parser.specs.Refusing.{kinds_of, fault_named, token_of, is_for_height};
 
 use crate::knot::read;
 use c_lexer::Tokens;
@@ -23,6 +26,7 @@ use qual_base::{NoMemory, Numbered, TokenId};
 use reader_base::{Ask, Place, ReadError, end, refused};
 use std::alloc::Global;
 use unit_forms::items;
+use unit_places::{height_alone, place_is_first, syntax_is_allowed};
 
 /// Why tokens are those of no well-formed unit, with the token that is refused.
 #[derive(Clone, Copy, PartialEq, Eq, Debug)]
@@ -85,7 +89,7 @@ fn unit(alloc: Global, all: &[Lexeme]) -> Result<Unit, ReadError>
 
 /// What is wrong at the token.
 fn fault_at(fault: Fault, token: TokenId) -> ParseFault
-    ensures { result ≢ faults.NoMemory }
+    ensures { result ≡ fault_named fault token }
 {
     match fault {
         Fault::Unexpected => ParseFault::Syntax(token),
@@ -99,7 +103,7 @@ fn fault_at(fault: Fault, token: TokenId) -> ParseFault
 /// Why no unit was read.
 fn fault_of(error: ReadError) -> ParseFault
     ensures { result ≢ faults.NoMemory →
-        (fault : Fault) × (token : ℕ) × (error ≡ errors.Fault fault token) }
+        (fault : Fault) × (token : ℕ) × (error ≡ errors.Fault fault token) × (result ≡ fault_named fault token) }
 {
     match error {
         ReadError::Fault(fault, token) => fault_at(fault, token),
@@ -109,17 +113,29 @@ fn fault_of(error: ReadError) -> ParseFault
 
 /// The one well-formed unit that has these tokens, and else the first token up to which no such unit begins so.
 ///
-/// Time and memory are linear in the tokens. Trees above a height of 500 are refused, so the recursion is bounded. That
-/// the refused token is the first such one, and which fault is named of several, is tested and not proved.
+/// Time and memory are linear in the tokens. Trees above a height of 500 are refused, so the recursion is bounded. The
+/// refused token is the first up to which no well-formed unit begins so; where the fault is not its height, none of any
+/// height does. Which fault is named of several is tested and not proved, but that a refusal for the syntax is allowed.
 pub fn parse(alloc: Global, tokens: &Tokens) -> Result<Unit, ParseFault>
     ensures unit { IfOk result (λ unit. IsWellFormed (lexemes_of tokens.now) (items_of unit)) }
     ensures only { (items : List Item) → IsWellFormed (lexemes_of tokens.now) items →
         IfOk result (λ unit. items_of unit ≡ items) }
     ensures none { (fault : ParseFault) → result ≡ Err fault → fault ≢ faults.NoMemory →
         (items : List Item) → IsWellFormed (lexemes_of tokens.now) items → ⊥ }
+    ensures first { (fault : ParseFault) → result ≡ Err fault → fault ≢ faults.NoMemory →
+        IsFirstBad (kinds_of tokens.now) (token_of fault) }
+    ensures height { (fault : ParseFault) → result ≡ Err fault → fault ≢ faults.NoMemory →
+        is_for_height fault ≡ false →
+        ¬ BeginsUnitOfAnyHeight (take (token_of fault + 1) (kinds_of tokens.now)) }
+    ensures allowed { (token : ℕ) → result ≡ Err (faults.Syntax token) →
+        IsAllowed (kinds_of tokens.now) token syntax }
 {
     unit_is_well_formed();
     well_formed_is_read();
+    place_is_first();
+    height_alone();
+    syntax_is_allowed();
+    tokens.is_ended();
     let Ok(all) = lexemes(alloc, tokens) else {
         return Err(ParseFault::NoMemory);
     };

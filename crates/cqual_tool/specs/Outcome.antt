@@ -1,5 +1,5 @@
 -- What the tool answers and writes, for the words and the contents of the files.
-use Rattle.std.specs.Prelude.{◌≡◌, ◌≢◌, ℕ, zero, suc, Bool, true, false, ◌<◌, ◌≤◌, List, [], ◌∷◌, ◌++◌, length, Some, None, codes, IfSome, Option}
+use Rattle.std.specs.Prelude.{◌≡◌, ◌≢◌, ℕ, zero, suc, ◌+◌, take, Bool, true, false, ◌<◌, ◌≤◌, List, [], ◌∷◌, ◌++◌, length, Some, None, codes, IfSome, Option}
 use Rattle.outside.specs.Outside.{content_of}
 use Rattle.qual_base.specs.Words.{MeansTheSame}
 use Rattle.lattice_core.specs.Names.{words_of}
@@ -14,7 +14,10 @@ use Rattle.c_lexer.specs.declared.lexing.LexFault.{LexFault}
 use Rattle.c_lexer.specs.declared.lexing.LexFault.TheVariants.{NoMemory as NoRoom}
 use Rattle.c_tree.specs.Unit.{Item}
 use Rattle.c_units.specs.Units.{IsWellFormed}
+use Rattle.c_units.specs.FirstBad.{IsFirstBad}
+use Rattle.refusal_rules.specs.Allowed.{BeginsUnitOfAnyHeight}
 use Rattle.c_parser.specs.Parsing.{lexemes_of}
+use Rattle.c_parser.specs.Refusing.{kinds_of, token_of, is_for_height}
 use Rattle.c_parser.specs.declared.parsing.ParseFault.{ParseFault}
 use Rattle.c_parser.specs.declared.parsing.ParseFault.TheVariants.{NoMemory as OutOfRoom}
 use Rattle.type_rules.specs.Program.{faults_of, HasNoFault}
@@ -122,7 +125,8 @@ pub data IsRefused (named : FileNames) (lattices : List LatticeView) (before : L
   Unspelled : (fault : LexFault) → SourceFails lattices bytes fault →
       IsRefused named lattices before marks bytes (lex_line named.source bytes fault)
   Unparsed : (lexed : Lexed) (fault : ParseFault) → SourceLexes lattices bytes lexed → fault ≢ OutOfRoom →
-      ((items : List Item) → IsWellFormed (lexemes_of lexed) items → ⊥) →
+      ((items : List Item) → IsWellFormed (lexemes_of lexed) items → ⊥) → IsFirstBad (kinds_of lexed) (token_of fault) →
+      (is_for_height fault ≡ false → ¬ BeginsUnitOfAnyHeight (take (token_of fault + 1) (kinds_of lexed))) →
       IsRefused named lattices before marks bytes (syntax_line named.source lexed fault)
   Faulty : (it : UnitRead) (fault : ShapeFault) → SourceParses lattices bytes it → fault ≢ OutOfNames →
       IsFirstUnlessMemory fault (faults_of (sources_in (before ++ it ∷ []))) →

@@ -25,7 +25,8 @@ returns-in-Ok-clause-only c it marks h =
     unit_is _ _ it marks _ _ (c.in_ok-tokens.ensures.only it.lexed h.parses.lexes) c.in-Ok.ensures.only h
 
 pub returns-clause-refused : goal.returns-clause-refused
-returns-clause-refused c = rw c.parse_refused.ensures (parse_fault _ _ _ _ c.in_ok-tokens.ensures.lexes (c.in-Err.ensures.none _ refl))
+returns-clause-refused c =
+    rw c.parse_refused.ensures (parse_fault _ _ _ _ c.in_ok-tokens.ensures.lexes (c.in-Err.ensures.none _ refl) (c.in-Err.ensures.first _ refl))
 
 pub returns-clause-only : goal.returns-clause-only
 returns-clause-only c it marks h =

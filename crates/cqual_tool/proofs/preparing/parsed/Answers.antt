@@ -14,4 +14,5 @@ pub returns : goal.returns
 returns c = λ bytes lexes.
     let said = c.in_ok-unit_refused-in-Err.ensures in
     refused (names_in c.args.named.now) c.args.lattices.now _ c.args.earlier.prelude bytes _ c.in_ok-unit_refused-in-Err.field-0 said.line
-    (Unparsed _ c.in-Err.fault lexes said.reason (c.in-Err.ensures.none c.in-Err.fault refl said.reason))
+    (Unparsed _ c.in-Err.fault lexes said.reason (c.in-Err.ensures.none c.in-Err.fault refl said.reason)
+    (c.in-Err.ensures.first c.in-Err.fault refl said.reason) (λ low. c.in-Err.ensures.height c.in-Err.fault refl said.reason low))
