@@ -2,11 +2,12 @@
 use Rattle.std.proofs.Common.{◌≡◌, ℕ, Bool, true, false, List, [], length, inl, refl, ap, arith}
 use Rattle.c_words.specs.declared.kinds.TokenKind.{TokenKind}
 use Rattle.c_words.specs.declared.kinds.TokenKind.TheVariants as kinds
+use Rattle.c_words.specs.declared.kinds.Punct.TheVariants.{Semicolon}
 use Rattle.c_tree.specs.declared.lexeme.Lexeme.{Lexeme}
 use Rattle.c_syntax.specs.declared.parts.PointerWord.TheVariants as pointer_words
 use Rattle.c_units.specs.HeldScopes.{HeldScopes}
 use Rattle.c_reading.specs.Reading.{Found, Reader, ends, fits, kind_at, take_one}
-use Rattle.c_reading.specs.Tokens.{is_end, is_attribute, is_extension, is_text, is_made, qual_of, array_word_of, asm_word_of, made_at, extensions_at, texts_at, quals_at, array_words_at, asm_words_at, attr_at, attrs_at, begins_pointer_word, pointer_word_at, pointer_words_at}
+use Rattle.c_reading.specs.Tokens.{is_end, is_semicolon, is_attribute, is_extension, is_text, is_made, qual_of, array_word_of, asm_word_of, made_at, extensions_at, texts_at, quals_at, array_words_at, asm_words_at, attr_at, attrs_at, begins_pointer_word, pointer_word_at, pointer_words_at}
 use Rattle.c_reading.proofs.Binding.{ok_is, bind_ok, fits_ok, take_falls}
 use Rattle.c_reading.proofs.Forms.{Shrinks}
 use Rattle.c_reading.proofs.TokenRows.{made_shrinks}
@@ -95,3 +96,11 @@ module _ (keep : Bool) where
   unfolding pointer_words_at
   pointer_words_law room front stops h =
       repeated_law keep begins_pointer_word (pointer_word_at room) (pointer_word_shrinks [] room) front stops h.0 h.1 (λ s ts is. word_good room stops s ts)
+
+semicolon_attribute : (kind : TokenKind) → is_semicolon kind ≡ true → is_attribute kind ≡ false
+semicolon_attribute (kinds.Punct Semicolon) h = refl
+semicolon_attribute kind h = absurd cc
+
+-- attributes before a semicolon
+pub attrs_before_semicolon : (keep : Bool) (room : ℕ) → Law keep (attrs_at room) any is_semicolon
+attrs_before_semicolon keep room = attrs_law keep room any is_semicolon ((λ kind h. refl), semicolon_attribute)
