@@ -5,9 +5,7 @@ mod ops;
 mod resolving;
 mod source;
 mod tapes;
-mod units;
 
-pub use resolving::{resolve, resolve_tapes};
+pub use resolving::resolve;
 pub use source::Source;
-pub use units::Units;
 pub use unit_types::{Program, ShapeFault, UnitTape};
