@@ -1,7 +1,7 @@
--- A unit that is well formed but for its height is read with room for it.
-use Rattle.std.proofs.Common.{◌≡◌, ℕ, zero, suc, ◌<◌, ◌≤◌, true, false, List, [], ◌∷◌, Some, refl, sym, ◌∙◌, ap, arith}
+-- A unit that is well formed but for its height is read with room for it, and what is read with any room is well formed but for it.
+use Rattle.std.proofs.Common.{◌≡◌, ℕ, zero, suc, ◌<◌, ◌≤◌, true, false, List, [], ◌∷◌, Some, refl, sym, ◌∙◌, ap, subst, arith}
 use Rattle.std.specs.Prelude.{◌+◌, ◌-◌, max, not, All}
-use Rattle.std.proofs.lemmas.List.Elements.{All-head, All-tail}
+use Rattle.std.proofs.lemmas.List.Elements.{All-nil, All-cons, All-head, All-tail}
 use Rattle.c_words.specs.declared.kinds.TokenKind.{TokenKind}
 use Rattle.c_words.specs.declared.kinds.TokenKind.TheVariants as kinds
 use Rattle.c_tree.specs.declared.lexeme.Lexeme.{Lexeme}
@@ -14,16 +14,16 @@ use Rattle.c_specs.specs.Laws.{WholeAreMixes, MixesGoOn}
 use Rattle.c_units.specs.HeldScopes.{HeldScopes, file_scope}
 use Rattle.c_units.specs.Scoping.{spec_words_scopes}
 use Rattle.c_units.specs.Units.{items_scopes, item_scopes}
-use Rattle.c_reading.specs.Reading.{kind_at, IsNumbered, repeated}
+use Rattle.c_reading.specs.Reading.{Found, kind_at, IsNumbered, repeated}
 use Rattle.c_reading.specs.Tokens.{is_end}
 use Rattle.c_reading.specs.Parts.{Inner, never}
 use Rattle.c_reading.specs.Specifying.{begins_specs}
 use Rattle.c_reading.specs.Items.{item_with, items_with}
-use Rattle.c_reading.specs.Knot.{tied, knot}
-use Rattle.c_reading.proofs.Binding.{found, done, bind_is}
-use Rattle.c_reading.proofs.Forms.{always, behind_ok, behind_same}
-use Rattle.c_reading.proofs.Rows.{AllFit, row_text, row_scopes, row_height, repeated_complete}
-use Rattle.c_reading.proofs.KindFacts.{not_false}
+use Rattle.c_reading.specs.Knot.{tied, knot, alone}
+use Rattle.c_reading.proofs.Binding.{found, done, ok_is, bind_ok, bind_is}
+use Rattle.c_reading.proofs.Forms.{Takes, took_token, Took, always, behind_ok, behind_same}
+use Rattle.c_reading.proofs.Rows.{AllFit, row_form, row_text, row_scopes, row_height, repeated_sound, repeated_complete}
+use Rattle.c_reading.proofs.KindFacts.{end_kind, not_false}
 use Rattle.c_reading.proofs.Aims.{item_form, TokenLaws, FirstLaws, Laws, declr_number}
 use Rattle.c_reading.proofs.TokensShown.{token_laws}
 use Rattle.c_reading.proofs.Firsts.{first_laws}
@@ -34,9 +34,10 @@ use Rattle.c_reading.proofs.InitShown.{init_list_laws}
 use Rattle.c_reading.proofs.StmtShown.{block_laws, stmt_laws}
 use Rattle.c_reading.proofs.StmtComplete.{block_body_read}
 use Rattle.c_reading.proofs.ItemsFalls.{item_shrinks}
+use Rattle.c_reading.proofs.ItemsSound.{item_sound}
 use Rattle.c_reading.proofs.ItemsComplete.{item_complete}
 use Rattle.refusal_rules.specs.Allowed.{IsWellFormedAtAnyHeight}
-use Rattle.room_laws.specs.Rooms.{unit_of, AnyHeightIsRead}
+use Rattle.room_laws.specs.Rooms.{unit_of, AnyHeightIsRead, AnyUnitIsWellFormed}
 
 specs_no_end : (s : HeldScopes) (kind : TokenKind) → begins_specs s kind ≡ true → is_end kind ≡ false
 specs_no_end s kinds.End e = absurd cc
@@ -160,6 +161,32 @@ module _ (whole_are : WholeAreMixes) (goes : MixesGoOn) (all : List Lexeme) (num
       (item_complete all numbered tokens firsts (suc room) (knot room) (knot_laws room) (block_body_read all numbered tokens goes firsts (suc room) (knot room) (knot_laws room)) (room - 1) (omega arith)) item_starts (λ x kind e. refl) items file_scope w.scopes end
       (rows_fit items w.parts) (rows_named items file_scope ∙ w.named) (omega (arith, high, low)) refl (λ x. refl))
       (bind_is _ refl refl)
+
+  rows_formed : (xs : List Item) → AllFit (item_form all) xs → All (IsItem all) xs
+  rows_formed [] h = All-nil (IsItem all)
+  rows_formed (x ∷ xs) h = All-cons (IsItem all) x xs h.0 (rows_formed xs h.1)
+
+  unit_sound : (room : ℕ) → 1 ≤ room → (x : Found (List Item)) → unit_of room all ≡ done x → IsWellFormedAtAnyHeight all x.tree
+  unfolding items_with
+  unit_sound room one x e =
+      let a = bind_ok e in
+      let b = bind_ok a.2 in
+      let i = repeated_sound (λ kind. not (is_end kind)) (item_with (knot room) (room - 1)) all (item_form all) (room - 1) (item_sound all numbered tokens (suc room) (knot room) (knot_laws room) (room - 1)) file_scope all a.0 (0, refl) a.1 in
+      let q = took_token all is_end kinds.End end_kind a.0.scopes a.0.rest b.0 i.left b.1 in
+      at_last a.0 b.0 b.0.rest refl i q b.2
+    where
+      at_last : (a : Found (List Item)) (b : Found ℕ) (rest : List Lexeme) → b.rest ≡ rest → Takes all (row_form (item_form all)) (room - 1) file_scope all a → Took all kinds.End a.scopes a.rest b → alone a.tree rest ≡ done x → IsWellFormedAtAnyHeight all x.tree
+      at_last a b [] is i q e =
+          subst (λ (x : Found (List Item)). IsWellFormedAtAnyHeight all x.tree) (ok_is e) (record {
+            tokens = record { last = b.tree; spelled = i.spelled ∙ rows_are a.tree a.rest ∙ ap (items_text all a.tree) (q.spelled ∙ ap (λ (k : List Lexeme). record { kind = kinds.End; at = b.tree } ∷ k) is) };
+            parts = rows_formed a.tree i.fits;
+            scopes = a.scopes;
+            named = sym (rows_named a.tree file_scope) ∙ i.named;
+          })
+      at_last a b (t ∷ ts) is i q e = absurd cc
+
+pub any_unit_is_well_formed : WholeAreMixes → MixesGoOn → AnyUnitIsWellFormed
+any_unit_is_well_formed whole_are goes all numbered room x one e = unit_sound whole_are goes all numbered room one x e
 
 pub any_height_is_read : WholeAreMixes → MixesGoOn → AnyHeightIsRead
 any_height_is_read whole_are goes all numbered room items one w low = unit_read whole_are goes all numbered room one items w low

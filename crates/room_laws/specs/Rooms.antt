@@ -10,7 +10,7 @@ use Rattle.c_reading.specs.declared.kinds.Fault.TheVariants.{TooDeep}
 use Rattle.c_reading.specs.declared.kinds.Reach.{Reach}
 use Rattle.c_reading.specs.declared.kinds.Role.{Role}
 use Rattle.c_reading.specs.declared.kinds.Mode.{Mode}
-use Rattle.c_reading.specs.Reading.{Refusal, Read, ◌>>=◌, token_at, IsNumbered}
+use Rattle.c_reading.specs.Reading.{Refusal, Found, Read, ◌>>=◌, token_at, IsNumbered}
 use Rattle.c_reading.specs.Tokens.{is_end}
 use Rattle.c_reading.specs.Parts.{Inner, Begun}
 use Rattle.c_reading.specs.Items.{items_with}
@@ -50,3 +50,8 @@ abbrev pub AnyHeightIsRead : Type 0
 AnyHeightIsRead =
     (all : List Lexeme) → IsNumbered all → (room : ℕ) (items : List Item) → 1 ≤ room → IsWellFormedAtAnyHeight all items
     → unit_height items ≤ room → unit_of room all ≡ Ok (record { tree = items; scopes = file_scope; rest = [] })
+
+-- what is read with any room is well formed but for its height
+abbrev pub AnyUnitIsWellFormed : Type 0
+AnyUnitIsWellFormed =
+    (all : List Lexeme) → IsNumbered all → (room : ℕ) (x : Found (List Item)) → 1 ≤ room → unit_of room all ≡ Ok x → IsWellFormedAtAnyHeight all x.tree

@@ -1,11 +1,13 @@
 -- The laws of the place at the top: over the readers of all numbers, and over what more room does.
-use Rattle.std.proofs.Common.{◌≡◌, ℕ, false, List, [], ◌++◌, take, inl, inr, Ok, Err, refl, sym, ◌∙◌, arith}
+use Rattle.std.proofs.Common.{◌≡◌, ℕ, suc, ◌≤◌, false, List, [], ◌++◌, take, inl, inr, Ok, Err, refl, sym, ◌∙◌, arith}
 use Rattle.std.specs.Prelude.{◌+◌, ◌-◌, max}
+use Rattle.c_words.specs.declared.kinds.TokenKind.{TokenKind}
 use Rattle.c_tree.specs.declared.lexeme.Lexeme.{Lexeme}
 use Rattle.c_tree.specs.Unit.{Item, unit_height}
 use Rattle.c_specs.specs.Laws.{WholeAreMixes, MixesGoOn}
 use Rattle.c_units.specs.HeldScopes.{file_scope}
 use Rattle.c_units.specs.Units.{numbered}
+use Rattle.c_reading.specs.declared.kinds.Fault.{Fault}
 use Rattle.c_reading.specs.declared.kinds.Fault.TheVariants.{Unexpected}
 use Rattle.c_reading.specs.Reading.{Refusal, Found, Read}
 use Rattle.c_reading.specs.Tokens.{is_end}
@@ -18,8 +20,8 @@ use Rattle.refusal_rules.specs.Laws.{FirstBadIsAllowed}
 use Rattle.room_laws.specs.Rooms.{More, unit_of, MoreRoomIsMore, AnyHeightIsRead}
 use Rattle.reading_steps.specs.Steps.{any, Law}
 use Rattle.stmt_places.proofs.Items.{items_law}
-use Rattle.unit_places.specs.Laws.{PlaceIsFirst, HeightAlone, SyntaxIsAllowed}
-use Rattle.unit_places.proofs.Place.{are_numbered, placed}
+use Rattle.unit_places.specs.Laws.{IsEnded, Refuses, PlaceIsFirst, HeightAlone, SyntaxIsAllowed}
+use Rattle.unit_places.proofs.Place.{are_numbered, Placed, placed}
 use Rattle.unit_places.proofs.Knot.{knot_places}
 
 abbrev refused : Refusal → Read (List Item)
@@ -29,21 +31,39 @@ not_both : (r : Read (List Item)) (e : Refusal) (x : Found (List Item)) → r �
 not_both r e x is also = absurd cc
 
 -- the reader of units is that with a room of 500
-unit_is : (all : List Lexeme) → unit_of most all ≡ unit_at all
+pub unit_is : (all : List Lexeme) → unit_of most all ≡ unit_at all
 unfolding unit_at
 unit_is all = refl
 
 module _ (formed : UnitIsWellFormed) (read_back : WellFormedIsRead) (whole_are : WholeAreMixes) (goes : MixesGoOn) where
+  -- units of any height up to one
+  pub items_of : (room : ℕ) → 5 ≤ room → Law false (items_with (knot room) (room - 1)) any is_end
+  items_of room five = items_law (suc room) (knot room) (knot_laws whole_are goes room) (knot_places whole_are goes room) (room - 1) (omega (arith, five)) (omega (arith, five))
+
   the_items : Law false (items_with (knot most) (most - 1)) any is_end
   the_items = items_law 501 (knot most) (knot_laws whole_are goes most) (knot_places whole_are goes most) (most - 1) (omega arith) (omega arith)
 
+  -- what the reader of units refuses
+  refused_at : (tokens : List TokenKind) (fault : Fault) (at : ℕ) → IsEnded tokens → Refuses tokens fault at → Placed most tokens fault at
+  refused_at tokens fault at ended e = placed most the_items tokens fault at ended (unit_is (numbered tokens) ∙ e)
+
   pub place_is_first : PlaceIsFirst
-  place_is_first tokens fault at ended e = (placed formed read_back the_items tokens fault at ended e).first
+  place_is_first tokens fault at ended e =
+      let p = refused_at tokens fault at ended e in
+      record {
+        there = p.there;
+        before = let g = p.begun in
+        record { behind = g.0; items = g.1.tree; formed = formed (numbered (take at tokens ++ g.0)) (are_numbered (take at tokens ++ g.0)) g.1 (sym (unit_is (numbered (take at tokens ++ g.0))) ∙ g.2) };
+        none = λ u.
+            let a = p.alike u.behind in
+            not_both (unit_at (numbered (take (at + 1) tokens ++ u.behind))) (fault, a.0) (found u.items file_scope []) (sym (unit_is (numbered (take (at + 1) tokens ++ u.behind))) ∙ a.1)
+            (read_back (numbered (take (at + 1) tokens ++ u.behind)) (are_numbered (take (at + 1) tokens ++ u.behind)) u.items u.formed);
+      }
 
   -- With more room the same token is refused with the same fault, and a unit of any height would be read with room for it.
   pub height_alone : AnyHeightIsRead → MoreRoomIsMore → HeightAlone
   height_alone any_height more tokens fault at ended e other u =
-      let a = (placed formed read_back the_items tokens fault at ended e).alike u.behind in
+      let a = (refused_at tokens fault at ended e).alike u.behind in
       by_more a.0 a.1 (more most wide (omega arith) (omega arith) all)
     where
       all : List Lexeme
@@ -63,8 +83,8 @@ module _ (formed : UnitIsWellFormed) (read_back : WellFormedIsRead) (whole_are :
           fault_is a b e = cc
       by_result n (Err d) is (inr same) = not_both (unit_of wide all) d (found u.items file_scope []) same read
 
-      by_more : (n : ℕ) → unit_at all ≡ refused (fault, n) → More (unit_of most all) (unit_of wide all) → ⊥
-      by_more n is m = by_result n (unit_of most all) (unit_is all ∙ is) m
+      by_more : (n : ℕ) → unit_of most all ≡ refused (fault, n) → More (unit_of most all) (unit_of wide all) → ⊥
+      by_more n is m = by_result n (unit_of most all) is m
 
 pub syntax_is_allowed : PlaceIsFirst → HeightAlone → FirstBadIsAllowed → SyntaxIsAllowed
 syntax_is_allowed first alone allowed tokens at ended e =

@@ -1,4 +1,5 @@
--- Where the reader of units refuses a token, it is the first up to which no well-formed unit begins so.
+-- Where the reader of units of any height refuses a token, units that it reads begin with those before it, and none with those up to
+-- it.
 use Rattle.std.proofs.Common.{◌≡◌, ℕ, zero, suc, ◌+◌, ◌<◌, Bool, true, false, if◌then◌else◌, List, [], ◌∷◌, ◌++◌, length, take, slice_get, Some, Ok, Err, refl, sym, ◌∙◌, ap, subst, arith, append_assoc}
 use Rattle.std.specs.Prelude.{◌-◌}
 use Rattle.c_words.specs.declared.kinds.TokenKind.{TokenKind}
@@ -18,7 +19,8 @@ use Rattle.c_reading.specs.UnitLaws.{UnitIsWellFormed, WellFormedIsRead}
 use Rattle.c_reading.proofs.Binding.{found, done}
 use Rattle.reading_steps.specs.Steps.{first_kind, has_end, any, Answered, Refused, Opened, Outcome, Law}
 use Rattle.reading_steps.proofs.Steps.{numbered_append}
-use Rattle.unit_places.specs.Laws.{IsEnded, Refuses, PlaceIsFirst}
+use Rattle.room_laws.specs.Rooms.{unit_of}
+use Rattle.unit_places.specs.Laws.{IsEnded}
 
 -- Numbered tokens.
 
@@ -66,9 +68,6 @@ cut n (kind ∷ tokens) (u ∷ b) t r e =
       next = λ more. let d = c.next more in (d.0, ap (λ (k : List Lexeme). record { kind = kind; at = n } ∷ k) d.1 ∙ ap (λ (u : Lexeme). u ∷ (b ++ d.0)) is, d.2);
     }
 
-not_both : (r : Read (List Item)) (e : Refusal) (x : Found (List Item)) → r ≡ Err e → r ≡ done x → ⊥
-not_both r e x is also = absurd cc
-
 -- What a refusal of the items, or of what stands behind them, is.
 
 abbrev refused : Refusal → Read (List Item)
@@ -91,65 +90,57 @@ has_end_last n (kind ∷ body) = by_end (is_end kind) (has_end_last (suc n) body
     by_end true h = refl
     by_end false h = h
 
--- The token is the first bad one, and whatever stands behind those up to it, the same is refused.
-pub record Placed (tokens : List TokenKind) (fault : Fault) (at : ℕ) : Type 0 where
-  pub first : IsFirstBad tokens at
-  pub alike : (more : List TokenKind) → (n : ℕ) × (unit_at (numbered (take (at + 1) tokens ++ more)) ≡ Err (fault, n))
+-- Units begin with the tokens before this one, and whatever stands behind those up to it, the same is refused.
+pub record Placed (room : ℕ) (tokens : List TokenKind) (fault : Fault) (at : ℕ) : Type 0 where
+  pub there : at < length tokens
+  pub begun : (more : List TokenKind) × (y : Found (List Item)) × (unit_of room (numbered (take at tokens ++ more)) ≡ done y)
+  pub alike : (more : List TokenKind) → (n : ℕ) × (unit_of room (numbered (take (at + 1) tokens ++ more)) ≡ Err (fault, n))
 
--- Over the law of the items of a unit, and over what the reader of units says of well-formed ones.
-module _ (formed : UnitIsWellFormed) (read_back : WellFormedIsRead) (items_law : Law false (items_with (knot most) (most - 1)) any is_end) where
-  begins_of : (front more : List TokenKind) (y : Found (List Item)) → unit_at (numbered (front ++ more)) ≡ done y → BeginsUnit front
-  begins_of front more y read = record { behind = more; items = y.tree; formed = formed (numbered (front ++ more)) (are_numbered (front ++ more)) y read }
-
+-- Over the law of the items of a unit.
+module _ (room : ℕ) (items_law : Law false (items_with (knot room) (room - 1)) any is_end) where
   -- The tokens before this one are begun by a unit, and with one of its kind behind them none is read.
   first_bad : (tokens : List TokenKind) (fault : Fault) (at : ℕ) (b : List Lexeme) (t : Lexeme) (r : List Lexeme) → numbered tokens ≡ b ++ (t ∷ r) → at ≡ t.at →
-      ((k : List Lexeme) → first_kind k ≡ Some t.kind → unit_at (b ++ k) ≡ Err (fault, number_at k)) →
-      ((n : ℕ) → (more : List TokenKind) × (y : Found (List Item)) × (unit_at (b ++ numbered_from n more) ≡ done y)) → Placed tokens fault at
+      ((k : List Lexeme) → first_kind k ≡ Some t.kind → unit_of room (b ++ k) ≡ Err (fault, number_at k)) →
+      ((n : ℕ) → (more : List TokenKind) × (y : Found (List Item)) × (unit_of room (b ++ numbered_from n more) ≡ done y)) → Placed room tokens fault at
   first_bad tokens fault at b t r e place none begun =
       let c = cut 0 tokens b t r e in
       let here : at ≡ length b = place ∙ c.there ∙ omega arith in
       let more_is : length b + 1 ≡ suc (length b) = omega arith in
       let next_is = λ (more : List TokenKind). ap (λ (m : ℕ). numbered_from 0 (take m tokens ++ more)) more_is ∙ (c.next more).1 in
-      subst (Placed tokens fault) (sym here) (record {
-        first = record {
-          there = c.less;
-          before = let g = begun (0 + length b) in begins_of (take (length b) tokens) g.0 g.1 (ap unit_at (c.front g.0) ∙ g.2);
-          none = λ u.
-              let d = c.next u.behind in
-              not_both (unit_at (b ++ d.0)) (fault, number_at d.0) (found u.items file_scope []) (none d.0 d.2)
-              (sym (ap unit_at (next_is u.behind)) ∙ read_back (numbered (take (length b + 1) tokens ++ u.behind)) (are_numbered (take (length b + 1) tokens ++ u.behind)) u.items u.formed);
-        };
-        alike = λ more. let d = c.next more in (number_at d.0, ap unit_at (next_is more) ∙ none d.0 d.2);
+      subst (Placed room tokens fault) (sym here) (record {
+        there = c.less;
+        begun = let g = begun (0 + length b) in (g.0, g.1, ap (unit_of room) (c.front g.0) ∙ g.2);
+        alike = λ more. let d = c.next more in (number_at d.0, ap (unit_of room) (next_is more) ∙ none d.0 d.2);
       })
 
   -- a unit, of what the reader of items does
-  read_ends : (all : List Lexeme) (items : List Item) (scopes : HeldScopes) (n : ℕ) → items_with (knot most) (most - 1) file_scope all ≡ done (found items scopes (record { kind = kinds.End; at = n } ∷ [])) →
-      unit_at all ≡ done (found items file_scope [])
-  unfolding unit_at and_then
+  read_ends : (all : List Lexeme) (items : List Item) (scopes : HeldScopes) (n : ℕ) → items_with (knot room) (room - 1) file_scope all ≡ done (found items scopes (record { kind = kinds.End; at = n } ∷ [])) →
+      unit_of room all ≡ done (found items file_scope [])
+  unfolding and_then
   read_ends all items scopes n e = rw e refl
 
   -- what completes the items, with an end behind it
   completed : (b : List Lexeme) (n : ℕ) (more : List TokenKind) (items : List Item) (scopes : HeldScopes) →
-      ((k : List Lexeme) → is_end (kind_at k) ≡ true → items_with (knot most) (most - 1) file_scope (b ++ (numbered_from n more ++ k)) ≡ done (found items scopes k)) →
-      (more : List TokenKind) × (y : Found (List Item)) × (unit_at (b ++ numbered_from n more) ≡ done y)
+      ((k : List Lexeme) → is_end (kind_at k) ≡ true → items_with (knot room) (room - 1) file_scope (b ++ (numbered_from n more ++ k)) ≡ done (found items scopes k)) →
+      (more : List TokenKind) × (y : Found (List Item)) × (unit_of room (b ++ numbered_from n more) ≡ done y)
   completed b n more items scopes reads = (
     more ++ kinds.End ∷ [],
     found items file_scope [],
-    ap (λ (k : List Lexeme). unit_at (b ++ k)) (numbered_append n more (kinds.End ∷ [])) ∙
+    ap (λ (k : List Lexeme). unit_of room (b ++ k)) (numbered_append n more (kinds.End ∷ [])) ∙
         read_ends (b ++ (numbered_from n more ++ (record { kind = kinds.End; at = n + length more } ∷ []))) items scopes (n + length more) (reads (record { kind = kinds.End; at = n + length more } ∷ []) refl),
   )
 
-  begun_by : (b : List Lexeme) → Opened false (items_with (knot most) (most - 1)) is_end file_scope b → (n : ℕ) → (more : List TokenKind) × (y : Found (List Item)) × (unit_at (b ++ numbered_from n more) ≡ done y)
+  begun_by : (b : List Lexeme) → Opened false (items_with (knot room) (room - 1)) is_end file_scope b → (n : ℕ) → (more : List TokenKind) × (y : Found (List Item)) × (unit_of room (b ++ numbered_from n more) ≡ done y)
   begun_by [] o n = let r = items_law.ready file_scope n in completed [] n r.more r.tree r.scopes r.reads
   begun_by (t ∷ b) o n = let c = o n in completed (t ∷ b) n c.more c.tree c.scopes c.reads
 
   module _ (tokens : List TokenKind) (has : has_end (numbered tokens) ≡ true) (fault : Fault) (at : ℕ) where
     -- the items are refused
-    items_refused : (d : Refusal) → Refused false (items_with (knot most) (most - 1)) is_end file_scope (numbered tokens) d → refused d ≡ refused (fault, at) → Placed tokens fault at
-    unfolding unit_at and_then
+    items_refused : (d : Refusal) → Refused false (items_with (knot room) (room - 1)) is_end file_scope (numbered tokens) d → refused d ≡ refused (fault, at) → Placed room tokens fault at
+    unfolding and_then
     items_refused d o e = by_rest o.rest refl
       where
-        by_rest : (rest : List Lexeme) → o.rest ≡ rest → Placed tokens fault at
+        by_rest : (rest : List Lexeme) → o.rest ≡ rest → Placed room tokens fault at
         by_rest [] is = let never : has_end [] ≡ true = subst (λ (ts : List Lexeme). has_end ts ≡ true) is (o.ending has) in absurd cc
         by_rest (t ∷ r) is =
             first_bad tokens fault at o.before t r (o.parts ∙ ap (λ (k : List Lexeme). o.before ++ k) is) (same_place d (fault, at) (Err d) refl e ∙ o.place ∙ ap number_at is)
@@ -165,16 +156,16 @@ module _ (formed : UnitIsWellFormed) (read_back : WellFormedIsRead) (items_law :
     not_alone x (u ∷ us) t h = refl
 
     -- the items are read, and what stands behind them is refused
-    end_refused : (x : Found (List Item)) → Answered false (items_with (knot most) (most - 1)) is_end file_scope (numbered tokens) x →
-        and_then (token_at is_end x.scopes x.rest) (λ last. alone x.tree last.rest) ≡ Err (fault, at) → Placed tokens fault at
-    unfolding unit_at and_then
+    end_refused : (x : Found (List Item)) → Answered false (items_with (knot room) (room - 1)) is_end file_scope (numbered tokens) x →
+        and_then (token_at is_end x.scopes x.rest) (λ last. alone x.tree last.rest) ≡ Err (fault, at) → Placed room tokens fault at
+    unfolding and_then
     end_refused x o e = by_rest x.rest refl
       where
-        by_rest : (rest : List Lexeme) → x.rest ≡ rest → Placed tokens fault at
+        by_rest : (rest : List Lexeme) → x.rest ≡ rest → Placed room tokens fault at
         by_rest [] is = let never : has_end [] ≡ true = subst (λ (ts : List Lexeme). has_end ts ≡ true) is (o.ending has) in absurd cc
         by_rest (t ∷ r) is = by_end (is_end t.kind) refl
           where
-            by_end : (b : Bool) → is_end t.kind ≡ b → Placed tokens fault at
+            by_end : (b : Bool) → is_end t.kind ≡ b → Placed room tokens fault at
             by_end false other =
                 let now : and_then (token_at is_end x.scopes x.rest) (λ last. alone x.tree last.rest) ≡ Err (Unexpected, t.at) = rw (is, other) refl in
                 first_bad tokens fault at o.before t r (o.parts ∙ ap (λ (k : List Lexeme). o.before ++ k) is) (same_place (Unexpected, t.at) (fault, at) _ now e)
@@ -182,7 +173,7 @@ module _ (formed : UnitIsWellFormed) (read_back : WellFormedIsRead) (items_law :
                 (λ n. (kinds.End ∷ [], found x.tree file_scope [], read_ends (o.before ++ (record { kind = kinds.End; at = n } ∷ [])) x.tree x.scopes n (o.ended (record { kind = kinds.End; at = n } ∷ []) refl)))
             by_end true last = behind_end r is
               where
-                behind_end : (r : List Lexeme) → x.rest ≡ t ∷ r → Placed tokens fault at
+                behind_end : (r : List Lexeme) → x.rest ≡ t ∷ r → Placed room tokens fault at
                 behind_end [] is = let now : and_then (token_at is_end x.scopes x.rest) (λ last. alone x.tree last.rest) ≡ done (found x.tree file_scope []) = rw (is, last) refl in absurd cc
                 behind_end (u ∷ us) is =
                     let now : and_then (token_at is_end x.scopes x.rest) (λ last. alone x.tree last.rest) ≡ Err (Unexpected, u.at) = rw (is, last) refl in
@@ -190,23 +181,20 @@ module _ (formed : UnitIsWellFormed) (read_back : WellFormedIsRead) (items_law :
                     (λ k h. rw (append_assoc o.before (t ∷ []) k, o.same (t ∷ k) (ap first_kind (sym is)), last) (not_alone x k u h ∙ ap (λ (c : Fault). refused (c, number_at k)) (code_is (Unexpected, u.at) (fault, at) _ now e)))
                     (λ n. ([], found x.tree file_scope [], rw (append_assoc o.before (t ∷ []) [], o.same (t ∷ []) (ap first_kind (sym is)), last) refl))
 
-  place_of : (body : List TokenKind) (fault : Fault) (at : ℕ) → unit_at (numbered (body ++ kinds.End ∷ [])) ≡ Err (fault, at) → Placed (body ++ kinds.End ∷ []) fault at
-  unfolding unit_at and_then
-  place_of body fault at e = by_items (items_with (knot most) (most - 1) file_scope all) refl (items_law.good file_scope all) e
+  place_of : (body : List TokenKind) (fault : Fault) (at : ℕ) → unit_of room (numbered (body ++ kinds.End ∷ [])) ≡ Err (fault, at) → Placed room (body ++ kinds.End ∷ []) fault at
+  unfolding and_then
+  place_of body fault at e = by_items (items_with (knot room) (room - 1) file_scope all) refl (items_law.good file_scope all) e
     where
       all : List Lexeme
       all = numbered (body ++ kinds.End ∷ [])
 
-      at_items : (r : Read (List Item)) → items_with (knot most) (most - 1) file_scope all ≡ r → unit_at all ≡ and_then r (λ items. and_then (token_at is_end items.scopes items.rest) (λ last. alone items.tree last.rest))
+      at_items : (r : Read (List Item)) → items_with (knot room) (room - 1) file_scope all ≡ r → unit_of room all ≡ and_then r (λ items. and_then (token_at is_end items.scopes items.rest) (λ last. alone items.tree last.rest))
       at_items r is = ap (λ (r : Read (List Item)). and_then r (λ items. and_then (token_at is_end items.scopes items.rest) (λ last. alone items.tree last.rest))) is
 
-      by_items : (r : Read (List Item)) → items_with (knot most) (most - 1) file_scope all ≡ r → Outcome false (items_with (knot most) (most - 1)) is_end file_scope all r → unit_at all ≡ Err (fault, at) → Placed (body ++ kinds.End ∷ []) fault at
+      by_items : (r : Read (List Item)) → items_with (knot room) (room - 1) file_scope all ≡ r → Outcome false (items_with (knot room) (room - 1)) is_end file_scope all r → unit_of room all ≡ Err (fault, at) → Placed room (body ++ kinds.End ∷ []) fault at
       by_items (Err d) is o e = items_refused (body ++ kinds.End ∷ []) (has_end_last 0 body) fault at d o (sym (at_items (Err d) is) ∙ e)
       by_items (Ok x) is o e = end_refused (body ++ kinds.End ∷ []) (has_end_last 0 body) fault at x o (sym (at_items (Ok x) is) ∙ e)
 
-  pub placed : (tokens : List TokenKind) (fault : Fault) (at : ℕ) → IsEnded tokens → Refuses tokens fault at → Placed tokens fault at
+  pub placed : (tokens : List TokenKind) (fault : Fault) (at : ℕ) → IsEnded tokens → unit_of room (numbered tokens) ≡ Err (fault, at) → Placed room tokens fault at
   placed tokens fault at ended e =
-      subst (λ (tokens : List TokenKind). Placed tokens fault at) (sym ended.1) (place_of ended.0 fault at (subst (λ (tokens : List TokenKind). unit_at (numbered tokens) ≡ Err (fault, at)) ended.1 e))
-
-  pub place_is_first : PlaceIsFirst
-  place_is_first tokens fault at ended e = (placed tokens fault at ended e).first
+      subst (λ (tokens : List TokenKind). Placed room tokens fault at) (sym ended.1) (place_of ended.0 fault at (subst (λ (tokens : List TokenKind). unit_of room (numbered tokens) ≡ Err (fault, at)) ended.1 e))
