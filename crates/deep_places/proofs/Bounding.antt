@@ -30,17 +30,28 @@ bound_ends height c room d a s ts low = record { before = []; parts = refl; low 
 -- bounds that are no better
 pub bound_weaker : {A : Type 0} (height : A → ℕ) (c room d c2 room2 d2 : ℕ) (ts : List Lexeme) (r : Read A) → c ≤ c2 → room2 + d ≤
     room + d2 → BoundAt height c room d ts r → BoundAt height c2 room2 d2 ts r
-bound_weaker height c room d c2 room2 d2 ts (Ok x) more wide b = record { before = b.before; parts = b.parts; low = let l = b.low in
-    omega arith }
+bound_weaker height c room d c2 room2 d2 ts (Ok x) more wide b = record {
+  before = b.before;
+  parts = b.parts;
+  low = let l = b.low in
+      omega arith;
+}
 bound_weaker height c room d c2 room2 d2 ts (Err e) more wide b =
-    λ is. let h = b is in record { before = h.before; first = h.first; rest = h.rest; parts = h.parts; place = h.place; deep = let l
-        = h.deep in omega arith }
+    λ is. let h = b is in record {
+      before = h.before;
+      first = h.first;
+      rest = h.rest;
+      parts = h.parts;
+      place = h.place;
+      deep = let l
+          = h.deep in omega arith;
+    }
 
 -- one reader behind another
 pub bound_bind : {A B : Type 0} (ha : A → ℕ) (height : B → ℕ) (ca c room d : ℕ) (ts : List Lexeme) (r : Read A) (f : Found A → Read
     B) → BoundAt ha ca room d ts r →
     ((x : Found A) (before : List Lexeme) → r ≡ done x → ha x.tree ≤ 8 * length before + ca → BoundAt height (8 * length before + c)
-        room (8 * length before + d) x.rest (f x)) → BoundAt height c room d ts (and_then r f)
+    room (8 * length before + d) x.rest (f x)) → BoundAt height c room d ts (and_then r f)
 unfolding and_then
 bound_bind ha height ca c room d ts (Err e) f b next = b
 bound_bind {A} {B} ha height ca c room d ts (Ok x) f b next = by_next (f x) (next x b.before refl b.low)
@@ -71,8 +82,15 @@ bound_fits {A} height c room d least have ts r known deep g = by_room (nat_le le
   where
     refused : (ts : List Lexeme) → is_end (kind_at ts) ≡ false → have < least → DeepAt ts (number_at ts) room d
     refused [] known less = absurd cc
-    refused (t ∷ ts) known less = record { before = []; first = t; rest = ts; parts = refl; place = refl; deep = let l = deep less
-        in omega arith }
+    refused (t ∷ ts) known less = record {
+      before = [];
+      first = t;
+      rest = ts;
+      parts = refl;
+      place = refl;
+      deep = let l = deep less
+          in omega arith;
+    }
 
     by_room : (b : Bool) → nat_le least have ≡ b → BoundAt height c room d ts (if b then r else refuses TooDeep ts)
     by_room true is = g (leb-true least have is)
@@ -100,8 +118,12 @@ pub bound_token : (test : TokenKind → Bool) (room d : ℕ) (s : HeldScopes) (t
     (token_at test s ts)
 bound_token test room d s [] = λ e. absurd cc
 bound_token test room d s (t ∷ ts) =
-    bound_if token_levels 0 room d (t ∷ ts) (test t.kind) (ends t.at s ts) (refuses Unexpected (t ∷ ts)) (λ is. record { before = t
-        ∷ []; parts = refl; low = omega arith }) (λ is e. absurd cc)
+    bound_if token_levels 0 room d (t ∷ ts) (test t.kind) (ends t.at s ts) (refuses Unexpected (t ∷ ts)) (λ is. record {
+      before = t
+          ∷ [];
+      parts = refl;
+      low = omega arith;
+    }) (λ is e. absurd cc)
 
 pub bound_name : (room d : ℕ) (s : HeldScopes) (ts : List Lexeme) → BoundAt token_levels 0 room d ts (name_at s ts)
 bound_name room d s [] = λ e. absurd cc
@@ -122,24 +144,24 @@ bound_tag room d s (t ∷ ts) = by_name (spelled_name t.kind)
 -- Loops: a state that is low for what was taken before stays so.
 module _ {S : Type 0} (turn : Turn S) (shrinks : TurnShrinks turn) (height : S → ℕ) (room more floor : ℕ)
     (step : (a : S) (s : HeldScopes) (ts : List Lexeme) (c : ℕ) → floor ≤ c → height a ≤ c → StepAt height c room (c + more) ts
-        (turn a s ts)) where
+    (turn a s ts)) where
   run_on : (n : ℕ) (a : S) (s : HeldScopes) (ts : List Lexeme) (c : ℕ) → length ts < n → floor ≤ c → height a ≤ c → BoundAt height c
       room (c + more) ts (run turn a s ts)
   run_on zero a s ts c less high low = absurd (omega (arith, less))
   run_on (suc n) a s ts c less high low =
       subst (BoundAt height c room (c + more) ts) (sym (run_is turn shrinks a s ts)) (by_turn (λ a s ts c. run_on n a s ts c) (turn
-          a s ts) refl (step a s ts c high low))
+      a s ts) refl (step a s ts c high low))
     where
       by_turn : ((a : S) (s : HeldScopes) (ts : List Lexeme) (c : ℕ) → length ts < n → floor ≤ c → height a ≤ c → BoundAt height c
           room (c + more) ts (run turn a s ts)) →
           (o : Option (Read S)) → turn a s ts ≡ o → StepAt height c room (c + more) ts o → BoundAt height c room (c + more) ts
-              (after o a s ts (run turn))
+          (after o a s ts (run turn))
       by_turn again None is h = bound_ends height c room (c + more) a s ts low
       by_turn again (Some read) is h =
           bound_bind height height c c room (c + more) ts read (λ x. run turn x.tree x.scopes x.rest) h
           (λ x before e l. let fewer : length x.rest < length ts = shrinks a s ts x (is ∙ ap Some e) in
           bound_weaker height (8 * length before + c) room (8 * length before + c + more) (8 * length before + c) room (8 * length
-              before + (c + more)) x.rest (run turn x.tree x.scopes x.rest) (omega arith) (omega arith)
+          before + (c + more)) x.rest (run turn x.tree x.scopes x.rest) (omega arith) (omega arith)
           (again x.tree x.scopes x.rest (8 * length before + c) (omega (arith, fewer, less)) (omega arith) l))
 
   pub bound_run : (a : S) (s : HeldScopes) (ts : List Lexeme) (c : ℕ) → floor ≤ c → height a ≤ c → BoundAt height c room (c + more)
@@ -155,12 +177,12 @@ most_push height (y ∷ xs) x c h l = let rest = most_push height xs x c (omega 
 
 pub bound_repeated : {T : Type 0} (begins : TokenKind → Bool) (read : Reader T) (height : T → ℕ) (c room d : ℕ) → Shrinks read → c ≤ d →
     ((s : HeldScopes) (ts : List Lexeme) → begins (kind_at ts) ≡ true → BoundAt height c room d ts (read s ts)) → (s : HeldScopes)
-        (ts : List Lexeme) → BoundAt (most_of height) c room d ts (repeated begins read s ts)
+    (ts : List Lexeme) → BoundAt (most_of height) c room d ts (repeated begins read s ts)
 unfolding repeated
 bound_repeated {T} begins read height c room d shrinks less item s ts =
     bound_weaker (most_of height) c room (c + (d - c)) c room d ts (run (repeated_turn begins read) [] s ts) (omega arith) (omega arith)
     (bound_run (repeated_turn begins read) (row_turn_shrinks begins read shrinks) (most_of height) room (d - c) c step [] s ts c
-        (omega arith) (omega arith))
+    (omega arith) (omega arith))
   where
     step : (xs : List T) (s : HeldScopes) (ts : List Lexeme) (e : ℕ) → c ≤ e → most_of height xs ≤ e → StepAt (most_of height) e
         room (e + (d - c)) ts (repeated_turn begins read xs s ts)
@@ -173,7 +195,7 @@ bound_repeated {T} begins read height c room d shrinks less item s ts =
             bound_bind height (most_of height) c e room (e + (d - c)) ts (read s ts) (λ x. ends (xs ++ x.tree ∷ []) x.scopes x.rest)
             (bound_weaker height c room d c room (e + (d - c)) ts (read s ts) (omega arith) (omega arith) (item s ts is))
             (λ x before is l. bound_ends (most_of height) (8 * length before + e) room (8 * length before + (e + (d - c))) (xs ++
-                x.tree ∷ []) x.scopes x.rest
+            x.tree ∷ []) x.scopes x.rest
             (most_push height xs x.tree (8 * length before + e) (omega arith) (omega arith)))
 
 -- Lists with commas.
@@ -181,11 +203,22 @@ bound_repeated {T} begins read height c room d shrinks less item s ts =
 -- with one token more before it
 pub bound_front : {A : Type 0} (height : A → ℕ) (c room d : ℕ) (t : Lexeme) (ts : List Lexeme) (r : Read A) → BoundAt height c room
     d ts r → BoundAt height c room d (t ∷ ts) r
-bound_front height c room d t ts (Ok x) b = record { before = t ∷ b.before; parts = ap (λ (k : List Lexeme). t ∷ k) b.parts; low =
-    let l = b.low in omega arith }
+bound_front height c room d t ts (Ok x) b = record {
+  before = t ∷ b.before;
+  parts = ap (λ (k : List Lexeme). t ∷ k) b.parts;
+  low =
+      let l = b.low in omega arith;
+}
 bound_front height c room d t ts (Err e) b =
-    λ is. let h = b is in record { before = t ∷ h.before; first = h.first; rest = h.rest; parts = ap (λ (k : List Lexeme). t ∷ k)
-        h.parts; place = h.place; deep = let l = h.deep in omega arith }
+    λ is. let h = b is in record {
+      before = t ∷ h.before;
+      first = h.first;
+      rest = h.rest;
+      parts = ap (λ (k : List Lexeme). t ∷ k)
+          h.parts;
+      place = h.place;
+      deep = let l = h.deep in omega arith;
+    }
 
 abbrev pub next_height : {T E : Type 0} → (T → ℕ) → Next T E → ℕ
 next_height height (one_more x) = height x
@@ -202,23 +235,23 @@ with_next_low height xs (list_end e) c h l = h
 pub bound_commas : {T E : Type 0} (next : ℕ → Reader (Next T E)) (height : T → ℕ) (c room d : ℕ) → ((comma : ℕ) → Falls (next
     comma)) → c ≤ d →
     ((comma : ℕ) (s : HeldScopes) (ts : List Lexeme) → BoundAt (next_height height) c room d ts (next comma s ts)) → (l : CommaList
-        T E) (s : HeldScopes) (ts : List Lexeme) (e : ℕ) → c ≤ e → most_of height l.items ≤ e →
+    T E) (s : HeldScopes) (ts : List Lexeme) (e : ℕ) → c ≤ e → most_of height l.items ≤ e →
     BoundAt (list_height height) e room (e + (d - c)) ts (run (comma_turn next) l s ts)
 bound_commas {T} {E} next height c room d falls less item l s ts e high low =
     bound_run (comma_turn next) (comma_turn_shrinks (λ s ts. refuses Unexpected ts) next falls) (list_height height) room (d - c) c
-        step l s ts e high low
+    step l s ts e high low
   where
     one : (xs : List T) (comma : ℕ) (s : HeldScopes) (t : Lexeme) (ts : List Lexeme) (e : ℕ) → c ≤ e → most_of height xs ≤ e →
         BoundAt (list_height height) e room (e + (d - c)) (t ∷ ts) (and_then (next comma s ts) (λ x. ends (with_next xs x.tree)
-            x.scopes x.rest))
+        x.scopes x.rest))
     one xs comma s t ts e high low =
         bound_front (list_height height) e room (e + (d - c)) t ts (and_then (next comma s ts) (λ x. ends (with_next xs x.tree)
-            x.scopes x.rest))
+        x.scopes x.rest))
         (bound_bind (next_height height) (list_height height) c e room (e + (d - c)) ts (next comma s ts) (λ x. ends (with_next xs
-            x.tree) x.scopes x.rest)
+        x.tree) x.scopes x.rest)
         (bound_weaker (next_height height) c room d c room (e + (d - c)) ts (next comma s ts) (omega arith) (omega arith) (item comma s ts))
         (λ x before is l. bound_ends (list_height height) (8 * length before + e) room (8 * length before + (e + (d - c)))
-            (with_next xs x.tree) x.scopes x.rest
+        (with_next xs x.tree) x.scopes x.rest
         (with_next_low height xs x.tree (8 * length before + e) (omega arith) (omega arith))))
 
     step : (l : CommaList T E) (s : HeldScopes) (ts : List Lexeme) (e : ℕ) → c ≤ e → most_of height l.items ≤ e → StepAt
@@ -239,16 +272,18 @@ bound_commas {T} {E} next height c room d falls less item l s ts e high low =
 pub bound_listed : {T E : Type 0} (first : Reader T) (next : ℕ → Reader (Next T E)) (height : T → ℕ) (c room d : ℕ) → ((comma : ℕ) →
     Falls (next comma)) → c ≤ d → (s : HeldScopes) (ts : List Lexeme) → BoundAt height c room d ts (first s ts) →
     ((comma : ℕ) (s : HeldScopes) (ts : List Lexeme) → BoundAt (next_height height) c room d ts (next comma s ts)) → BoundAt
-        (list_height height) c room d ts (listed first next s ts)
+    (list_height height) c room d ts (listed first next s ts)
 unfolding listed
 bound_listed first next height c room d falls less s ts b item =
-    bound_bind height (list_height height) c c room d ts (first s ts) (λ x. run (comma_turn next) (record { items = x.tree ∷ [];
-        ending = None }) x.scopes x.rest) b
+    bound_bind height (list_height height) c c room d ts (first s ts) (λ x. run (comma_turn next) (record {
+      items = x.tree ∷ [];
+      ending = None;
+    }) x.scopes x.rest) b
     (λ x before is l. bound_weaker (list_height height) (8 * length before + c) room (8 * length before + c + (d - c)) (8 * length
-        before + c) room (8 * length before + d) x.rest
+    before + c) room (8 * length before + d) x.rest
     (run (comma_turn next) (record { items = x.tree ∷ []; ending = None }) x.scopes x.rest) (omega arith) (omega arith)
     (bound_commas next height c room d falls less item (record { items = x.tree ∷ []; ending = None }) x.scopes x.rest (8 * length
-        before + c) (omega arith) (omega arith)))
+    before + c) (omega arith) (omega arith)))
 
 -- A test that the end does not pass.
 
@@ -262,13 +297,13 @@ known_by test off kind is = known_of test false off kind (λ no. absurd cc)
 -- items that take a token each
 pub bound_count : {T : Type 0} (begins : TokenKind → Bool) (read : Reader T) (room d : ℕ) → Shrinks read →
     ((s : HeldScopes) (ts : List Lexeme) → begins (kind_at ts) ≡ true → BoundAt token_levels 0 room d ts (read s ts)) → (s :
-        HeldScopes) (ts : List Lexeme) → BoundAt (λ (xs : List T). length xs) 0 room d ts (repeated begins read s ts)
+    HeldScopes) (ts : List Lexeme) → BoundAt (λ (xs : List T). length xs) 0 room d ts (repeated begins read s ts)
 unfolding repeated
 bound_count {T} begins read room d shrinks item s ts =
     bound_weaker (λ (xs : List T). length xs) 0 room (0 + d) 0 room d ts (run (repeated_turn begins read) [] s ts) (omega arith)
-        (omega arith)
+    (omega arith)
     (bound_run (repeated_turn begins read) (row_turn_shrinks begins read shrinks) (λ (xs : List T). length xs) room d 0 step [] s ts
-        0 (omega arith) (omega arith))
+    0 (omega arith) (omega arith))
   where
     longer_by : (xs : List T) (x : T) → length (xs ++ x ∷ []) ≡ suc (length xs)
     longer_by [] x = refl
@@ -283,10 +318,10 @@ bound_count {T} begins read room d shrinks item s ts =
         by_test false is = tt
         by_test true is =
             bound_bind token_levels (λ (xs : List T). length xs) 0 e room (e + d) ts (read s ts) (λ x. ends (xs ++ x.tree ∷ [])
-                x.scopes x.rest)
+            x.scopes x.rest)
             (bound_weaker token_levels 0 room d 0 room (e + d) ts (read s ts) (omega arith) (omega arith) (item s ts is))
             (λ x before is l. bound_ends (λ (xs : List T). length xs) (8 * length before + e) room (8 * length before + (e + d)) (xs
-                ++ x.tree ∷ []) x.scopes x.rest
+            ++ x.tree ∷ []) x.scopes x.rest
             (let more = longer_by xs x.tree in omega arith))
 
 pub bound_without : {A : Type 0} (height : A → ℕ) (c room d : ℕ) (tag : Option Identifier) (a : A) (s : HeldScopes) (ts : List

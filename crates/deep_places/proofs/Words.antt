@@ -60,7 +60,7 @@ bracket_step_bound room state s ts c high low = by_brackets state.brackets
     by_inside (Opens other) b bs t ts = record { before = t ∷ []; parts = refl; low = omega arith }
     by_inside (Closes other) b bs t ts =
         bound_if (λ (o : Opened). 0) c room (c + 0) (t ∷ ts) (is_same other b) (ends (record { brackets = bs; last = t.at }) s ts)
-            (refuses Unexpected (t ∷ ts))
+        (refuses Unexpected (t ∷ ts))
         (λ is. record { before = t ∷ []; parts = refl; low = omega arith }) (λ is e. absurd cc)
     by_inside Plain b bs t ts = record { before = t ∷ []; parts = refl; low = omega arith }
     by_inside Stops b bs t ts = λ e. absurd cc
@@ -78,50 +78,65 @@ pub b_group_at : (room : ℕ) (s : HeldScopes) (ts : List Lexeme) → BoundAt (n
 unfolding group_at
 b_group_at room s ts =
     bound_bind token_levels (no_levels {A = Group}) 0 0 room 0 ts (token_at is_open_paren s ts) (λ opening. and_then (run
-        bracket_turn (record { brackets = Paren ∷ []; last = opening.tree }) opening.scopes opening.rest) (λ inside. ends (record {
-        first = opening.tree; last = inside.tree.last }) inside.scopes inside.rest))
+    bracket_turn (record { brackets = Paren ∷ []; last = opening.tree }) opening.scopes opening.rest) (λ inside. ends (record {
+      first = opening.tree;
+      last = inside.tree.last;
+    }) inside.scopes inside.rest))
     (bound_token is_open_paren room 0 s ts) (λ opening b1 e1 l1.
     bound_bind (λ (o : Opened). 0) (no_levels {A = Group}) 0 (8 * length b1 + 0) room (8 * length b1 + 0) opening.rest (run
-        bracket_turn (record { brackets = Paren ∷ []; last = opening.tree }) opening.scopes opening.rest) (λ inside. ends (record {
-        first = opening.tree; last = inside.tree.last }) inside.scopes inside.rest)
-    (bound_weaker (λ (o : Opened). 0) 0 room (0 + 0) 0 room (8 * length b1 + 0) opening.rest (run bracket_turn (record { brackets =
-        Paren ∷ []; last = opening.tree }) opening.scopes opening.rest) (omega arith) (omega arith)
-    (bound_run bracket_turn bracket_shrinks (λ (o : Opened). 0) room 0 0 (bracket_step_bound room) (record { brackets = Paren ∷ [];
-        last = opening.tree }) opening.scopes opening.rest 0 (omega arith) (omega arith)))
+    bracket_turn (record { brackets = Paren ∷ []; last = opening.tree }) opening.scopes opening.rest) (λ inside. ends (record {
+      first = opening.tree;
+      last = inside.tree.last;
+    }) inside.scopes inside.rest)
+    (bound_weaker (λ (o : Opened). 0) 0 room (0 + 0) 0 room (8 * length b1 + 0) opening.rest (run bracket_turn (record {
+      brackets =
+          Paren ∷ [];
+      last = opening.tree;
+    }) opening.scopes opening.rest) (omega arith) (omega arith)
+    (bound_run bracket_turn bracket_shrinks (λ (o : Opened). 0) room 0 0 (bracket_step_bound room) (record {
+      brackets = Paren ∷ [];
+      last = opening.tree;
+    }) opening.scopes opening.rest 0 (omega arith) (omega arith)))
     (λ inside b2 e2 l2. bound_ends (no_levels {A = Group}) (8 * length b2 + (8 * length b1 + 0)) room (8 * length b2 + (8 * length
-        b1 + 0)) (record { first = opening.tree; last = inside.tree.last }) inside.scopes inside.rest (omega arith)))
+    b1 + 0)) (record { first = opening.tree; last = inside.tree.last }) inside.scopes inside.rest (omega arith)))
 
-pub b_attr_at : (room : ℕ) (s : HeldScopes) (ts : List Lexeme) → BoundAt (token_levels {A = Attr}) (0) room (0) ts (attr_at  s ts)
+pub b_attr_at : (room : ℕ) (s : HeldScopes) (ts : List Lexeme) → BoundAt (token_levels {A = Attr}) (0) room (0) ts (attr_at s ts)
 unfolding attr_at
 b_attr_at room s ts =
     bound_bind token_levels (token_levels {A = Attr}) (0) (0) room (0) ts (token_at is_attribute s ts) (λ keyword. (and_then
-        (group_at keyword.scopes keyword.rest) (λ group. (ends (record { keyword = keyword.tree; group = group.tree }) group.scopes
-        group.rest)))) (bound_token is_attribute room (0) s ts) (λ keyword b1 e2 l3. bound_bind (no_levels {A = Group})
-        (token_levels {A = Attr}) (0) (8 * length b1 + (0)) room (8 * length b1 + (0)) keyword.rest (group_at keyword.scopes
-        keyword.rest) (λ group. (ends (record { keyword = keyword.tree; group = group.tree }) group.scopes group.rest))
-        (bound_weaker (no_levels {A = Group}) (0) room (0) (0) room (8 * length b1 + (0)) keyword.rest (group_at keyword.scopes
-        keyword.rest) (omega arith) (omega arith) (b_group_at room keyword.scopes keyword.rest)) (λ group b4 e5 l6. bound_ends
-        (token_levels {A = Attr}) (8 * length b4 + (8 * length b1 + (0))) room (8 * length b4 + (8 * length b1 + (0))) (record {
-        keyword = keyword.tree; group = group.tree }) group.scopes group.rest (omega arith)))
+    (group_at keyword.scopes keyword.rest) (λ group. (ends (record { keyword = keyword.tree; group = group.tree }) group.scopes
+    group.rest)))) (bound_token is_attribute room (0) s ts) (λ keyword b1 e2 l3. bound_bind (no_levels {A = Group})
+    (token_levels {A = Attr}) (0) (8 * length b1 + (0)) room (8 * length b1 + (0)) keyword.rest (group_at keyword.scopes
+    keyword.rest) (λ group. (ends (record { keyword = keyword.tree; group = group.tree }) group.scopes group.rest))
+    (bound_weaker (no_levels {A = Group}) (0) room (0) (0) room (8 * length b1 + (0)) keyword.rest (group_at keyword.scopes
+    keyword.rest) (omega arith) (omega arith) (b_group_at room keyword.scopes keyword.rest)) (λ group b4 e5 l6. bound_ends
+    (token_levels {A = Attr}) (8 * length b4 + (8 * length b1 + (0))) room (8 * length b4 + (8 * length b1 + (0))) (record {
+      keyword = keyword.tree;
+      group = group.tree;
+    }) group.scopes group.rest (omega arith)))
 
-pub b_assert_at : (room : ℕ) (s : HeldScopes) (ts : List Lexeme) → BoundAt (no_levels {A = Assert}) (0) room (0) ts (assert_at  s ts)
+pub b_assert_at : (room : ℕ) (s : HeldScopes) (ts : List Lexeme) → BoundAt (no_levels {A = Assert}) (0) room (0) ts (assert_at s ts)
 unfolding assert_at
 b_assert_at room s ts =
     bound_bind token_levels (no_levels {A = Assert}) (0) (0) room (0) ts (token_at is_static_assert s ts) (λ keyword. (and_then
-        (group_at keyword.scopes keyword.rest) (λ group. (and_then (token_at is_semicolon group.scopes group.rest) (λ semi. (ends
-        (record { keyword = keyword.tree; group = group.tree; semi = semi.tree }) semi.scopes semi.rest)))))) (bound_token
-        is_static_assert room (0) s ts) (λ keyword b7 e8 l9. bound_bind (no_levels {A = Group}) (no_levels {A = Assert}) (0) (8 *
-        length b7 + (0)) room (8 * length b7 + (0)) keyword.rest (group_at keyword.scopes keyword.rest) (λ group. (and_then
-        (token_at is_semicolon group.scopes group.rest) (λ semi. (ends (record { keyword = keyword.tree; group = group.tree; semi =
-        semi.tree }) semi.scopes semi.rest)))) (bound_weaker (no_levels {A = Group}) (0) room (0) (0) room (8 * length b7 + (0))
-        keyword.rest (group_at keyword.scopes keyword.rest) (omega arith) (omega arith) (b_group_at room keyword.scopes
-        keyword.rest)) (λ group b10 e11 l12. bound_bind token_levels (no_levels {A = Assert}) (0) (8 * length b10 + (8 * length b7 +
-        (0))) room (8 * length b10 + (8 * length b7 + (0))) group.rest (token_at is_semicolon group.scopes group.rest) (λ semi.
-        (ends (record { keyword = keyword.tree; group = group.tree; semi = semi.tree }) semi.scopes semi.rest)) (bound_token
-        is_semicolon room (8 * length b10 + (8 * length b7 + (0))) group.scopes group.rest) (λ semi b13 e14 l15. bound_ends
-        (no_levels {A = Assert}) (8 * length b13 + (8 * length b10 + (8 * length b7 + (0)))) room (8 * length b13 + (8 * length b10
-        + (8 * length b7 + (0)))) (record { keyword = keyword.tree; group = group.tree; semi = semi.tree }) semi.scopes semi.rest
-        (omega arith))))
+    (group_at keyword.scopes keyword.rest) (λ group. (and_then (token_at is_semicolon group.scopes group.rest) (λ semi. (ends
+    (record { keyword = keyword.tree; group = group.tree; semi = semi.tree }) semi.scopes semi.rest)))))) (bound_token
+    is_static_assert room (0) s ts) (λ keyword b7 e8 l9. bound_bind (no_levels {A = Group}) (no_levels {A = Assert}) (0) (8 *
+    length b7 + (0)) room (8 * length b7 + (0)) keyword.rest (group_at keyword.scopes keyword.rest) (λ group. (and_then
+    (token_at is_semicolon group.scopes group.rest) (λ semi. (ends (record {
+      keyword = keyword.tree;
+      group = group.tree;
+      semi =
+          semi.tree;
+    }) semi.scopes semi.rest)))) (bound_weaker (no_levels {A = Group}) (0) room (0) (0) room (8 * length b7 + (0))
+    keyword.rest (group_at keyword.scopes keyword.rest) (omega arith) (omega arith) (b_group_at room keyword.scopes
+    keyword.rest)) (λ group b10 e11 l12. bound_bind token_levels (no_levels {A = Assert}) (0) (8 * length b10 + (8 * length b7 +
+    (0))) room (8 * length b10 + (8 * length b7 + (0))) group.rest (token_at is_semicolon group.scopes group.rest) (λ semi.
+    (ends (record { keyword = keyword.tree; group = group.tree; semi = semi.tree }) semi.scopes semi.rest)) (bound_token
+    is_semicolon room (8 * length b10 + (8 * length b7 + (0))) group.scopes group.rest) (λ semi b13 e14 l15. bound_ends
+    (no_levels {A = Assert}) (8 * length b13 + (8 * length b10 + (8 * length b7 + (0)))) room (8 * length b13 + (8 * length b10
+    + (8 * length b7 + (0)))) (record { keyword = keyword.tree; group = group.tree; semi = semi.tree }) semi.scopes semi.rest
+    (omega arith))))
 
 fewer_levels : {A : Type 0} (room : ℕ) (ts : List Lexeme) (r : Read A) → BoundAt token_levels 0 room 0 ts r → BoundAt no_levels 0
     room 0 ts r
@@ -175,7 +190,7 @@ unfolding extensions_at
 b_extensions_at room s ts =
     bound_count is_extension (extension_reader room) room 1 (extension_shrinks room)
     (λ s ts is. bound_fits token_levels 0 room 1 2 room ts (take_one s ts) (known_by is_extension refl (kind_at ts) is) (λ less.
-        omega arith) (λ enough. bound_take room 1 s ts)) s ts
+    omega arith) (λ enough. bound_take room 1 s ts)) s ts
 
 abbrev attr_reader : ℕ → Reader Attr
 attr_reader room s ts = fits 2 room ts (attr_at s ts)
@@ -199,11 +214,11 @@ pub b_attrs_at : (room : ℕ) (s : HeldScopes) (ts : List Lexeme) → BoundAt at
 unfolding attrs_at
 b_attrs_at room s ts =
     forget (repeated is_attribute (attr_reader room) s ts) (bound_repeated is_attribute (attr_reader room) no_levels 0 room 1
-        (attr_reader_shrinks room) (omega arith)
+    (attr_reader_shrinks room) (omega arith)
     (λ s ts is. bound_fits no_levels 0 room 1 2 room ts (attr_at s ts) (known_by is_attribute refl (kind_at ts) is) (λ less. omega
-        arith) (λ enough.
+    arith) (λ enough.
     bound_weaker no_levels 0 room 0 0 room 1 ts (attr_at s ts) (omega arith) (omega arith) (fewer_levels room ts (attr_at s ts)
-        (b_attr_at room s ts)))) s ts)
+    (b_attr_at room s ts)))) s ts)
   where
     forget : (r : Read (List Attr)) → BoundAt (most_of no_levels) 0 room 1 ts r → BoundAt attrs_height 1 room 1 ts r
     forget (Ok x) b = record { before = b.before; parts = b.parts; low = let few = attrs_low x.tree in omega arith }
@@ -218,27 +233,27 @@ pointer_word_bound : (room : ℕ) (s : HeldScopes) (ts : List Lexeme) → BoundA
 unfolding pointer_word_at
 pointer_word_bound room s ts =
     bound_if no_levels 0 room 1 ts (is_attribute (kind_at ts)) (fits 2 room ts (and_then (attr_at s ts) (λ attr. ends
-        (pointer_words.Attr attr.tree) attr.scopes attr.rest)))
+    (pointer_words.Attr attr.tree) attr.scopes attr.rest)))
     (and_then (made_at qual_of s ts) (λ qual. ends (pointer_words.Qual qual.tree) qual.scopes qual.rest))
     (λ is. bound_fits no_levels 0 room 1 2 room ts (and_then (attr_at s ts) (λ attr. ends (pointer_words.Attr attr.tree) attr.scopes
-        attr.rest)) (known_by is_attribute refl (kind_at ts) is) (λ less. omega arith) (λ enough.
+    attr.rest)) (known_by is_attribute refl (kind_at ts) is) (λ less. omega arith) (λ enough.
     bound_bind no_levels (no_levels {A = PointerWord}) 0 0 room 1 ts (attr_at s ts) (λ attr. ends (pointer_words.Attr attr.tree)
-        attr.scopes attr.rest) (bound_weaker no_levels 0 room 0 0 room 1 ts (attr_at s ts) (omega arith) (omega arith) (fewer_levels
-        room ts (attr_at s ts) (b_attr_at room s ts)))
+    attr.scopes attr.rest) (bound_weaker no_levels 0 room 0 0 room 1 ts (attr_at s ts) (omega arith) (omega arith) (fewer_levels
+    room ts (attr_at s ts) (b_attr_at room s ts)))
     (λ attr b1 e1 l1. bound_ends (no_levels {A = PointerWord}) (8 * length b1 + 0) room (8 * length b1 + 1) (pointer_words.Attr
-        attr.tree) attr.scopes attr.rest (omega arith))))
+    attr.tree) attr.scopes attr.rest (omega arith))))
     (λ is. bound_bind no_levels (no_levels {A = PointerWord}) 0 0 room 1 ts (made_at qual_of s ts) (λ qual. ends (pointer_words.Qual
-        qual.tree) qual.scopes qual.rest) (bound_weaker no_levels 0 room 0 0 room 1 ts (made_at qual_of s ts) (omega arith) (omega
-        arith) (bound_made qual_of room s ts))
+    qual.tree) qual.scopes qual.rest) (bound_weaker no_levels 0 room 0 0 room 1 ts (made_at qual_of s ts) (omega arith) (omega
+    arith) (bound_made qual_of room s ts))
     (λ qual b1 e1 l1. bound_ends (no_levels {A = PointerWord}) (8 * length b1 + 0) room (8 * length b1 + 1) (pointer_words.Qual
-        qual.tree) qual.scopes qual.rest (omega arith)))
+    qual.tree) qual.scopes qual.rest (omega arith)))
 
 pub b_pointer_words_at : (room : ℕ) (s : HeldScopes) (ts : List Lexeme) → BoundAt pointer_words_height 1 room 1 ts (pointer_words_at
     room s ts)
 unfolding pointer_words_at
 b_pointer_words_at room s ts =
     forget (repeated begins_pointer_word (pointer_word_at room) s ts) (bound_repeated begins_pointer_word (pointer_word_at room)
-        no_levels 0 room 1 (pointer_word_shrinks [] room) (omega arith) (λ s ts is. pointer_word_bound room s ts) s ts)
+    no_levels 0 room 1 (pointer_word_shrinks [] room) (omega arith) (λ s ts is. pointer_word_bound room s ts) s ts)
   where
     forget : (r : Read (List PointerWord)) → BoundAt (most_of no_levels) 0 room 1 ts r → BoundAt pointer_words_height 1 room 1 ts r
     forget (Ok x) b = record { before = b.before; parts = b.parts; low = let few = pointer_words_low x.tree in omega arith }

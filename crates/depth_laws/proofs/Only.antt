@@ -67,12 +67,14 @@ module _ (formed : UnitIsWellFormed) (read_back : WellFormedIsRead) (whole_are :
   -- what is read with some room begins with its first tokens
   begins : (room : ℕ) → 1 ≤ room → (front more : List TokenKind) (y : Found (List Item)) → unit_of room (numbered (front ++ more)) ≡ Ok y → BeginsTree front
   begins room one front more y is =
-      let w = sound (numbered (front ++ more)) (are_numbered (front ++ more)) room y one is in
-      (y.tree, record {
-        behind = more;
-        spelled = w.tokens;
-        derived = λ k d below. item_derives whole_are goes (numbered (front ++ more)) (slice_index_or y.tree k d) (w.parts k d below);
-      })
+      let w = sound (numbered (front ++ more)) (are_numbered (front ++ more)) room y one is in (
+        y.tree,
+        record {
+          behind = more;
+          spelled = w.tokens;
+          derived = λ k d below. item_derives whole_are goes (numbered (front ++ more)) (slice_index_or y.tree k d) (w.parts k d below);
+        },
+      )
 
   module _ (tokens : List TokenKind) (at : ℕ) (ended : IsEnded tokens) (e : unit_of most (numbered tokens) ≡ Err (TooDeep, at)) where
     abbrev all : List Lexeme

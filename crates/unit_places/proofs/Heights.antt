@@ -53,7 +53,7 @@ module _ (formed : UnitIsWellFormed) (read_back : WellFormedIsRead) (whole_are :
       record {
         there = p.there;
         before = let g = p.begun in
-        record { behind = g.0; items = g.1.tree; formed = formed (numbered (take at tokens ++ g.0)) (are_numbered (take at tokens ++ g.0)) g.1 (sym (unit_is (numbered (take at tokens ++ g.0))) ∙ g.2) };
+            record { behind = g.0; items = g.1.tree; formed = formed (numbered (take at tokens ++ g.0)) (are_numbered (take at tokens ++ g.0)) g.1 (sym (unit_is (numbered (take at tokens ++ g.0))) ∙ g.2) };
         none = λ u.
             let a = p.alike u.behind in
             not_both (unit_at (numbered (take (at + 1) tokens ++ u.behind))) (fault, a.0) (found u.items file_scope []) (sym (unit_is (numbered (take (at + 1) tokens ++ u.behind))) ∙ a.1)
