@@ -5,7 +5,7 @@ ghost use Rattle.c_tree.specs.Unit.{Item, items_of};
 ghost use Rattle.c_units.specs.HeldScopes.{file_scope};
 ghost use Rattle.c_units.specs.Units.{IsWellFormed};
 ghost use Rattle.c_units.specs.FirstBad.{IsFirstBad};
-ghost use Rattle.refusal_rules.specs.Allowed.{syntax, BeginsUnitOfAnyHeight, IsAllowed};
+ghost use Rattle.refusal_rules.specs.Allowed.{syntax, too_deep, BeginsUnitOfAnyHeight, IsAllowed};
 ghost use Rattle.c_reading.specs.Knot.{alone, unit_at};
 ghost use Rattle.reader_base.specs.Gives.{Gives};
 ghost use Rattle.reader_base.specs.Lent.{ReadsAsked, asked_at};
@@ -21,6 +21,7 @@ use c_lexer::Tokens;
 use c_reading::{Fault, unit_is_well_formed, well_formed_is_read};
 use c_syntax::Unit;
 use c_tree::Lexeme;
+use depth_laws::only_the_height;
 use held_scopes::Scopes;
 use qual_base::{NoMemory, Numbered, TokenId};
 use reader_base::{Ask, Place, ReadError, end, refused};
@@ -115,7 +116,7 @@ fn fault_of(error: ReadError) -> ParseFault
 ///
 /// Time and memory are linear in the tokens. Trees above a height of 500 are refused, so the recursion is bounded. The
 /// refused token is the first up to which no well-formed unit begins so; where the fault is not its height, none of any
-/// height does. Which fault is named of several is tested and not proved, but that a refusal for the syntax is allowed.
+/// height does. That a refusal for the syntax or for the height is allowed is proved; of the other three it is tested.
 pub fn parse(alloc: Global, tokens: &Tokens) -> Result<Unit, ParseFault>
     ensures unit { IfOk result (λ unit. IsWellFormed (lexemes_of tokens.now) (items_of unit)) }
     ensures only { (items : List Item) → IsWellFormed (lexemes_of tokens.now) items →
@@ -129,12 +130,15 @@ pub fn parse(alloc: Global, tokens: &Tokens) -> Result<Unit, ParseFault>
         ¬ BeginsUnitOfAnyHeight (take (token_of fault + 1) (kinds_of tokens.now)) }
     ensures allowed { (token : ℕ) → result ≡ Err (faults.Syntax token) →
         IsAllowed (kinds_of tokens.now) token syntax }
+    ensures deep { (token : ℕ) → result ≡ Err (faults.TooDeep token) →
+        IsAllowed (kinds_of tokens.now) token too_deep }
 {
     unit_is_well_formed();
     well_formed_is_read();
     place_is_first();
     height_alone();
     syntax_is_allowed();
+    only_the_height();
     tokens.is_ended();
     let Ok(all) = lexemes(alloc, tokens) else {
         return Err(ParseFault::NoMemory);

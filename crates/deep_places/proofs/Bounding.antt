@@ -25,27 +25,18 @@ length_both (t ∷ b) c = let rest = length_both b c in omega arith
 -- nothing is taken
 pub bound_ends : {A : Type 0} (height : A → ℕ) (c room d : ℕ) (a : A) (s : HeldScopes) (ts : List Lexeme) → height a ≤ c → BoundAt
     height c room d ts (ends a s ts)
-bound_ends height c room d a s ts low = record { before = []; parts = refl; low = omega arith }
+bound_ends height c room d a s ts low = record { held = record { before = []; parts = refl; low = omega arith } }
 
 -- bounds that are no better
 pub bound_weaker : {A : Type 0} (height : A → ℕ) (c room d c2 room2 d2 : ℕ) (ts : List Lexeme) (r : Read A) → c ≤ c2 → room2 + d ≤
     room + d2 → BoundAt height c room d ts r → BoundAt height c2 room2 d2 ts r
-bound_weaker height c room d c2 room2 d2 ts (Ok x) more wide b = record {
-  before = b.before;
-  parts = b.parts;
-  low = let l = b.low in
-      omega arith;
+bound_weaker height c room d c2 room2 d2 ts (Ok x) more wide b =
+    record { held = record { before = b.held.before; parts = b.held.parts; low = let l = b.held.low in omega arith } }
+bound_weaker height c room d c2 room2 d2 ts (Err e) more wide b = record {
+  held = λ is.
+      let h = b.held is in
+      record { before = h.before; first = h.first; rest = h.rest; parts = h.parts; place = h.place; deep = let l = h.deep in omega arith };
 }
-bound_weaker height c room d c2 room2 d2 ts (Err e) more wide b =
-    λ is. let h = b is in record {
-      before = h.before;
-      first = h.first;
-      rest = h.rest;
-      parts = h.parts;
-      place = h.place;
-      deep = let l
-          = h.deep in omega arith;
-    }
 
 -- one reader behind another
 pub bound_bind : {A B : Type 0} (ha : A → ℕ) (height : B → ℕ) (ca c room d : ℕ) (ts : List Lexeme) (r : Read A) (f : Found A → Read
@@ -53,25 +44,32 @@ pub bound_bind : {A B : Type 0} (ha : A → ℕ) (height : B → ℕ) (ca c room
     ((x : Found A) (before : List Lexeme) → r ≡ done x → ha x.tree ≤ 8 * length before + ca → BoundAt height (8 * length before + c)
     room (8 * length before + d) x.rest (f x)) → BoundAt height c room d ts (and_then r f)
 unfolding and_then
-bound_bind ha height ca c room d ts (Err e) f b next = b
-bound_bind {A} {B} ha height ca c room d ts (Ok x) f b next = by_next (f x) (next x b.before refl b.low)
+bound_bind ha height ca c room d ts (Err e) f b next = record { held = b.held }
+bound_bind {A} {B} ha height ca c room d ts (Ok x) f b next = by_next (f x) (next x b.held.before refl b.held.low)
   where
-    by_next : (q : Read B) → BoundAt height (8 * length b.before + c) room (8 * length b.before + d) x.rest q → BoundAt height c room d ts q
+    by_next : (q : Read B) → BoundAt height (8 * length b.held.before + c) room (8 * length b.held.before + d) x.rest q → BoundAt
+        height c room d ts q
     by_next (Ok y) h = record {
-      before = b.before ++ h.before;
-      parts = b.parts ∙ ap (λ (k : List Lexeme). b.before ++ k) h.parts ∙ sym (append_assoc b.before h.before y.rest);
-      low = let l = h.low in let both = length_both b.before h.before in omega arith;
+      held = record {
+        before = b.held.before ++ h.held.before;
+        parts = b.held.parts ∙ ap (λ (k : List Lexeme). b.held.before ++ k) h.held.parts ∙ sym (append_assoc b.held.before
+            h.held.before y.rest);
+        low = let l = h.held.low in let both = length_both b.held.before h.held.before in omega arith;
+      };
     }
-    by_next (Err e) h = λ is.
-        let g = h is in
-        record {
-          before = b.before ++ g.before;
-          first = g.first;
-          rest = g.rest;
-          parts = b.parts ∙ ap (λ (k : List Lexeme). b.before ++ k) g.parts ∙ sym (append_assoc b.before g.before (g.first ∷ g.rest));
-          place = g.place;
-          deep = let l = g.deep in let both = length_both b.before g.before in omega arith;
-        }
+    by_next (Err e) h = record {
+      held = λ is.
+          let g = h.held is in
+          record {
+            before = b.held.before ++ g.before;
+            first = g.first;
+            rest = g.rest;
+            parts = b.held.parts ∙ ap (λ (k : List Lexeme). b.held.before ++ k) g.parts ∙ sym (append_assoc b.held.before g.before
+                (g.first ∷ g.rest));
+            place = g.place;
+            deep = let l = g.deep in let both = length_both b.held.before g.before in omega arith;
+          };
+    }
 
 -- a question for room, at a token
 pub bound_fits : {A : Type 0} (height : A → ℕ) (c room d least have : ℕ) (ts : List Lexeme) (r : Read A) → is_end (kind_at ts) ≡
@@ -94,7 +92,7 @@ bound_fits {A} height c room d least have ts r known deep g = by_room (nat_le le
 
     by_room : (b : Bool) → nat_le least have ≡ b → BoundAt height c room d ts (if b then r else refuses TooDeep ts)
     by_room true is = g (leb-true least have is)
-    by_room false is = λ e. refused ts known (leb-false least have is)
+    by_room false is = record { held = λ e. refused ts known (leb-false least have is) }
 
 pub bound_if : {A : Type 0} (height : A → ℕ) (c room d : ℕ) (ts : List Lexeme) (b : Bool) (one two : Read A) → (b ≡ true → BoundAt
     height c room d ts one) → (b ≡ false → BoundAt height c room d ts two) →
@@ -111,35 +109,33 @@ abbrev pub no_levels : {A : Type 0} → A → ℕ
 no_levels a = 0
 
 pub bound_take : (room d : ℕ) (s : HeldScopes) (ts : List Lexeme) → BoundAt token_levels 0 room d ts (take_one s ts)
-bound_take room d s [] = λ e. absurd cc
-bound_take room d s (t ∷ ts) = record { before = t ∷ []; parts = refl; low = omega arith }
+bound_take room d s [] = record { held = λ e. absurd cc }
+bound_take room d s (t ∷ ts) = record { held = record { before = t ∷ []; parts = refl; low = omega arith } }
 
 pub bound_token : (test : TokenKind → Bool) (room d : ℕ) (s : HeldScopes) (ts : List Lexeme) → BoundAt token_levels 0 room d ts
     (token_at test s ts)
-bound_token test room d s [] = λ e. absurd cc
+bound_token test room d s [] = record { held = λ e. absurd cc }
 bound_token test room d s (t ∷ ts) =
     bound_if token_levels 0 room d (t ∷ ts) (test t.kind) (ends t.at s ts) (refuses Unexpected (t ∷ ts)) (λ is. record {
-      before = t
-          ∷ [];
-      parts = refl;
-      low = omega arith;
-    }) (λ is e. absurd cc)
+      held =
+          record { before = t ∷ []; parts = refl; low = omega arith };
+    }) (λ is. record { held = λ e. absurd cc })
 
 pub bound_name : (room d : ℕ) (s : HeldScopes) (ts : List Lexeme) → BoundAt token_levels 0 room d ts (name_at s ts)
-bound_name room d s [] = λ e. absurd cc
+bound_name room d s [] = record { held = λ e. absurd cc }
 bound_name room d s (t ∷ ts) = by_name (spelled_name t.kind)
   where
     by_name : (o : Option ℕ) → BoundAt token_levels 0 room d (t ∷ ts) (name_by o t s ts)
-    by_name None = λ e. absurd cc
-    by_name (Some name) = record { before = t ∷ []; parts = refl; low = omega arith }
+    by_name None = record { held = λ e. absurd cc }
+    by_name (Some name) = record { held = record { before = t ∷ []; parts = refl; low = omega arith } }
 
 pub bound_tag : (room d : ℕ) (s : HeldScopes) (ts : List Lexeme) → BoundAt no_levels 0 room d ts (tag_at s ts)
-bound_tag room d s [] = record { before = []; parts = refl; low = omega arith }
+bound_tag room d s [] = record { held = record { before = []; parts = refl; low = omega arith } }
 bound_tag room d s (t ∷ ts) = by_name (spelled_name t.kind)
   where
     by_name : (o : Option ℕ) → BoundAt no_levels 0 room d (t ∷ ts) (tag_by o t s ts)
-    by_name None = record { before = []; parts = refl; low = omega arith }
-    by_name (Some name) = record { before = t ∷ []; parts = refl; low = omega arith }
+    by_name None = record { held = record { before = []; parts = refl; low = omega arith } }
+    by_name (Some name) = record { held = record { before = t ∷ []; parts = refl; low = omega arith } }
 
 -- Loops: a state that is low for what was taken before stays so.
 module _ {S : Type 0} (turn : Turn S) (shrinks : TurnShrinks turn) (height : S → ℕ) (room more floor : ℕ)
@@ -203,22 +199,28 @@ bound_repeated {T} begins read height c room d shrinks less item s ts =
 -- with one token more before it
 pub bound_front : {A : Type 0} (height : A → ℕ) (c room d : ℕ) (t : Lexeme) (ts : List Lexeme) (r : Read A) → BoundAt height c room
     d ts r → BoundAt height c room d (t ∷ ts) r
-bound_front height c room d t ts (Ok x) b = record {
-  before = t ∷ b.before;
-  parts = ap (λ (k : List Lexeme). t ∷ k) b.parts;
-  low =
-      let l = b.low in omega arith;
-}
-bound_front height c room d t ts (Err e) b =
-    λ is. let h = b is in record {
-      before = t ∷ h.before;
-      first = h.first;
-      rest = h.rest;
-      parts = ap (λ (k : List Lexeme). t ∷ k)
-          h.parts;
-      place = h.place;
-      deep = let l = h.deep in omega arith;
+bound_front height c room d t ts (Ok x) b =
+    record {
+      held = record {
+        before = t ∷ b.held.before;
+        parts = ap (λ (k : List Lexeme). t ∷ k) b.held.parts;
+        low = let l =
+            b.held.low in omega arith;
+      };
     }
+bound_front height c room d t ts (Err e) b = record {
+  held = λ is.
+      let h = b.held is in
+      record {
+        before = t ∷ h.before;
+        first = h.first;
+        rest = h.rest;
+        parts = ap (λ (k : List Lexeme). t ∷ k) h.parts;
+        place =
+            h.place;
+        deep = let l = h.deep in omega arith;
+      };
+}
 
 abbrev pub next_height : {T E : Type 0} → (T → ℕ) → Next T E → ℕ
 next_height height (one_more x) = height x
@@ -326,20 +328,20 @@ bound_count {T} begins read room d shrinks item s ts =
 
 pub bound_without : {A : Type 0} (height : A → ℕ) (c room d : ℕ) (tag : Option Identifier) (a : A) (s : HeldScopes) (ts : List
     Lexeme) → height a ≤ c → BoundAt height c room d ts (without_body tag a s ts)
-bound_without height c room d None a s ts low = λ e. absurd cc
+bound_without height c room d None a s ts low = record { held = λ e. absurd cc }
 bound_without height c room d (Some tag) a s ts low = bound_ends height c room d a s ts low
 
 pub bound_declared : {A : Type 0} (height : A → ℕ) (c room d : ℕ) (a : A) (o : Option HeldScopes) (ts : List Lexeme) → height a ≤ c
     → BoundAt height c room d ts (declared a o ts)
-bound_declared height c room d a None ts low = λ e. absurd cc
+bound_declared height c room d a None ts low = record { held = λ e. absurd cc }
 bound_declared height c room d a (Some s) ts low = bound_ends height c room d a s ts low
 
 -- rows of one token each are never too deep
 pub bound_made : {A : Type 0} (of : TokenKind → Option (ℕ → A)) (room : ℕ) (s : HeldScopes) (ts : List Lexeme) → BoundAt no_levels 0
     room 0 ts (made_at of s ts)
-bound_made of room s [] = λ e. absurd cc
+bound_made of room s [] = record { held = λ e. absurd cc }
 bound_made {A} of room s (t ∷ ts) = by_made (of t.kind)
   where
     by_made : (o : Option (ℕ → A)) → BoundAt no_levels 0 room 0 (t ∷ ts) (made_by o t s ts)
-    by_made None = λ e. absurd cc
-    by_made (Some make) = record { before = t ∷ []; parts = refl; low = omega arith }
+    by_made None = record { held = λ e. absurd cc }
+    by_made (Some make) = record { held = record { before = t ∷ []; parts = refl; low = omega arith } }

@@ -2,10 +2,9 @@
 use Rattle.std.proofs.Common.{◌≡◌, ℕ, suc, ◌+◌, ◌≤◌, Bool, true, false, if◌then◌else◌, List, [], ◌∷◌, length, Some, None, refl, arith}
 use Rattle.std.specs.Prelude.{◌*◌, ◌-◌, max, nat_le}
 use Rattle.c_words.specs.declared.kinds.Punct.{Punct}
-use Rattle.c_words.specs.declared.kinds.Punct.TheVariants as puncts
 use Rattle.c_words.specs.declared.kinds.Keyword.{Keyword}
 use Rattle.c_syntax.specs.declared.parts.Word.{Word}
-use Rattle.c_tree.specs.Tree.{Expr, cast, prefix, sizeof_value, sizeof_type, extension, index, call, dot, arrow, post, compound, name_use, number_use, char_use, text_use, paren, statement_expr, va_arg, va_start, va_copy, offset, Operator, comma, assign, cond, binary, no_expr, some_expr, no_exprs, Desig, member_desig, index_desig, operation}
+use Rattle.c_tree.specs.Tree.{Expr, sizeof_value, sizeof_type, compound, name_use, number_use, char_use, text_use, paren, statement_expr, va_arg, va_start, va_copy, offset, Operator, comma, assign, cond, binary, no_expr, some_expr, no_exprs, Desig, member_desig, index_desig, operation}
 use Rattle.c_tree.specs.Height.{expr_height, exprs_height, init_list_height, operator_height, some_expr_height, step_height, steps_height}
 use Rattle.c_tree.specs.Levels.{binary_level, expr_level, right_level}
 use Rattle.c_ops.specs.Joining.{Stack, bottom, above, Settled, settle_of, finished}
@@ -20,11 +19,11 @@ use Rattle.c_reading.specs.declared.kinds.PostfixForm.{PostfixForm}
 use Rattle.c_reading.specs.declared.kinds.PostfixForm.TheVariants as forms
 use Rattle.c_reading.specs.declared.kinds.Infix.{Infix}
 use Rattle.c_reading.specs.declared.kinds.Infix.TheVariants as infixes
-use Rattle.c_reading.specs.Reading.{Read, ends, refuses, fits, kind_at, behind_first, take_one, token_at, run, repeated, listed, one_more, IsNumbered, and_then}
-use Rattle.c_reading.specs.Tokens.{is_open_paren, is_close_paren, is_close_bracket, is_open_brace, is_colon, is_comma, word_of, name_at, texts_at, is_end}
+use Rattle.c_reading.specs.Reading.{Read, ends, refuses, fits, kind_at, behind_first, take_one, token_at, run, listed, IsNumbered, and_then}
+use Rattle.c_reading.specs.Tokens.{is_open_paren, is_close_paren, is_close_bracket, is_open_brace, is_colon, is_comma, word_of, name_at, is_end}
 use Rattle.c_reading.specs.Specifying.{begins_specs}
 use Rattle.c_reading.specs.Parts.{Inner, Begun, nothing, extensions, star, TypeName, type_name_height, exprs_from, desigs_from}
-use Rattle.c_reading.specs.Expressing.{infix_of, opening_of, form_of, takes_comma, takes_assign, is_dot, begins_desig, how_many, settled, depth_of, with_operand, extended, next_argument, arguments_with, index_with, call_with, dot_with, arrow_with, post_with, postfix_by, lowered, postfix_turn, postfixed, primary_with, text_with, compound_with, cast_behind, typed_behind, typed_with, statement_with, paren_with, opened_by, opened_with, prefix_with, extension_with, sizeof_value_with, sizeof_typed, sizeof_type_with, sizeof_behind, sizeof_with, va_arg_with, va_two_with, step_with, offset_with, name_with, unary_by, unary_with, cast_with, operand_with, operation_with, middle_with, question_with, operation_by, operation_turn, row_with, expr_with, Row}
+use Rattle.c_reading.specs.Expressing.{infix_of, opening_of, form_of, takes_comma, takes_assign, is_dot, begins_desig, how_many, settled, depth_of, with_operand, next_argument, arguments_with, index_with, call_with, dot_with, arrow_with, post_with, postfix_by, lowered, postfix_turn, postfixed, primary_with, text_with, compound_with, cast_behind, typed_behind, typed_with, statement_with, paren_with, opened_by, opened_with, prefix_with, extension_with, sizeof_value_with, sizeof_typed, sizeof_type_with, sizeof_behind, sizeof_with, va_arg_with, va_two_with, step_with, offset_with, name_with, unary_by, unary_with, cast_with, operand_with, operation_with, middle_with, question_with, operation_by, operation_turn, row_with, expr_with, Row}
 use Rattle.c_reading.proofs.Aims.{TokenLaws, Laws}
 use Rattle.deep_places.proofs.Words.{b_texts_at}
 use Rattle.c_reading.proofs.ExprFalls.{next_argument_falls, postfix_turn_shrinks, step_shrinks, operation_turn_shrinks}
@@ -79,103 +78,61 @@ module _ (all : List Lexeme) (numbered : IsNumbered all) (tokens : TokenLaws all
       room (11) ts (next_argument inner room token s ts)
   unfolding next_argument
   b_next_argument room token s ts =
-      bound_bind expr_height (next_height {E = ⊥} expr_height) (1 + begun_levels nothing) (1) room (11) ts (inner.expr Assigned
-      nothing (room - 1) s ts) (λ e. (ends (one_more e.tree) e.scopes e.rest)) (bound_weaker expr_height (1 + begun_levels
-      nothing) (room - 1) (10 + begun_levels nothing) (1 + begun_levels nothing) room (11) ts (inner.expr Assigned nothing (room
-      - 1) s ts) (omega arith) (omega arith) (good.expr Assigned nothing (room - 1) s ts)) (λ e b16 e17 l18. bound_ends
-      (next_height {E = ⊥} expr_height) (8 * length b16 + (1)) room (8 * length b16 + (11)) (one_more e.tree) e.scopes e.rest
-      (omega arith))
+      bound_bind expr_height _ (1 + begun_levels nothing) _ _ _ _ _ _ (bound_weaker _ (1 + begun_levels nothing) (room - 1) (10 +
+      begun_levels nothing) _ _ _ _ _ (omega arith) (omega arith) (good.expr Assigned nothing (room - 1) _ _)) (λ e b16 e17 l18.
+      bound_ends _ _ _ _ _ _ _ (omega arith))
 
   pub b_arguments_with : (room : ℕ) (s : HeldScopes) (ts : List Lexeme) → BoundAt exprs_height (1) room (11) ts (arguments_with
       inner room s ts)
   unfolding arguments_with
   b_arguments_with room s ts =
-      bound_if exprs_height (1) room (11) ts (is_close_paren (kind_at ts)) (ends no_exprs s ts) (and_then (listed (inner.expr
-      Assigned nothing (room - 1)) (next_argument inner room) s ts) (λ es. (ends (exprs_from es.tree.items) es.scopes es.rest)))
-      (λ is19. bound_ends exprs_height (1) room (11) no_exprs s ts (omega arith)) (λ is19. bound_bind (list_height {E = ⊥}
-      (expr_height)) exprs_height (1) (1) room (11) ts (listed (inner.expr Assigned nothing (room - 1)) (next_argument inner
-      room) s ts) (λ es. (ends (exprs_from es.tree.items) es.scopes es.rest)) (bound_weaker (list_height {E = ⊥} (expr_height))
-      (1) room (11) (1) room (11) ts (listed (inner.expr Assigned nothing (room - 1)) (next_argument inner room) s ts) (omega
-      arith) (omega arith) (bound_listed (inner.expr Assigned nothing (room - 1)) (next_argument inner room) (expr_height) (1)
-      room (11) ((λ comma. next_argument_falls all tokens n inner laws room comma)) (omega arith) s ts (bound_weaker expr_height
-      (1 + begun_levels nothing) (room - 1) (10 + begun_levels nothing) (1) room (11) ts (inner.expr Assigned nothing (room - 1)
-      s ts) (omega arith) (omega arith) (good.expr Assigned nothing (room - 1) s ts)) (λ comma s9 ts9. bound_weaker (next_height
-      {E = ⊥} expr_height) (1) room (11) (1) room (11) ts9 (next_argument inner room comma s9 ts9) (omega arith) (omega arith)
-      (b_next_argument room comma s9 ts9)))) (λ es b20 e21 l22. bound_ends exprs_height (8 * length b20 + (1)) room (8 * length
-      b20 + (11)) (exprs_from es.tree.items) es.scopes es.rest (let f23 = low_exprs es.tree.items in omega arith)))
+      bound_if _ _ _ _ _ (is_close_paren (kind_at ts)) (ends no_exprs s ts) (and_then (listed (inner.expr Assigned nothing (room -
+      1)) (next_argument inner room) s ts) (λ es. (ends (exprs_from es.tree.items) es.scopes es.rest))) (λ is19. bound_ends _ _
+      _ _ _ _ _ (omega arith)) (λ is19. bound_bind (list_height {E = ⊥} (expr_height)) _ (1) _ _ _ _ _ _ (bound_weaker _ (1)
+      room (11) _ _ _ _ _ (omega arith) (omega arith) (bound_listed (inner.expr Assigned nothing (room - 1)) (next_argument
+      inner room) (expr_height) (1) room (11) ((λ comma. next_argument_falls all tokens n inner laws room comma)) (omega arith)
+      s ts (bound_weaker _ (1 + begun_levels nothing) (room - 1) (10 + begun_levels nothing) _ _ _ _ _ (omega arith) (omega
+      arith) (good.expr Assigned nothing (room - 1) _ _)) (λ comma s9 ts9. bound_weaker _ (1) room (11) _ _ _ _ _ (omega arith)
+      (omega arith) (b_next_argument room comma _ _)))) (λ es b20 e21 l22. bound_ends _ _ _ _ _ _ _ (let f23 = low_exprs
+      es.tree.items in omega arith)))
 
   pub b_index_with : (base : Expr) (room : ℕ) (s : HeldScopes) (ts : List Lexeme) → BoundAt expr_height (expr_height base) room
       (expr_height base + 10) ts (index_with inner base room s ts)
   unfolding index_with
   b_index_with base room s ts =
-      bound_bind token_levels expr_height (0) (expr_height base) room (expr_height base + 10) ts (take_one s ts) (λ opening.
-      (and_then (inner.expr Whole nothing (room - 1) opening.scopes opening.rest) (λ e. (and_then (token_at is_close_bracket
-      e.scopes e.rest) (λ closing. (ends (index base opening.tree e.tree closing.tree) closing.scopes closing.rest))))))
-      (bound_take room (expr_height base + 10) s ts) (λ opening b24 e25 l26. bound_bind expr_height expr_height (1 +
-      begun_levels nothing) (8 * length b24 + (expr_height base)) room (8 * length b24 + (expr_height base + 10)) opening.rest
-      (inner.expr Whole nothing (room - 1) opening.scopes opening.rest) (λ e. (and_then (token_at is_close_bracket e.scopes
-      e.rest) (λ closing. (ends (index base opening.tree e.tree closing.tree) closing.scopes closing.rest)))) (bound_weaker
-      expr_height (1 + begun_levels nothing) (room - 1) (10 + begun_levels nothing) (1 + begun_levels nothing) room (8 * length
-      b24 + (expr_height base + 10)) opening.rest (inner.expr Whole nothing (room - 1) opening.scopes opening.rest) (omega
-      arith) (omega arith) (good.expr Whole nothing (room - 1) opening.scopes opening.rest)) (λ e b27 e28 l29. bound_bind
-      token_levels expr_height (0) (8 * length b27 + (8 * length b24 + (expr_height base))) room (8 * length b27 + (8 * length
-      b24 + (expr_height base + 10))) e.rest (token_at is_close_bracket e.scopes e.rest) (λ closing. (ends (index base
-      opening.tree e.tree closing.tree) closing.scopes closing.rest)) (bound_token is_close_bracket room (8 * length b27 + (8 *
-      length b24 + (expr_height base + 10))) e.scopes e.rest) (λ closing b30 e31 l32. bound_ends expr_height (8 * length b30 +
-      (8 * length b27 + (8 * length b24 + (expr_height base)))) room (8 * length b30 + (8 * length b27 + (8 * length b24 +
-      (expr_height base + 10)))) (index base opening.tree e.tree closing.tree) closing.scopes closing.rest (omega arith))))
+      bound_bind token_levels _ (0) _ _ _ _ _ _ (bound_take _ _ _ _) (λ opening b24 e25 l26. bound_bind expr_height _ (1 +
+      begun_levels nothing) _ _ _ _ _ _ (bound_weaker _ (1 + begun_levels nothing) (room - 1) (10 + begun_levels nothing) _ _ _
+      _ _ (omega arith) (omega arith) (good.expr Whole nothing (room - 1) _ _)) (λ e b27 e28 l29. bound_bind token_levels _ (0)
+      _ _ _ _ _ _ (bound_token is_close_bracket _ _ _ _) (λ closing b30 e31 l32. bound_ends _ _ _ _ _ _ _ (omega arith))))
 
   pub b_call_with : (callee : Expr) (room : ℕ) (s : HeldScopes) (ts : List Lexeme) → BoundAt expr_height (expr_height callee) room
       (expr_height callee + 10) ts (call_with inner callee room s ts)
   unfolding call_with
   b_call_with callee room s ts =
-      bound_bind token_levels expr_height (0) (expr_height callee) room (expr_height callee + 10) ts (take_one s ts) (λ opening.
-      (and_then (arguments_with inner room opening.scopes opening.rest) (λ es. (and_then (token_at is_close_paren es.scopes
-      es.rest) (λ closing. (ends (call callee opening.tree es.tree closing.tree) closing.scopes closing.rest)))))) (bound_take
-      room (expr_height callee + 10) s ts) (λ opening b33 e34 l35. bound_bind exprs_height expr_height (1) (8 * length b33 +
-      (expr_height callee)) room (8 * length b33 + (expr_height callee + 10)) opening.rest (arguments_with inner room
-      opening.scopes opening.rest) (λ es. (and_then (token_at is_close_paren es.scopes es.rest) (λ closing. (ends (call callee
-      opening.tree es.tree closing.tree) closing.scopes closing.rest)))) (bound_weaker exprs_height (1) room (11) (1) room (8 *
-      length b33 + (expr_height callee + 10)) opening.rest (arguments_with inner room opening.scopes opening.rest) (omega arith)
-      (omega arith) (b_arguments_with room opening.scopes opening.rest)) (λ es b36 e37 l38. bound_bind token_levels expr_height
-      (0) (8 * length b36 + (8 * length b33 + (expr_height callee))) room (8 * length b36 + (8 * length b33 + (expr_height
-      callee + 10))) es.rest (token_at is_close_paren es.scopes es.rest) (λ closing. (ends (call callee opening.tree es.tree
-      closing.tree) closing.scopes closing.rest)) (bound_token is_close_paren room (8 * length b36 + (8 * length b33 +
-      (expr_height callee + 10))) es.scopes es.rest) (λ closing b39 e40 l41. bound_ends expr_height (8 * length b39 + (8 *
-      length b36 + (8 * length b33 + (expr_height callee)))) room (8 * length b39 + (8 * length b36 + (8 * length b33 +
-      (expr_height callee + 10)))) (call callee opening.tree es.tree closing.tree) closing.scopes closing.rest (omega arith))))
+      bound_bind token_levels _ (0) _ _ _ _ _ _ (bound_take _ _ _ _) (λ opening b33 e34 l35. bound_bind exprs_height _ (1) _ _ _ _ _
+      _ (bound_weaker _ (1) room (11) _ _ _ _ _ (omega arith) (omega arith) (b_arguments_with room _ _)) (λ es b36 e37 l38.
+      bound_bind token_levels _ (0) _ _ _ _ _ _ (bound_token is_close_paren _ _ _ _) (λ closing b39 e40 l41. bound_ends _ _ _ _
+      _ _ _ (omega arith))))
 
   pub b_dot_with : (room : ℕ) (base : Expr) (s : HeldScopes) (ts : List Lexeme) → BoundAt expr_height (expr_height base) room (0) ts
       (dot_with inner base s ts)
   unfolding dot_with
   b_dot_with room base s ts =
-      bound_bind token_levels expr_height (0) (expr_height base) room (0) ts (take_one s ts) (λ token. (and_then (name_at
-      token.scopes token.rest) (λ name. (ends (dot base token.tree name.tree) name.scopes name.rest)))) (bound_take room (0) s
-      ts) (λ token b42 e43 l44. bound_bind token_levels expr_height (0) (8 * length b42 + (expr_height base)) room (8 * length
-      b42 + (0)) token.rest (name_at token.scopes token.rest) (λ name. (ends (dot base token.tree name.tree) name.scopes
-      name.rest)) (bound_name room (8 * length b42 + (0)) token.scopes token.rest) (λ name b45 e46 l47. bound_ends expr_height
-      (8 * length b45 + (8 * length b42 + (expr_height base))) room (8 * length b45 + (8 * length b42 + (0))) (dot base
-      token.tree name.tree) name.scopes name.rest (omega arith)))
+      bound_bind token_levels _ (0) _ _ _ _ _ _ (bound_take _ _ _ _) (λ token b42 e43 l44. bound_bind token_levels _ (0) _ _ _ _ _ _
+      (bound_name _ _ _ _) (λ name b45 e46 l47. bound_ends _ _ _ _ _ _ _ (omega arith)))
 
   pub b_arrow_with : (room : ℕ) (base : Expr) (s : HeldScopes) (ts : List Lexeme) → BoundAt expr_height (expr_height base) room (0)
       ts (arrow_with inner base s ts)
   unfolding arrow_with
   b_arrow_with room base s ts =
-      bound_bind token_levels expr_height (0) (expr_height base) room (0) ts (take_one s ts) (λ token. (and_then (name_at
-      token.scopes token.rest) (λ name. (ends (arrow base token.tree name.tree) name.scopes name.rest)))) (bound_take room (0) s
-      ts) (λ token b48 e49 l50. bound_bind token_levels expr_height (0) (8 * length b48 + (expr_height base)) room (8 * length
-      b48 + (0)) token.rest (name_at token.scopes token.rest) (λ name. (ends (arrow base token.tree name.tree) name.scopes
-      name.rest)) (bound_name room (8 * length b48 + (0)) token.scopes token.rest) (λ name b51 e52 l53. bound_ends expr_height
-      (8 * length b51 + (8 * length b48 + (expr_height base))) room (8 * length b51 + (8 * length b48 + (0))) (arrow base
-      token.tree name.tree) name.scopes name.rest (omega arith)))
+      bound_bind token_levels _ (0) _ _ _ _ _ _ (bound_take _ _ _ _) (λ token b48 e49 l50. bound_bind token_levels _ (0) _ _ _ _ _ _
+      (bound_name _ _ _ _) (λ name b51 e52 l53. bound_ends _ _ _ _ _ _ _ (omega arith)))
 
   pub b_post_with : (room : ℕ) (base : Expr) (p : Punct) (s : HeldScopes) (ts : List Lexeme) → BoundAt expr_height (expr_height
       base) room (0) ts (post_with inner base p s ts)
   unfolding post_with
   b_post_with room base p s ts =
-      bound_bind token_levels expr_height (0) (expr_height base) room (0) ts (take_one s ts) (λ token. (ends (post base token.tree
-      p) token.scopes token.rest)) (bound_take room (0) s ts) (λ token b54 e55 l56. bound_ends expr_height (8 * length b54 +
-      (expr_height base)) room (8 * length b54 + (0)) (post base token.tree p) token.scopes token.rest (omega arith))
+      bound_bind token_levels _ (0) _ _ _ _ _ _ (bound_take _ _ _ _) (λ token b54 e55 l56. bound_ends _ _ _ _ _ _ _ (omega arith))
 
   postfix_step : (room : ℕ) (e : Expr) (s : HeldScopes) (ts : List Lexeme) (c : ℕ) → 0 ≤ c → expr_height e ≤ c → StepAt expr_height
       c room (c + 10) ts (postfix_turn inner room e s ts)
@@ -210,557 +167,302 @@ module _ (all : List Lexeme) (numbered : IsNumbered all) (tokens : TokenLaws all
   pub b_primary_with : (make : (ℕ → Expr)) (room : ℕ) (s : HeldScopes) (ts : List Lexeme) → is_end (kind_at ts) ≡ false → ((token :
       ℕ) → expr_height (make token) ≤ 1) → BoundAt expr_height (1) room (10) ts (primary_with inner make room s ts)
   b_primary_with make room s ts known low =
-      bound_fits expr_height (1) room (10) 1 room ts (and_then (take_one s ts) (λ token. (postfixed inner room (make token.tree)
-      token.scopes token.rest))) (known) (λ less57. omega arith) (λ less57. bound_bind token_levels expr_height (0) (1) room
-      (10) ts (take_one s ts) (λ token. (postfixed inner room (make token.tree) token.scopes token.rest)) (bound_take room (10)
-      s ts) (λ token b58 e59 l60. let f61 = low token.tree in bound_weaker expr_height (expr_height (make token.tree)) room
-      (expr_height (make token.tree) + 10) (8 * length b58 + (1)) room (8 * length b58 + (10)) token.rest (postfixed inner room
-      (make token.tree) token.scopes token.rest) (omega arith) (omega arith) (b_postfixed room (make token.tree) token.scopes
-      token.rest)))
+      bound_fits _ _ _ _ _ _ _ _ (known) (λ less57. omega arith) (λ less57. bound_bind token_levels _ (0) _ _ _ _ _ _ (bound_take _
+      _ _ _) (λ token b58 e59 l60. let f61 = low token.tree in bound_weaker _ (expr_height (make token.tree)) room (expr_height
+      (make token.tree) + 10) _ _ _ _ _ (omega arith) (omega arith) (b_postfixed room (make token.tree) _ _)))
 
   pub b_text_with : (room : ℕ) (s : HeldScopes) (ts : List Lexeme) → is_end (kind_at ts) ≡ false → BoundAt expr_height (1) room (10)
       ts (text_with inner room s ts)
   unfolding text_with
   b_text_with room s ts known =
-      bound_fits expr_height (1) room (10) 1 room ts (and_then (take_one s ts) (λ token. (and_then (texts_at token.scopes
-      token.rest) (λ texts. (postfixed inner room (text_use (token.tree ∷ texts.tree)) texts.scopes texts.rest))))) (known) (λ
-      less62. omega arith) (λ less62. bound_bind token_levels expr_height (0) (1) room (10) ts (take_one s ts) (λ token.
-      (and_then (texts_at token.scopes token.rest) (λ texts. (postfixed inner room (text_use (token.tree ∷ texts.tree))
-      texts.scopes texts.rest)))) (bound_take room (10) s ts) (λ token b63 e64 l65. bound_bind no_levels expr_height (0) (8 *
-      length b63 + (1)) room (8 * length b63 + (10)) token.rest (texts_at token.scopes token.rest) (λ texts. (postfixed inner
-      room (text_use (token.tree ∷ texts.tree)) texts.scopes texts.rest)) (bound_weaker no_levels (0) room (0) (0) room (8 *
-      length b63 + (10)) token.rest (texts_at token.scopes token.rest) (omega arith) (omega arith) (b_texts_at room token.scopes
-      token.rest)) (λ texts b66 e67 l68. bound_weaker expr_height (expr_height (text_use (token.tree ∷ texts.tree))) room
-      (expr_height (text_use (token.tree ∷ texts.tree)) + 10) (8 * length b66 + (8 * length b63 + (1))) room (8 * length b66 +
-      (8 * length b63 + (10))) texts.rest (postfixed inner room (text_use (token.tree ∷ texts.tree)) texts.scopes texts.rest)
-      (omega arith) (omega arith) (b_postfixed room (text_use (token.tree ∷ texts.tree)) texts.scopes texts.rest))))
+      bound_fits _ _ _ _ _ _ _ _ (known) (λ less62. omega arith) (λ less62. bound_bind token_levels _ (0) _ _ _ _ _ _ (bound_take _
+      _ _ _) (λ token b63 e64 l65. bound_bind no_levels _ (0) _ _ _ _ _ _ (bound_weaker _ (0) room (0) _ _ _ _ _ (omega arith)
+      (omega arith) (b_texts_at room _ _)) (λ texts b66 e67 l68. bound_weaker _ (expr_height (text_use (token.tree ∷
+      texts.tree))) room (expr_height (text_use (token.tree ∷ texts.tree)) + 10) _ _ _ _ _ (omega arith) (omega arith)
+      (b_postfixed room (text_use (token.tree ∷ texts.tree)) _ _))))
 
   pub b_compound_with : (opening : ℕ) (t : TypeName) (closing : ℕ) (room : ℕ) (s : HeldScopes) (ts : List Lexeme) → BoundAt
       expr_height (type_name_height t + 2) room (type_name_height t + 12) ts (compound_with inner opening t closing room s ts)
   unfolding compound_with
   b_compound_with opening t closing room s ts =
-      bound_bind init_list_height expr_height (1) (type_name_height t + 2) room (type_name_height t + 12) ts (inner.init_list (room
-      - 1) s ts) (λ list. (postfixed inner room (compound opening t.words t.declr closing list.tree) list.scopes list.rest))
-      (bound_weaker init_list_height (1) (room - 1) (10) (1) room (type_name_height t + 12) ts (inner.init_list (room - 1) s ts)
-      (omega arith) (omega arith) (good.init_list (room - 1) s ts)) (λ list b69 e70 l71. bound_weaker expr_height (expr_height
-      (compound opening t.words t.declr closing list.tree)) room (expr_height (compound opening t.words t.declr closing
-      list.tree) + 10) (8 * length b69 + (type_name_height t + 2)) room (8 * length b69 + (type_name_height t + 12)) list.rest
-      (postfixed inner room (compound opening t.words t.declr closing list.tree) list.scopes list.rest) (omega arith) (omega
-      arith) (b_postfixed room (compound opening t.words t.declr closing list.tree) list.scopes list.rest))
+      bound_bind init_list_height _ (1) _ _ _ _ _ _ (bound_weaker _ (1) (room - 1) (10) _ _ _ _ _ (omega arith) (omega arith)
+      (good.init_list (room - 1) _ _)) (λ list b69 e70 l71. bound_weaker _ (expr_height (compound opening t.words t.declr
+      closing list.tree)) room (expr_height (compound opening t.words t.declr closing list.tree) + 10) _ _ _ _ _ (omega arith)
+      (omega arith) (b_postfixed room (compound opening t.words t.declr closing list.tree) _ _))
 
   pub b_cast_behind : (opening : ℕ) (t : TypeName) (closing : ℕ) (room : ℕ) (s : HeldScopes) (ts : List Lexeme) → BoundAt
       expr_height (type_name_height t + 2) room (type_name_height t + 12) ts (cast_behind inner opening t closing room s ts)
   unfolding cast_behind
   b_cast_behind opening t closing room s ts =
-      bound_bind expr_height expr_height (1 + begun_levels nothing) (type_name_height t + 2) room (type_name_height t + 12) ts
-      (inner.expr Castable nothing (room - 1) s ts) (λ e. (ends (cast opening t.words t.declr closing e.tree) e.scopes e.rest))
-      (bound_weaker expr_height (1 + begun_levels nothing) (room - 1) (10 + begun_levels nothing) (1 + begun_levels nothing)
-      room (type_name_height t + 12) ts (inner.expr Castable nothing (room - 1) s ts) (omega arith) (omega arith) (good.expr
-      Castable nothing (room - 1) s ts)) (λ e b72 e73 l74. bound_ends expr_height (8 * length b72 + (type_name_height t + 2))
-      room (8 * length b72 + (type_name_height t + 12)) (cast opening t.words t.declr closing e.tree) e.scopes e.rest (omega
-      arith))
+      bound_bind expr_height _ (1 + begun_levels nothing) _ _ _ _ _ _ (bound_weaker _ (1 + begun_levels nothing) (room - 1) (10 +
+      begun_levels nothing) _ _ _ _ _ (omega arith) (omega arith) (good.expr Castable nothing (room - 1) _ _)) (λ e b72 e73 l74.
+      bound_ends _ _ _ _ _ _ _ (omega arith))
 
   pub b_typed_behind : (casts : Bool) (opening : ℕ) (t : TypeName) (closing : ℕ) (room : ℕ) (s : HeldScopes) (ts : List Lexeme) →
       BoundAt expr_height (type_name_height t + 2) room (type_name_height t + 12) ts (typed_behind inner casts opening t closing
       room s ts)
   unfolding typed_behind
   b_typed_behind casts opening t closing room s ts =
-      bound_if expr_height (type_name_height t + 2) room (type_name_height t + 12) ts (is_open_brace (kind_at ts)) (compound_with
-      inner opening t closing room s ts) (if casts then (cast_behind inner opening t closing room s ts) else (refuses Unexpected
-      ts)) (λ is75. bound_weaker expr_height (type_name_height t + 2) room (type_name_height t + 12) (type_name_height t + 2)
-      room (type_name_height t + 12) ts (compound_with inner opening t closing room s ts) (omega arith) (omega arith)
-      (b_compound_with opening t closing room s ts)) (λ is75. bound_if expr_height (type_name_height t + 2) room
-      (type_name_height t + 12) ts (casts) (cast_behind inner opening t closing room s ts) (refuses Unexpected ts) (λ is76.
-      bound_weaker expr_height (type_name_height t + 2) room (type_name_height t + 12) (type_name_height t + 2) room
-      (type_name_height t + 12) ts (cast_behind inner opening t closing room s ts) (omega arith) (omega arith) (b_cast_behind
-      opening t closing room s ts)) (λ is76. λ e9. absurd cc))
+      bound_if _ _ _ _ _ (is_open_brace (kind_at ts)) (compound_with inner opening t closing room s ts) (if casts then (cast_behind
+      inner opening t closing room s ts) else (refuses Unexpected ts)) (λ is75. bound_weaker _ (type_name_height t + 2) room
+      (type_name_height t + 12) _ _ _ _ _ (omega arith) (omega arith) (b_compound_with opening t closing room _ _)) (λ is75.
+      bound_if _ _ _ _ _ (casts) (cast_behind inner opening t closing room s ts) (refuses Unexpected ts) (λ is76. bound_weaker _
+      (type_name_height t + 2) room (type_name_height t + 12) _ _ _ _ _ (omega arith) (omega arith) (b_cast_behind opening t
+      closing room _ _)) (λ is76. record { held = λ e. absurd cc }))
 
   pub b_typed_with : (casts : Bool) (opening : ℕ) (room : ℕ) (s : HeldScopes) (ts : List Lexeme) → BoundAt expr_height (2) room (14)
       ts (typed_with inner casts opening room s ts)
   unfolding typed_with
   b_typed_with casts opening room s ts =
-      bound_bind type_name_height expr_height (2) (2) room (14) ts (inner.type_name (room - 1) s ts) (λ t. (and_then (token_at
-      is_close_paren t.scopes t.rest) (λ closing. (typed_behind inner casts opening t.tree closing.tree room closing.scopes
-      closing.rest)))) (bound_weaker type_name_height (2) (room - 1) (12) (2) room (14) ts (inner.type_name (room - 1) s ts)
-      (omega arith) (omega arith) (good.type_name (room - 1) s ts)) (λ t b77 e78 l79. bound_bind token_levels expr_height (0) (8
-      * length b77 + (2)) room (8 * length b77 + (14)) t.rest (token_at is_close_paren t.scopes t.rest) (λ closing.
-      (typed_behind inner casts opening t.tree closing.tree room closing.scopes closing.rest)) (bound_token is_close_paren room
-      (8 * length b77 + (14)) t.scopes t.rest) (λ closing b80 e81 l82. bound_weaker expr_height (type_name_height t.tree + 2)
-      room (type_name_height t.tree + 12) (8 * length b80 + (8 * length b77 + (2))) room (8 * length b80 + (8 * length b77 +
-      (14))) closing.rest (typed_behind inner casts opening t.tree closing.tree room closing.scopes closing.rest) (omega arith)
-      (omega arith) (b_typed_behind casts opening t.tree closing.tree room closing.scopes closing.rest)))
+      bound_bind type_name_height _ (2) _ _ _ _ _ _ (bound_weaker _ (2) (room - 1) (12) _ _ _ _ _ (omega arith) (omega arith)
+      (good.type_name (room - 1) _ _)) (λ t b77 e78 l79. bound_bind token_levels _ (0) _ _ _ _ _ _ (bound_token is_close_paren _
+      _ _ _) (λ closing b80 e81 l82. bound_weaker _ (type_name_height t.tree + 2) room (type_name_height t.tree + 12) _ _ _ _ _
+      (omega arith) (omega arith) (b_typed_behind casts opening t.tree closing.tree room _ _)))
 
   pub b_statement_with : (opening : ℕ) (room : ℕ) (s : HeldScopes) (ts : List Lexeme) → BoundAt expr_height (2) room (14) ts
       (statement_with inner opening room s ts)
   unfolding statement_with
   b_statement_with opening room s ts =
-      bound_bind block_tree_height expr_height (1) (2) room (14) ts (inner.block (room - 1) s ts) (λ block. (and_then (token_at
-      is_close_paren block.scopes block.rest) (λ closing. (postfixed inner room (statement_expr opening block.tree.opening
-      block.tree.items block.tree.closing closing.tree) closing.scopes closing.rest)))) (bound_weaker block_tree_height (1)
-      (room - 1) (13) (1) room (14) ts (inner.block (room - 1) s ts) (omega arith) (omega arith) (good.block (room - 1) s ts))
-      (λ block b83 e84 l85. bound_bind token_levels expr_height (0) (8 * length b83 + (2)) room (8 * length b83 + (14))
-      block.rest (token_at is_close_paren block.scopes block.rest) (λ closing. (postfixed inner room (statement_expr opening
-      block.tree.opening block.tree.items block.tree.closing closing.tree) closing.scopes closing.rest)) (bound_token
-      is_close_paren room (8 * length b83 + (14)) block.scopes block.rest) (λ closing b86 e87 l88. bound_weaker expr_height
-      (expr_height (statement_expr opening block.tree.opening block.tree.items block.tree.closing closing.tree)) room
-      (expr_height (statement_expr opening block.tree.opening block.tree.items block.tree.closing closing.tree) + 10) (8 *
-      length b86 + (8 * length b83 + (2))) room (8 * length b86 + (8 * length b83 + (14))) closing.rest (postfixed inner room
-      (statement_expr opening block.tree.opening block.tree.items block.tree.closing closing.tree) closing.scopes closing.rest)
-      (omega arith) (omega arith) (b_postfixed room (statement_expr opening block.tree.opening block.tree.items
-      block.tree.closing closing.tree) closing.scopes closing.rest)))
+      bound_bind block_tree_height _ (1) _ _ _ _ _ _ (bound_weaker _ (1) (room - 1) (13) _ _ _ _ _ (omega arith) (omega arith)
+      (good.block (room - 1) _ _)) (λ block b83 e84 l85. bound_bind token_levels _ (0) _ _ _ _ _ _ (bound_token is_close_paren _
+      _ _ _) (λ closing b86 e87 l88. bound_weaker _ (expr_height (statement_expr opening block.tree.opening block.tree.items
+      block.tree.closing closing.tree)) room (expr_height (statement_expr opening block.tree.opening block.tree.items
+      block.tree.closing closing.tree) + 10) _ _ _ _ _ (omega arith) (omega arith) (b_postfixed room (statement_expr opening
+      block.tree.opening block.tree.items block.tree.closing closing.tree) _ _)))
 
   pub b_paren_with : (opening : ℕ) (room : ℕ) (s : HeldScopes) (ts : List Lexeme) → BoundAt expr_height (2) room (14) ts (paren_with
       inner opening room s ts)
   unfolding paren_with
   b_paren_with opening room s ts =
-      bound_bind expr_height expr_height (1 + begun_levels nothing) (2) room (14) ts (inner.expr Whole nothing (room - 1) s ts) (λ
-      e. (and_then (token_at is_close_paren e.scopes e.rest) (λ closing. (postfixed inner room (paren opening e.tree
-      closing.tree) closing.scopes closing.rest)))) (bound_weaker expr_height (1 + begun_levels nothing) (room - 1) (10 +
-      begun_levels nothing) (1 + begun_levels nothing) room (14) ts (inner.expr Whole nothing (room - 1) s ts) (omega arith)
-      (omega arith) (good.expr Whole nothing (room - 1) s ts)) (λ e b89 e90 l91. bound_bind token_levels expr_height (0) (8 *
-      length b89 + (2)) room (8 * length b89 + (14)) e.rest (token_at is_close_paren e.scopes e.rest) (λ closing. (postfixed
-      inner room (paren opening e.tree closing.tree) closing.scopes closing.rest)) (bound_token is_close_paren room (8 * length
-      b89 + (14)) e.scopes e.rest) (λ closing b92 e93 l94. bound_weaker expr_height (expr_height (paren opening e.tree
-      closing.tree)) room (expr_height (paren opening e.tree closing.tree) + 10) (8 * length b92 + (8 * length b89 + (2))) room
-      (8 * length b92 + (8 * length b89 + (14))) closing.rest (postfixed inner room (paren opening e.tree closing.tree)
-      closing.scopes closing.rest) (omega arith) (omega arith) (b_postfixed room (paren opening e.tree closing.tree)
-      closing.scopes closing.rest)))
+      bound_bind expr_height _ (1 + begun_levels nothing) _ _ _ _ _ _ (bound_weaker _ (1 + begun_levels nothing) (room - 1) (10 +
+      begun_levels nothing) _ _ _ _ _ (omega arith) (omega arith) (good.expr Whole nothing (room - 1) _ _)) (λ e b89 e90 l91.
+      bound_bind token_levels _ (0) _ _ _ _ _ _ (bound_token is_close_paren _ _ _ _) (λ closing b92 e93 l94. bound_weaker _
+      (expr_height (paren opening e.tree closing.tree)) room (expr_height (paren opening e.tree closing.tree) + 10) _ _ _ _ _
+      (omega arith) (omega arith) (b_postfixed room (paren opening e.tree closing.tree) _ _)))
 
   pub b_opened_by : (casts : Bool) (opening : ℕ) (room : ℕ) (s : HeldScopes) (ts : List Lexeme) → BoundAt expr_height (2) room (14)
       ts (opened_by inner casts opening room s ts)
   unfolding opened_by
   b_opened_by casts opening room s ts =
-      bound_if expr_height (2) room (14) ts (begins_specs s (kind_at ts)) (typed_with inner casts opening room s ts) (if
-      is_open_brace (kind_at ts) then (statement_with inner opening room s ts) else (paren_with inner opening room s ts)) (λ
-      is95. bound_weaker expr_height (2) room (14) (2) room (14) ts (typed_with inner casts opening room s ts) (omega arith)
-      (omega arith) (b_typed_with casts opening room s ts)) (λ is95. bound_if expr_height (2) room (14) ts (is_open_brace
-      (kind_at ts)) (statement_with inner opening room s ts) (paren_with inner opening room s ts) (λ is96. bound_weaker
-      expr_height (2) room (14) (2) room (14) ts (statement_with inner opening room s ts) (omega arith) (omega arith)
-      (b_statement_with opening room s ts)) (λ is96. bound_weaker expr_height (2) room (14) (2) room (14) ts (paren_with inner
-      opening room s ts) (omega arith) (omega arith) (b_paren_with opening room s ts)))
+      bound_if _ _ _ _ _ (begins_specs s (kind_at ts)) (typed_with inner casts opening room s ts) (if is_open_brace (kind_at ts)
+      then (statement_with inner opening room s ts) else (paren_with inner opening room s ts)) (λ is95. bound_weaker _ (2) room
+      (14) _ _ _ _ _ (omega arith) (omega arith) (b_typed_with casts opening room _ _)) (λ is95. bound_if _ _ _ _ _
+      (is_open_brace (kind_at ts)) (statement_with inner opening room s ts) (paren_with inner opening room s ts) (λ is96.
+      bound_weaker _ (2) room (14) _ _ _ _ _ (omega arith) (omega arith) (b_statement_with opening room _ _)) (λ is96.
+      bound_weaker _ (2) room (14) _ _ _ _ _ (omega arith) (omega arith) (b_paren_with opening room _ _)))
 
   pub b_opened_with : (casts : Bool) (room : ℕ) (s : HeldScopes) (ts : List Lexeme) → is_end (kind_at ts) ≡ false → BoundAt
       expr_height (1) room (10) ts (opened_with inner casts room s ts)
   unfolding opened_with
   b_opened_with casts room s ts known =
-      bound_fits expr_height (1) room (10) 2 room ts (and_then (take_one s ts) (λ opening. (opened_by inner casts opening.tree room
-      opening.scopes opening.rest))) (known) (λ less97. omega arith) (λ less97. bound_bind token_levels expr_height (0) (1) room
-      (10) ts (take_one s ts) (λ opening. (opened_by inner casts opening.tree room opening.scopes opening.rest)) (bound_take
-      room (10) s ts) (λ opening b98 e99 l100. bound_weaker expr_height (2) room (14) (8 * length b98 + (1)) room (8 * length
-      b98 + (10)) opening.rest (opened_by inner casts opening.tree room opening.scopes opening.rest) (omega arith) (omega arith)
-      (b_opened_by casts opening.tree room opening.scopes opening.rest)))
+      bound_fits _ _ _ _ _ _ _ _ (known) (λ less97. omega arith) (λ less97. bound_bind token_levels _ (0) _ _ _ _ _ _ (bound_take _
+      _ _ _) (λ opening b98 e99 l100. bound_weaker _ (2) room (14) _ _ _ _ _ (omega arith) (omega arith) (b_opened_by casts
+      opening.tree room _ _)))
 
   pub b_prefix_with : (p : Punct) (reach : Reach) (room : ℕ) (s : HeldScopes) (ts : List Lexeme) → is_end (kind_at ts) ≡ false →
       BoundAt expr_height (1) room (10) ts (prefix_with inner p reach room s ts)
   unfolding prefix_with
   b_prefix_with p reach room s ts known =
-      bound_fits expr_height (1) room (10) 2 room ts (and_then (take_one s ts) (λ token. (and_then (inner.expr reach nothing (room -
-      1) token.scopes token.rest) (λ e. (ends (prefix token.tree p e.tree) e.scopes e.rest))))) (known) (λ less101. omega arith)
-      (λ less101. bound_bind token_levels expr_height (0) (1) room (10) ts (take_one s ts) (λ token. (and_then (inner.expr reach
-      nothing (room - 1) token.scopes token.rest) (λ e. (ends (prefix token.tree p e.tree) e.scopes e.rest)))) (bound_take room
-      (10) s ts) (λ token b102 e103 l104. bound_bind expr_height expr_height (1 + begun_levels nothing) (8 * length b102 + (1))
-      room (8 * length b102 + (10)) token.rest (inner.expr reach nothing (room - 1) token.scopes token.rest) (λ e. (ends (prefix
-      token.tree p e.tree) e.scopes e.rest)) (bound_weaker expr_height (1 + begun_levels nothing) (room - 1) (10 + begun_levels
-      nothing) (1 + begun_levels nothing) room (8 * length b102 + (10)) token.rest (inner.expr reach nothing (room - 1)
-      token.scopes token.rest) (omega arith) (omega arith) (good.expr reach nothing (room - 1) token.scopes token.rest)) (λ e
-      b105 e106 l107. bound_ends expr_height (8 * length b105 + (8 * length b102 + (1))) room (8 * length b105 + (8 * length
-      b102 + (10))) (prefix token.tree p e.tree) e.scopes e.rest (omega arith))))
+      bound_fits _ _ _ _ _ _ _ _ (known) (λ less101. omega arith) (λ less101. bound_bind token_levels _ (0) _ _ _ _ _ _ (bound_take
+      _ _ _ _) (λ token b102 e103 l104. bound_bind expr_height _ (1 + begun_levels nothing) _ _ _ _ _ _ (bound_weaker _ (1 +
+      begun_levels nothing) (room - 1) (10 + begun_levels nothing) _ _ _ _ _ (omega arith) (omega arith) (good.expr reach
+      nothing (room - 1) _ _)) (λ e b105 e106 l107. bound_ends _ _ _ _ _ _ _ (omega arith))))
 
   pub b_extension_with : (room : ℕ) (s : HeldScopes) (ts : List Lexeme) → is_end (kind_at ts) ≡ false → BoundAt expr_height (1) room
       (10) ts (extension_with inner room s ts)
   unfolding extension_with
   b_extension_with room s ts known =
-      bound_fits expr_height (1) room (10) 2 room ts (and_then (take_one s ts) (λ token. (and_then (inner.expr Castable nothing
-      (room - 1) token.scopes token.rest) (λ e. (ends (extension token.tree e.tree) e.scopes e.rest))))) (known) (λ less108.
-      omega arith) (λ less108. bound_bind token_levels expr_height (0) (1) room (10) ts (take_one s ts) (λ token. (and_then
-      (inner.expr Castable nothing (room - 1) token.scopes token.rest) (λ e. (ends (extension token.tree e.tree) e.scopes
-      e.rest)))) (bound_take room (10) s ts) (λ token b109 e110 l111. bound_bind expr_height expr_height (1 + begun_levels
-      nothing) (8 * length b109 + (1)) room (8 * length b109 + (10)) token.rest (inner.expr Castable nothing (room - 1)
-      token.scopes token.rest) (λ e. (ends (extension token.tree e.tree) e.scopes e.rest)) (bound_weaker expr_height (1 +
-      begun_levels nothing) (room - 1) (10 + begun_levels nothing) (1 + begun_levels nothing) room (8 * length b109 + (10))
-      token.rest (inner.expr Castable nothing (room - 1) token.scopes token.rest) (omega arith) (omega arith) (good.expr
-      Castable nothing (room - 1) token.scopes token.rest)) (λ e b112 e113 l114. bound_ends expr_height (8 * length b112 + (8 *
-      length b109 + (1))) room (8 * length b112 + (8 * length b109 + (10))) (extension token.tree e.tree) e.scopes e.rest (omega
-      arith))))
+      bound_fits _ _ _ _ _ _ _ _ (known) (λ less108. omega arith) (λ less108. bound_bind token_levels _ (0) _ _ _ _ _ _ (bound_take
+      _ _ _ _) (λ token b109 e110 l111. bound_bind expr_height _ (1 + begun_levels nothing) _ _ _ _ _ _ (bound_weaker _ (1 +
+      begun_levels nothing) (room - 1) (10 + begun_levels nothing) _ _ _ _ _ (omega arith) (omega arith) (good.expr Castable
+      nothing (room - 1) _ _)) (λ e b112 e113 l114. bound_ends _ _ _ _ _ _ _ (omega arith))))
 
   pub b_sizeof_value_with : (word : Word) (room : ℕ) (s : HeldScopes) (ts : List Lexeme) → BoundAt expr_height (2) room (11) ts
       (sizeof_value_with inner word room s ts)
   unfolding sizeof_value_with
   b_sizeof_value_with word room s ts =
-      bound_bind expr_height expr_height (1 + begun_levels nothing) (2) room (11) ts (inner.expr Unary nothing (room - 1) s ts) (λ
-      e. (ends (sizeof_value word e.tree) e.scopes e.rest)) (bound_weaker expr_height (1 + begun_levels nothing) (room - 1) (10
-      + begun_levels nothing) (1 + begun_levels nothing) room (11) ts (inner.expr Unary nothing (room - 1) s ts) (omega arith)
-      (omega arith) (good.expr Unary nothing (room - 1) s ts)) (λ e b115 e116 l117. bound_ends expr_height (8 * length b115 +
-      (2)) room (8 * length b115 + (11)) (sizeof_value word e.tree) e.scopes e.rest (omega arith))
+      bound_bind expr_height _ (1 + begun_levels nothing) _ _ _ _ _ _ (bound_weaker _ (1 + begun_levels nothing) (room - 1) (10 +
+      begun_levels nothing) _ _ _ _ _ (omega arith) (omega arith) (good.expr Unary nothing (room - 1) _ _)) (λ e b115 e116 l117.
+      bound_ends _ _ _ _ _ _ _ (omega arith))
 
   pub b_sizeof_typed : (word : Word) (opening : ℕ) (t : TypeName) (closing : ℕ) (room : ℕ) (s : HeldScopes) (ts : List Lexeme) →
       BoundAt expr_height (type_name_height t + 3) room (type_name_height t + 13) ts (sizeof_typed inner word opening t closing room
       s ts)
   unfolding sizeof_typed
   b_sizeof_typed word opening t closing room s ts =
-      bound_if expr_height (type_name_height t + 3) room (type_name_height t + 13) ts (is_open_brace (kind_at ts)) (fits (2 +
-      type_name_height t) room ts (and_then (compound_with inner opening t closing (room - 1) s ts) (λ e. (ends (sizeof_value
-      word e.tree) e.scopes e.rest)))) (ends (sizeof_type word opening t.words t.declr closing) s ts) (λ is118. bound_fits
-      expr_height (type_name_height t + 3) room (type_name_height t + 13) (2 + type_name_height t) room ts (and_then
-      (compound_with inner opening t closing (room - 1) s ts) (λ e. (ends (sizeof_value word e.tree) e.scopes e.rest)))
-      (known_by (λ kind9. is_open_brace kind9) refl (kind_at ts) is118) (λ less119. omega arith) (λ less119. bound_bind
-      expr_height expr_height (type_name_height t + 2) (type_name_height t + 3) room (type_name_height t + 13) ts (compound_with
-      inner opening t closing (room - 1) s ts) (λ e. (ends (sizeof_value word e.tree) e.scopes e.rest)) (bound_weaker
-      expr_height (type_name_height t + 2) (room - 1) (type_name_height t + 12) (type_name_height t + 2) room (type_name_height
-      t + 13) ts (compound_with inner opening t closing (room - 1) s ts) (omega arith) (omega arith) (b_compound_with opening t
-      closing (room - 1) s ts)) (λ e b120 e121 l122. bound_ends expr_height (8 * length b120 + (type_name_height t + 3)) room (8
-      * length b120 + (type_name_height t + 13)) (sizeof_value word e.tree) e.scopes e.rest (omega arith)))) (λ is118.
-      bound_ends expr_height (type_name_height t + 3) room (type_name_height t + 13) (sizeof_type word opening t.words t.declr
-      closing) s ts (omega arith))
+      bound_if _ _ _ _ _ (is_open_brace (kind_at ts)) (fits (2 + type_name_height t) room ts (and_then (compound_with inner opening
+      t closing (room - 1) s ts) (λ e. (ends (sizeof_value word e.tree) e.scopes e.rest)))) (ends (sizeof_type word opening
+      t.words t.declr closing) s ts) (λ is118. bound_fits _ _ _ _ _ _ _ _ (known_by (λ kind9. is_open_brace kind9) refl (kind_at
+      ts) is118) (λ less119. omega arith) (λ less119. bound_bind expr_height _ (type_name_height t + 2) _ _ _ _ _ _
+      (bound_weaker _ (type_name_height t + 2) (room - 1) (type_name_height t + 12) _ _ _ _ _ (omega arith) (omega arith)
+      (b_compound_with opening t closing (room - 1) _ _)) (λ e b120 e121 l122. bound_ends _ _ _ _ _ _ _ (omega arith)))) (λ
+      is118. bound_ends _ _ _ _ _ _ _ (omega arith))
 
   pub b_sizeof_type_with : (word : Word) (room : ℕ) (s : HeldScopes) (ts : List Lexeme) → BoundAt expr_height (2) room (11) ts
       (sizeof_type_with inner word room s ts)
   unfolding sizeof_type_with
   b_sizeof_type_with word room s ts =
-      bound_bind token_levels expr_height (0) (2) room (11) ts (take_one s ts) (λ opening. (and_then (inner.type_name (room - 1)
-      opening.scopes opening.rest) (λ t. (and_then (token_at is_close_paren t.scopes t.rest) (λ closing. (sizeof_typed inner
-      word opening.tree t.tree closing.tree room closing.scopes closing.rest)))))) (bound_take room (11) s ts) (λ opening b123
-      e124 l125. bound_bind type_name_height expr_height (2) (8 * length b123 + (2)) room (8 * length b123 + (11)) opening.rest
-      (inner.type_name (room - 1) opening.scopes opening.rest) (λ t. (and_then (token_at is_close_paren t.scopes t.rest) (λ
-      closing. (sizeof_typed inner word opening.tree t.tree closing.tree room closing.scopes closing.rest)))) (bound_weaker
-      type_name_height (2) (room - 1) (12) (2) room (8 * length b123 + (11)) opening.rest (inner.type_name (room - 1)
-      opening.scopes opening.rest) (omega arith) (omega arith) (good.type_name (room - 1) opening.scopes opening.rest)) (λ t
-      b126 e127 l128. bound_bind token_levels expr_height (0) (8 * length b126 + (8 * length b123 + (2))) room (8 * length b126
-      + (8 * length b123 + (11))) t.rest (token_at is_close_paren t.scopes t.rest) (λ closing. (sizeof_typed inner word
-      opening.tree t.tree closing.tree room closing.scopes closing.rest)) (bound_token is_close_paren room (8 * length b126 + (8
-      * length b123 + (11))) t.scopes t.rest) (λ closing b129 e130 l131. bound_weaker expr_height (type_name_height t.tree + 3)
-      room (type_name_height t.tree + 13) (8 * length b129 + (8 * length b126 + (8 * length b123 + (2)))) room (8 * length b129
-      + (8 * length b126 + (8 * length b123 + (11)))) closing.rest (sizeof_typed inner word opening.tree t.tree closing.tree
-      room closing.scopes closing.rest) (omega arith) (omega arith) (b_sizeof_typed word opening.tree t.tree closing.tree room
-      closing.scopes closing.rest))))
+      bound_bind token_levels _ (0) _ _ _ _ _ _ (bound_take _ _ _ _) (λ opening b123 e124 l125. bound_bind type_name_height _ (2) _
+      _ _ _ _ _ (bound_weaker _ (2) (room - 1) (12) _ _ _ _ _ (omega arith) (omega arith) (good.type_name (room - 1) _ _)) (λ t
+      b126 e127 l128. bound_bind token_levels _ (0) _ _ _ _ _ _ (bound_token is_close_paren _ _ _ _) (λ closing b129 e130 l131.
+      bound_weaker _ (type_name_height t.tree + 3) room (type_name_height t.tree + 13) _ _ _ _ _ (omega arith) (omega arith)
+      (b_sizeof_typed word opening.tree t.tree closing.tree room _ _))))
 
   pub b_sizeof_behind : (word : Word) (room : ℕ) (s : HeldScopes) (ts : List Lexeme) → BoundAt expr_height (2) room (11) ts
       (sizeof_behind inner word room s ts)
   unfolding sizeof_behind
   b_sizeof_behind word room s ts =
-      bound_if expr_height (2) room (11) ts (is_open_paren (kind_at ts)) (fits 3 room ts (if begins_specs s (kind_at (behind_first
-      ts)) then (sizeof_type_with inner word room s ts) else (sizeof_value_with inner word room s ts))) (sizeof_value_with inner
-      word room s ts) (λ is132. bound_fits expr_height (2) room (11) 3 room ts (if begins_specs s (kind_at (behind_first ts))
-      then (sizeof_type_with inner word room s ts) else (sizeof_value_with inner word room s ts)) (known_by (λ kind9.
-      is_open_paren kind9) refl (kind_at ts) is132) (λ less133. omega arith) (λ less133. bound_if expr_height (2) room (11) ts
-      (begins_specs s (kind_at (behind_first ts))) (sizeof_type_with inner word room s ts) (sizeof_value_with inner word room s
-      ts) (λ is134. bound_weaker expr_height (2) room (11) (2) room (11) ts (sizeof_type_with inner word room s ts) (omega
-      arith) (omega arith) (b_sizeof_type_with word room s ts)) (λ is134. bound_weaker expr_height (2) room (11) (2) room (11)
-      ts (sizeof_value_with inner word room s ts) (omega arith) (omega arith) (b_sizeof_value_with word room s ts)))) (λ is132.
-      bound_weaker expr_height (2) room (11) (2) room (11) ts (sizeof_value_with inner word room s ts) (omega arith) (omega
-      arith) (b_sizeof_value_with word room s ts))
+      bound_if _ _ _ _ _ (is_open_paren (kind_at ts)) (fits 3 room ts (if begins_specs s (kind_at (behind_first ts)) then
+      (sizeof_type_with inner word room s ts) else (sizeof_value_with inner word room s ts))) (sizeof_value_with inner word room
+      s ts) (λ is132. bound_fits _ _ _ _ _ _ _ _ (known_by (λ kind9. is_open_paren kind9) refl (kind_at ts) is132) (λ less133.
+      omega arith) (λ less133. bound_if _ _ _ _ _ (begins_specs s (kind_at (behind_first ts))) (sizeof_type_with inner word room
+      s ts) (sizeof_value_with inner word room s ts) (λ is134. bound_weaker _ (2) room (11) _ _ _ _ _ (omega arith) (omega
+      arith) (b_sizeof_type_with word room _ _)) (λ is134. bound_weaker _ (2) room (11) _ _ _ _ _ (omega arith) (omega arith)
+      (b_sizeof_value_with word room _ _)))) (λ is132. bound_weaker _ (2) room (11) _ _ _ _ _ (omega arith) (omega arith)
+      (b_sizeof_value_with word room _ _))
 
   pub b_sizeof_with : (keyword : Keyword) (room : ℕ) (s : HeldScopes) (ts : List Lexeme) → is_end (kind_at ts) ≡ false → BoundAt
       expr_height (1) room (10) ts (sizeof_with inner keyword room s ts)
   unfolding sizeof_with
   b_sizeof_with keyword room s ts known =
-      bound_fits expr_height (1) room (10) 2 room ts (and_then (take_one s ts) (λ token. (sizeof_behind inner (word_of keyword
-      token.tree) room token.scopes token.rest))) (known) (λ less135. omega arith) (λ less135. bound_bind token_levels
-      expr_height (0) (1) room (10) ts (take_one s ts) (λ token. (sizeof_behind inner (word_of keyword token.tree) room
-      token.scopes token.rest)) (bound_take room (10) s ts) (λ token b136 e137 l138. bound_weaker expr_height (2) room (11) (8 *
-      length b136 + (1)) room (8 * length b136 + (10)) token.rest (sizeof_behind inner (word_of keyword token.tree) room
-      token.scopes token.rest) (omega arith) (omega arith) (b_sizeof_behind (word_of keyword token.tree) room token.scopes
-      token.rest)))
+      bound_fits _ _ _ _ _ _ _ _ (known) (λ less135. omega arith) (λ less135. bound_bind token_levels _ (0) _ _ _ _ _ _ (bound_take
+      _ _ _ _) (λ token b136 e137 l138. bound_weaker _ (2) room (11) _ _ _ _ _ (omega arith) (omega arith) (b_sizeof_behind
+      (word_of keyword token.tree) room _ _)))
 
   pub b_va_arg_with : (room : ℕ) (s : HeldScopes) (ts : List Lexeme) → is_end (kind_at ts) ≡ false → BoundAt expr_height (1) room
       (10) ts (va_arg_with inner room s ts)
   unfolding va_arg_with
   b_va_arg_with room s ts known =
-      bound_fits expr_height (1) room (10) 3 room ts (and_then (take_one s ts) (λ keyword. (and_then (token_at is_open_paren
-      keyword.scopes keyword.rest) (λ opening. (and_then (inner.expr Assigned nothing (room - 1) opening.scopes opening.rest) (λ
-      e. (and_then (token_at is_comma e.scopes e.rest) (λ separator. (and_then (inner.type_name (room - 1) separator.scopes
-      separator.rest) (λ t. (and_then (token_at is_close_paren t.scopes t.rest) (λ closing. (postfixed inner room (va_arg
-      keyword.tree opening.tree e.tree separator.tree t.tree.words t.tree.declr closing.tree) closing.scopes
-      closing.rest))))))))))))) (known) (λ less139. omega arith) (λ less139. bound_bind token_levels expr_height (0) (1) room
-      (10) ts (take_one s ts) (λ keyword. (and_then (token_at is_open_paren keyword.scopes keyword.rest) (λ opening. (and_then
-      (inner.expr Assigned nothing (room - 1) opening.scopes opening.rest) (λ e. (and_then (token_at is_comma e.scopes e.rest)
-      (λ separator. (and_then (inner.type_name (room - 1) separator.scopes separator.rest) (λ t. (and_then (token_at
-      is_close_paren t.scopes t.rest) (λ closing. (postfixed inner room (va_arg keyword.tree opening.tree e.tree separator.tree
-      t.tree.words t.tree.declr closing.tree) closing.scopes closing.rest)))))))))))) (bound_take room (10) s ts) (λ keyword
-      b140 e141 l142. bound_bind token_levels expr_height (0) (8 * length b140 + (1)) room (8 * length b140 + (10)) keyword.rest
-      (token_at is_open_paren keyword.scopes keyword.rest) (λ opening. (and_then (inner.expr Assigned nothing (room - 1)
-      opening.scopes opening.rest) (λ e. (and_then (token_at is_comma e.scopes e.rest) (λ separator. (and_then (inner.type_name
-      (room - 1) separator.scopes separator.rest) (λ t. (and_then (token_at is_close_paren t.scopes t.rest) (λ closing.
-      (postfixed inner room (va_arg keyword.tree opening.tree e.tree separator.tree t.tree.words t.tree.declr closing.tree)
-      closing.scopes closing.rest)))))))))) (bound_token is_open_paren room (8 * length b140 + (10)) keyword.scopes
-      keyword.rest) (λ opening b143 e144 l145. bound_bind expr_height expr_height (1 + begun_levels nothing) (8 * length b143 +
-      (8 * length b140 + (1))) room (8 * length b143 + (8 * length b140 + (10))) opening.rest (inner.expr Assigned nothing (room
-      - 1) opening.scopes opening.rest) (λ e. (and_then (token_at is_comma e.scopes e.rest) (λ separator. (and_then
-      (inner.type_name (room - 1) separator.scopes separator.rest) (λ t. (and_then (token_at is_close_paren t.scopes t.rest) (λ
-      closing. (postfixed inner room (va_arg keyword.tree opening.tree e.tree separator.tree t.tree.words t.tree.declr
-      closing.tree) closing.scopes closing.rest)))))))) (bound_weaker expr_height (1 + begun_levels nothing) (room - 1) (10 +
-      begun_levels nothing) (1 + begun_levels nothing) room (8 * length b143 + (8 * length b140 + (10))) opening.rest
-      (inner.expr Assigned nothing (room - 1) opening.scopes opening.rest) (omega arith) (omega arith) (good.expr Assigned
-      nothing (room - 1) opening.scopes opening.rest)) (λ e b146 e147 l148. bound_bind token_levels expr_height (0) (8 * length
-      b146 + (8 * length b143 + (8 * length b140 + (1)))) room (8 * length b146 + (8 * length b143 + (8 * length b140 + (10))))
-      e.rest (token_at is_comma e.scopes e.rest) (λ separator. (and_then (inner.type_name (room - 1) separator.scopes
-      separator.rest) (λ t. (and_then (token_at is_close_paren t.scopes t.rest) (λ closing. (postfixed inner room (va_arg
-      keyword.tree opening.tree e.tree separator.tree t.tree.words t.tree.declr closing.tree) closing.scopes closing.rest))))))
-      (bound_token is_comma room (8 * length b146 + (8 * length b143 + (8 * length b140 + (10)))) e.scopes e.rest) (λ separator
-      b149 e150 l151. bound_bind type_name_height expr_height (2) (8 * length b149 + (8 * length b146 + (8 * length b143 + (8 *
-      length b140 + (1))))) room (8 * length b149 + (8 * length b146 + (8 * length b143 + (8 * length b140 + (10)))))
-      separator.rest (inner.type_name (room - 1) separator.scopes separator.rest) (λ t. (and_then (token_at is_close_paren
-      t.scopes t.rest) (λ closing. (postfixed inner room (va_arg keyword.tree opening.tree e.tree separator.tree t.tree.words
-      t.tree.declr closing.tree) closing.scopes closing.rest)))) (bound_weaker type_name_height (2) (room - 1) (12) (2) room (8
-      * length b149 + (8 * length b146 + (8 * length b143 + (8 * length b140 + (10))))) separator.rest (inner.type_name (room -
-      1) separator.scopes separator.rest) (omega arith) (omega arith) (good.type_name (room - 1) separator.scopes
-      separator.rest)) (λ t b152 e153 l154. bound_bind token_levels expr_height (0) (8 * length b152 + (8 * length b149 + (8 *
-      length b146 + (8 * length b143 + (8 * length b140 + (1)))))) room (8 * length b152 + (8 * length b149 + (8 * length b146 +
-      (8 * length b143 + (8 * length b140 + (10)))))) t.rest (token_at is_close_paren t.scopes t.rest) (λ closing. (postfixed
-      inner room (va_arg keyword.tree opening.tree e.tree separator.tree t.tree.words t.tree.declr closing.tree) closing.scopes
-      closing.rest)) (bound_token is_close_paren room (8 * length b152 + (8 * length b149 + (8 * length b146 + (8 * length b143
-      + (8 * length b140 + (10)))))) t.scopes t.rest) (λ closing b155 e156 l157. bound_weaker expr_height (expr_height (va_arg
-      keyword.tree opening.tree e.tree separator.tree t.tree.words t.tree.declr closing.tree)) room (expr_height (va_arg
-      keyword.tree opening.tree e.tree separator.tree t.tree.words t.tree.declr closing.tree) + 10) (8 * length b155 + (8 *
-      length b152 + (8 * length b149 + (8 * length b146 + (8 * length b143 + (8 * length b140 + (1))))))) room (8 * length b155
-      + (8 * length b152 + (8 * length b149 + (8 * length b146 + (8 * length b143 + (8 * length b140 + (10))))))) closing.rest
-      (postfixed inner room (va_arg keyword.tree opening.tree e.tree separator.tree t.tree.words t.tree.declr closing.tree)
-      closing.scopes closing.rest) (omega arith) (omega arith) (b_postfixed room (va_arg keyword.tree opening.tree e.tree
-      separator.tree t.tree.words t.tree.declr closing.tree) closing.scopes closing.rest))))))))
+      bound_fits _ _ _ _ _ _ _ _ (known) (λ less139. omega arith) (λ less139. bound_bind token_levels _ (0) _ _ _ _ _ _ (bound_take
+      _ _ _ _) (λ keyword b140 e141 l142. bound_bind token_levels _ (0) _ _ _ _ _ _ (bound_token is_open_paren _ _ _ _) (λ
+      opening b143 e144 l145. bound_bind expr_height _ (1 + begun_levels nothing) _ _ _ _ _ _ (bound_weaker _ (1 + begun_levels
+      nothing) (room - 1) (10 + begun_levels nothing) _ _ _ _ _ (omega arith) (omega arith) (good.expr Assigned nothing (room -
+      1) _ _)) (λ e b146 e147 l148. bound_bind token_levels _ (0) _ _ _ _ _ _ (bound_token is_comma _ _ _ _) (λ separator b149
+      e150 l151. bound_bind type_name_height _ (2) _ _ _ _ _ _ (bound_weaker _ (2) (room - 1) (12) _ _ _ _ _ (omega arith)
+      (omega arith) (good.type_name (room - 1) _ _)) (λ t b152 e153 l154. bound_bind token_levels _ (0) _ _ _ _ _ _ (bound_token
+      is_close_paren _ _ _ _) (λ closing b155 e156 l157. bound_weaker _ (expr_height (va_arg keyword.tree opening.tree e.tree
+      separator.tree t.tree.words t.tree.declr closing.tree)) room (expr_height (va_arg keyword.tree opening.tree e.tree
+      separator.tree t.tree.words t.tree.declr closing.tree) + 10) _ _ _ _ _ (omega arith) (omega arith) (b_postfixed room
+      (va_arg keyword.tree opening.tree e.tree separator.tree t.tree.words t.tree.declr closing.tree) _ _))))))))
 
   pub b_va_two_with : (make : (ℕ → ℕ → Expr → ℕ → Expr → ℕ → Expr)) (room : ℕ) (s : HeldScopes) (ts : List Lexeme) → is_end (kind_at
       ts) ≡ false → ((a b : ℕ) (e : Expr) (x : ℕ) (e2 : Expr) (y : ℕ) → expr_height (make a b e x e2 y) ≤ max (expr_height e)
       (expr_height e2) + 1) → BoundAt expr_height (1) room (10) ts (va_two_with inner make room s ts)
   unfolding va_two_with
   b_va_two_with make room s ts known low2 =
-      bound_fits expr_height (1) room (10) 2 room ts (and_then (take_one s ts) (λ keyword. (and_then (token_at is_open_paren
-      keyword.scopes keyword.rest) (λ opening. (and_then (inner.expr Assigned nothing (room - 1) opening.scopes opening.rest) (λ
-      e. (and_then (token_at is_comma e.scopes e.rest) (λ separator. (and_then (inner.expr Assigned nothing (room - 1)
-      separator.scopes separator.rest) (λ e2. (and_then (token_at is_close_paren e2.scopes e2.rest) (λ closing. (postfixed inner
-      room (make keyword.tree opening.tree e.tree separator.tree e2.tree closing.tree) closing.scopes closing.rest)))))))))))))
-      (known) (λ less158. omega arith) (λ less158. bound_bind token_levels expr_height (0) (1) room (10) ts (take_one s ts) (λ
-      keyword. (and_then (token_at is_open_paren keyword.scopes keyword.rest) (λ opening. (and_then (inner.expr Assigned nothing
-      (room - 1) opening.scopes opening.rest) (λ e. (and_then (token_at is_comma e.scopes e.rest) (λ separator. (and_then
-      (inner.expr Assigned nothing (room - 1) separator.scopes separator.rest) (λ e2. (and_then (token_at is_close_paren
-      e2.scopes e2.rest) (λ closing. (postfixed inner room (make keyword.tree opening.tree e.tree separator.tree e2.tree
-      closing.tree) closing.scopes closing.rest)))))))))))) (bound_take room (10) s ts) (λ keyword b159 e160 l161. bound_bind
-      token_levels expr_height (0) (8 * length b159 + (1)) room (8 * length b159 + (10)) keyword.rest (token_at is_open_paren
-      keyword.scopes keyword.rest) (λ opening. (and_then (inner.expr Assigned nothing (room - 1) opening.scopes opening.rest) (λ
-      e. (and_then (token_at is_comma e.scopes e.rest) (λ separator. (and_then (inner.expr Assigned nothing (room - 1)
-      separator.scopes separator.rest) (λ e2. (and_then (token_at is_close_paren e2.scopes e2.rest) (λ closing. (postfixed inner
-      room (make keyword.tree opening.tree e.tree separator.tree e2.tree closing.tree) closing.scopes closing.rest))))))))))
-      (bound_token is_open_paren room (8 * length b159 + (10)) keyword.scopes keyword.rest) (λ opening b162 e163 l164.
-      bound_bind expr_height expr_height (1 + begun_levels nothing) (8 * length b162 + (8 * length b159 + (1))) room (8 * length
-      b162 + (8 * length b159 + (10))) opening.rest (inner.expr Assigned nothing (room - 1) opening.scopes opening.rest) (λ e.
-      (and_then (token_at is_comma e.scopes e.rest) (λ separator. (and_then (inner.expr Assigned nothing (room - 1)
-      separator.scopes separator.rest) (λ e2. (and_then (token_at is_close_paren e2.scopes e2.rest) (λ closing. (postfixed inner
-      room (make keyword.tree opening.tree e.tree separator.tree e2.tree closing.tree) closing.scopes closing.rest))))))))
-      (bound_weaker expr_height (1 + begun_levels nothing) (room - 1) (10 + begun_levels nothing) (1 + begun_levels nothing)
-      room (8 * length b162 + (8 * length b159 + (10))) opening.rest (inner.expr Assigned nothing (room - 1) opening.scopes
-      opening.rest) (omega arith) (omega arith) (good.expr Assigned nothing (room - 1) opening.scopes opening.rest)) (λ e b165
-      e166 l167. bound_bind token_levels expr_height (0) (8 * length b165 + (8 * length b162 + (8 * length b159 + (1)))) room (8
-      * length b165 + (8 * length b162 + (8 * length b159 + (10)))) e.rest (token_at is_comma e.scopes e.rest) (λ separator.
-      (and_then (inner.expr Assigned nothing (room - 1) separator.scopes separator.rest) (λ e2. (and_then (token_at
-      is_close_paren e2.scopes e2.rest) (λ closing. (postfixed inner room (make keyword.tree opening.tree e.tree separator.tree
-      e2.tree closing.tree) closing.scopes closing.rest)))))) (bound_token is_comma room (8 * length b165 + (8 * length b162 +
-      (8 * length b159 + (10)))) e.scopes e.rest) (λ separator b168 e169 l170. bound_bind expr_height expr_height (1 +
-      begun_levels nothing) (8 * length b168 + (8 * length b165 + (8 * length b162 + (8 * length b159 + (1))))) room (8 * length
-      b168 + (8 * length b165 + (8 * length b162 + (8 * length b159 + (10))))) separator.rest (inner.expr Assigned nothing (room
-      - 1) separator.scopes separator.rest) (λ e2. (and_then (token_at is_close_paren e2.scopes e2.rest) (λ closing. (postfixed
-      inner room (make keyword.tree opening.tree e.tree separator.tree e2.tree closing.tree) closing.scopes closing.rest))))
-      (bound_weaker expr_height (1 + begun_levels nothing) (room - 1) (10 + begun_levels nothing) (1 + begun_levels nothing)
-      room (8 * length b168 + (8 * length b165 + (8 * length b162 + (8 * length b159 + (10))))) separator.rest (inner.expr
-      Assigned nothing (room - 1) separator.scopes separator.rest) (omega arith) (omega arith) (good.expr Assigned nothing (room
-      - 1) separator.scopes separator.rest)) (λ e2 b171 e172 l173. bound_bind token_levels expr_height (0) (8 * length b171 + (8
-      * length b168 + (8 * length b165 + (8 * length b162 + (8 * length b159 + (1)))))) room (8 * length b171 + (8 * length b168
-      + (8 * length b165 + (8 * length b162 + (8 * length b159 + (10)))))) e2.rest (token_at is_close_paren e2.scopes e2.rest)
-      (λ closing. (postfixed inner room (make keyword.tree opening.tree e.tree separator.tree e2.tree closing.tree)
-      closing.scopes closing.rest)) (bound_token is_close_paren room (8 * length b171 + (8 * length b168 + (8 * length b165 + (8
-      * length b162 + (8 * length b159 + (10)))))) e2.scopes e2.rest) (λ closing b174 e175 l176. let f177 = low2 keyword.tree
-      opening.tree e.tree separator.tree e2.tree closing.tree in bound_weaker expr_height (expr_height (make keyword.tree
-      opening.tree e.tree separator.tree e2.tree closing.tree)) room (expr_height (make keyword.tree opening.tree e.tree
-      separator.tree e2.tree closing.tree) + 10) (8 * length b174 + (8 * length b171 + (8 * length b168 + (8 * length b165 + (8
-      * length b162 + (8 * length b159 + (1))))))) room (8 * length b174 + (8 * length b171 + (8 * length b168 + (8 * length
-      b165 + (8 * length b162 + (8 * length b159 + (10))))))) closing.rest (postfixed inner room (make keyword.tree opening.tree
-      e.tree separator.tree e2.tree closing.tree) closing.scopes closing.rest) (omega arith) (omega arith) (b_postfixed room
-      (make keyword.tree opening.tree e.tree separator.tree e2.tree closing.tree) closing.scopes closing.rest))))))))
+      bound_fits _ _ _ _ _ _ _ _ (known) (λ less158. omega arith) (λ less158. bound_bind token_levels _ (0) _ _ _ _ _ _ (bound_take
+      _ _ _ _) (λ keyword b159 e160 l161. bound_bind token_levels _ (0) _ _ _ _ _ _ (bound_token is_open_paren _ _ _ _) (λ
+      opening b162 e163 l164. bound_bind expr_height _ (1 + begun_levels nothing) _ _ _ _ _ _ (bound_weaker _ (1 + begun_levels
+      nothing) (room - 1) (10 + begun_levels nothing) _ _ _ _ _ (omega arith) (omega arith) (good.expr Assigned nothing (room -
+      1) _ _)) (λ e b165 e166 l167. bound_bind token_levels _ (0) _ _ _ _ _ _ (bound_token is_comma _ _ _ _) (λ separator b168
+      e169 l170. bound_bind expr_height _ (1 + begun_levels nothing) _ _ _ _ _ _ (bound_weaker _ (1 + begun_levels nothing)
+      (room - 1) (10 + begun_levels nothing) _ _ _ _ _ (omega arith) (omega arith) (good.expr Assigned nothing (room - 1) _ _))
+      (λ e2 b171 e172 l173. bound_bind token_levels _ (0) _ _ _ _ _ _ (bound_token is_close_paren _ _ _ _) (λ closing b174 e175
+      l176. let f177 = low2 keyword.tree opening.tree e.tree separator.tree e2.tree closing.tree in bound_weaker _ (expr_height
+      (make keyword.tree opening.tree e.tree separator.tree e2.tree closing.tree)) room (expr_height (make keyword.tree
+      opening.tree e.tree separator.tree e2.tree closing.tree) + 10) _ _ _ _ _ (omega arith) (omega arith) (b_postfixed room
+      (make keyword.tree opening.tree e.tree separator.tree e2.tree closing.tree) _ _))))))))
 
   pub b_step_with : (room : ℕ) (s : HeldScopes) (ts : List Lexeme) → BoundAt step_height (1) room (11) ts (step_with inner room s ts)
   unfolding step_with
   b_step_with room s ts =
-      bound_if step_height (1) room (11) ts (is_dot (kind_at ts)) (and_then (take_one s ts) (λ token. (and_then (name_at
-      token.scopes token.rest) (λ name. (ends (member_desig token.tree name.tree) name.scopes name.rest))))) (and_then (take_one
-      s ts) (λ opening. (and_then (inner.expr Whole nothing (room - 1) opening.scopes opening.rest) (λ e. (and_then (token_at
-      is_close_bracket e.scopes e.rest) (λ closing. (ends (index_desig opening.tree e.tree closing.tree) closing.scopes
-      closing.rest))))))) (λ is178. bound_bind token_levels step_height (0) (1) room (11) ts (take_one s ts) (λ token. (and_then
-      (name_at token.scopes token.rest) (λ name. (ends (member_desig token.tree name.tree) name.scopes name.rest)))) (bound_take
-      room (11) s ts) (λ token b179 e180 l181. bound_bind token_levels step_height (0) (8 * length b179 + (1)) room (8 * length
-      b179 + (11)) token.rest (name_at token.scopes token.rest) (λ name. (ends (member_desig token.tree name.tree) name.scopes
-      name.rest)) (bound_name room (8 * length b179 + (11)) token.scopes token.rest) (λ name b182 e183 l184. bound_ends
-      step_height (8 * length b182 + (8 * length b179 + (1))) room (8 * length b182 + (8 * length b179 + (11))) (member_desig
-      token.tree name.tree) name.scopes name.rest (omega arith)))) (λ is178. bound_bind token_levels step_height (0) (1) room
-      (11) ts (take_one s ts) (λ opening. (and_then (inner.expr Whole nothing (room - 1) opening.scopes opening.rest) (λ e.
-      (and_then (token_at is_close_bracket e.scopes e.rest) (λ closing. (ends (index_desig opening.tree e.tree closing.tree)
-      closing.scopes closing.rest)))))) (bound_take room (11) s ts) (λ opening b185 e186 l187. bound_bind expr_height
-      step_height (1 + begun_levels nothing) (8 * length b185 + (1)) room (8 * length b185 + (11)) opening.rest (inner.expr
-      Whole nothing (room - 1) opening.scopes opening.rest) (λ e. (and_then (token_at is_close_bracket e.scopes e.rest) (λ
-      closing. (ends (index_desig opening.tree e.tree closing.tree) closing.scopes closing.rest)))) (bound_weaker expr_height (1
-      + begun_levels nothing) (room - 1) (10 + begun_levels nothing) (1 + begun_levels nothing) room (8 * length b185 + (11))
-      opening.rest (inner.expr Whole nothing (room - 1) opening.scopes opening.rest) (omega arith) (omega arith) (good.expr
-      Whole nothing (room - 1) opening.scopes opening.rest)) (λ e b188 e189 l190. bound_bind token_levels step_height (0) (8 *
-      length b188 + (8 * length b185 + (1))) room (8 * length b188 + (8 * length b185 + (11))) e.rest (token_at is_close_bracket
-      e.scopes e.rest) (λ closing. (ends (index_desig opening.tree e.tree closing.tree) closing.scopes closing.rest))
-      (bound_token is_close_bracket room (8 * length b188 + (8 * length b185 + (11))) e.scopes e.rest) (λ closing b191 e192
-      l193. bound_ends step_height (8 * length b191 + (8 * length b188 + (8 * length b185 + (1)))) room (8 * length b191 + (8 *
-      length b188 + (8 * length b185 + (11)))) (index_desig opening.tree e.tree closing.tree) closing.scopes closing.rest (omega
-      arith)))))
+      bound_if _ _ _ _ _ (is_dot (kind_at ts)) (and_then (take_one s ts) (λ token. (and_then (name_at token.scopes token.rest) (λ
+      name. (ends (member_desig token.tree name.tree) name.scopes name.rest))))) (and_then (take_one s ts) (λ opening. (and_then
+      (inner.expr Whole nothing (room - 1) opening.scopes opening.rest) (λ e. (and_then (token_at is_close_bracket e.scopes
+      e.rest) (λ closing. (ends (index_desig opening.tree e.tree closing.tree) closing.scopes closing.rest))))))) (λ is178.
+      bound_bind token_levels _ (0) _ _ _ _ _ _ (bound_take _ _ _ _) (λ token b179 e180 l181. bound_bind token_levels _ (0) _ _
+      _ _ _ _ (bound_name _ _ _ _) (λ name b182 e183 l184. bound_ends _ _ _ _ _ _ _ (omega arith)))) (λ is178. bound_bind
+      token_levels _ (0) _ _ _ _ _ _ (bound_take _ _ _ _) (λ opening b185 e186 l187. bound_bind expr_height _ (1 + begun_levels
+      nothing) _ _ _ _ _ _ (bound_weaker _ (1 + begun_levels nothing) (room - 1) (10 + begun_levels nothing) _ _ _ _ _ (omega
+      arith) (omega arith) (good.expr Whole nothing (room - 1) _ _)) (λ e b188 e189 l190. bound_bind token_levels _ (0) _ _ _ _
+      _ _ (bound_token is_close_bracket _ _ _ _) (λ closing b191 e192 l193. bound_ends _ _ _ _ _ _ _ (omega arith)))))
 
   pub b_offset_with : (room : ℕ) (s : HeldScopes) (ts : List Lexeme) → is_end (kind_at ts) ≡ false → BoundAt expr_height (1) room
       (10) ts (offset_with inner room s ts)
   unfolding offset_with
   b_offset_with room s ts known =
-      bound_fits expr_height (1) room (10) 3 room ts (and_then (take_one s ts) (λ keyword. (and_then (token_at is_open_paren
-      keyword.scopes keyword.rest) (λ opening. (and_then (inner.type_name (room - 1) opening.scopes opening.rest) (λ t.
-      (and_then (token_at is_comma t.scopes t.rest) (λ separator. (and_then (name_at separator.scopes separator.rest) (λ name.
-      (and_then (repeated begins_desig (step_with inner room) name.scopes name.rest) (λ steps. (and_then (token_at
-      is_close_paren steps.scopes steps.rest) (λ closing. (postfixed inner room (offset keyword.tree opening.tree t.tree.words
-      t.tree.declr separator.tree name.tree (desigs_from steps.tree) closing.tree) closing.scopes closing.rest)))))))))))))))
-      (known) (λ less194. omega arith) (λ less194. bound_bind token_levels expr_height (0) (1) room (10) ts (take_one s ts) (λ
-      keyword. (and_then (token_at is_open_paren keyword.scopes keyword.rest) (λ opening. (and_then (inner.type_name (room - 1)
-      opening.scopes opening.rest) (λ t. (and_then (token_at is_comma t.scopes t.rest) (λ separator. (and_then (name_at
-      separator.scopes separator.rest) (λ name. (and_then (repeated begins_desig (step_with inner room) name.scopes name.rest)
-      (λ steps. (and_then (token_at is_close_paren steps.scopes steps.rest) (λ closing. (postfixed inner room (offset
-      keyword.tree opening.tree t.tree.words t.tree.declr separator.tree name.tree (desigs_from steps.tree) closing.tree)
-      closing.scopes closing.rest)))))))))))))) (bound_take room (10) s ts) (λ keyword b195 e196 l197. bound_bind token_levels
-      expr_height (0) (8 * length b195 + (1)) room (8 * length b195 + (10)) keyword.rest (token_at is_open_paren keyword.scopes
-      keyword.rest) (λ opening. (and_then (inner.type_name (room - 1) opening.scopes opening.rest) (λ t. (and_then (token_at
-      is_comma t.scopes t.rest) (λ separator. (and_then (name_at separator.scopes separator.rest) (λ name. (and_then (repeated
-      begins_desig (step_with inner room) name.scopes name.rest) (λ steps. (and_then (token_at is_close_paren steps.scopes
-      steps.rest) (λ closing. (postfixed inner room (offset keyword.tree opening.tree t.tree.words t.tree.declr separator.tree
-      name.tree (desigs_from steps.tree) closing.tree) closing.scopes closing.rest)))))))))))) (bound_token is_open_paren room
-      (8 * length b195 + (10)) keyword.scopes keyword.rest) (λ opening b198 e199 l200. bound_bind type_name_height expr_height
-      (2) (8 * length b198 + (8 * length b195 + (1))) room (8 * length b198 + (8 * length b195 + (10))) opening.rest
-      (inner.type_name (room - 1) opening.scopes opening.rest) (λ t. (and_then (token_at is_comma t.scopes t.rest) (λ separator.
-      (and_then (name_at separator.scopes separator.rest) (λ name. (and_then (repeated begins_desig (step_with inner room)
-      name.scopes name.rest) (λ steps. (and_then (token_at is_close_paren steps.scopes steps.rest) (λ closing. (postfixed inner
-      room (offset keyword.tree opening.tree t.tree.words t.tree.declr separator.tree name.tree (desigs_from steps.tree)
-      closing.tree) closing.scopes closing.rest)))))))))) (bound_weaker type_name_height (2) (room - 1) (12) (2) room (8 *
-      length b198 + (8 * length b195 + (10))) opening.rest (inner.type_name (room - 1) opening.scopes opening.rest) (omega
-      arith) (omega arith) (good.type_name (room - 1) opening.scopes opening.rest)) (λ t b201 e202 l203. bound_bind token_levels
-      expr_height (0) (8 * length b201 + (8 * length b198 + (8 * length b195 + (1)))) room (8 * length b201 + (8 * length b198 +
-      (8 * length b195 + (10)))) t.rest (token_at is_comma t.scopes t.rest) (λ separator. (and_then (name_at separator.scopes
-      separator.rest) (λ name. (and_then (repeated begins_desig (step_with inner room) name.scopes name.rest) (λ steps.
-      (and_then (token_at is_close_paren steps.scopes steps.rest) (λ closing. (postfixed inner room (offset keyword.tree
-      opening.tree t.tree.words t.tree.declr separator.tree name.tree (desigs_from steps.tree) closing.tree) closing.scopes
-      closing.rest)))))))) (bound_token is_comma room (8 * length b201 + (8 * length b198 + (8 * length b195 + (10)))) t.scopes
-      t.rest) (λ separator b204 e205 l206. bound_bind token_levels expr_height (0) (8 * length b204 + (8 * length b201 + (8 *
-      length b198 + (8 * length b195 + (1))))) room (8 * length b204 + (8 * length b201 + (8 * length b198 + (8 * length b195 +
-      (10))))) separator.rest (name_at separator.scopes separator.rest) (λ name. (and_then (repeated begins_desig (step_with
-      inner room) name.scopes name.rest) (λ steps. (and_then (token_at is_close_paren steps.scopes steps.rest) (λ closing.
-      (postfixed inner room (offset keyword.tree opening.tree t.tree.words t.tree.declr separator.tree name.tree (desigs_from
-      steps.tree) closing.tree) closing.scopes closing.rest)))))) (bound_name room (8 * length b204 + (8 * length b201 + (8 *
-      length b198 + (8 * length b195 + (10))))) separator.scopes separator.rest) (λ name b207 e208 l209. bound_bind (most_of
-      step_height) expr_height (1) (8 * length b207 + (8 * length b204 + (8 * length b201 + (8 * length b198 + (8 * length b195
-      + (1)))))) room (8 * length b207 + (8 * length b204 + (8 * length b201 + (8 * length b198 + (8 * length b195 + (10))))))
-      name.rest (repeated begins_desig (step_with inner room) name.scopes name.rest) (λ steps. (and_then (token_at
-      is_close_paren steps.scopes steps.rest) (λ closing. (postfixed inner room (offset keyword.tree opening.tree t.tree.words
-      t.tree.declr separator.tree name.tree (desigs_from steps.tree) closing.tree) closing.scopes closing.rest)))) (bound_weaker
-      (most_of step_height) (1) room (11) (1) room (8 * length b207 + (8 * length b204 + (8 * length b201 + (8 * length b198 +
-      (8 * length b195 + (10)))))) name.rest (repeated begins_desig (step_with inner room) name.scopes name.rest) (omega arith)
-      (omega arith) (bound_repeated begins_desig (step_with inner room) step_height (1) room (11) (step_shrinks all tokens n
-      inner laws room) (omega arith) (λ s9 ts9 is9. b_step_with room s9 ts9) name.scopes name.rest)) (λ steps b210 e211 l212.
-      bound_bind token_levels expr_height (0) (8 * length b210 + (8 * length b207 + (8 * length b204 + (8 * length b201 + (8 *
-      length b198 + (8 * length b195 + (1))))))) room (8 * length b210 + (8 * length b207 + (8 * length b204 + (8 * length b201
-      + (8 * length b198 + (8 * length b195 + (10))))))) steps.rest (token_at is_close_paren steps.scopes steps.rest) (λ
-      closing. (postfixed inner room (offset keyword.tree opening.tree t.tree.words t.tree.declr separator.tree name.tree
-      (desigs_from steps.tree) closing.tree) closing.scopes closing.rest)) (bound_token is_close_paren room (8 * length b210 +
-      (8 * length b207 + (8 * length b204 + (8 * length b201 + (8 * length b198 + (8 * length b195 + (10))))))) steps.scopes
-      steps.rest) (λ closing b213 e214 l215. let f216 = low_steps steps.tree in bound_weaker expr_height (expr_height (offset
-      keyword.tree opening.tree t.tree.words t.tree.declr separator.tree name.tree (desigs_from steps.tree) closing.tree)) room
-      (expr_height (offset keyword.tree opening.tree t.tree.words t.tree.declr separator.tree name.tree (desigs_from steps.tree)
-      closing.tree) + 10) (8 * length b213 + (8 * length b210 + (8 * length b207 + (8 * length b204 + (8 * length b201 + (8 *
-      length b198 + (8 * length b195 + (1)))))))) room (8 * length b213 + (8 * length b210 + (8 * length b207 + (8 * length b204
-      + (8 * length b201 + (8 * length b198 + (8 * length b195 + (10)))))))) closing.rest (postfixed inner room (offset
-      keyword.tree opening.tree t.tree.words t.tree.declr separator.tree name.tree (desigs_from steps.tree) closing.tree)
-      closing.scopes closing.rest) (omega arith) (omega arith) (b_postfixed room (offset keyword.tree opening.tree t.tree.words
-      t.tree.declr separator.tree name.tree (desigs_from steps.tree) closing.tree) closing.scopes closing.rest)))))))))
+      bound_fits _ _ _ _ _ _ _ _ (known) (λ less194. omega arith) (λ less194. bound_bind token_levels _ (0) _ _ _ _ _ _ (bound_take
+      _ _ _ _) (λ keyword b195 e196 l197. bound_bind token_levels _ (0) _ _ _ _ _ _ (bound_token is_open_paren _ _ _ _) (λ
+      opening b198 e199 l200. bound_bind type_name_height _ (2) _ _ _ _ _ _ (bound_weaker _ (2) (room - 1) (12) _ _ _ _ _ (omega
+      arith) (omega arith) (good.type_name (room - 1) _ _)) (λ t b201 e202 l203. bound_bind token_levels _ (0) _ _ _ _ _ _
+      (bound_token is_comma _ _ _ _) (λ separator b204 e205 l206. bound_bind token_levels _ (0) _ _ _ _ _ _ (bound_name _ _ _ _)
+      (λ name b207 e208 l209. bound_bind (most_of step_height) _ (1) _ _ _ _ _ _ (bound_weaker _ (1) room (11) _ _ _ _ _ (omega
+      arith) (omega arith) (bound_repeated begins_desig (step_with inner room) step_height (1) room (11) (step_shrinks all
+      tokens n inner laws room) (omega arith) (λ s9 ts9 is9. b_step_with room _ _) name.scopes name.rest)) (λ steps b210 e211
+      l212. bound_bind token_levels _ (0) _ _ _ _ _ _ (bound_token is_close_paren _ _ _ _) (λ closing b213 e214 l215. let f216 =
+      low_steps steps.tree in bound_weaker _ (expr_height (offset keyword.tree opening.tree t.tree.words t.tree.declr
+      separator.tree name.tree (desigs_from steps.tree) closing.tree)) room (expr_height (offset keyword.tree opening.tree
+      t.tree.words t.tree.declr separator.tree name.tree (desigs_from steps.tree) closing.tree) + 10) _ _ _ _ _ (omega arith)
+      (omega arith) (b_postfixed room (offset keyword.tree opening.tree t.tree.words t.tree.declr separator.tree name.tree
+      (desigs_from steps.tree) closing.tree) _ _)))))))))
 
   pub b_name_with : (name : ℕ) (room : ℕ) (s : HeldScopes) (ts : List Lexeme) → is_end (kind_at ts) ≡ false → BoundAt expr_height
       (1) room (10) ts (name_with inner name room s ts)
   b_name_with name room s ts known =
-      bound_if expr_height (1) room (10) ts (names_type s name) (refuses Unexpected ts) (primary_with inner (λ token. name_use token
-      name) room s ts) (λ is217. λ e9. absurd cc) (λ is217. bound_weaker expr_height (1) room (10) (1) room (10) ts
-      (primary_with inner (λ token. name_use token name) room s ts) (omega arith) (omega arith) (b_primary_with (λ token.
-      name_use token name) room s ts (known) (λ token9. omega arith)))
+      bound_if _ _ _ _ _ (names_type s name) (refuses Unexpected ts) (primary_with inner (λ token. name_use token name) room s ts)
+      (λ is217. record { held = λ e. absurd cc }) (λ is217. bound_weaker _ (1) room (10) _ _ _ _ _ (omega arith) (omega arith)
+      (b_primary_with (λ token. name_use token name) room _ _ (known) (λ token9. omega arith)))
 
   pub b_unary_by : (a0 : Opening) (room : ℕ) (s : HeldScopes) (ts : List Lexeme) → ((a0 ≡ openings.Nothing → ⊥) → is_end (kind_at
       ts) ≡ false) → BoundAt expr_height (1) room (10) ts (unary_by inner a0 room s ts)
   unfolding unary_by
   b_unary_by (openings.Prefix p reach) room s ts known =
-      bound_weaker expr_height (1) room (10) (1) room (10) ts (prefix_with inner p reach room s ts) (omega arith) (omega arith)
-      (b_prefix_with p reach room s ts (known (λ e9. absurd cc)))
+      bound_weaker _ (1) room (10) _ _ _ _ _ (omega arith) (omega arith) (b_prefix_with p reach room _ _ (known (λ e9. absurd cc)))
   b_unary_by (openings.Sizeof keyword) room s ts known =
-      bound_weaker expr_height (1) room (10) (1) room (10) ts (sizeof_with inner keyword room s ts) (omega arith) (omega arith)
-      (b_sizeof_with keyword room s ts (known (λ e9. absurd cc)))
+      bound_weaker _ (1) room (10) _ _ _ _ _ (omega arith) (omega arith) (b_sizeof_with keyword room _ _ (known (λ e9. absurd cc)))
   b_unary_by openings.Extension room s ts known =
-      bound_weaker expr_height (1) room (10) (1) room (10) ts (extension_with inner room s ts) (omega arith) (omega arith)
-      (b_extension_with room s ts (known (λ e9. absurd cc)))
+      bound_weaker _ (1) room (10) _ _ _ _ _ (omega arith) (omega arith) (b_extension_with room _ _ (known (λ e9. absurd cc)))
   b_unary_by (openings.Name name) room s ts known =
-      bound_weaker expr_height (1) room (10) (1) room (10) ts (name_with inner name room s ts) (omega arith) (omega arith)
-      (b_name_with name room s ts (known (λ e9. absurd cc)))
+      bound_weaker _ (1) room (10) _ _ _ _ _ (omega arith) (omega arith) (b_name_with name room s ts (known (λ e9. absurd cc)))
   b_unary_by openings.Number room s ts known =
-      bound_weaker expr_height (1) room (10) (1) room (10) ts (primary_with inner number_use room s ts) (omega arith) (omega arith)
-      (b_primary_with number_use room s ts (known (λ e9. absurd cc)) (λ token9. omega arith))
+      bound_weaker _ (1) room (10) _ _ _ _ _ (omega arith) (omega arith) (b_primary_with number_use room _ _ (known (λ e9. absurd
+      cc)) (λ token9. omega arith))
   b_unary_by openings.Char room s ts known =
-      bound_weaker expr_height (1) room (10) (1) room (10) ts (primary_with inner char_use room s ts) (omega arith) (omega arith)
-      (b_primary_with char_use room s ts (known (λ e9. absurd cc)) (λ token9. omega arith))
+      bound_weaker _ (1) room (10) _ _ _ _ _ (omega arith) (omega arith) (b_primary_with char_use room _ _ (known (λ e9. absurd cc))
+      (λ token9. omega arith))
   b_unary_by openings.Text room s ts known =
-      bound_weaker expr_height (1) room (10) (1) room (10) ts (text_with inner room s ts) (omega arith) (omega arith) (b_text_with
-      room s ts (known (λ e9. absurd cc)))
+      bound_weaker _ (1) room (10) _ _ _ _ _ (omega arith) (omega arith) (b_text_with room _ _ (known (λ e9. absurd cc)))
   b_unary_by openings.Paren room s ts known =
-      bound_weaker expr_height (1) room (10) (1) room (10) ts (opened_with inner false room s ts) (omega arith) (omega arith)
-      (b_opened_with false room s ts (known (λ e9. absurd cc)))
+      bound_weaker _ (1) room (10) _ _ _ _ _ (omega arith) (omega arith) (b_opened_with false room _ _ (known (λ e9. absurd cc)))
   b_unary_by openings.VaArg room s ts known =
-      bound_weaker expr_height (1) room (10) (1) room (10) ts (va_arg_with inner room s ts) (omega arith) (omega arith)
-      (b_va_arg_with room s ts (known (λ e9. absurd cc)))
+      bound_weaker _ (1) room (10) _ _ _ _ _ (omega arith) (omega arith) (b_va_arg_with room _ _ (known (λ e9. absurd cc)))
   b_unary_by openings.VaStart room s ts known =
-      bound_weaker expr_height (1) room (10) (1) room (10) ts (va_two_with inner va_start room s ts) (omega arith) (omega arith)
-      (b_va_two_with va_start room s ts (known (λ e9. absurd cc)) (λ a b e x e2 y. omega arith))
+      bound_weaker _ (1) room (10) _ _ _ _ _ (omega arith) (omega arith) (b_va_two_with va_start room _ _ (known (λ e9. absurd cc))
+      (λ a b e x e2 y. omega arith))
   b_unary_by openings.VaCopy room s ts known =
-      bound_weaker expr_height (1) room (10) (1) room (10) ts (va_two_with inner va_copy room s ts) (omega arith) (omega arith)
-      (b_va_two_with va_copy room s ts (known (λ e9. absurd cc)) (λ a b e x e2 y. omega arith))
+      bound_weaker _ (1) room (10) _ _ _ _ _ (omega arith) (omega arith) (b_va_two_with va_copy room _ _ (known (λ e9. absurd cc))
+      (λ a b e x e2 y. omega arith))
   b_unary_by openings.Offset room s ts known =
-      bound_weaker expr_height (1) room (10) (1) room (10) ts (offset_with inner room s ts) (omega arith) (omega arith)
-      (b_offset_with room s ts (known (λ e9. absurd cc)))
+      bound_weaker _ (1) room (10) _ _ _ _ _ (omega arith) (omega arith) (b_offset_with room _ _ (known (λ e9. absurd cc)))
   b_unary_by openings.Nothing room s ts known =
-      λ e9. absurd cc
+      record { held = λ e. absurd cc }
 
   pub b_unary_with : (room : ℕ) (s : HeldScopes) (ts : List Lexeme) → BoundAt expr_height (1) room (10) ts (unary_with inner room s ts)
   unfolding unary_with
   b_unary_with room s ts =
-      bound_weaker expr_height (1) room (10) (1) room (10) ts (unary_by inner (opening_of (kind_at ts)) room s ts) (omega arith)
-      (omega arith) (b_unary_by (opening_of (kind_at ts)) room s ts (known_of opening_of openings.Nothing refl (kind_at ts)))
+      bound_weaker _ (1) room (10) _ _ _ _ _ (omega arith) (omega arith) (b_unary_by (opening_of (kind_at ts)) room _ _ (known_of
+      opening_of openings.Nothing refl (kind_at ts)))
 
   pub b_cast_with : (room : ℕ) (s : HeldScopes) (ts : List Lexeme) → BoundAt expr_height (1) room (10) ts (cast_with inner room s ts)
   unfolding cast_with
   b_cast_with room s ts =
-      bound_if expr_height (1) room (10) ts (is_open_paren (kind_at ts)) (opened_with inner true room s ts) (unary_with inner room s
-      ts) (λ is218. bound_weaker expr_height (1) room (10) (1) room (10) ts (opened_with inner true room s ts) (omega arith)
-      (omega arith) (b_opened_with true room s ts (known_by (λ kind9. is_open_paren kind9) refl (kind_at ts) is218))) (λ is218.
-      bound_weaker expr_height (1) room (10) (1) room (10) ts (unary_with inner room s ts) (omega arith) (omega arith)
-      (b_unary_with room s ts))
+      bound_if _ _ _ _ _ (is_open_paren (kind_at ts)) (opened_with inner true room s ts) (unary_with inner room s ts) (λ is218.
+      bound_weaker _ (1) room (10) _ _ _ _ _ (omega arith) (omega arith) (b_opened_with true room _ _ (known_by (λ kind9.
+      is_open_paren kind9) refl (kind_at ts) is218))) (λ is218. bound_weaker _ (1) room (10) _ _ _ _ _ (omega arith) (omega
+      arith) (b_unary_with room _ _))
 
   pub b_operand_with : (a0 : Begun) (room : ℕ) (s : HeldScopes) (ts : List Lexeme) → BoundAt expr_height (1 + begun_levels a0) room
       (10 + begun_levels a0) ts (operand_with inner a0 room s ts)
   unfolding operand_with
   b_operand_with nothing room s ts =
-      bound_weaker expr_height (1) room (10) (1 + begun_levels nothing) room (10 + begun_levels nothing) ts (cast_with inner room s
-      ts) (omega arith) (omega arith) (b_cast_with room s ts)
+      bound_weaker _ (1) room (10) _ _ _ _ _ (omega arith) (omega arith) (b_cast_with room _ _)
   b_operand_with (extensions tokens) room s ts =
-      bound_bind expr_height expr_height (1) (1 + begun_levels (extensions tokens)) room (10 + begun_levels (extensions tokens)) ts
-      (cast_with inner (room - length tokens) s ts) (λ e. (ends (extended tokens e.tree) e.scopes e.rest)) (bound_weaker
-      expr_height (1) (room - length tokens) (10) (1) room (10 + begun_levels (extensions tokens)) ts (cast_with inner (room -
-      length tokens) s ts) (omega arith) (omega arith) (b_cast_with (room - length tokens) s ts)) (λ e b219 e220 l221.
-      bound_ends expr_height (8 * length b219 + (1 + begun_levels (extensions tokens))) room (8 * length b219 + (10 +
-      begun_levels (extensions tokens))) (extended tokens e.tree) e.scopes e.rest (let f222 = low_extended tokens e.tree in
-      omega arith))
+      bound_bind expr_height _ (1) _ _ _ _ _ _ (bound_weaker _ (1) (room - length tokens) (10) _ _ _ _ _ (omega arith) (omega arith)
+      (b_cast_with (room - length tokens) _ _)) (λ e b219 e220 l221. bound_ends _ _ _ _ _ _ _ (let f222 = low_extended tokens
+      e.tree in omega arith))
   b_operand_with (star token) room s ts =
-      bound_bind expr_height expr_height (1) (1 + begun_levels (star token)) room (10 + begun_levels (star token)) ts (cast_with
-      inner (room - 1) s ts) (λ e. (ends (prefix token puncts.Star e.tree) e.scopes e.rest)) (bound_weaker expr_height (1) (room
-      - 1) (10) (1) room (10 + begun_levels (star token)) ts (cast_with inner (room - 1) s ts) (omega arith) (omega arith)
-      (b_cast_with (room - 1) s ts)) (λ e b223 e224 l225. bound_ends expr_height (8 * length b223 + (1 + begun_levels (star
-      token))) room (8 * length b223 + (10 + begun_levels (star token))) (prefix token puncts.Star e.tree) e.scopes e.rest
-      (omega arith))
+      bound_bind expr_height _ (1) _ _ _ _ _ _ (bound_weaker _ (1) (room - 1) (10) _ _ _ _ _ (omega arith) (omega arith)
+      (b_cast_with (room - 1) _ _)) (λ e b223 e224 l225. bound_ends _ _ _ _ _ _ _ (omega arith))
 
   -- an operator and the operand behind it
   operation_bound : (op : Operator) → operator_height op ≤ 0 → (left : Settled) (room : ℕ) (s : HeldScopes) (ts : List Lexeme) (c :
@@ -789,13 +491,11 @@ module _ (all : List Lexeme) (numbered : IsNumbered all) (tokens : TokenLaws all
       room s ts)
   unfolding middle_with
   b_middle_with room s ts =
-      bound_if some_expr_height (1) room (10) ts (is_colon (kind_at ts)) (ends no_expr s ts) (and_then (inner.expr Whole nothing
-      room s ts) (λ e. (ends (some_expr e.tree) e.scopes e.rest))) (λ is226. bound_ends some_expr_height (1) room (10) no_expr s
-      ts (omega arith)) (λ is226. bound_bind expr_height some_expr_height (1 + begun_levels nothing) (1) room (10) ts
-      (inner.expr Whole nothing room s ts) (λ e. (ends (some_expr e.tree) e.scopes e.rest)) (bound_weaker expr_height (1 +
-      begun_levels nothing) room (10 + begun_levels nothing) (1 + begun_levels nothing) room (10) ts (inner.expr Whole nothing
-      room s ts) (omega arith) (omega arith) (good.expr Whole nothing room s ts)) (λ e b227 e228 l229. bound_ends
-      some_expr_height (8 * length b227 + (1)) room (8 * length b227 + (10)) (some_expr e.tree) e.scopes e.rest (omega arith)))
+      bound_if _ _ _ _ _ (is_colon (kind_at ts)) (ends no_expr s ts) (and_then (inner.expr Whole nothing room s ts) (λ e. (ends
+      (some_expr e.tree) e.scopes e.rest))) (λ is226. bound_ends _ _ _ _ _ _ _ (omega arith)) (λ is226. bound_bind expr_height _
+      (1 + begun_levels nothing) _ _ _ _ _ _ (bound_weaker _ (1 + begun_levels nothing) room (10 + begun_levels nothing) _ _ _ _
+      _ (omega arith) (omega arith) (good.expr Whole nothing room _ _)) (λ e b227 e228 l229. bound_ends _ _ _ _ _ _ _ (omega
+      arith)))
 
   question_bound : (left : Settled) (room : ℕ) (s : HeldScopes) (ts : List Lexeme) (c : ℕ) → 1 ≤ c → pot left.below (expr_height
       left.last) ≤ c → is_end (kind_at ts) ≡ false →
@@ -856,7 +556,7 @@ module _ (all : List Lexeme) (numbered : IsNumbered all) (tokens : TokenLaws all
           StepAt row_height c room (c + 9) ts (if b then (if takes_assign reach then Some (operation_with inner (assign p) (settled
           row 1) room s ts) else None) else Some (refuses BadTarget ts))
       by_target p true known = by_assign p (takes_assign reach) known
-      by_target p false known = λ e9. absurd cc
+      by_target p false known = record { held = λ e. absurd cc }
 
       by_infix : (i : Infix) → ((i ≡ infixes.Nothing → ⊥) → is_end (kind_at ts) ≡ false) → StepAt row_height c room (c + 9) ts
           (operation_by inner reach room i row s ts)
@@ -894,20 +594,16 @@ module _ (all : List Lexeme) (numbered : IsNumbered all) (tokens : TokenLaws all
       begun_levels begun) room (10 + begun_levels begun) ts (expr_with inner a0 begun room s ts)
   unfolding expr_with
   b_expr_with Whole begun room s ts =
-      bound_weaker expr_height (1 + begun_levels begun) room (10 + begun_levels begun) (1 + begun_levels begun) room (10 +
-      begun_levels begun) ts (row_with inner Whole begun room s ts) (omega arith) (omega arith) (b_row_with Whole begun room s
-      ts)
+      bound_weaker _ (1 + begun_levels begun) room (10 + begun_levels begun) _ _ _ _ _ (omega arith) (omega arith) (b_row_with Whole
+      begun room _ _)
   b_expr_with Assigned begun room s ts =
-      bound_weaker expr_height (1 + begun_levels begun) room (10 + begun_levels begun) (1 + begun_levels begun) room (10 +
-      begun_levels begun) ts (row_with inner Assigned begun room s ts) (omega arith) (omega arith) (b_row_with Assigned begun
-      room s ts)
+      bound_weaker _ (1 + begun_levels begun) room (10 + begun_levels begun) _ _ _ _ _ (omega arith) (omega arith) (b_row_with
+      Assigned begun room _ _)
   b_expr_with Conditional begun room s ts =
-      bound_weaker expr_height (1 + begun_levels begun) room (10 + begun_levels begun) (1 + begun_levels begun) room (10 +
-      begun_levels begun) ts (row_with inner Conditional begun room s ts) (omega arith) (omega arith) (b_row_with Conditional
-      begun room s ts)
+      bound_weaker _ (1 + begun_levels begun) room (10 + begun_levels begun) _ _ _ _ _ (omega arith) (omega arith) (b_row_with
+      Conditional begun room _ _)
   b_expr_with Castable begun room s ts =
-      bound_weaker expr_height (1 + begun_levels begun) room (10 + begun_levels begun) (1 + begun_levels begun) room (10 +
-      begun_levels begun) ts (operand_with inner begun room s ts) (omega arith) (omega arith) (b_operand_with begun room s ts)
+      bound_weaker _ (1 + begun_levels begun) room (10 + begun_levels begun) _ _ _ _ _ (omega arith) (omega arith) (b_operand_with
+      begun room _ _)
   b_expr_with Unary begun room s ts =
-      bound_weaker expr_height (1) room (10) (1 + begun_levels begun) room (10 + begun_levels begun) ts (unary_with inner room s ts)
-      (omega arith) (omega arith) (b_unary_with room s ts)
+      bound_weaker _ (1) room (10) _ _ _ _ _ (omega arith) (omega arith) (b_unary_with room _ _)

@@ -1,14 +1,14 @@
 -- Bounds of the readers of initialisers.
-use Rattle.std.proofs.Common.{◌≡◌, ℕ, ◌+◌, false, List, [], length, Option, Some, None, refl, arith}
-use Rattle.std.specs.Prelude.{◌*◌, ◌-◌}
-use Rattle.c_tree.specs.Tree.{init_value, init_braced, init_list, Desigs, no_desigs, more_desigs, member_desig, index_desig}
+use Rattle.std.proofs.Common.{◌≡◌, ℕ, ◌+◌, false, List, [], Option, None, refl, arith}
+use Rattle.std.specs.Prelude.{◌-◌}
+use Rattle.c_tree.specs.Tree.{init_value, init_braced, Desigs, no_desigs, more_desigs}
 use Rattle.c_units.specs.HeldScopes.{HeldScopes}
 use Rattle.c_reading.specs.declared.kinds.Fault.TheVariants.{Unexpected}
 use Rattle.c_reading.specs.declared.kinds.Reach.TheVariants.{Assigned, Conditional}
-use Rattle.c_reading.specs.Reading.{ends, refuses, fits, kind_at, take_one, token_at, repeated, listed, one_more, list_end, IsNumbered, and_then}
-use Rattle.c_reading.specs.Tokens.{is_open_brace, is_close_brace, is_close_bracket, is_equal, name_at, is_end}
+use Rattle.c_reading.specs.Reading.{ends, refuses, fits, kind_at, listed, one_more, list_end, IsNumbered, and_then}
+use Rattle.c_reading.specs.Tokens.{is_open_brace, is_close_brace, is_close_bracket, is_equal, is_end}
 use Rattle.c_reading.specs.Expressing.{begins_desig, is_dot}
-use Rattle.c_reading.specs.Parts.{Inner, nothing, desigs_from, init_items_from}
+use Rattle.c_reading.specs.Parts.{Inner, nothing, desigs_from}
 use Rattle.c_reading.specs.Initialising.{begins_init, equal_behind, init_with, member_desig_with, index_desig_with, desig_with, init_here, init_item_with, next_init_item, init_items_with, braced_with, init_list_with}
 use Rattle.c_tree.specs.declared.lexeme.Lexeme.{Lexeme}
 use Rattle.c_reading.proofs.Aims.{TokenLaws, Laws}
@@ -23,182 +23,104 @@ module _ (all : List Lexeme) (numbered : IsNumbered all) (tokens : TokenLaws all
   pub b_equal_behind : (room : ℕ) (a0 : Desigs) (s : HeldScopes) (ts : List Lexeme) → BoundAt (no_levels {A = Option ℕ}) (0) room
       (0) ts (equal_behind a0 s ts)
   b_equal_behind room no_desigs s ts =
-      bound_ends (no_levels {A = Option ℕ}) (0) room (0) None s ts (omega arith)
+      bound_ends _ _ _ _ _ _ _ (omega arith)
   b_equal_behind room (more_desigs d ds) s ts =
-      bound_bind token_levels (no_levels {A = Option ℕ}) (0) (0) room (0) ts (token_at is_equal s ts) (λ equal. (ends (Some
-      equal.tree) equal.scopes equal.rest)) (bound_token is_equal room (0) s ts) (λ equal b230 e231 l232. bound_ends (no_levels
-      {A = Option ℕ}) (8 * length b230 + (0)) room (8 * length b230 + (0)) (Some equal.tree) equal.scopes equal.rest (omega
-      arith))
+      bound_bind token_levels _ (0) _ _ _ _ _ _ (bound_token is_equal _ _ _ _) (λ equal b230 e231 l232. bound_ends _ _ _ _ _ _ _
+      (omega arith))
 
   pub b_init_with : (room : ℕ) (s : HeldScopes) (ts : List Lexeme) → BoundAt init_height (1) room (10) ts (init_with inner room s ts)
   unfolding init_with
   b_init_with room s ts =
-      bound_if init_height (1) room (10) ts (is_open_brace (kind_at ts)) (and_then (inner.init_list room s ts) (λ list. (ends
-      (init_braced list.tree) list.scopes list.rest))) (and_then (inner.expr Assigned nothing room s ts) (λ e. (ends (init_value
-      e.tree) e.scopes e.rest))) (λ is233. bound_bind init_list_height init_height (1) (1) room (10) ts (inner.init_list room s
-      ts) (λ list. (ends (init_braced list.tree) list.scopes list.rest)) (bound_weaker init_list_height (1) room (10) (1) room
-      (10) ts (inner.init_list room s ts) (omega arith) (omega arith) (good.init_list room s ts)) (λ list b234 e235 l236.
-      bound_ends init_height (8 * length b234 + (1)) room (8 * length b234 + (10)) (init_braced list.tree) list.scopes list.rest
-      (omega arith))) (λ is233. bound_bind expr_height init_height (1 + begun_levels nothing) (1) room (10) ts (inner.expr
-      Assigned nothing room s ts) (λ e. (ends (init_value e.tree) e.scopes e.rest)) (bound_weaker expr_height (1 + begun_levels
-      nothing) room (10 + begun_levels nothing) (1 + begun_levels nothing) room (10) ts (inner.expr Assigned nothing room s ts)
-      (omega arith) (omega arith) (good.expr Assigned nothing room s ts)) (λ e b237 e238 l239. bound_ends init_height (8 *
-      length b237 + (1)) room (8 * length b237 + (10)) (init_value e.tree) e.scopes e.rest (omega arith)))
+      bound_if _ _ _ _ _ (is_open_brace (kind_at ts)) (and_then (inner.init_list room s ts) (λ list. (ends (init_braced list.tree)
+      list.scopes list.rest))) (and_then (inner.expr Assigned nothing room s ts) (λ e. (ends (init_value e.tree) e.scopes
+      e.rest))) (λ is233. bound_bind init_list_height _ (1) _ _ _ _ _ _ (bound_weaker _ (1) room (10) _ _ _ _ _ (omega arith)
+      (omega arith) (good.init_list room _ _)) (λ list b234 e235 l236. bound_ends _ _ _ _ _ _ _ (omega arith))) (λ is233.
+      bound_bind expr_height _ (1 + begun_levels nothing) _ _ _ _ _ _ (bound_weaker _ (1 + begun_levels nothing) room (10 +
+      begun_levels nothing) _ _ _ _ _ (omega arith) (omega arith) (good.expr Assigned nothing room _ _)) (λ e b237 e238 l239.
+      bound_ends _ _ _ _ _ _ _ (omega arith)))
 
   pub b_member_desig_with : (room : ℕ) (s : HeldScopes) (ts : List Lexeme) → is_end (kind_at ts) ≡ false → BoundAt desig_height (2)
       room (12) ts (member_desig_with inner room s ts)
   unfolding member_desig_with
   b_member_desig_with room s ts known =
-      bound_fits desig_height (2) room (12) 2 room ts (and_then (take_one s ts) (λ token. (and_then (name_at token.scopes
-      token.rest) (λ name. (ends (member_desig token.tree name.tree) name.scopes name.rest))))) (known) (λ less240. omega arith)
-      (λ less240. bound_bind token_levels desig_height (0) (2) room (12) ts (take_one s ts) (λ token. (and_then (name_at
-      token.scopes token.rest) (λ name. (ends (member_desig token.tree name.tree) name.scopes name.rest)))) (bound_take room
-      (12) s ts) (λ token b241 e242 l243. bound_bind token_levels desig_height (0) (8 * length b241 + (2)) room (8 * length b241
-      + (12)) token.rest (name_at token.scopes token.rest) (λ name. (ends (member_desig token.tree name.tree) name.scopes
-      name.rest)) (bound_name room (8 * length b241 + (12)) token.scopes token.rest) (λ name b244 e245 l246. bound_ends
-      desig_height (8 * length b244 + (8 * length b241 + (2))) room (8 * length b244 + (8 * length b241 + (12))) (member_desig
-      token.tree name.tree) name.scopes name.rest (omega arith))))
+      bound_fits _ _ _ _ _ _ _ _ (known) (λ less240. omega arith) (λ less240. bound_bind token_levels _ (0) _ _ _ _ _ _ (bound_take
+      _ _ _ _) (λ token b241 e242 l243. bound_bind token_levels _ (0) _ _ _ _ _ _ (bound_name _ _ _ _) (λ name b244 e245 l246.
+      bound_ends _ _ _ _ _ _ _ (omega arith))))
 
   pub b_index_desig_with : (room : ℕ) (s : HeldScopes) (ts : List Lexeme) → is_end (kind_at ts) ≡ false → BoundAt desig_height (2)
       room (12) ts (index_desig_with inner room s ts)
   unfolding index_desig_with
   b_index_desig_with room s ts known =
-      bound_fits desig_height (2) room (12) 3 room ts (and_then (take_one s ts) (λ opening. (and_then (inner.expr Conditional
-      nothing (room - 2) opening.scopes opening.rest) (λ e. (and_then (token_at is_close_bracket e.scopes e.rest) (λ closing.
-      (ends (index_desig opening.tree e.tree closing.tree) closing.scopes closing.rest))))))) (known) (λ less247. omega arith)
-      (λ less247. bound_bind token_levels desig_height (0) (2) room (12) ts (take_one s ts) (λ opening. (and_then (inner.expr
-      Conditional nothing (room - 2) opening.scopes opening.rest) (λ e. (and_then (token_at is_close_bracket e.scopes e.rest) (λ
-      closing. (ends (index_desig opening.tree e.tree closing.tree) closing.scopes closing.rest)))))) (bound_take room (12) s
-      ts) (λ opening b248 e249 l250. bound_bind expr_height desig_height (1 + begun_levels nothing) (8 * length b248 + (2)) room
-      (8 * length b248 + (12)) opening.rest (inner.expr Conditional nothing (room - 2) opening.scopes opening.rest) (λ e.
-      (and_then (token_at is_close_bracket e.scopes e.rest) (λ closing. (ends (index_desig opening.tree e.tree closing.tree)
-      closing.scopes closing.rest)))) (bound_weaker expr_height (1 + begun_levels nothing) (room - 2) (10 + begun_levels
-      nothing) (1 + begun_levels nothing) room (8 * length b248 + (12)) opening.rest (inner.expr Conditional nothing (room - 2)
-      opening.scopes opening.rest) (omega arith) (omega arith) (good.expr Conditional nothing (room - 2) opening.scopes
-      opening.rest)) (λ e b251 e252 l253. bound_bind token_levels desig_height (0) (8 * length b251 + (8 * length b248 + (2)))
-      room (8 * length b251 + (8 * length b248 + (12))) e.rest (token_at is_close_bracket e.scopes e.rest) (λ closing. (ends
-      (index_desig opening.tree e.tree closing.tree) closing.scopes closing.rest)) (bound_token is_close_bracket room (8 *
-      length b251 + (8 * length b248 + (12))) e.scopes e.rest) (λ closing b254 e255 l256. bound_ends desig_height (8 * length
-      b254 + (8 * length b251 + (8 * length b248 + (2)))) room (8 * length b254 + (8 * length b251 + (8 * length b248 + (12))))
-      (index_desig opening.tree e.tree closing.tree) closing.scopes closing.rest (omega arith)))))
+      bound_fits _ _ _ _ _ _ _ _ (known) (λ less247. omega arith) (λ less247. bound_bind token_levels _ (0) _ _ _ _ _ _ (bound_take
+      _ _ _ _) (λ opening b248 e249 l250. bound_bind expr_height _ (1 + begun_levels nothing) _ _ _ _ _ _ (bound_weaker _ (1 +
+      begun_levels nothing) (room - 2) (10 + begun_levels nothing) _ _ _ _ _ (omega arith) (omega arith) (good.expr Conditional
+      nothing (room - 2) _ _)) (λ e b251 e252 l253. bound_bind token_levels _ (0) _ _ _ _ _ _ (bound_token is_close_bracket _ _
+      _ _) (λ closing b254 e255 l256. bound_ends _ _ _ _ _ _ _ (omega arith)))))
 
   pub b_desig_with : (room : ℕ) (s : HeldScopes) (ts : List Lexeme) → is_end (kind_at ts) ≡ false → BoundAt desig_height (2) room
       (12) ts (desig_with inner room s ts)
   unfolding desig_with
   b_desig_with room s ts known =
-      bound_if desig_height (2) room (12) ts (is_dot (kind_at ts)) (member_desig_with inner room s ts) (index_desig_with inner room
-      s ts) (λ is257. bound_weaker desig_height (2) room (12) (2) room (12) ts (member_desig_with inner room s ts) (omega arith)
-      (omega arith) (b_member_desig_with room s ts (known_by (λ kind9. is_dot kind9) refl (kind_at ts) is257))) (λ is257.
-      bound_weaker desig_height (2) room (12) (2) room (12) ts (index_desig_with inner room s ts) (omega arith) (omega arith)
-      (b_index_desig_with room s ts (known)))
+      bound_if _ _ _ _ _ (is_dot (kind_at ts)) (member_desig_with inner room s ts) (index_desig_with inner room s ts) (λ is257.
+      bound_weaker _ (2) room (12) _ _ _ _ _ (omega arith) (omega arith) (b_member_desig_with room _ _ (known_by (λ kind9.
+      is_dot kind9) refl (kind_at ts) is257))) (λ is257. bound_weaker _ (2) room (12) _ _ _ _ _ (omega arith) (omega arith)
+      (b_index_desig_with room _ _ (known)))
 
   pub b_init_here : (room : ℕ) (s : HeldScopes) (ts : List Lexeme) → BoundAt init_height (1) room (11) ts (init_here inner room s ts)
   unfolding init_here
   b_init_here room s ts =
-      bound_if init_height (1) room (11) ts (begins_init s (kind_at ts)) (fits 2 room ts (init_with inner (room - 1) s ts)) (refuses
-      Unexpected ts) (λ is258. bound_fits init_height (1) room (11) 2 room ts (init_with inner (room - 1) s ts) (known_by (λ
-      kind9. begins_init s kind9) refl (kind_at ts) is258) (λ less259. omega arith) (λ less259. bound_weaker init_height (1)
-      (room - 1) (10) (1) room (11) ts (init_with inner (room - 1) s ts) (omega arith) (omega arith) (b_init_with (room - 1) s
-      ts))) (λ is258. λ e9. absurd cc)
+      bound_if _ _ _ _ _ (begins_init s (kind_at ts)) (fits 2 room ts (init_with inner (room - 1) s ts)) (refuses Unexpected ts) (λ
+      is258. bound_fits _ _ _ _ _ _ _ _ (known_by (λ kind9. begins_init s kind9) refl (kind_at ts) is258) (λ less259. omega
+      arith) (λ less259. bound_weaker _ (1) (room - 1) (10) _ _ _ _ _ (omega arith) (omega arith) (b_init_with (room - 1) _ _)))
+      (λ is258. record { held = λ e. absurd cc })
 
   pub b_init_item_with : (room : ℕ) (s : HeldScopes) (ts : List Lexeme) → BoundAt list_item_height (3) room (12) ts (init_item_with
       inner room s ts)
   unfolding init_item_with
   b_init_item_with room s ts =
-      bound_bind (most_of desig_height) list_item_height (2) (3) room (12) ts (repeated begins_desig (desig_with inner room) s ts)
-      (λ desigs. (and_then (equal_behind (desigs_from desigs.tree) desigs.scopes desigs.rest) (λ equal. (and_then (init_here
-      inner room equal.scopes equal.rest) (λ init. (ends (record {
-        desigs = desigs_from desigs.tree;
-        equal = equal.tree;
-        init =
-            init.tree;
-      }) init.scopes init.rest)))))) (bound_weaker (most_of desig_height) (2) room (12) (2) room (12) ts (repeated
-      begins_desig (desig_with inner room) s ts) (omega arith) (omega arith) (bound_repeated begins_desig (desig_with inner
-      room) desig_height (2) room (12) (desig_shrinks all numbered tokens n inner laws room) (omega arith) (λ s9 ts9 is9.
-      b_desig_with room s9 ts9 (known_by begins_desig refl (kind_at ts9) is9)) s ts)) (λ desigs b260 e261 l262. let f263 =
-      low_desigs desigs.tree in bound_bind (no_levels {A = Option ℕ}) list_item_height (0) (8 * length b260 + (3)) room (8 *
-      length b260 + (12)) desigs.rest (equal_behind (desigs_from desigs.tree) desigs.scopes desigs.rest) (λ equal. (and_then
-      (init_here inner room equal.scopes equal.rest) (λ init. (ends (record {
-        desigs = desigs_from desigs.tree;
-        equal =
-            equal.tree;
-        init = init.tree;
-      }) init.scopes init.rest)))) (bound_weaker (no_levels {A = Option ℕ}) (0) room (0) (0) room
-      (8 * length b260 + (12)) desigs.rest (equal_behind (desigs_from desigs.tree) desigs.scopes desigs.rest) (omega arith)
-      (omega arith) (b_equal_behind room (desigs_from desigs.tree) desigs.scopes desigs.rest)) (λ equal b264 e265 l266.
-      bound_bind init_height list_item_height (1) (8 * length b264 + (8 * length b260 + (3))) room (8 * length b264 + (8 *
-      length b260 + (12))) equal.rest (init_here inner room equal.scopes equal.rest) (λ init. (ends (record {
-        desigs =
-            desigs_from desigs.tree;
-        equal = equal.tree;
-        init = init.tree;
-      }) init.scopes init.rest)) (bound_weaker init_height (1)
-      room (11) (1) room (8 * length b264 + (8 * length b260 + (12))) equal.rest (init_here inner room equal.scopes equal.rest)
-      (omega arith) (omega arith) (b_init_here room equal.scopes equal.rest)) (λ init b267 e268 l269. bound_ends
-      list_item_height (8 * length b267 + (8 * length b264 + (8 * length b260 + (3)))) room (8 * length b267 + (8 * length b264
-      + (8 * length b260 + (12)))) (record { desigs = desigs_from desigs.tree; equal = equal.tree; init = init.tree })
-      init.scopes init.rest (let f270 = low_desigs desigs.tree in omega arith))))
+      bound_bind (most_of desig_height) _ (2) _ _ _ _ _ _ (bound_weaker _ (2) room (12) _ _ _ _ _ (omega arith) (omega arith)
+      (bound_repeated begins_desig (desig_with inner room) desig_height (2) room (12) (desig_shrinks all numbered tokens n inner
+      laws room) (omega arith) (λ s9 ts9 is9. b_desig_with room _ _ (known_by begins_desig refl (kind_at ts9) is9)) s ts)) (λ
+      desigs b260 e261 l262. let f263 = low_desigs desigs.tree in bound_bind (no_levels {A = Option ℕ}) _ (0) _ _ _ _ _ _
+      (bound_weaker _ (0) room (0) _ _ _ _ _ (omega arith) (omega arith) (b_equal_behind room (desigs_from desigs.tree)
+      desigs.scopes desigs.rest)) (λ equal b264 e265 l266. bound_bind init_height _ (1) _ _ _ _ _ _ (bound_weaker _ (1) room
+      (11) _ _ _ _ _ (omega arith) (omega arith) (b_init_here room _ _)) (λ init b267 e268 l269. bound_ends _ _ _ _ _ _ _ (let
+      f270 = low_desigs desigs.tree in omega arith))))
 
   pub b_next_init_item : (room : ℕ) (token : ℕ) (s : HeldScopes) (ts : List Lexeme) → BoundAt (next_height {E = ℕ} list_item_height)
       (3) room (12) ts (next_init_item inner room token s ts)
   unfolding next_init_item
   b_next_init_item room token s ts =
-      bound_if (next_height {E = ℕ} list_item_height) (3) room (12) ts (is_close_brace (kind_at ts)) (ends (list_end token) s ts)
-      (and_then (init_item_with inner room s ts) (λ x. (ends (one_more x.tree) x.scopes x.rest))) (λ is271. bound_ends
-      (next_height {E = ℕ} list_item_height) (3) room (12) (list_end token) s ts (omega arith)) (λ is271. bound_bind
-      list_item_height (next_height {E = ℕ} list_item_height) (3) (3) room (12) ts (init_item_with inner room s ts) (λ x. (ends
-      (one_more x.tree) x.scopes x.rest)) (bound_weaker list_item_height (3) room (12) (3) room (12) ts (init_item_with inner
-      room s ts) (omega arith) (omega arith) (b_init_item_with room s ts)) (λ x b272 e273 l274. bound_ends (next_height {E = ℕ}
-      list_item_height) (8 * length b272 + (3)) room (8 * length b272 + (12)) (one_more x.tree) x.scopes x.rest (omega arith)))
+      bound_if _ _ _ _ _ (is_close_brace (kind_at ts)) (ends (list_end token) s ts) (and_then (init_item_with inner room s ts) (λ x.
+      (ends (one_more x.tree) x.scopes x.rest))) (λ is271. bound_ends _ _ _ _ _ _ _ (omega arith)) (λ is271. bound_bind
+      list_item_height _ (3) _ _ _ _ _ _ (bound_weaker _ (3) room (12) _ _ _ _ _ (omega arith) (omega arith) (b_init_item_with
+      room _ _)) (λ x b272 e273 l274. bound_ends _ _ _ _ _ _ _ (omega arith)))
 
   pub b_init_items_with : (room : ℕ) (s : HeldScopes) (ts : List Lexeme) → BoundAt (list_height {E = ℕ} list_item_height) (3) room
       (12) ts (init_items_with inner room s ts)
   unfolding init_items_with
   b_init_items_with room s ts =
-      bound_if (list_height {E = ℕ} list_item_height) (3) room (12) ts (is_close_brace (kind_at ts)) (ends (record {
-        items = [];
-        ending = None;
-      }) s ts) (listed (init_item_with inner room) (next_init_item inner room) s ts) (λ is275. bound_ends
-      (list_height {E = ℕ} list_item_height) (3) room (12) (record { items = []; ending = None }) s ts (omega arith)) (λ is275.
-      bound_weaker (list_height {E = ℕ} list_item_height) (3) room (12) (3) room (12) ts (listed (init_item_with inner room)
-      (next_init_item inner room) s ts) (omega arith) (omega arith) (bound_listed (init_item_with inner room) (next_init_item
-      inner room) (list_item_height) (3) room (12) ((λ comma. next_item_falls all numbered tokens n inner laws room comma))
-      (omega arith) s ts (bound_weaker list_item_height (3) room (12) (3) room (12) ts (init_item_with inner room s ts) (omega
-      arith) (omega arith) (b_init_item_with room s ts)) (λ comma s9 ts9. bound_weaker (next_height {E = ℕ} list_item_height)
-      (3) room (12) (3) room (12) ts9 (next_init_item inner room comma s9 ts9) (omega arith) (omega arith) (b_next_init_item
-      room comma s9 ts9))))
+      bound_if _ _ _ _ _ (is_close_brace (kind_at ts)) (ends (record { items = []; ending = None }) s ts) (listed (init_item_with
+      inner room) (next_init_item inner room) s ts) (λ is275. bound_ends _ _ _ _ _ _ _ (omega arith)) (λ is275. bound_weaker _
+      (3) room (12) _ _ _ _ _ (omega arith) (omega arith) (bound_listed (init_item_with inner room) (next_init_item inner room)
+      (list_item_height) (3) room (12) ((λ comma. next_item_falls all numbered tokens n inner laws room comma)) (omega arith) s
+      ts (bound_weaker _ (3) room (12) _ _ _ _ _ (omega arith) (omega arith) (b_init_item_with room _ _)) (λ comma s9 ts9.
+      bound_weaker _ (3) room (12) _ _ _ _ _ (omega arith) (omega arith) (b_next_init_item room comma _ _))))
 
   pub b_braced_with : (room : ℕ) (s : HeldScopes) (ts : List Lexeme) → is_end (kind_at ts) ≡ false → BoundAt init_list_height (1)
       room (10) ts (braced_with inner room s ts)
   unfolding braced_with
   b_braced_with room s ts known =
-      bound_fits init_list_height (1) room (10) 1 room ts (and_then (take_one s ts) (λ opening. (and_then (init_items_with inner
-      (room - 1) opening.scopes opening.rest) (λ items. (and_then (token_at is_close_brace items.scopes items.rest) (λ closing.
-      (ends (init_list opening.tree (init_items_from items.tree.items) items.tree.ending closing.tree) closing.scopes
-      closing.rest))))))) (known) (λ less276. omega arith) (λ less276. bound_bind token_levels init_list_height (0) (1) room
-      (10) ts (take_one s ts) (λ opening. (and_then (init_items_with inner (room - 1) opening.scopes opening.rest) (λ items.
-      (and_then (token_at is_close_brace items.scopes items.rest) (λ closing. (ends (init_list opening.tree (init_items_from
-      items.tree.items) items.tree.ending closing.tree) closing.scopes closing.rest)))))) (bound_take room (10) s ts) (λ opening
-      b277 e278 l279. bound_bind (list_height {E = ℕ} list_item_height) init_list_height (3) (8 * length b277 + (1)) room (8 *
-      length b277 + (10)) opening.rest (init_items_with inner (room - 1) opening.scopes opening.rest) (λ items. (and_then
-      (token_at is_close_brace items.scopes items.rest) (λ closing. (ends (init_list opening.tree (init_items_from
-      items.tree.items) items.tree.ending closing.tree) closing.scopes closing.rest)))) (bound_weaker (list_height {E = ℕ}
-      list_item_height) (3) (room - 1) (12) (3) room (8 * length b277 + (10)) opening.rest (init_items_with inner (room - 1)
-      opening.scopes opening.rest) (omega arith) (omega arith) (b_init_items_with (room - 1) opening.scopes opening.rest)) (λ
-      items b280 e281 l282. bound_bind token_levels init_list_height (0) (8 * length b280 + (8 * length b277 + (1))) room (8 *
-      length b280 + (8 * length b277 + (10))) items.rest (token_at is_close_brace items.scopes items.rest) (λ closing. (ends
-      (init_list opening.tree (init_items_from items.tree.items) items.tree.ending closing.tree) closing.scopes closing.rest))
-      (bound_token is_close_brace room (8 * length b280 + (8 * length b277 + (10))) items.scopes items.rest) (λ closing b283
-      e284 l285. bound_ends init_list_height (8 * length b283 + (8 * length b280 + (8 * length b277 + (1)))) room (8 * length
-      b283 + (8 * length b280 + (8 * length b277 + (10)))) (init_list opening.tree (init_items_from items.tree.items)
-      items.tree.ending closing.tree) closing.scopes closing.rest (let f286 = low_init_items items.tree.items in omega
-      arith)))))
+      bound_fits _ _ _ _ _ _ _ _ (known) (λ less276. omega arith) (λ less276. bound_bind token_levels _ (0) _ _ _ _ _ _ (bound_take
+      _ _ _ _) (λ opening b277 e278 l279. bound_bind (list_height {E = ℕ} list_item_height) _ (3) _ _ _ _ _ _ (bound_weaker _
+      (3) (room - 1) (12) _ _ _ _ _ (omega arith) (omega arith) (b_init_items_with (room - 1) _ _)) (λ items b280 e281 l282.
+      bound_bind token_levels _ (0) _ _ _ _ _ _ (bound_token is_close_brace _ _ _ _) (λ closing b283 e284 l285. bound_ends _ _ _
+      _ _ _ _ (let f286 = low_init_items items.tree.items in omega arith)))))
 
   pub b_init_list_with : (room : ℕ) (s : HeldScopes) (ts : List Lexeme) → BoundAt init_list_height (1) room (10) ts (init_list_with
       inner room s ts)
   unfolding init_list_with
   b_init_list_with room s ts =
-      bound_if init_list_height (1) room (10) ts (is_open_brace (kind_at ts)) (braced_with inner room s ts) (refuses Unexpected ts)
-      (λ is287. bound_weaker init_list_height (1) room (10) (1) room (10) ts (braced_with inner room s ts) (omega arith) (omega
-      arith) (b_braced_with room s ts (known_by (λ kind9. is_open_brace kind9) refl (kind_at ts) is287))) (λ is287. λ e9. absurd
-      cc)
+      bound_if _ _ _ _ _ (is_open_brace (kind_at ts)) (braced_with inner room s ts) (refuses Unexpected ts) (λ is287. bound_weaker _
+      (1) room (10) _ _ _ _ _ (omega arith) (omega arith) (b_braced_with room _ _ (known_by (λ kind9. is_open_brace kind9) refl
+      (kind_at ts) is287))) (λ is287. record { held = λ e. absurd cc })

@@ -73,13 +73,13 @@ never_laws = record {
 
 never_bounds : InnerBounds never
 never_bounds = record {
-  expr = λ reach begun room s ts e. absurd cc;
-  type_name = λ room s ts e. absurd cc;
-  specs = λ role words room s ts e. absurd cc;
-  declr = λ mode wanted flag room s ts e. absurd cc;
-  init_list = λ room s ts e. absurd cc;
-  block = λ room s ts e. absurd cc;
-  stmt = λ room s ts e. absurd cc;
+  expr = λ reach begun room s ts. record { held = λ e. absurd cc };
+  type_name = λ room s ts. record { held = λ e. absurd cc };
+  specs = λ role words room s ts. record { held = λ e. absurd cc };
+  declr = λ mode wanted flag room s ts. record { held = λ e. absurd cc };
+  init_list = λ room s ts. record { held = λ e. absurd cc };
+  block = λ room s ts. record { held = λ e. absurd cc };
+  stmt = λ room s ts. record { held = λ e. absurd cc };
 }
 
 tied_bounds : (n : ℕ) (inner : Inner) → Laws [] n inner → InnerBounds inner → InnerBounds (tied inner)
@@ -99,8 +99,8 @@ get_behind [] t r = refl
 get_behind (x ∷ b) t r = get_behind b t r
 
 alone_bound : (room d : ℕ) (items : List Item) (ts : List Lexeme) → BoundAt (λ (xs : List Item). 0) 0 room d ts (alone items ts)
-alone_bound room d items [] = record { before = []; parts = refl; low = omega arith }
-alone_bound room d items (t ∷ ts) = λ e. absurd cc
+alone_bound room d items [] = record { held = record { before = []; parts = refl; low = omega arith } }
+alone_bound room d items (t ∷ ts) = record { held = λ e. absurd cc }
 
 abbrev refused_by : Refusal → Read (List Item)
 refused_by d = Err d
@@ -147,4 +147,4 @@ module _ (whole_are : WholeAreMixes) (goes : MixesGoOn) where
       by_result (Ok x) is b = absurd cc
       by_result (Err d) is b =
           let same = refusal_is d (TooDeep, at) is in
-          by_deep (subst (λ (n : ℕ). DeepAt all n room 21) (ap (λ (x : Refusal). x.1) same) (b (ap (λ (x : Refusal). x.0) same)))
+          by_deep (subst (λ (n : ℕ). DeepAt all n room 21) (ap (λ (x : Refusal). x.1) same) (b.held (ap (λ (x : Refusal). x.0) same)))

@@ -57,17 +57,17 @@ bracket_step_bound room state s ts c high low = by_brackets state.brackets
   where
     by_inside : (i : Inside) (b : Bracket) (bs : List Bracket) (t : Lexeme) (ts : List Lexeme) → BoundAt (λ (o : Opened). 0) c room
         (c + 0) (t ∷ ts) (bracket_by i b bs t s ts)
-    by_inside (Opens other) b bs t ts = record { before = t ∷ []; parts = refl; low = omega arith }
+    by_inside (Opens other) b bs t ts = record { held = record { before = t ∷ []; parts = refl; low = omega arith } }
     by_inside (Closes other) b bs t ts =
         bound_if (λ (o : Opened). 0) c room (c + 0) (t ∷ ts) (is_same other b) (ends (record { brackets = bs; last = t.at }) s ts)
         (refuses Unexpected (t ∷ ts))
-        (λ is. record { before = t ∷ []; parts = refl; low = omega arith }) (λ is e. absurd cc)
-    by_inside Plain b bs t ts = record { before = t ∷ []; parts = refl; low = omega arith }
-    by_inside Stops b bs t ts = λ e. absurd cc
+        (λ is. record { held = record { before = t ∷ []; parts = refl; low = omega arith } }) (λ is. record { held = λ e. absurd cc })
+    by_inside Plain b bs t ts = record { held = record { before = t ∷ []; parts = refl; low = omega arith } }
+    by_inside Stops b bs t ts = record { held = λ e. absurd cc }
 
     by_tokens : (b : Bracket) (bs : List Bracket) (ts : List Lexeme) → BoundAt (λ (o : Opened). 0) c room (c + 0) ts (bracket_step b
         bs s ts)
-    by_tokens b bs [] = λ e. absurd cc
+    by_tokens b bs [] = record { held = λ e. absurd cc }
     by_tokens b bs (t ∷ ts) = by_inside (inside_of t.kind) b bs t ts
 
     by_brackets : (bs : List Bracket) → StepAt (λ (o : Opened). 0) c room (c + 0) ts (bracket_turn_by bs s ts)
@@ -103,45 +103,22 @@ b_group_at room s ts =
 pub b_attr_at : (room : ℕ) (s : HeldScopes) (ts : List Lexeme) → BoundAt (token_levels {A = Attr}) (0) room (0) ts (attr_at s ts)
 unfolding attr_at
 b_attr_at room s ts =
-    bound_bind token_levels (token_levels {A = Attr}) (0) (0) room (0) ts (token_at is_attribute s ts) (λ keyword. (and_then
-    (group_at keyword.scopes keyword.rest) (λ group. (ends (record { keyword = keyword.tree; group = group.tree }) group.scopes
-    group.rest)))) (bound_token is_attribute room (0) s ts) (λ keyword b1 e2 l3. bound_bind (no_levels {A = Group})
-    (token_levels {A = Attr}) (0) (8 * length b1 + (0)) room (8 * length b1 + (0)) keyword.rest (group_at keyword.scopes
-    keyword.rest) (λ group. (ends (record { keyword = keyword.tree; group = group.tree }) group.scopes group.rest))
-    (bound_weaker (no_levels {A = Group}) (0) room (0) (0) room (8 * length b1 + (0)) keyword.rest (group_at keyword.scopes
-    keyword.rest) (omega arith) (omega arith) (b_group_at room keyword.scopes keyword.rest)) (λ group b4 e5 l6. bound_ends
-    (token_levels {A = Attr}) (8 * length b4 + (8 * length b1 + (0))) room (8 * length b4 + (8 * length b1 + (0))) (record {
-      keyword = keyword.tree;
-      group = group.tree;
-    }) group.scopes group.rest (omega arith)))
+    bound_bind token_levels _ (0) _ _ _ _ _ _ (bound_token is_attribute _ _ _ _) (λ keyword b1 e2 l3. bound_bind (no_levels {A =
+    Group}) _ (0) _ _ _ _ _ _ (bound_weaker _ (0) room (0) _ _ _ _ _ (omega arith) (omega arith) (b_group_at room _ _)) (λ group
+    b4 e5 l6. bound_ends _ _ _ _ _ _ _ (omega arith)))
 
 pub b_assert_at : (room : ℕ) (s : HeldScopes) (ts : List Lexeme) → BoundAt (no_levels {A = Assert}) (0) room (0) ts (assert_at s ts)
 unfolding assert_at
 b_assert_at room s ts =
-    bound_bind token_levels (no_levels {A = Assert}) (0) (0) room (0) ts (token_at is_static_assert s ts) (λ keyword. (and_then
-    (group_at keyword.scopes keyword.rest) (λ group. (and_then (token_at is_semicolon group.scopes group.rest) (λ semi. (ends
-    (record { keyword = keyword.tree; group = group.tree; semi = semi.tree }) semi.scopes semi.rest)))))) (bound_token
-    is_static_assert room (0) s ts) (λ keyword b7 e8 l9. bound_bind (no_levels {A = Group}) (no_levels {A = Assert}) (0) (8 *
-    length b7 + (0)) room (8 * length b7 + (0)) keyword.rest (group_at keyword.scopes keyword.rest) (λ group. (and_then
-    (token_at is_semicolon group.scopes group.rest) (λ semi. (ends (record {
-      keyword = keyword.tree;
-      group = group.tree;
-      semi =
-          semi.tree;
-    }) semi.scopes semi.rest)))) (bound_weaker (no_levels {A = Group}) (0) room (0) (0) room (8 * length b7 + (0))
-    keyword.rest (group_at keyword.scopes keyword.rest) (omega arith) (omega arith) (b_group_at room keyword.scopes
-    keyword.rest)) (λ group b10 e11 l12. bound_bind token_levels (no_levels {A = Assert}) (0) (8 * length b10 + (8 * length b7 +
-    (0))) room (8 * length b10 + (8 * length b7 + (0))) group.rest (token_at is_semicolon group.scopes group.rest) (λ semi.
-    (ends (record { keyword = keyword.tree; group = group.tree; semi = semi.tree }) semi.scopes semi.rest)) (bound_token
-    is_semicolon room (8 * length b10 + (8 * length b7 + (0))) group.scopes group.rest) (λ semi b13 e14 l15. bound_ends
-    (no_levels {A = Assert}) (8 * length b13 + (8 * length b10 + (8 * length b7 + (0)))) room (8 * length b13 + (8 * length b10
-    + (8 * length b7 + (0)))) (record { keyword = keyword.tree; group = group.tree; semi = semi.tree }) semi.scopes semi.rest
-    (omega arith))))
+    bound_bind token_levels _ (0) _ _ _ _ _ _ (bound_token is_static_assert _ _ _ _) (λ keyword b7 e8 l9. bound_bind (no_levels {A =
+    Group}) _ (0) _ _ _ _ _ _ (bound_weaker _ (0) room (0) _ _ _ _ _ (omega arith) (omega arith) (b_group_at room _ _)) (λ group
+    b10 e11 l12. bound_bind token_levels _ (0) _ _ _ _ _ _ (bound_token is_semicolon _ _ _ _) (λ semi b13 e14 l15. bound_ends _
+    _ _ _ _ _ _ (omega arith))))
 
 fewer_levels : {A : Type 0} (room : ℕ) (ts : List Lexeme) (r : Read A) → BoundAt token_levels 0 room 0 ts r → BoundAt no_levels 0
     room 0 ts r
-fewer_levels room ts (Ok x) b = record { before = b.before; parts = b.parts; low = omega arith }
-fewer_levels room ts (Err e) b = b
+fewer_levels room ts (Ok x) b = record { held = record { before = b.held.before; parts = b.held.parts; low = omega arith } }
+fewer_levels room ts (Err e) b = record { held = b.held }
 
 -- Rows.
 
@@ -151,8 +128,8 @@ made_row {A} of begins room s ts = forget (repeated begins (made_at of) s ts) (b
     (made_shrinks of) (omega arith) (λ s ts is. bound_made of room s ts) s ts)
   where
     forget : (r : Read (List A)) → BoundAt (most_of no_levels) 0 room 0 ts r → BoundAt no_levels 0 room 0 ts r
-    forget (Ok x) b = record { before = b.before; parts = b.parts; low = omega arith }
-    forget (Err e) b = b
+    forget (Ok x) b = record { held = record { before = b.held.before; parts = b.held.parts; low = omega arith } }
+    forget (Err e) b = record { held = b.held }
 
 pub b_quals_at : (room : ℕ) (s : HeldScopes) (ts : List Lexeme) → BoundAt no_levels 0 room 0 ts (quals_at s ts)
 unfolding quals_at
@@ -175,8 +152,8 @@ b_texts_at room s ts = forget (repeated is_text take_one s ts) (bound_count is_t
     bound_take room 0 s ts) s ts)
   where
     forget : (r : Read (List ℕ)) → BoundAt (λ (xs : List ℕ). length xs) 0 room 0 ts r → BoundAt no_levels 0 room 0 ts r
-    forget (Ok x) b = record { before = b.before; parts = b.parts; low = omega arith }
-    forget (Err e) b = b
+    forget (Ok x) b = record { held = record { before = b.held.before; parts = b.held.parts; low = omega arith } }
+    forget (Err e) b = record { held = b.held }
 
 abbrev extension_reader : ℕ → Reader ℕ
 extension_reader room s ts = fits 2 room ts (take_one s ts)
@@ -221,8 +198,15 @@ b_attrs_at room s ts =
     (b_attr_at room s ts)))) s ts)
   where
     forget : (r : Read (List Attr)) → BoundAt (most_of no_levels) 0 room 1 ts r → BoundAt attrs_height 1 room 1 ts r
-    forget (Ok x) b = record { before = b.before; parts = b.parts; low = let few = attrs_low x.tree in omega arith }
-    forget (Err e) b = b
+    forget (Ok x) b = record {
+      held = record {
+        before = b.held.before;
+        parts = b.held.parts;
+        low = let few = attrs_low x.tree in
+            omega arith;
+      };
+    }
+    forget (Err e) b = record { held = b.held }
 
 pointer_words_low : (xs : List PointerWord) → pointer_words_height xs ≤ 1
 pointer_words_low [] = omega arith
@@ -256,5 +240,12 @@ b_pointer_words_at room s ts =
     no_levels 0 room 1 (pointer_word_shrinks [] room) (omega arith) (λ s ts is. pointer_word_bound room s ts) s ts)
   where
     forget : (r : Read (List PointerWord)) → BoundAt (most_of no_levels) 0 room 1 ts r → BoundAt pointer_words_height 1 room 1 ts r
-    forget (Ok x) b = record { before = b.before; parts = b.parts; low = let few = pointer_words_low x.tree in omega arith }
-    forget (Err e) b = b
+    forget (Ok x) b = record {
+      held = record {
+        before = b.held.before;
+        parts = b.held.parts;
+        low = let few = pointer_words_low
+            x.tree in omega arith;
+      };
+    }
+    forget (Err e) b = record { held = b.held }

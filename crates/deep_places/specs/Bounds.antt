@@ -29,9 +29,12 @@ pub record DeepAt (ts : List Lexeme) (at room more : ℕ) : Type 0 where
   pub deep : room ≤ 8 * length before + more
 
 -- what was answered is low, and what was refused for the height is late
-abbrev pub BoundAt : {A : Type 0} → (A → ℕ) → ℕ → ℕ → ℕ → List Lexeme → Read A → Type 0
-BoundAt height c room d ts (Ok x) = LowAt ts x.rest (height x.tree) c
-BoundAt height c room d ts (Err e) = e.0 ≡ TooDeep → DeepAt ts e.1 room d
+abbrev pub Bounded : {A : Type 0} → (A → ℕ) → ℕ → ℕ → ℕ → List Lexeme → Read A → Type 0
+Bounded height c room d ts (Ok x) = LowAt ts x.rest (height x.tree) c
+Bounded height c room d ts (Err e) = e.0 ≡ TooDeep → DeepAt ts e.1 room d
+
+pub record BoundAt {A : Type 0} (height : A → ℕ) (c room d : ℕ) (ts : List Lexeme) (r : Read A) : Type 0 where
+  pub held : Bounded height c room d ts r
 
 abbrev pub StepAt : {A : Type 0} → (A → ℕ) → ℕ → ℕ → ℕ → List Lexeme → Option (Read A) → Type 0
 StepAt height c room d ts None = Unit {0}

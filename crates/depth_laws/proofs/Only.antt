@@ -12,11 +12,11 @@ use Rattle.c_reading.specs.declared.kinds.Fault.TheVariants.{TooDeep}
 use Rattle.c_reading.specs.Reading.{Refusal, Found, Read, IsNumbered, number_at, behind_first}
 use Rattle.c_reading.specs.Knot.{most}
 use Rattle.c_reading.specs.UnitLaws.{UnitIsWellFormed, WellFormedIsRead}
-use Rattle.refusal_rules.specs.Allowed.{BeginsTree, IsWellFormedAtAnyHeight}
+use Rattle.refusal_rules.specs.Allowed.{BeginsTree}
 use Rattle.refusal_rules.specs.Laws.{UnitsBeginAsTrees}
 use Rattle.refusal_rules.proofs.Weaker.{item_derives}
 use Rattle.room_laws.specs.Rooms.{unit_of, AnyUnitIsWellFormed}
-use Rattle.wide_laws.specs.Wide.{Leaves, Late, DeeperAt, Passes, WithMoreRoomItPasses}
+use Rattle.wide_laws.specs.Wide.{Leaves, Late, Passes, WithMoreRoomItPasses}
 use Rattle.unit_places.specs.Laws.{IsEnded, PlaceIsFirst}
 use Rattle.unit_places.proofs.Place.{are_numbered, Placed, placed}
 use Rattle.unit_places.proofs.Heights.{unit_is, items_of}

@@ -8,14 +8,12 @@ use Rattle.c_tree.specs.declared.lexeme.Lexeme.{Lexeme}
 use Rattle.c_tree.specs.Unit.{Item}
 use Rattle.c_units.specs.HeldScopes.{HeldScopes, file_scope}
 use Rattle.c_units.specs.Units.{numbered_from, numbered}
-use Rattle.c_units.specs.FirstBad.{BeginsUnit, IsFirstBad}
 use Rattle.c_reading.specs.declared.kinds.Fault.{Fault}
 use Rattle.c_reading.specs.declared.kinds.Fault.TheVariants.{Unexpected}
 use Rattle.c_reading.specs.Reading.{Refusal, Found, Read, IsNumbered, and_then, number_at, kind_at, token_at}
 use Rattle.c_reading.specs.Tokens.{is_end}
 use Rattle.c_reading.specs.Items.{items_with}
-use Rattle.c_reading.specs.Knot.{knot, most, alone, unit_at}
-use Rattle.c_reading.specs.UnitLaws.{UnitIsWellFormed, WellFormedIsRead}
+use Rattle.c_reading.specs.Knot.{knot, alone}
 use Rattle.c_reading.proofs.Binding.{found, done}
 use Rattle.reading_steps.specs.Steps.{first_kind, has_end, any, Answered, Refused, Opened, Outcome, Law}
 use Rattle.reading_steps.proofs.Steps.{numbered_append}

@@ -1,5 +1,5 @@
 -- With more room a reader goes on where one with less is refused for the height: one lemma for each way to put readers together.
-use Rattle.std.proofs.Common.{◌≡◌, ℕ, zero, suc, ◌≤◌, Bool, true, false, if◌then◌else◌, List, [], ◌∷◌, ◌++◌, length, ◌⊎◌, inl, inr, Option, Some, None, Result, Ok, Err, refl, sym, ◌∙◌, ap, subst, arith}
+use Rattle.std.proofs.Common.{◌≡◌, ℕ, zero, suc, ◌≤◌, Bool, true, false, if◌then◌else◌, List, [], ◌∷◌, ◌++◌, length, inl, inr, Option, Some, None, Ok, Err, refl, sym, ◌∙◌, ap, subst, arith}
 use Rattle.std.specs.Prelude.{nat_le}
 use Rattle.std.proofs.lemmas.Bool.{leb-true, le-leb}
 use Rattle.c_words.specs.declared.kinds.TokenKind.{TokenKind}
@@ -7,8 +7,8 @@ use Rattle.c_tree.specs.declared.lexeme.Lexeme.{Lexeme}
 use Rattle.c_units.specs.HeldScopes.{HeldScopes}
 use Rattle.c_reading.specs.declared.kinds.Fault.{Fault}
 use Rattle.c_reading.specs.declared.kinds.Fault.TheVariants.{TooDeep}
-use Rattle.c_reading.specs.Reading.{Refusal, Found, Read, Reader, Turn, and_then, ends, fits, refuses, kind_at, behind_first, number_at, take_one, token_at, turns, run, repeated, repeated_turn, listed, comma_turn, comma_turn_by, with_next, Next, CommaList, is_comma}
-use Rattle.wide_laws.specs.Wide.{Leaves, IsAmong, Late, DeeperAt, Passes, BothOf, Both, AheadOf, Ahead}
+use Rattle.c_reading.specs.Reading.{Found, Read, Reader, Turn, and_then, ends, fits, refuses, kind_at, behind_first, number_at, take_one, turns, run, repeated, repeated_turn, listed, comma_turn, comma_turn_by, with_next, Next, CommaList, is_comma}
+use Rattle.wide_laws.specs.Wide.{Leaves, IsAmong, Late, Passes, BothOf, Both, Ahead}
 
 joined : (a b c : List Lexeme) → a ++ (b ++ c) ≡ (a ++ b) ++ c
 joined [] b c = refl

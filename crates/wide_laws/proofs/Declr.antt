@@ -1,5 +1,5 @@
 -- Declarators, parameters and names of types with more room, and what they do behind their first token.
-use Rattle.std.proofs.Common.{◌≡◌, ℕ, zero, suc, ◌<◌, ◌≤◌, Bool, true, false, if◌then◌else◌, List, [], ◌∷◌, ◌⊎◌, inl, inr, Option, Some, None, Ok, refl, arith}
+use Rattle.std.proofs.Common.{◌≡◌, ℕ, suc, ◌<◌, ◌≤◌, Bool, true, false, if◌then◌else◌, List, [], ◌∷◌, ◌⊎◌, inl, inr, Option, Some, None, Ok, refl, arith}
 use Rattle.std.specs.Prelude.{◌-◌, ◌&&◌, ◌||◌, is_some}
 use Rattle.c_words.specs.declared.kinds.TokenKind.{TokenKind}
 use Rattle.c_tree.specs.declared.lexeme.Lexeme.{Lexeme}
@@ -14,15 +14,15 @@ use Rattle.c_reading.specs.declared.kinds.Reach.TheVariants.{Assigned}
 use Rattle.c_reading.specs.declared.kinds.Role.TheVariants.{Declaring, Naming}
 use Rattle.c_reading.specs.declared.kinds.Mode.{Mode}
 use Rattle.c_reading.specs.declared.kinds.Mode.TheVariants.{Named, Abstract, Either}
-use Rattle.c_reading.specs.Reading.{Found, take_one, kind_at, fits, and_then, ends}
-use Rattle.c_reading.specs.Tokens.{is_open_paren, is_close_paren, is_open_bracket, is_close_bracket, is_star, is_dots, spelled_name, quals_at, array_words_at}
+use Rattle.c_reading.specs.Reading.{Found, kind_at, fits, and_then, ends}
+use Rattle.c_reading.specs.Tokens.{is_open_paren, is_close_paren, is_open_bracket, is_close_bracket, is_star, is_dots, spelled_name}
 use Rattle.c_reading.specs.Parts.{Inner, nothing, star, Declared, ParamItem}
 use Rattle.c_reading.specs.Declaring.{absent, takes_name, least_pointer, is_bare, room_at, words_of_quals, words_of_attrs, are_none, opens_params, opens_declr, takes_attrs, name_held, star_size, size_with, array_with, param_words, param_attrs, param_with, next_param, params_with, prototype_with, params_behind, suffix_turn, paren_with, named_paren, opened_by, opened_with, some_paren, name_or_none, core_with, direct_with, pointer_with, declr_with, type_name_with}
 use Rattle.c_reading.proofs.Binding.{bind_ok}
 use Rattle.room_laws.specs.Rooms.{number_of}
 use Rattle.room_laws.proofs.Specs.{attrs_lead}
 use Rattle.wide_laws.specs.Wide.{Late, Both, InnerBoth}
-use Rattle.wide_laws.proofs.Both.{all_left, late_take, ready, refused, when, both_same, both_bind, both_behind, both_then, both_asks, both_fits, both_if, both_choice, BothTurn, both_run, both_listed, past_take}
+use Rattle.wide_laws.proofs.Both.{all_left, late_take, ready, refused, when, both_same, both_bind, both_behind, both_then, both_asks, both_if, BothTurn, both_run, both_listed}
 use Rattle.wide_laws.proofs.Words.{late_token, late_quals, late_array_words, attrs_both, pointer_words_both}
 use Rattle.wide_laws.proofs.Specs.{specs_here_both, specs_two, late_present}
 

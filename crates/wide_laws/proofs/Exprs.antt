@@ -1,5 +1,5 @@
 -- Expressions with more room, and what they do at their first token.
-use Rattle.std.proofs.Common.{◌≡◌, ℕ, suc, ◌+◌, ◌<◌, ◌≤◌, Bool, true, false, if◌then◌else◌, List, length, inr, Some, None, refl, arith}
+use Rattle.std.proofs.Common.{◌≡◌, ℕ, suc, ◌+◌, ◌<◌, ◌≤◌, Bool, true, false, if◌then◌else◌, List, length, Some, None, refl, arith}
 use Rattle.std.specs.Prelude.{◌-◌, nat_le, not}
 use Rattle.c_words.specs.declared.kinds.TokenKind.{TokenKind}
 use Rattle.c_words.specs.declared.kinds.TokenKind.TheVariants as kinds
@@ -22,13 +22,13 @@ use Rattle.c_reading.specs.declared.kinds.PostfixForm.{PostfixForm}
 use Rattle.c_reading.specs.declared.kinds.PostfixForm.TheVariants as forms
 use Rattle.c_reading.specs.declared.kinds.Infix.{Infix}
 use Rattle.c_reading.specs.declared.kinds.Infix.TheVariants as infixes
-use Rattle.c_reading.specs.Reading.{Found, take_one, token_at, kind_at, behind_first, refuses, run}
-use Rattle.c_reading.specs.Tokens.{is_open_paren, is_close_paren, is_comma, is_colon, is_open_brace, is_close_bracket, name_at, texts_at}
+use Rattle.c_reading.specs.Reading.{kind_at, behind_first, refuses, run}
+use Rattle.c_reading.specs.Tokens.{is_open_paren, is_close_paren, is_comma, is_colon, is_open_brace, is_close_bracket}
 use Rattle.c_reading.specs.Parts.{Inner, Begun, nothing, extensions, star, TypeName, type_name_height}
 use Rattle.c_reading.specs.Specifying.{begins_specs}
 use Rattle.c_reading.specs.Expressing.{is_dot, begins_desig, is_opening, begins_expr, opening_of, form_of, infix_of, takes_comma, takes_assign, Row, settled, depth_of, next_argument, arguments_with, index_with, call_with, dot_with, arrow_with, post_with, postfix_by, lowered, postfix_turn, postfixed, primary_with, text_with, compound_with, cast_behind, typed_behind, typed_with, statement_with, paren_with, opened_by, opened_with, prefix_with, extension_with, sizeof_value_with, sizeof_typed, sizeof_type_with, sizeof_behind, sizeof_with, va_arg_with, va_two_with, step_with, offset_with, unary_by, unary_with, cast_with, operand_with, operation_with, middle_with, question_with, operation_by, operation_turn, row_with, expr_with}
-use Rattle.wide_laws.specs.Wide.{Leaves, Late, Both, Ahead, InnerBoth}
-use Rattle.wide_laws.proofs.Both.{all_left, late_bind, late_refused, late_if, late_take, past_take, ready, refused, when, both_same, both_bind, both_then, both_fits, both_takes, both_asks, both_if, both_choice, BothTurn, both_guarded, both_run, both_repeated, both_listed}
+use Rattle.wide_laws.specs.Wide.{Late, Both, Ahead, InnerBoth}
+use Rattle.wide_laws.proofs.Both.{all_left, late_bind, late_if, late_take, past_take, ready, refused, when, both_bind, both_then, both_fits, both_takes, both_asks, both_if, both_choice, BothTurn, both_guarded, both_run, both_repeated, both_listed}
 use Rattle.wide_laws.proofs.Words.{late_token, late_name, late_texts}
 
 module _ {S : Type 0} (n : ℕ) (inner other : Inner) (m : InnerBoth S n inner other) (room wide : ℕ) (less : room < suc n) (wider : room ≤ wide) where

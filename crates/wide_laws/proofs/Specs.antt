@@ -1,5 +1,5 @@
 -- Specifiers with more room, and what they do at their first token.
-use Rattle.std.proofs.Common.{◌≡◌, ℕ, suc, if◌then◌else◌, ◌<◌, ◌≤◌, Bool, true, false, List, [], ◌∷◌, ◌++◌, ◌⊎◌, inl, inr, Option, Some, None, Ok, refl, sym, ◌∙◌, ap, arith}
+use Rattle.std.proofs.Common.{◌≡◌, ℕ, suc, if◌then◌else◌, ◌<◌, ◌≤◌, Bool, true, false, List, [], ◌∷◌, inr, Option, Some, None, Ok, refl, arith}
 use Rattle.std.specs.Prelude.{◌-◌, max, not, ◌&&◌}
 use Rattle.c_words.specs.declared.kinds.TokenKind.{TokenKind}
 use Rattle.c_words.specs.declared.kinds.TokenKind.TheVariants as kinds
@@ -7,7 +7,6 @@ use Rattle.c_words.specs.declared.kinds.Keyword.{Keyword}
 use Rattle.c_words.specs.declared.kinds.Keyword.TheVariants as keywords
 use Rattle.c_tree.specs.declared.lexeme.Lexeme.{Lexeme}
 use Rattle.c_syntax.specs.declared.parts.Identifier.{Identifier}
-use Rattle.c_syntax.specs.declared.parts.Attr.{Attr}
 use Rattle.c_tree.specs.Tree.{SpecWords, no_words, SomeDeclr, no_declr, some_declr, struct_type, enum_type, enum_of}
 use Rattle.c_tree.specs.Height.{specs_height}
 use Rattle.c_specs.specs.Mix.{goes_on, is_typed, is_whole_mix}
@@ -21,20 +20,14 @@ use Rattle.c_reading.specs.declared.kinds.Role.TheVariants.{Declaring}
 use Rattle.c_reading.specs.declared.kinds.Mode.TheVariants.{Named}
 use Rattle.c_reading.specs.declared.kinds.SpecStart.{SpecStart}
 use Rattle.c_reading.specs.declared.kinds.SpecStart.TheVariants as starts
-use Rattle.c_reading.specs.Reading.{Found, Reader, Read, ends, take_one, kind_at, behind_first, fits, run, repeated, repeated_turn, and_then}
-use Rattle.c_reading.specs.Tokens.{word_of, name_by, spelled_name, is_open_brace, is_close_brace, is_semicolon, is_colon, is_equal, is_static_assert, is_attribute, is_extension, begins_pointer_word, name_at, tag_at, attr_at, attrs_at, extensions_at, pointer_word_at, pointer_words_at}
+use Rattle.c_reading.specs.Reading.{Found, ends, kind_at, behind_first, run, and_then}
+use Rattle.c_reading.specs.Tokens.{word_of, name_by, spelled_name, is_open_brace, is_close_brace, is_semicolon, is_colon, is_equal, is_static_assert, is_attribute, name_at, tag_at, attrs_at}
 use Rattle.c_reading.specs.Parts.{Inner, nothing}
 use Rattle.c_reading.specs.Specifying.{present, without_body, declared, whole, keyword_start, typed_start, begins_specs, is_start, start_at, class_of_start, may_stand, least_of, specs_here, value_with, named_declr, width_with, field_with, mem_declr_with, first_member, next_member, mem_declrs_with, member_with, struct_item_with, members_with, body_with, struct_with, enumerator_behind, enumerator_named, enumerator_with, next_enumerator, enumerators_with, enum_body_with, enum_with, word_by, word_with, word_turn, specs_with}
-use Rattle.c_reading.specs.Declaring.{are_none}
-use Rattle.c_reading.proofs.Binding.{found, done, ok_is, bind_ok, fits_ok, if_ok}
-use Rattle.c_reading.proofs.Loops.{after, run_is}
-use Rattle.c_reading.proofs.Forms.{Shrinks}
-use Rattle.c_reading.proofs.Rows.{row_turn_shrinks}
-use Rattle.c_reading.proofs.KnotLaws.{none_tokens}
-use Rattle.room_laws.proofs.Specs.{attrs_lead}
-use Rattle.wide_laws.specs.Wide.{Leaves, Late, Both, InnerBoth}
+use Rattle.c_reading.proofs.Binding.{fits_ok, if_ok}
+use Rattle.wide_laws.specs.Wide.{Late, Both, InnerBoth}
 use Rattle.wide_laws.proofs.Both.{BothTurn, past_run, all_left, higher, late_bind, late_refused, late_if, late_take, late_fits, past_take, ready, refused, when, both_same, both_bind, both_behind, both_then, both_fits, both_asks, both_if, both_choice, both_guarded, both_run, both_repeated, both_listed}
-use Rattle.wide_laws.proofs.Words.{late_token, late_name, late_tag, late_attr, past_attr, assert_both, attrs_both, exts_both}
+use Rattle.wide_laws.proofs.Words.{late_token, late_tag, late_attr, past_attr, assert_both, attrs_both, exts_both}
 
 pub late_present : (d : SomeDeclr) (s : HeldScopes) (ts : List Lexeme) → Late ts (present d s ts)
 late_present no_declr s ts = inr (late_refused ts)

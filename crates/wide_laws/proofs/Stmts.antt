@@ -1,12 +1,10 @@
 -- Initialisers, declarations, statements and the items of a unit with more room.
-use Rattle.std.proofs.Common.{◌≡◌, ℕ, suc, sym, ap, subst, if◌then◌else◌, ◌∷◌, false, ◌+◌, ◌<◌, ◌≤◌, Bool, true, List, [], inr, Option, Some, None, Ok, refl, arith}
+use Rattle.std.proofs.Common.{◌≡◌, ℕ, suc, sym, ap, subst, ◌∷◌, false, ◌+◌, ◌<◌, ◌≤◌, Bool, true, List, [], inr, Option, Some, None, Ok, refl, arith}
 use Rattle.std.specs.Prelude.{◌-◌, ◌||◌, not}
 use Rattle.c_words.specs.declared.kinds.TokenKind.{TokenKind}
 use Rattle.c_words.specs.declared.kinds.TokenKind.TheVariants as kinds
-use Rattle.c_words.specs.declared.kinds.Keyword.{Keyword}
 use Rattle.c_words.specs.declared.kinds.Keyword.TheVariants as keywords
 use Rattle.c_words.specs.declared.kinds.Punct.TheVariants as puncts
-use Rattle.c_words.specs.declared.kinds.Punct.{Punct}
 use Rattle.c_syntax.specs.declared.parts.Identifier.{Identifier}
 use Rattle.c_tree.specs.declared.lexeme.Lexeme.{Lexeme}
 use Rattle.c_syntax.specs.declared.parts.Attr.{Attr}
@@ -19,20 +17,20 @@ use Rattle.c_reading.specs.declared.kinds.Reach.TheVariants.{Whole, Assigned, Co
 use Rattle.c_reading.specs.declared.kinds.Role.TheVariants.{Declaring}
 use Rattle.c_reading.specs.declared.kinds.StmtStart.{StmtStart}
 use Rattle.c_reading.specs.declared.kinds.StmtStart.TheVariants as starts
-use Rattle.c_reading.specs.Reading.{Found, Read, Reader, and_then, ends, repeated, take_one, token_at, kind_at, behind_first}
-use Rattle.c_reading.specs.Tokens.{name_by, identifier_of, is_asm, is_close_bracket, group_at, is_open_paren, is_close_paren, is_open_brace, is_close_brace, is_colon, is_semicolon, is_equal, is_while, is_else, is_extension, is_attribute, is_static_assert, spelled_name, name_at, extensions_at, attrs_at, attr_at}
-use Rattle.c_reading.specs.Parts.{Inner, Begun, nothing, extensions, DeclrItem, Block, block_items_from, desigs_from}
+use Rattle.c_reading.specs.Reading.{Found, Read, Reader, and_then, ends, take_one, token_at, kind_at, behind_first}
+use Rattle.c_reading.specs.Tokens.{name_by, identifier_of, is_asm, is_close_bracket, is_open_paren, is_close_paren, is_open_brace, is_close_brace, is_colon, is_semicolon, is_equal, is_while, is_else, is_extension, is_attribute, is_static_assert, spelled_name, name_at, extensions_at, attrs_at, attr_at}
+use Rattle.c_reading.specs.Parts.{Inner, Begun, nothing, extensions, DeclrItem, desigs_from}
 use Rattle.c_reading.specs.Specifying.{begins_specs}
 use Rattle.c_reading.specs.Declaring.{words_of_attrs}
 use Rattle.c_reading.specs.Expressing.{begins_expr, begins_desig, is_dot}
 use Rattle.c_reading.specs.Initialising.{equal_behind, begins_init, init_with, member_desig_with, index_desig_with, desig_with, init_here, init_item_with, next_init_item, init_items_with, braced_with, init_list_with}
-use Rattle.c_reading.specs.Stating.{stmt_start, keyword_stmt, stmt_with, label_at, some_init_with, declr_behind, init_declr_with, next_init_declr, declrs_with, bare_declaration, declaration_behind, declaration_with, declaration_from, expr_stmt_with, label_with, named_item, extended_item, attr_item_by, attr_item, other_item, block_item_with, block_body, block_with, part_with, some_expr_with, case_with, default_with, some_else_with, if_inside, headed_inside, do_inside, start_value_with, extended_start, for_start_with, for_inside, goto_with, jump_with, return_with, asm_with, attr_stmt_with, named_stmt, stmt_by}
+use Rattle.c_reading.specs.Stating.{stmt_start, stmt_with, label_at, some_init_with, declr_behind, init_declr_with, next_init_declr, declrs_with, bare_declaration, declaration_behind, declaration_with, declaration_from, expr_stmt_with, label_with, named_item, extended_item, attr_item_by, attr_item, other_item, block_item_with, block_body, block_with, part_with, some_expr_with, case_with, default_with, some_else_with, if_inside, headed_inside, do_inside, start_value_with, extended_start, for_start_with, for_inside, goto_with, jump_with, return_with, asm_with, attr_stmt_with, named_stmt, stmt_by}
 use Rattle.c_reading.proofs.Binding.{take_falls}
 use Rattle.c_reading.proofs.KnotLaws.{none_tokens}
 use Rattle.room_laws.proofs.More.{first_fits}
-use Rattle.wide_laws.specs.Wide.{Late, Both, BothOf, Ahead, InnerBoth}
-use Rattle.wide_laws.proofs.Both.{ahead_take, owned_asks, refused_behind, all_left, behind_left, late_bind, late_refused, late_if, late_take, late_down, past_take, ready, refused, when, both_same, both_bind, both_behind, both_then, both_takes, both_asks, both_fits, both_if, both_choice, both_repeated, both_listed}
-use Rattle.wide_laws.proofs.Words.{late_token, past_token, late_name, late_group, late_asm_words, assert_both, attrs_both, exts_both}
+use Rattle.wide_laws.specs.Wide.{Late, Both, Ahead, InnerBoth}
+use Rattle.wide_laws.proofs.Both.{ahead_take, owned_asks, refused_behind, all_left, late_bind, late_refused, late_if, late_take, past_take, ready, refused, when, both_bind, both_behind, both_then, both_takes, both_asks, both_fits, both_if, both_choice, both_repeated, both_listed}
+use Rattle.wide_laws.proofs.Words.{late_token, late_name, late_group, late_asm_words, assert_both, attrs_both, exts_both}
 use Rattle.wide_laws.proofs.Specs.{specs_here_both, specs_two, named_declr_both}
 
 attrs_two : (room : ℕ) (s : HeldScopes) (ts : List Lexeme) (x : Found (List Attr)) → is_attribute (kind_at ts) ≡ true → attrs_at room s ts ≡ Ok x → 2 ≤ room

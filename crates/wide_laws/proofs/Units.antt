@@ -9,26 +9,21 @@ use Rattle.c_tree.specs.declared.lexeme.Lexeme.{Lexeme}
 use Rattle.c_syntax.specs.declared.parts.Attr.{Attr}
 use Rattle.c_tree.specs.Tree.{SpecWords, Declr, no_init, declaration}
 use Rattle.c_tree.specs.Specifiers.{storage_words}
-use Rattle.c_tree.specs.Height.{specs_height, declr_height}
+use Rattle.c_tree.specs.Height.{declr_height}
 use Rattle.typedef_scope.specs.declared.kind.Kind.TheVariants.{Value}
 use Rattle.c_units.specs.HeldScopes.{HeldScopes, HeldScope, reopen, release}
 use Rattle.c_units.specs.Scoping.{has_typedef_word}
 use Rattle.c_reading.specs.declared.kinds.Mode.TheVariants.{Named}
-use Rattle.c_reading.specs.declared.kinds.StmtStart.{StmtStart}
-use Rattle.c_reading.specs.declared.kinds.StmtStart.TheVariants as starts
-use Rattle.c_reading.specs.declared.kinds.Reach.TheVariants.{Whole, Assigned}
-use Rattle.c_reading.specs.Reading.{Found, Read, Reader, Next, CommaList, comma_turn, comma_turn_by, with_next, is_comma, and_then, ends, run, turns, listed, kind_at, behind_first, token_at}
+use Rattle.c_reading.specs.Reading.{Found, Read, Reader, Next, CommaList, comma_turn, comma_turn_by, with_next, is_comma, and_then, ends, run, listed, kind_at, behind_first, token_at}
 use Rattle.c_reading.specs.Tokens.{is_equal, is_open_brace, is_semicolon, is_asm, is_static_assert, is_end}
 use Rattle.c_reading.specs.Parts.{Inner, never, DeclrItem, init_declrs_from}
-use Rattle.c_reading.specs.Specifying.{present}
-use Rattle.c_reading.specs.Expressing.{begins_expr}
-use Rattle.c_reading.specs.Stating.{some_init_with, next_init_declr, declrs_with, stmt_start, bare_declaration, declr_behind, case_with, default_with, block_with, goto_with, jump_with, return_with, asm_with, attr_stmt_with, named_stmt, stmt_by, stmt_with}
+use Rattle.c_reading.specs.Stating.{some_init_with, next_init_declr, declrs_with, declr_behind}
 use Rattle.c_reading.specs.Items.{goes_on_declared, function_with, attrs_behind, function_or_not, behind_function, behind_declr, first_declr, declared_item, asm_item_with, item_with, items_with}
 use Rattle.c_tree.specs.Unit.{Item}
 use Rattle.c_reading.specs.Knot.{tied, knot, alone}
 use Rattle.room_laws.specs.Rooms.{number_of, unit_of}
-use Rattle.wide_laws.specs.Wide.{Late, Both, BothOf, InnerBoth, WithMoreRoomItPasses}
-use Rattle.wide_laws.proofs.Both.{both_guarded, run_ends, all_left, late_bind, late_if, late_refused, late_take, past_take, late_down, behind_left, ready, refused, when, both_same, both_bind, both_behind, both_then, both_asks, both_fits, both_if, both_choice, both_commas, past_run, BothTurn, both_repeated}
+use Rattle.wide_laws.specs.Wide.{Late, Both, InnerBoth, WithMoreRoomItPasses}
+use Rattle.wide_laws.proofs.Both.{both_guarded, run_ends, all_left, late_bind, late_if, late_refused, past_take, late_down, behind_left, ready, refused, when, both_same, both_bind, both_behind, both_then, both_asks, both_fits, both_if, both_choice, both_commas, past_run, BothTurn, both_repeated}
 use Rattle.wide_laws.proofs.Words.{late_token, past_token, late_group, assert_both, attrs_both, exts_both}
 use Rattle.wide_laws.proofs.Exprs.{expr_both, whole_past, assigned_past, expr_past}
 use Rattle.wide_laws.proofs.Specs.{specs_here_both, specs_two, specs_both, specs_past, late_present}

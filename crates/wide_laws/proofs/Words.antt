@@ -1,18 +1,16 @@
 -- Single tokens, rows of them and groups with more room.
-use Rattle.std.proofs.Common.{◌≡◌, ℕ, suc, ◌≤◌, Bool, true, false, if◌then◌else◌, List, [], ◌∷◌, Option, Some, None, inl, inr, refl, sym, subst, arith}
-use Rattle.std.specs.Prelude.{◌++◌}
+use Rattle.std.proofs.Common.{◌≡◌, ℕ, ◌≤◌, Bool, true, false, if◌then◌else◌, List, [], ◌∷◌, Option, Some, None, inr}
 use Rattle.c_words.specs.declared.kinds.TokenKind.{TokenKind}
 use Rattle.c_tree.specs.declared.lexeme.Lexeme.{Lexeme}
-use Rattle.c_syntax.specs.declared.parts.Attr.{Attr}
 use Rattle.c_units.specs.HeldScopes.{HeldScopes}
 use Rattle.c_reading.specs.declared.kinds.Fault.TheVariants.{Unexpected}
 use Rattle.c_reading.specs.declared.kinds.Inside.{Inside}
 use Rattle.c_reading.specs.declared.kinds.Inside.TheVariants.{Opens, Closes, Plain, Stops}
 use Rattle.c_reading.specs.declared.kinds.Bracket.{Bracket}
-use Rattle.c_reading.specs.Reading.{Found, Read, Reader, and_then, ends, refuses, fits, kind_at, behind_first, take_one, token_at, run}
+use Rattle.c_reading.specs.Reading.{Found, Read, and_then, ends, refuses, fits, kind_at, behind_first, take_one, token_at, run}
 use Rattle.c_reading.specs.Tokens.{is_attribute, is_extension, is_text, is_static_assert, is_semicolon, is_open_paren, spelled_name, name_by, name_at, tag_by, tag_at, texts_at, extensions_at, made_by, made_at, qual_of, is_made, quals_at, array_word_of, array_words_at, asm_word_of, asm_words_at, inside_of, is_same, Opened, bracket_by, bracket_step, bracket_turn_by, bracket_turn, group_at, attr_at, attrs_at, pointer_word_at, begins_pointer_word, pointer_words_at, assert_at}
-use Rattle.wide_laws.specs.Wide.{Leaves, Late, Both, BothOf}
-use Rattle.wide_laws.proofs.Both.{all_left, behind_left, late_bind, late_refused, late_if, late_take, late_repeated, past_take, both_same, both_bind, both_then, both_fits, both_if, both_choice, both_run, BothTurn, both_repeated, ready}
+use Rattle.wide_laws.specs.Wide.{Late, Both}
+use Rattle.wide_laws.proofs.Both.{all_left, behind_left, late_bind, late_refused, late_if, late_take, late_repeated, both_same, both_then, both_fits, both_choice, both_run, BothTurn, both_repeated, ready}
 
 pub late_token : (test : TokenKind → Bool) (s : HeldScopes) (ts : List Lexeme) → Late ts (token_at test s ts)
 late_token test s [] = inr (late_refused [])

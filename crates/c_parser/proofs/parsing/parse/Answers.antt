@@ -5,8 +5,9 @@ use Rattle.c_lexer.specs.Tokens as tokens_end
 use Rattle.c_tree.specs.declared.lexeme.Lexeme.{Lexeme}
 use Rattle.c_units.specs.Units as units
 use Rattle.c_units.specs.FirstBad.{IsFirstBad}
-use Rattle.refusal_rules.specs.Allowed.{syntax, BeginsUnitOfAnyHeight, IsAllowed}
+use Rattle.refusal_rules.specs.Allowed.{syntax, too_deep, BeginsUnitOfAnyHeight, IsAllowed}
 use Rattle.unit_places.specs.Laws as places
+use Rattle.depth_laws.specs.Laws.{OnlyTheHeight}
 use Rattle.c_reading.specs.declared.kinds.Fault.TheVariants as reading
 use Rattle.c_syntax.specs.declared.declaration.Unit.{Unit as RustUnit}
 use Rattle.c_tree.specs.Unit.{Item, items_of}
@@ -107,6 +108,13 @@ syntax_is reading.Redeclared one token e = absurd cc
 syntax_is reading.BadMix one token e = absurd cc
 syntax_is reading.BadTarget one token e = absurd cc
 
+deep_is : (fault : Fault) (one token : ℕ) → faults.TooDeep token ≡ fault_named fault one → (fault ≡ reading.TooDeep) × (token ≡ one)
+deep_is reading.Unexpected one token e = absurd cc
+deep_is reading.TooDeep one token e = (refl, cc)
+deep_is reading.Redeclared one token e = absurd cc
+deep_is reading.BadMix one token e = absurd cc
+deep_is reading.BadTarget one token e = absurd cc
+
 module _ (tokens : List Token) (ended : tokens_end.IsEnded tokens) where
   refuses : (named : Fault) (token : ℕ) → unit_at (numbered 0 tokens) ≡ Err (named, token) → places.Refuses (kinds_in tokens) named token
   refuses named token e = ap unit_at (sym (numbered_kinds 0 tokens)) ∙ e
@@ -126,12 +134,21 @@ module _ (tokens : List Token) (ended : tokens_end.IsEnded tokens) where
       subst (λ (token : ℕ). IsAllowed (kinds_in tokens) token syntax) (sym s.1)
       (law (kinds_in tokens) r.token (kinds_ended tokens ended) (refuses reading.Unexpected r.token (subst (λ (named : Fault). unit_at (numbered 0 tokens) ≡ Err (named, r.token)) s.0 r.refused)))
 
+  deep_of : OnlyTheHeight → (token : ℕ) → IsRefused tokens (faults.TooDeep token) → IsAllowed (kinds_in tokens) token too_deep
+  deep_of law token r =
+      let d = deep_is r.named r.token token r.is in
+      subst (λ (token : ℕ). IsAllowed (kinds_in tokens) token too_deep) (sym d.1)
+      (law (kinds_in tokens) r.token (kinds_ended tokens ended) (refuses reading.TooDeep r.token (subst (λ (named : Fault). unit_at (numbered 0 tokens) ≡ Err (named, r.token)) d.0 r.refused)))
+
 -- the reader's error, as a refusal
 refusal_of : (read : Read (List Item)) (error : ReadError) (named : Fault) (token : ℕ) → error ≡ errors.Fault named token → Fails error read → read ≡ Err (named, token)
 refusal_of read error named token is fails = let At : ReadError → Type 0 = λ e. Fails e read in subst At is fails
 
 no_memory_syntax : (token : ℕ) → faults.Syntax token ≢ faults.NoMemory
 no_memory_syntax token e = cc
+
+no_memory_deep : (token : ℕ) → faults.TooDeep token ≢ faults.NoMemory
+no_memory_deep token e = cc
 
 pub returns-clause-first : goal.returns-clause-first
 returns-clause-first c =
@@ -158,4 +175,13 @@ returns-clause-allowed c =
     let one : c.fault_of.result ≡ faults.Syntax token = same_fault c.fault_of.result (faults.Syntax token) is in
     let found = c.fault_of.ensures (λ memory. no_memory_syntax token (sym one ∙ memory)) in
     allowed_of c.args.tokens.now.tokens c.is_ended.ensures c.syntax_is_allowed.ensures token
+    (record { named = found.0; token = found.1; is = sym one ∙ found.3; refused = ap unit_at (sym same) ∙ refusal_of _ c.in-Err.error found.0 found.1 found.2 c.in-Err.ensures })
+
+pub returns-clause-deep : goal.returns-clause-deep
+returns-clause-deep c =
+    let same : c.as_slice.result.now ≡ lexemes_of c.args.tokens.now = c.as_slice.ensures.value ∙ c.in-Ok.ensures in
+    λ token is.
+    let one : c.fault_of.result ≡ faults.TooDeep token = same_fault c.fault_of.result (faults.TooDeep token) is in
+    let found = c.fault_of.ensures (λ memory. no_memory_deep token (sym one ∙ memory)) in
+    deep_of c.args.tokens.now.tokens c.is_ended.ensures c.only_the_height.ensures token
     (record { named = found.0; token = found.1; is = sym one ∙ found.3; refused = ap unit_at (sym same) ∙ refusal_of _ c.in-Err.error found.0 found.1 found.2 c.in-Err.ensures })
