@@ -12,6 +12,11 @@ tool analyses it). All are C of gcc too: `gcc -fsyntax-only` takes them.
 usage: source.py errors COUNT
 
 A function that assigns one tainted int to so many untainted ones: each is an exceeded bound of `share/cqual/lattices/taint.q`.
+
+usage: source.py members|names|tags|scopes COUNT
+
+A struct of so many members, each read and written; so many names in one scope, each used there; so many structs that are used by
+their tags; or so many functions that use names of the file inside 60 open scopes.
 """
 import sys
 
@@ -252,9 +257,33 @@ def errors(count):
     return "$tainted int source;\n" + targets + "void flow(void) {\n" + "".join("  target%d = source;\n" % n for n in range(count)) + "}\n"
 
 
+def members(count):
+    fields = "".join("int m%d; " % n for n in range(count))
+    return "struct wide { %s};\nvoid all(struct wide *at, int x) {\n%s}\n" % (fields, "".join("x = at->m%d; at->m%d = x;\n" % (n, n) for n in range(count)))
+
+
+def names(count):
+    return "void all(void) {\n%s%s}\n" % ("".join("int v%d;\n" % n for n in range(count)), "".join("v%d = v%d;\n" % (n, count - 1 - n) for n in range(count)))
+
+
+def tags(count):
+    return "".join("struct t%d { struct t%d *next; int at; };\nint f%d(struct t%d *it) { struct t%d *next = it->next; return next->at; }\n"
+                   % (n, n, n, n, n) for n in range(count))
+
+
+def scopes(count):
+    inside = "first = second; second = third; third = first;\n"
+    for n in range(60):
+        inside = "{ int v%d;\n%s}\n" % (n, inside)
+    return "int first, second, third;\n" + "".join("void f%d(void) {\n%s}\n" % (n, inside) for n in range(count))
+
+
+COUNTED = {"errors": errors, "members": members, "names": names, "tags": tags, "scopes": scopes}
+
+
 def main():
-    if len(sys.argv) == 3 and sys.argv[1] == "errors" and sys.argv[2].isdigit():
-        sys.stdout.write(errors(int(sys.argv[2])))
+    if len(sys.argv) == 3 and sys.argv[1] in COUNTED and sys.argv[2].isdigit():
+        sys.stdout.write(COUNTED[sys.argv[1]](int(sys.argv[2])))
         return 0
     if len(sys.argv) != 3 or sys.argv[1] not in ("preprocessed", "ordinary", "nested", "objects") or not sys.argv[2].isdigit():
         print(__doc__, file=sys.stderr)

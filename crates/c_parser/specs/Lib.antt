@@ -1,3 +1,4 @@
 pub mod Parsing
 pub mod Whole
 pub mod Refusing
+pub mod Taping

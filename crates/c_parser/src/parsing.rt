@@ -1,22 +1,21 @@
 //! Units read from their tokens.
 
-ghost use Rattle.std.specs.Prelude.{◌≡◌, ◌≢◌, ◌+◌, ℕ, false, List, take, Err, IfOk};
+ghost use Rattle.std.specs.Prelude.{◌≡◌, ◌≢◌, ℕ, List, Err, IfOk};
 ghost use Rattle.c_tree.specs.Unit.{Item, items_of};
-ghost use Rattle.c_units.specs.HeldScopes.{file_scope};
 ghost use Rattle.c_units.specs.Units.{IsWellFormed};
-ghost use Rattle.c_units.specs.FirstBad.{IsFirstBad};
-ghost use Rattle.refusal_rules.specs.Allowed.{syntax, too_deep, BeginsUnitOfAnyHeight, IsAllowed};
-ghost use Rattle.c_reading.specs.Knot.{alone, unit_at};
-ghost use Rattle.reader_base.specs.Gives.{Gives};
+ghost use Rattle.c_reading.specs.Knot.{unit_at};
+ghost use Rattle.reader_base.specs.Gives.{Fails, Gives};
 ghost use Rattle.reader_base.specs.Lent.{ReadsAsked, asked_at};
 ghost use Rattle.reader_base.specs.declared.fault.ReadError.TheVariants as errors;
 ghost use Rattle.c_parser.specs.declared.parsing.ParseFault.{ParseFault};
 ghost use Rattle.c_parser.specs.declared.parsing.ParseFault.TheVariants as faults;
 ghost use Rattle.c_parser.specs.Parsing.{lexemes_of};
+ghost use Rattle.c_parser.specs.Taping.{IsTapeOf};
 ghost use Rattle.c_parser.specs.Whole.{unit_found};
-ghost use Rattle.c_parser.specs.Refusing.{kinds_of, fault_named, token_of, is_for_height};
+ghost use Rattle.c_parser.specs.Refusing.{fault_named, IsUnitRefusal};
 
 use crate::knot::read;
+use crate::taping::unit_tape;
 use c_lexer::Tokens;
 use c_reading::{Fault, unit_is_well_formed, well_formed_is_read};
 use c_syntax::Unit;
@@ -26,6 +25,7 @@ use held_scopes::Scopes;
 use qual_base::{NoMemory, Numbered, TokenId};
 use reader_base::{Ask, Place, ReadError, end, refused};
 use std::alloc::Global;
+use tape_ops::Op;
 use unit_forms::items;
 use unit_places::{height_alone, place_is_first, syntax_is_allowed};
 
@@ -112,39 +112,57 @@ fn fault_of(error: ReadError) -> ParseFault
     }
 }
 
-/// The one well-formed unit that has these tokens, and else the first token up to which no such unit begins so.
-///
-/// Time and memory are linear in the tokens. Trees above a height of 500 are refused, so the recursion is bounded. The
-/// refused token is the first up to which no well-formed unit begins so; where the fault is not its height, none of any
-/// height does. That a refusal for the syntax or for the height is allowed is proved; of the other three it is tested.
-pub fn parse(alloc: Global, tokens: &Tokens) -> Result<Unit, ParseFault>
-    ensures unit { IfOk result (λ unit. IsWellFormed (lexemes_of tokens.now) (items_of unit)) }
-    ensures only { (items : List Item) → IsWellFormed (lexemes_of tokens.now) items →
-        IfOk result (λ unit. items_of unit ≡ items) }
-    ensures none { (fault : ParseFault) → result ≡ Err fault → fault ≢ faults.NoMemory →
-        (items : List Item) → IsWellFormed (lexemes_of tokens.now) items → ⊥ }
-    ensures first { (fault : ParseFault) → result ≡ Err fault → fault ≢ faults.NoMemory →
-        IsFirstBad (kinds_of tokens.now) (token_of fault) }
-    ensures height { (fault : ParseFault) → result ≡ Err fault → fault ≢ faults.NoMemory →
-        is_for_height fault ≡ false →
-        ¬ BeginsUnitOfAnyHeight (take (token_of fault + 1) (kinds_of tokens.now)) }
-    ensures allowed { (token : ℕ) → result ≡ Err (faults.Syntax token) →
-        IsAllowed (kinds_of tokens.now) token syntax }
-    ensures deep { (token : ℕ) → result ≡ Err (faults.TooDeep token) →
-        IsAllowed (kinds_of tokens.now) token too_deep }
+/// Why the readers of a unit refused these tokens.
+fn refusal(tokens: &Tokens, error: ReadError) -> ParseFault
+    requires { Fails error (unit_at (lexemes_of tokens.now)) }
+    ensures { result ≢ faults.NoMemory → IsUnitRefusal tokens.now result }
 {
-    unit_is_well_formed();
     well_formed_is_read();
     place_is_first();
     height_alone();
     syntax_is_allowed();
     only_the_height();
     tokens.is_ended();
+    fault_of(error)
+}
+
+/// The one well-formed unit that has these tokens, and else the first token up to which no such unit begins so.
+///
+/// Time and memory are linear in the tokens. Trees above a height of 500 are refused, so the recursion is bounded. That a
+/// refusal for the syntax or for the height is allowed is proved; of the other three it is tested.
+pub fn parse(alloc: Global, tokens: &Tokens) -> Result<Unit, ParseFault>
+    ensures unit { IfOk result (λ unit. IsWellFormed (lexemes_of tokens.now) (items_of unit)) }
+    ensures only { (items : List Item) → IsWellFormed (lexemes_of tokens.now) items →
+        IfOk result (λ unit. items_of unit ≡ items) }
+    ensures refused { (fault : ParseFault) → result ≡ Err fault → fault ≢ faults.NoMemory →
+        IsUnitRefusal tokens.now fault }
+{
+    unit_is_well_formed();
+    well_formed_is_read();
     let Ok(all) = lexemes(alloc, tokens) else {
         return Err(ParseFault::NoMemory);
     };
     match unit(alloc, all.as_slice()) {
         Ok(found) => Ok(found),
-        Err(error) => Err(fault_of(error)),
+        Err(error) => Err(refusal(tokens, error)),
+    }
+}
+
+/// The tape of the one well-formed unit that has these tokens, and else what `parse` refuses.
+///
+/// Time is that of `parse` and of making the tape. Memory is linear in the tokens, but that of trees: one item at a time has its
+/// tree, which is let go behind its ops.
+pub fn parse_tape(alloc: Global, tokens: &Tokens) -> Result<Vec<Op>, ParseFault>
+    ensures tape { IfOk result (λ ops. IsTapeOf tokens.now ops.items) }
+    ensures refused { (fault : ParseFault) → result ≡ Err fault → fault ≢ faults.NoMemory →
+        IsUnitRefusal tokens.now fault }
+{
+    unit_is_well_formed();
+    let Ok(all) = lexemes(alloc, tokens) else {
+        return Err(ParseFault::NoMemory);
+    };
+    match unit_tape(alloc, all.as_slice()) {
+        Ok(ops) => Ok(ops),
+        Err(error) => Err(refusal(tokens, error)),
     }
 }

@@ -5,7 +5,9 @@ mod ops;
 mod resolving;
 mod source;
 mod tapes;
+mod units;
 
-pub use resolving::resolve;
+pub use resolving::{resolve, resolve_tapes};
 pub use source::Source;
 pub use unit_types::{Program, ShapeFault, UnitTape};
+pub use units::Units;

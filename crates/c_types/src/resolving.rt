@@ -1,18 +1,43 @@
 //! Names and types of sources.
 
-ghost use Rattle.std.specs.Prelude.{◌≡◌, All, map, IfOk, IfErr};
+ghost use Rattle.std.specs.Prelude.{◌≡◌, All, List, map, IfOk, IfErr};
 ghost use Rattle.name_laws.specs.NameLaws.{IsSound, tape_of_source};
+ghost use Rattle.type_rules.specs.Program as rules;
 ghost use Rattle.type_rules.specs.Program.{HasNoFault, names_of};
 ghost use Rattle.unit_shapes.specs.Views.{names_in};
 ghost use Rattle.unit_types.specs.Resolved.{tapes_of};
 ghost use Rattle.c_types.specs.Sources.{sources_of, IsFirstFaultUnlessMemory};
+ghost use Rattle.c_types.specs.Units.{AreTapesOf};
 
 use crate::source::Source;
 use crate::tapes::unit_tapes;
 use name_laws::names_of_tapes;
 use shape_laws::{first_fault_is_found, none_is_found};
 use std::alloc::Global;
-use unit_types::{Program, ShapeFault, resolve_units};
+use unit_types::{Program, ShapeFault, UnitTape, resolve_units};
+
+/// The names and types of units from their tapes, or the first fault of the sources whose tapes these are: that of the earliest
+/// source, there at the earliest token, of several there that of the lowest rule.
+///
+/// Time is linear in the tapes, but for growth, for looking names up in the scopes that are open, and for the words and
+/// parameters of the types that are made. Memory is linear in the tapes. Sources of 2^32 and more tokens together are more than
+/// there is memory for.
+pub fn resolve_tapes(alloc: Global, tapes: Vec<UnitTape>) -> Result<Program, ShapeFault>
+    ensures none { IfOk result
+        (λ it. (sources : List rules.Source) → AreTapesOf tapes.items sources → HasNoFault sources) }
+    ensures names { IfOk result
+        (λ it. (sources : List rules.Source) → AreTapesOf tapes.items sources →
+        names_in it.rows it.names ≡ names_of sources) }
+    ensures tapes { IfOk result (λ it. it.units ≡ tapes.items) }
+    ensures first { IfErr result
+        (λ fault. (sources : List rules.Source) → AreTapesOf tapes.items sources →
+        IsFirstFaultUnlessMemory fault sources) }
+{
+    names_of_tapes();
+    first_fault_is_found();
+    none_is_found();
+    resolve_units(alloc, tapes)
+}
 
 /// The names and types of sources in their order, or their first fault: that of the earliest
 /// source, there at the earliest token, of several there that of the lowest rule. Each unit is well
@@ -32,11 +57,8 @@ pub fn resolve(alloc: Global, sources: &[Source]) -> Result<Program, ShapeFault>
     ensures first { IfErr result (λ fault. IsFirstFaultUnlessMemory fault
         (sources_of sources.now)) }
 {
-    names_of_tapes();
-    first_fault_is_found();
-    none_is_found();
     let Ok(units) = unit_tapes(alloc, sources) else {
         return Err(ShapeFault::NoMemory);
     };
-    resolve_units(alloc, units)
+    resolve_tapes(alloc, units)
 }

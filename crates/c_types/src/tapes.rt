@@ -20,7 +20,7 @@ use tape_ops::Op;
 use unit_types::UnitTape;
 
 /// The tape of a unit. Linear in it.
-fn unit_ops(alloc: Global, unit: &Unit) -> Result<Vec<Op>, NoMemory>
+pub(crate) fn unit_ops(alloc: Global, unit: &Unit) -> Result<Vec<Op>, NoMemory>
     ensures { IfOk result (λ ops. ops.items ≡ tape_of (items_of unit.now)) }
 {
     let nodes = tape(alloc, unit)?;

@@ -18,6 +18,7 @@ use Rattle.flow_graph.specs.declared.constraint.Constraint.{Constraint}
 use Rattle.flow_graph.specs.declared.constraint.Site.{Site}
 use Rattle.c_tree.specs.Tree.{operation, cast, prefix, sizeof_value, sizeof_type, extension, index, call, dot, arrow, post, compound, name_use, number_use, char_use, text_use, paren, statement_expr, va_arg, va_start, va_copy, offset, comma, assign, cond, binary, no_expr, some_expr, no_exprs, more_exprs, no_words, more_words, storage, qualifier, basic, struct_type, enum_type, typedef_name, no_body, some_body, no_struct_items, more_struct_items, member, no_mem_declrs, more_mem_declrs, named, no_value, some_value, enum_of, some_enum_body, no_enumerators, more_enumerators, pointer, declr_name, declr_paren, array, params, abs_pointer, abs_paren, abs_array, abs_params, no_declr, some_declr, no_size, some_size, size_value, no_params, more_params, init_value, init_braced, init_list, no_init_items, more_init_items, no_desigs, more_desigs, member_desig, index_desig, no_init, some_init, no_init_declrs, more_init_declrs, declaration, decl_declaration, no_block_items, more_block_items, block_decl, block_stmt, expr_stmt, case_stmt, switch_stmt, return_stmt}
 use Rattle.c_tree.specs.Unit.{Item, function_item, decl_item}
+use Rattle.lattice_core.specs.Passing.{no_flows}
 use Rattle.constraint_rules.specs.Systems.{Program, system_of}
 
 abbrev pub among : List ℕ → ℕ → Bool
@@ -30,7 +31,7 @@ mark_among (it ∷ marks) n = if nat_eq it.0 n then Some it.1 else mark_among ma
 
 -- the order of a lattice says nothing of which constraints there are
 abbrev pub of_entries : List Entry → LatticeView
-of_entries entries = record { entries = entries; order = record { above = [] } }
+of_entries entries = record { entries = entries; order = record { above = [] }; flows = no_flows }
 
 -- a source of unit 1 whose annotation words and zeros stand at these tokens
 abbrev pub program : List (ℕ × (ℕ × ℕ)) → List ℕ → List LatticeView → List Item → Program

@@ -1,10 +1,11 @@
 -- What is found on the tapes of sources is what the rules say of them.
-use Rattle.std.proofs.Common.{◌≡◌, ℕ, List, [], ◌∷◌, ◌++◌, Option, refl, sym, ◌∙◌, ap, length, map, subst}
+use Rattle.std.specs.Prelude.{IfOk, OnOk, Result, Ok, Err}
+use Rattle.std.proofs.Common.{◌≡◌, ◌≤◌, ℕ, List, [], ◌∷◌, ◌++◌, Option, refl, sym, ◌∙◌, ap, length, map, subst}
 use Rattle.std.proofs.Math.Path.{fun_ext}
-use Rattle.std.specs.Prelude.{IfOk, Result, Ok, Err}
 use Rattle.lattice_core.specs.View.{LatticeView}
 use Rattle.flow_graph.specs.declared.constraint.Constraint.{Constraint}
 use Rattle.flow_graph.specs.System.{System}
+use Rattle.c_lexer.specs.Tokens.{Lexed}
 use Rattle.c_tape.specs.Tape.{tape_of}
 use Rattle.name_rules.specs.Spellings.{Place}
 use Rattle.name_rules.specs.Scopes.{Names}
@@ -27,11 +28,22 @@ use Rattle.unit_types.specs.Resolved.{Resolved, tapes_of}
 use Rattle.c_types.specs.Sources.{UnitRead, lexed_of, sources_in}
 use Rattle.source_marks.specs.Marks.{mark_among}
 use Rattle.unit_system.specs.declared.system.UnitSystem.{UnitSystem}
-use Rattle.unit_system.specs.declared.fault.GenerateFault.{GenerateFault}
 use Rattle.unit_system.specs.Sharing.{meant_by}
 use Rattle.unit_system.specs.Systems.{AreNumbered, Meant, names_on, starts_on, starts_among, rows_among, system_by, system_on}
-use Rattle.constraint_gen.specs.Programs.{program_in}
-use Rattle.constraint_gen.specs.Generating.{IsMade}
+use Rattle.constraint_gen.specs.Listing.{is_listed, listed_at}
+use Rattle.constraint_gen.specs.Programs.{listed_in, program_in}
+use Rattle.constraint_gen.specs.Generating.{IsMade, IsProgramOf}
+
+-- two things of what was made, where something was
+pub both_ok : {X E : Type 0} (r : Result X E) (P Q : X → Type 0) → IfOk r P → IfOk r Q → IfOk r (λ x. P x × Q x)
+both_ok (Ok x) P Q p q = (p, q)
+both_ok (Err e) P Q p q = tt
+
+-- a number that is within a limit, where something was made
+pub within_ok : {X E : Type 0} (r : Result X E) (found : X → ℕ) (count most : ℕ) → IfOk r (λ x. found x ≡ count) → OnOk r (count ≤ most) →
+    IfOk r (λ x. found x ≤ most)
+within_ok (Ok x) found count most same few = subst (λ (n : ℕ). n ≤ most) (sym same) few
+within_ok (Err e) found count most same few = tt
 
 -- along tapes, source by source
 
@@ -83,28 +95,35 @@ module _ (it : Resolved) (sources : List Source) (named : names_on it ≡ names_
         (rows_by whole sources ∙ rows whole)
 
 -- of units as they were read, where the elements that words name are found by their places
-module _ (it : Resolved) (units : List UnitRead) (named : names_on it ≡ names_of (sources_in units))
-    (taped : tapes_of it.units ≡ map tape_of_source (sources_in units)) (lattices : List LatticeView)
-    (marks : PlaceMap (ℕ × ℕ)) (prelude : List IndexMark)
-    (marked : (p : Place) → value_at marks p ≡ mark_among (lexed_of units) p) where
+module _ (it : Resolved) (all : List UnitRead) (units : List Lexed) (is : IsProgramOf all units it) (lattices : List LatticeView)
+    (marks : PlaceMap (ℕ × ℕ)) (prelude : List IndexMark) (marked : (p : Place) → value_at marks p ≡ mark_among units p) where
+  -- the marks are those of the units
+  marked_all : (p : Place) → value_at marks p ≡ mark_among (lexed_of all) p
+  marked_all p = marked p ∙ ap (λ (ls : List Lexed). mark_among ls p) is.lexed
+
   pub system_found : StartsOfProgramAreFound → ConstraintsAreFound
-      → system_on (meant_by lattices marks prelude) it ≡ system_of (program_in lattices prelude units)
+      → system_on (meant_by lattices marks prelude) it ≡ system_of (program_in lattices prelude all)
   system_found starts rows =
       ap (λ (m : Place → Option (ℕ × ℕ)). let meant : Meant = record { lattices = lattices; mark = m; index = index_in prelude } in
-      system_on meant it) (fun_ext marked)
-      ∙ system_is it (sources_in units) named taped lattices (mark_among (lexed_of units)) (index_in prelude) starts rows
+      system_on meant it) (fun_ext marked_all)
+      ∙ system_is it (sources_in all) is.named is.taped lattices (mark_among (lexed_of all)) (index_in prelude) starts rows
 
   -- all that is said of what was made
-  pub made : StartsOfProgramAreFound → ConstraintsAreFound → PositionsAreCounted → PositionsStand
-      → (r : Result UnitSystem GenerateFault)
-      → IfOk r (λ g. g.graph ≡ system_on (meant_by lattices marks prelude) it)
-      → IfOk r (λ g. AreNumbered (starts_on it) g.skeletons)
-      → IfOk r (IsMade (program_in lattices prelude units))
-  made starts rows count stand (Err fault) system numbered = tt
-  made starts rows count stand (Ok g) system numbered =
-      let are = subst (λ all. AreNumbered all g.skeletons) (starts_are it (sources_in units) named taped starts) numbered in record {
+  pub made : StartsOfProgramAreFound → ConstraintsAreFound → PositionsAreCounted → PositionsStand → (g : UnitSystem)
+      → g.graph ≡ system_on (meant_by lattices marks prelude) it → AreNumbered (starts_on it) g.skeletons
+      → IsMade (program_in lattices prelude all) g
+  made starts rows count stand g system numbered =
+      let are = subst (λ found. AreNumbered found g.skeletons) (starts_are it (sources_in all) is.named is.taped starts) numbered in record {
         system = system ∙ system_found starts rows;
-        count = are.count ∙ sym (count (starts_of (sources_in units)));
-        stand = λ q v stands. stand g.skeletons.vars (starts_of (sources_in units)) are.marked q v stands;
+        count = are.count ∙ sym (count (starts_of (sources_in all)));
+        stand = λ q v stands. stand g.skeletons.vars (starts_of (sources_in all)) are.marked q v stands;
         skeletons = are;
       }
+
+-- what is listed, by the tokens, the names and the skeletons that were found
+pub listed_by : (all : List UnitRead) (p : Program) (units : List Lexed) (s : Names) (starts : List Start) → units ≡ lexed_of all
+    → s ≡ names_of p.sources → starts ≡ starts_of p.sources → listed_at (is_listed units s) 0 (positions_of starts) ≡ listed_in all p
+listed_by all p units s starts lexed named begun =
+    ap (λ (ls : List Lexed). listed_at (is_listed ls s) 0 (positions_of starts)) lexed
+    ∙ ap (λ (ns : Names). listed_at (is_listed (lexed_of all) ns) 0 (positions_of starts)) named
+    ∙ ap (λ (ss : List Start). listed_at (is_listed (lexed_of all) (names_of p.sources)) 0 (positions_of ss)) begun

@@ -6,8 +6,6 @@ use Rattle.name_rules.specs.Spellings.{Place}
 use Rattle.place_map.specs.declared.map.PlaceMap.{PlaceMap}
 use Rattle.place_map.specs.Values.{or_else}
 use Rattle.source_marks.specs.Marks.{mark_at, mark_in, mark_among, IsMarked}
-use Rattle.c_types.specs.declared.source.Source.{Source}
-use Rattle.c_types.specs.Sources.{units_of, lexed_of}
 use Rattle.constraint_gen.specs.Marking.{has_unit, AreMarks}
 
 or_none : {V : Type 0} (o : Option V) → or_else o None ≡ o
@@ -91,19 +89,18 @@ marks_more units lexed old new none are marked p =
     ∙ ap (λ (o : Option (ℕ × ℕ)). or_else (mark_in lexed p) o) (are p)
     ∙ among_more units lexed p none
 
--- one source more
-pub lexed_next : (sources : List Source) (i : ℕ) (x : Source) → i < length sources → x ≡ slice_index_or sources i x
-    → lexed_of (units_of (take i sources)) ++ x.tokens ∷ [] ≡ lexed_of (units_of (take (i + 1) sources))
-lexed_next [] i x lt is = absurd (omega arith)
-lexed_next (y ∷ sources) zero x lt is = ap (λ (z : Source). z.tokens ∷ []) is
-lexed_next (y ∷ sources) (suc i) x lt is =
+-- one unit more
+pub units_next : (units : List Lexed) (i : ℕ) (x : Lexed) → i < length units → x ≡ slice_index_or units i x
+    → take i units ++ x ∷ [] ≡ take (i + 1) units
+units_next [] i x lt is = absurd (omega arith)
+units_next (y ∷ units) zero x lt is = ap (λ (z : Lexed). z ∷ []) is
+units_next (y ∷ units) (suc i) x lt is =
     let e : suc i + 1 ≡ suc (i + 1) = omega arith in
-    rw e (ap (λ (ls : List Lexed). y.tokens ∷ ls) (lexed_next sources i x (omega arith) is))
+    rw e (ap (λ (ls : List Lexed). y ∷ ls) (units_next units i x (omega arith) is))
 
 -- all of them
-pub lexed_whole : (sources : List Source) (i : ℕ) → length sources ≤ i
-    → lexed_of (units_of (take i sources)) ≡ lexed_of (units_of sources)
-lexed_whole [] zero le = refl
-lexed_whole [] (suc i) le = refl
-lexed_whole (x ∷ sources) zero le = absurd (omega arith)
-lexed_whole (x ∷ sources) (suc i) le = ap (λ (ls : List Lexed). x.tokens ∷ ls) (lexed_whole sources i (omega arith))
+pub units_whole : (units : List Lexed) (i : ℕ) → length units ≤ i → take i units ≡ units
+units_whole [] zero le = refl
+units_whole [] (suc i) le = refl
+units_whole (x ∷ units) zero le = absurd (omega arith)
+units_whole (x ∷ units) (suc i) le = ap (λ (ls : List Lexed). x ∷ ls) (units_whole units i (omega arith))

@@ -7,12 +7,11 @@ ghost use Rattle.row_rules.specs.Sites.{variables_among};
 ghost use Rattle.position_laws.specs.Positions.{positions_of};
 ghost use Rattle.unit_starts.specs.Views.{start_in};
 ghost use Rattle.unit_shapes.specs.Views.{names_in};
-ghost use Rattle.c_types.specs.Sources.{units_of, lexed_of};
 ghost use Rattle.constraint_gen.specs.Listing as rules;
 ghost use Rattle.constraint_gen.specs.Listing.{is_listed, listed_at, numbers, listed_from};
 
 use c_lexer::Tokens;
-use c_types::{Program, Source};
+use c_types::Program;
 use c_words::TokenKind;
 use name_scopes::Place;
 use position_laws::positions_are_counted;
@@ -46,25 +45,25 @@ fn is_name_token(tokens: &Tokens, token: TokenId) -> bool
     is_name(tokens.kind(token))
 }
 
-/// Whether the token at a place is a name. Linear in the sources.
-fn is_name_at(sources: &[Source], at: &Place) -> bool
-    ensures { result ≡ rules.is_name_at (lexed_of (units_of sources.now)) at.now }
+/// Whether the token at a place is a name. Linear in the number of units.
+fn is_name_at(units: &[Tokens], at: &Place) -> bool
+    ensures { result ≡ rules.is_name_at units.now at.now }
 {
     let (unit, token) = *at;
-    for source in sources {
-        if source.tokens.unit().number() == unit.number() {
-            return is_name_token(&source.tokens, token);
+    for tokens in units {
+        if tokens.unit().number() == unit.number() {
+            return is_name_token(tokens, token);
         }
     }
     false
 }
 
-/// Whether a source, and not a prelude, declares a name at a place. Linear in the sources.
-fn is_listed(sources: &[Source], program: &Program, at: &Place) -> bool
-    ensures { result ≡ is_listed (lexed_of (units_of sources.now))
+/// Whether a source, and not a prelude, declares a name at a place. Linear in the number of units.
+fn is_listed(units: &[Tokens], program: &Program, at: &Place) -> bool
+    ensures { result ≡ is_listed units.now
         (names_in program.now.rows program.now.names) at.now }
 {
-    at.0.number() != 0 && is_name_at(sources, at) && program.found_names().declared_at(at).is_some()
+    at.0.number() != 0 && is_name_at(units, at) && program.found_names().declared_at(at).is_some()
 }
 
 /// Adds so many numbers, from one on. Linear in them.
@@ -80,24 +79,24 @@ fn add_numbers(found: &mut Vec<VarId>, from: u32, count: u32) -> Result<(), NoMe
 }
 
 /// Adds the variables of a skeleton where it begins at a declared name, and answers the number behind it. Linear in them and in
-/// the sources.
+/// the number of units.
 fn add_start(
     found: &mut Vec<VarId>,
-    sources: &[Source],
+    units: &[Tokens],
     program: &Program,
     start: &Start,
     from: u32,
 ) -> Result<u32, NoMemory>
     requires { from + size (start_in program.now.rows start.now).type ≤ most_variables }
     ensures found { OnOk result (found.new.items ≡ found.old.items
-        ++ (if is_listed (lexed_of (units_of sources.now))
+        ++ (if is_listed units.now
         (names_in program.now.rows program.now.names) start.now.at
         then numbers (size (start_in program.now.rows start.now).type) from else [])) }
     ensures next { IfOk result
         (λ next. next ≡ from + size (start_in program.now.rows start.now).type) }
 {
     let count = start.size(program.types());
-    if is_listed(sources, program, &start.at) {
+    if is_listed(units, program, &start.at) {
         add_numbers(found, from, count)?;
     }
     Ok(from + count)
@@ -108,37 +107,37 @@ fn add_start(
 #[tactic(auto, using(crate::proofs::Numbering::listed_next, crate::proofs::Numbering::count_next))]
 fn listed_starts(
     alloc: Global,
-    sources: &[Source],
+    units: &[Tokens],
     program: &Program,
     starts: &[Start],
 ) -> Result<Vec<VarId>, NoMemory>
     requires { variables_among (map (start_in program.now.rows) starts.now) ≤ most_variables }
     ensures { IfOk result (λ it. it.items ≡ listed_from (is_listed
-        (lexed_of (units_of sources.now)) (names_in program.now.rows program.now.names))
+        units.now (names_in program.now.rows program.now.names))
         0 (map (start_in program.now.rows) starts.now)) }
 {
     let mut found = Vec::new(alloc);
     let mut from = 0u32;
     for start in starts {
-        from = add_start(&mut found, sources, program, start, from)?;
+        from = add_start(&mut found, units, program, start, from)?;
     }
     Ok(found)
 }
 
-/// The variables that stand where a source declares a name, ascending. Linear in the skeletons, each by the number of sources, and
+/// The variables that stand where a source declares a name, ascending. Linear in the skeletons, each by the number of units, and
 /// in these variables.
 #[tactic(auto, using(crate::proofs::Numbering::listed_is))]
 pub(crate) fn listed(
     alloc: Global,
-    sources: &[Source],
+    units: &[Tokens],
     program: &Program,
     starts: &[Start],
 ) -> Result<Vec<VarId>, NoMemory>
     requires { variables_among (map (start_in program.now.rows) starts.now) ≤ most_variables }
     ensures { IfOk result (λ it. it.items ≡ listed_at (is_listed
-        (lexed_of (units_of sources.now)) (names_in program.now.rows program.now.names))
+        units.now (names_in program.now.rows program.now.names))
         0 (positions_of (map (start_in program.now.rows) starts.now))) }
 {
     positions_are_counted();
-    listed_starts(alloc, sources, program, starts)
+    listed_starts(alloc, units, program, starts)
 }

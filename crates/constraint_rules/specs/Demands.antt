@@ -3,11 +3,11 @@ use Rattle.std.specs.Prelude.{ℕ, suc, Bool, true, false, List, [], ◌∷◌, 
 use Rattle.qual_base.specs.declared.places.Span.{Span}
 use Rattle.flow_graph.specs.declared.constraint.Constraint.{Constraint}
 use Rattle.c_tree.specs.Tree.{Expr, operation, cast, prefix, sizeof_value, sizeof_type, extension, index, call, dot, arrow, post, compound, name_use, number_use, char_use, text_use, paren, statement_expr, va_arg, va_start, va_copy, offset, comma, assign, cond, binary, SomeExpr, no_expr, some_expr, Exprs, no_exprs, more_exprs, SpecWords, no_words, more_words, SpecWord, storage, thread, inline_word, noreturn, qualifier, basic, struct_type, enum_type, typedef_name, attribute, SomeBody, no_body, some_body, StructItems, no_struct_items, more_struct_items, StructItem, member, member_semi, member_assert, MemDeclrs, no_mem_declrs, more_mem_declrs, MemDeclr, named, unnamed, Declr, pointer, declr_name, declr_paren, array, params, abs_pointer, abs_paren, abs_array, abs_params, SomeDeclr, no_declr, some_declr, Params, no_params, more_params, Init, init_value, init_braced, InitList, init_list, InitItems, no_init_items, more_init_items, Desigs, no_desigs, more_desigs, Desig, member_desig, index_desig, SomeInit, no_init, some_init, InitDeclrs, no_init_declrs, more_init_declrs, Declaration, declaration, Decl, decl_declaration, decl_assert, BlockItems, no_block_items, more_block_items, BlockItem, block_decl, block_stmt, Stmt, block, expr_stmt, attr_stmt, label, case_stmt, default_stmt, if_stmt, switch_stmt, while_stmt, do_stmt, for_stmt, goto_stmt, continue_stmt, break_stmt, return_stmt, asm_stmt, SomeElse, no_else, some_else, ForStart, start_declaration, start_value}
-use Rattle.c_tree.specs.Ends.{first_token, last_token}
+use Rattle.c_tree.specs.Ends.{first_token, last_token, first_text}
 use Rattle.c_tree.specs.Unit.{Item, function_item, decl_item, asm_item, semi_item}
 use Rattle.type_table.specs.Types.{CType, pointer}
 use Rattle.qual_types.specs.declared.look.Kind.TheVariants as kinds
-use Rattle.qual_types.specs.Skel.{Skel, flat, ref, fun, root, param_at}
+use Rattle.qual_types.specs.Skel.{Skel, flat, ref, fun, root, param_at, struct_of}
 use Rattle.flow_rules.specs.Lists.{equal}
 use Rattle.name_rules.specs.Spellings.{Named}
 use Rattle.name_rules.specs.Uses.{use_at, type_named_at}
@@ -15,8 +15,8 @@ use Rattle.type_rules.specs.Tokens.{first_word, declared_name, is_bare}
 use Rattle.type_rules.specs.Shapes.{is_zero}
 use Rattle.constraint_rules.specs.Values.{val}
 use Rattle.row_rules.specs.Annotations.{further, parameters, write_bounds}
-use Rattle.row_rules.specs.Rows.{RowKind, annotating_place, annotating_some, assigned, behind_known, cast_demand, chosen, computed, dereferenced, first_alone, flowing, initialised, next_of_struct, own_skeleton, param_kind, passed, prefixed, returned, row_at, row_of_name, started, taken, use_demand}
-use Rattle.row_rules.specs.Vals.{contents, member_of, member_skel, own, struct_of, value}
+use Rattle.row_rules.specs.Rows.{RowKind, assigned, behind_known, cast_demand, chosen, computed, dereferenced, first_alone, flowing, formed_here, initialised, literal_row, next_of_struct, own_skeleton, param_kind, passed, prefixed, returned, row_at, row_of_name, started, taken_fresh, use_demand}
+use Rattle.row_rules.specs.Vals.{contents, member_of, member_skel, own, value}
 use Rattle.row_rules.specs.Worlds.{World, all_lattices, at, in_all, span}
 
 abbrev pub type_of_name : World → SpecWords → Option CType
@@ -72,6 +72,24 @@ module _ (w : World) where
   arguments f i no_exprs = []
   arguments f i (more_exprs e es) = passed w (zero_at e) (value (val w e)) (param_at (parameters f) i) (further f) (where_is e) ++ arguments f (suc i) es
 
+-- what passes inside a struct or union that is a member without a name
+abbrev pub unnamed_word_demand : World → SpecWord → List Constraint
+unnamed_word_demand w (struct_type word attrs None body) = formed_here w word.token
+unnamed_word_demand w (struct_type word attrs (Some tag) body) = []
+unnamed_word_demand w (storage word) = []
+unnamed_word_demand w (thread token) = []
+unnamed_word_demand w (inline_word token) = []
+unnamed_word_demand w (noreturn token) = []
+unnamed_word_demand w (qualifier q) = []
+unnamed_word_demand w (basic word) = []
+unnamed_word_demand w (enum_type e) = []
+unnamed_word_demand w (typedef_name name) = []
+unnamed_word_demand w (attribute attr) = []
+
+abbrev pub unnamed_demand : World → SpecWords → List Constraint
+unnamed_demand w no_words = []
+unnamed_demand w (more_words word words) = unnamed_word_demand w word ++ unnamed_demand w words
+
 abbrev mutual
   pub demand : World → Expr → List Constraint
   demand w (operation e comma token e2) = demand w e ++ demand w e2
@@ -94,15 +112,15 @@ abbrev mutual
   demand w (arrow e token name) = demand w e ++ dereferenced w (value (val w e)) (where_is w (arrow e token name))
   demand w (post e token p) = demand w e ++ write_bounds w (root (val w e).skel) (where_is w (post e token p))
   demand w (compound opening ws d closing list) = words_demand w ws ++ (some_declr_demand w row_of_name d ++ (init_list_demand w list
-      ++ (annotating_place w (type_of_name w ws) (own w opening) ++ list_rule w (contents (own w opening)) list)))
+      ++ (literal_row w opening (type_of_name w ws) ++ list_rule w (contents (own w opening)) list)))
   demand w (name_use token name) = use_demand w token (use_at w.names.uses (at w token))
   demand w (number_use token) = []
   demand w (char_use token) = []
-  demand w (text_use texts) = []
+  demand w (text_use texts) = formed_here w (first_text texts)
   demand w (paren opening e closing) = demand w e
   demand w (statement_expr opening opening2 items closing closing2) = block_items_demand w items
   demand w (va_arg keyword opening e separator ws d closing) = demand w e ++ (words_demand w ws ++ (some_declr_demand w row_of_name d
-      ++ (annotating_some w (type_of_name w ws) (own w keyword) ++ taken w (value (val w e)) (own w keyword) (where_is w (va_arg keyword opening e separator ws d closing)))))
+      ++ taken_fresh w keyword (type_of_name w ws) (value (val w e)) (where_is w (va_arg keyword opening e separator ws d closing))))
   demand w (va_start keyword opening e separator e2 closing) = demand w e ++ (demand w e2 ++ started w w.own (value (val w e)) (where_is w (va_start keyword opening e separator e2 closing)))
   demand w (va_copy keyword opening e separator e2 closing) = demand w e ++ (demand w e2
       ++ flowing (zero_at w e2) (value (val w e2)) (value (val w e)) (all_lattices w) (where_is w (va_copy keyword opening e separator e2 closing)))
@@ -141,9 +159,14 @@ abbrev mutual
   struct_items_demand w (more_struct_items item items) = struct_item_demand w item ++ struct_items_demand w items
 
   pub struct_item_demand : World → StructItem → List Constraint
-  struct_item_demand w (member exts ws ds semi) = words_demand w ws ++ mem_declrs_demand w ds
+  struct_item_demand w (member exts ws ds semi) = words_demand w ws ++ members_demand w ws ds
   struct_item_demand w (member_semi semi) = []
   struct_item_demand w (member_assert it) = []
+
+  -- a member without a declarator is an unnamed one
+  pub members_demand : World → SpecWords → MemDeclrs → List Constraint
+  members_demand w ws no_mem_declrs = unnamed_demand w ws
+  members_demand w ws (more_mem_declrs attrs d ds) = mem_declr_demand w d ++ mem_declrs_demand w ds
 
   pub mem_declrs_demand : World → MemDeclrs → List Constraint
   mem_declrs_demand w no_mem_declrs = []

@@ -9,14 +9,13 @@ use Rattle.c_lexer.specs.declared.lexing.LexFault.TheVariants.{BadByte, NoMemory
 use Rattle.c_lexer.specs.declared.places.Mark.{Mark}
 use Rattle.c_lexer.specs.declared.token.Token.{Token}
 use Rattle.c_parser.specs.Parsing.{lexemes_of}
-use Rattle.c_parser.specs.Refusing.{kinds_of, token_of}
+use Rattle.c_parser.specs.Refusing.{IsUnitRefusal}
 use Rattle.c_parser.specs.declared.parsing.ParseFault.{ParseFault}
 use Rattle.c_parser.specs.declared.parsing.ParseFault.TheVariants.{BadMix, BadTarget, NoMemory as OutOfRoom, Redeclared, Syntax, TooDeep}
 use Rattle.c_tree.specs.Unit.{Item, items_of}
 use Rattle.c_types.specs.Sources.{UnitRead, sources_in, sources_of}
 use Rattle.c_types.specs.declared.source.Source.{Source}
 use Rattle.c_units.specs.Units.{IsWellFormed}
-use Rattle.c_units.specs.FirstBad.{IsFirstBad}
 use Rattle.index_words.specs.Marks.{IndexMark}
 use Rattle.name_laws.specs.NameLaws.{IsSound}
 use Rattle.type_rules.specs.Program.{HasNoFault}
@@ -81,15 +80,13 @@ lex_only words bytes lexed fault h only =
     let spelled = spells words bytes lexed h in ap placed_lex (only lexed.tokens spelled.0 lexed.marks spelled.1)
 
 pub parse_fault : (words : Meanings) (bytes : List ℕ) (lexed : Lexed) (fault : ParseFault) → Lexes words bytes lexed →
-    (fault ≢ OutOfRoom → (items : List Item) → IsWellFormed (lexemes_of lexed) items → ⊥) →
-    (fault ≢ OutOfRoom → IsFirstBad (kinds_of lexed) (token_of fault)) →
-    IsFaultOf words bytes (placed_parse lexed fault (refused_at fault))
-parse_fault words bytes lexed (Syntax token) h none first = (lexed, h, λ same. (cc), none (λ same. (cc)), first (λ same. (cc)), refl)
-parse_fault words bytes lexed (TooDeep token) h none first = (lexed, h, λ same. (cc), none (λ same. (cc)), first (λ same. (cc)), refl)
-parse_fault words bytes lexed (Redeclared token) h none first = (lexed, h, λ same. (cc), none (λ same. (cc)), first (λ same. (cc)), refl)
-parse_fault words bytes lexed (BadMix token) h none first = (lexed, h, λ same. (cc), none (λ same. (cc)), first (λ same. (cc)), refl)
-parse_fault words bytes lexed (BadTarget token) h none first = (lexed, h, λ same. (cc), none (λ same. (cc)), first (λ same. (cc)), refl)
-parse_fault words bytes lexed OutOfRoom h none first = tt
+    (fault ≢ OutOfRoom → IsUnitRefusal lexed fault) → IsFaultOf words bytes (placed_parse lexed fault (refused_at fault))
+parse_fault words bytes lexed (Syntax token) h refused = (lexed, h, λ same. (cc), refused (λ same. (cc)), refl)
+parse_fault words bytes lexed (TooDeep token) h refused = (lexed, h, λ same. (cc), refused (λ same. (cc)), refl)
+parse_fault words bytes lexed (Redeclared token) h refused = (lexed, h, λ same. (cc), refused (λ same. (cc)), refl)
+parse_fault words bytes lexed (BadMix token) h refused = (lexed, h, λ same. (cc), refused (λ same. (cc)), refl)
+parse_fault words bytes lexed (BadTarget token) h refused = (lexed, h, λ same. (cc), refused (λ same. (cc)), refl)
+parse_fault words bytes lexed OutOfRoom h refused = tt
 
 parse_only : (lexed : Lexed) (fault : ParseFault) (items : List Item) →
     (fault ≢ OutOfRoom → (items : List Item) → IsWellFormed (lexemes_of lexed) items → ⊥) →

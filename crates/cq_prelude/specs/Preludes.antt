@@ -5,11 +5,9 @@ use Rattle.c_lexer.specs.Reading.{Meanings}
 use Rattle.c_lexer.specs.Refusals.{IsRefusal}
 use Rattle.c_lexer.specs.Tokens.{IsMarkedBy, Lexed, token_spot}
 use Rattle.c_lexer.specs.declared.lexing.LexFault.TheVariants.{NoMemory as NoRoom}
-use Rattle.c_tree.specs.Unit.{Item}
 use Rattle.c_units.specs.Units.{IsWellFormed}
-use Rattle.c_units.specs.FirstBad.{IsFirstBad}
 use Rattle.c_parser.specs.Parsing.{lexemes_of}
-use Rattle.c_parser.specs.Refusing.{kinds_of, token_of}
+use Rattle.c_parser.specs.Refusing.{IsUnitRefusal}
 use Rattle.c_parser.specs.declared.parsing.ParseFault.{ParseFault}
 use Rattle.c_parser.specs.declared.parsing.ParseFault.TheVariants.{BadMix, BadTarget, NoMemory as OutOfRoom, Redeclared, Syntax, TooDeep}
 use Rattle.type_rules.specs.Program.{HasNoFault, faults_of}
@@ -60,8 +58,8 @@ spot_of lexed token =
 abbrev pub IsFaultOf : Meanings → List ℕ → PreludeFault → Type 0
 IsFaultOf words bytes (Lex fault) = IsRefusal 0 words bytes fault × (fault ≢ NoRoom)
 IsFaultOf words bytes (Parse fault spot) =
-    (lexed : Lexed) × Lexes words bytes lexed × (fault ≢ OutOfRoom) × ((items : List Item) → IsWellFormed (lexemes_of lexed) items → ⊥)
-    × IsFirstBad (kinds_of lexed) (token_of fault) × IfSome (refused_at fault) (λ token. spot ≡ spot_of lexed token)
+    (lexed : Lexed) × Lexes words bytes lexed × (fault ≢ OutOfRoom) × IsUnitRefusal lexed fault
+    × IfSome (refused_at fault) (λ token. spot ≡ spot_of lexed token)
 IsFaultOf words bytes (HasBody spot) =
     (it : UnitRead) × (token : ℕ) × Parses words bytes it × IsFirst it.lexed it.items has_body token × (spot ≡ spot_of it.lexed token)
 IsFaultOf words bytes (BadIndex spot) =

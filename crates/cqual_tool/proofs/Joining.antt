@@ -2,37 +2,29 @@
 use Rattle.std.proofs.Common.{arith, ◌≡◌, ◌≢◌, Bool, true, false, ℕ, zero, suc, ◌+◌, ◌<◌, ◌≤◌, List, [], ◌∷◌, ◌++◌, length, drop, slice_index_or, codes, refl, sym, ◌∙◌, ap, subst, append_assoc}
 use Rattle.std.specs.Prelude.{All, nat_eq, if◌then◌else◌}
 use Rattle.std.proofs.lemmas.Bool.{eq-eqb, eqb-true}
-use Rattle.std.proofs.lemmas.List.Elements.{All-nil, All-cons, All-head, All-tail, All-push, All-same, All-weaker}
+use Rattle.std.proofs.lemmas.List.Elements.{All-nil, All-cons, All-head, All-tail, All-push, All-weaker}
 use Rattle.lattice_core.specs.View.{LatticeView}
 use Rattle.c_lexer.specs.declared.token.Token.{Token}
 use Rattle.c_lexer.specs.Tokens.{Lexed}
 use Rattle.c_parser.specs.Parsing.{lexemes_of, numbered}
 use Rattle.flow_graph.specs.System.{most_constraints, most_variables}
-use Rattle.type_rules.specs.Program.{HasNoFault, faults_of}
 use Rattle.type_rules.specs.Program as rules
 use Rattle.name_laws.specs.NameLaws.{IsSound}
 use Rattle.key_laws.specs.Differing.{AreNumbered, IsRead, UnitsDiffer, has_number, has_unit}
-use Rattle.unit_types.specs.declared.fault.ShapeFault.{ShapeFault}
-use Rattle.unit_types.specs.declared.fault.ShapeFault.TheVariants.{NoMemory as OutOfNames}
-use Rattle.unit_types.specs.Faults.{IsFirstUnlessMemory}
-use Rattle.c_types.specs.declared.source.Source.{Source}
-use Rattle.c_types.specs.Sources.{UnitRead, sources_behind, sources_in, sources_of, unit_of, units_of}
+use Rattle.c_types.specs.Sources.{UnitRead, sources_behind, sources_in}
 use Rattle.annotate.specs.Texts.{UnitText}
 use Rattle.annotate.specs.declared.scene.UnitText.{UnitText as LentUnit}
 use Rattle.annotate.specs.Scenes as scenes
 use Rattle.index_words.specs.Marks.{IndexMark}
 use Rattle.constraint_gen.specs.Programs.{program_in, positions_in}
-use Rattle.constraint_gen.specs.Generating.{IsGenerated}
-use Rattle.constraint_rules.specs.Systems.{system_of}
-use Rattle.constraint_gen.specs.declared.generating.Generated.{Generated}
+use Rattle.constraint_rules.specs.Systems.{Program, system_of}
 use Rattle.cqual_tool.specs.declared.answer.Answer.{Answer}
 use Rattle.cqual_tool.specs.declared.status.Status.TheVariants.{Malformed}
 use Rattle.cqual_tool.specs.Statuses.{Says}
 use Rattle.cqual_tool.specs.Texts.{malformed_line}
-use Rattle.cqual_tool.specs.Shapes.{shape_line}
 use Rattle.cqual_tool.specs.Words.{FileNames}
-use Rattle.cqual_tool.specs.Programs.{judging_of, text_of, texts_of}
-use Rattle.cqual_tool.specs.Outcome.{IsCounted, IsRefused, Faulty, ManyConstraints, ManyVariables, SourceParses, SourceReads}
+use Rattle.cqual_tool.specs.Programs.{text_of, texts_of}
+use Rattle.cqual_tool.specs.Outcome.{IsCounted, IsRefused, ManyConstraints, ManyVariables, SourceReads}
 use Rattle.cqual_tool.specs.Preparing.{AreEarlier, IsFormed}
 
 -- tokens that are numbered by their places have numbers of their own
@@ -104,25 +96,17 @@ differ_on earlier (u ∷ units) it differ none =
     by false e own more =
         (no_unit_on u.lexed.unit behind units it differ.0 (other_way u.lexed.unit it.lexed.unit e), more own)
 
--- one more unit
-pub units_on : (sources : List Source) (source : Source) → units_of (sources ++ source ∷ []) ≡ units_of sources ++ unit_of source ∷ []
-units_on [] source = refl
-units_on (it ∷ sources) source = ap (λ (units : List UnitRead). unit_of it ∷ units) (units_on sources source)
-
 -- a source behind units that may stand before it
-pub read_on : (sources : List Source) (source : Source) → AreEarlier (units_of sources) → IsFormed (unit_of source)
-    → All IsRead (sources_of (sources ++ source ∷ []))
-read_on sources source before own =
-    read_behind [] (units_of (sources ++ source ∷ []))
-    (All-same IsFormed (units_of (sources ++ source ∷ [])) (units_of sources ++ unit_of source ∷ []) (units_on sources source)
-    (All-push IsFormed (units_of sources) (unit_of source) before.formed own))
+pub read_on : (before : List UnitRead) (unit : UnitRead) → AreEarlier before → IsFormed unit → All IsRead (sources_in (before ++ unit ∷ []))
+read_on before unit may own = read_behind [] (before ++ unit ∷ []) (All-push IsFormed before unit may.formed own)
 
-pub units_differ : (sources : List Source) (source : Source) → AreEarlier (units_of sources) → (unit_of source).lexed.unit ≡ 1
-    → UnitsDiffer (sources_of (sources ++ source ∷ []))
-units_differ sources source before one =
-    subst (λ (units : List UnitRead). UnitsDiffer (sources_in units)) (sym (units_on sources source))
-    (differ_on [] (units_of sources) (unit_of source) before.differ
-    (subst (λ (n : ℕ). has_unit n (sources_in (units_of sources)) ≡ false) (sym one) before.none_is_source))
+pub units_differ : (before : List UnitRead) (unit : UnitRead) → AreEarlier before → unit.lexed.unit ≡ 1 → UnitsDiffer (sources_in (before ++ unit ∷ []))
+units_differ before unit may one =
+    differ_on [] before unit may.differ (subst (λ (n : ℕ). has_unit n (sources_in before) ≡ false) (sym one) may.none_is_source)
+
+-- nothing
+pub nothing_earlier : AreEarlier []
+nothing_earlier = record { formed = All-nil IsFormed; differ = tt; none_is_source = refl }
 
 -- a prelude alone, which is unit 0
 pub prelude_alone : (it : UnitRead) → it.lexed.unit ≡ 0 → IsFormed it → AreEarlier (it ∷ [])
@@ -139,70 +123,41 @@ pub refused : (named : FileNames) (lattices : List LatticeView) (before : List U
 refused named lattices before marks bytes line answer says is =
     (says.0, subst (IsRefused named lattices before marks bytes) (sym says.1) is)
 
--- units that are those before the source and the source
+-- what is counted of the units before a source and of the source
 module _ (named : FileNames) (lattices : List LatticeView) (before : List UnitRead) (marks : List IndexMark) (bytes : List ℕ) (unit : UnitRead)
-    (units : List UnitRead) (are : units ≡ before ++ unit ∷ []) where
-  pub shaped : HasNoFault (sources_in units) → HasNoFault (sources_in (before ++ unit ∷ []))
-  shaped none = subst (λ (us : List UnitRead). HasNoFault (sources_in us)) are none
+    (is : SourceReads lattices before bytes unit) where
+  abbrev whole : Program
+  whole = program_in lattices marks (before ++ unit ∷ [])
 
-  pub reads : SourceParses lattices bytes unit → HasNoFault (sources_in units) → SourceReads lattices before bytes unit
-  reads parses none = record { parses = parses; shaped = shaped none }
+  pub many_variables : most_variables < length (positions_in whole) → IsRefused named lattices before marks bytes (malformed_line named.source (codes "Q1"))
+  many_variables many = ManyVariables unit is many
 
-  pub faulty : (fault : ShapeFault) → SourceParses lattices bytes unit → fault ≢ OutOfNames → IsFirstUnlessMemory fault (faults_of (sources_in units))
-      → IsRefused named lattices before marks bytes (shape_line named.source (texts_of named units) fault)
-  faulty fault parses reason first =
-      subst (λ (us : List UnitRead). IsRefused named lattices before marks bytes (shape_line named.source (texts_of named us) fault)) (sym are)
-      (Faulty unit fault parses reason (subst (λ (us : List UnitRead). IsFirstUnlessMemory fault (faults_of (sources_in us))) are first))
+  pub many_constraints : length (positions_in whole) ≤ most_variables → most_constraints < length (system_of whole).constraints
+      → IsRefused named lattices before marks bytes (malformed_line named.source (codes "G1"))
+  many_constraints few many = ManyConstraints unit is few many
 
-  module _ (is : SourceReads lattices before bytes unit) where
-    pub many_variables : most_variables < length (positions_in (program_in lattices marks units))
-        → IsRefused named lattices before marks bytes (malformed_line named.source (codes "Q1"))
-    many_variables many =
-        ManyVariables unit is (subst (λ (us : List UnitRead). most_variables < length (positions_in (program_in lattices marks us))) are many)
+  pub counted : length (positions_in whole) ≤ most_variables → length (system_of whole).constraints ≤ most_constraints
+      → IsCounted named lattices before marks bytes unit
+  counted few few_constraints = record { reads = is; few_variables = few; few_constraints = few_constraints }
 
-    few_variables : length (positions_in (program_in lattices marks units)) ≤ most_variables
-        → length (judging_of named lattices marks (before ++ unit ∷ [])).scene.positions ≤ most_variables
-    few_variables few = subst (λ (us : List UnitRead). length (positions_in (program_in lattices marks us)) ≤ most_variables) are few
-
-    pub many_constraints : length (positions_in (program_in lattices marks units)) ≤ most_variables
-        → most_constraints < length (system_of (program_in lattices marks units)).constraints
-        → IsRefused named lattices before marks bytes (malformed_line named.source (codes "G1"))
-    many_constraints few many =
-        ManyConstraints unit is (few_variables few)
-        (subst (λ (us : List UnitRead). most_constraints < length (system_of (program_in lattices marks us)).constraints) are many)
-
-    pub counted : length (positions_in (program_in lattices marks units)) ≤ most_variables
-        → length (system_of (program_in lattices marks units)).constraints ≤ most_constraints
-        → IsCounted named lattices before marks bytes unit
-    counted few few_constraints = record {
-      reads = is;
-      few_variables = few_variables few;
-      few_constraints = subst (λ (us : List UnitRead). length (system_of (program_in lattices marks us)).constraints ≤ most_constraints) are few_constraints;
-    }
-
-  pub generated : (made : Generated) → IsGenerated units (program_in lattices marks units) made
-      → IsGenerated (before ++ unit ∷ []) (program_in lattices marks (before ++ unit ∷ [])) made
-  generated made is = subst (λ (us : List UnitRead). IsGenerated us (program_in lattices marks us) made) are is
-
--- the texts of sources, one more at a time
+-- the texts of units, one more at a time
 shown_on : (shown : List LentUnit) (u : LentUnit) → scenes.units_of (shown ++ u ∷ []) ≡ scenes.units_of shown ++ scenes.unit_of u ∷ []
 shown_on [] u = refl
 shown_on (it ∷ shown) u = ap (λ (units : List UnitText). scenes.unit_of it ∷ units) (shown_on shown u)
 
-next_text : (named : FileNames) (sources : List Source) (i : ℕ) (it : Source) → it ≡ slice_index_or sources i it → i < length sources
-    → text_of named (unit_of it) ∷ texts_of named (units_of (drop (i + 1) sources)) ≡ texts_of named (units_of (drop i sources))
+next_text : (named : FileNames) (units : List Lexed) (i : ℕ) (it : Lexed) → it ≡ slice_index_or units i it → i < length units
+    → text_of named it ∷ texts_of named (drop (i + 1) units) ≡ texts_of named (drop i units)
 next_text named [] i it is lt = absurd (omega arith)
-next_text named (x ∷ sources) zero it is lt = ap (λ (s : Source). text_of named (unit_of s) ∷ texts_of named (units_of sources)) is
-next_text named (x ∷ sources) (suc i) it is lt =
-    let e : suc i + 1 ≡ suc (i + 1) = omega arith in rw e (next_text named sources i it is (omega arith))
+next_text named (x ∷ units) zero it is lt = ap (λ (s : Lexed). text_of named s ∷ texts_of named units) is
+next_text named (x ∷ units) (suc i) it is lt =
+    let e : suc i + 1 ≡ suc (i + 1) = omega arith in rw e (next_text named units i it is (omega arith))
 
-pub texts_on : (named : FileNames) (sources : List Source) (i : ℕ) (it : Source) (shown : List LentUnit) (u : LentUnit)
-    → scenes.unit_of u ≡ text_of named (unit_of it) → it ≡ slice_index_or sources i it → i < length sources
-    → scenes.units_of (shown ++ u ∷ []) ++ texts_of named (units_of (drop (i + 1) sources))
-    ≡ scenes.units_of shown ++ texts_of named (units_of (drop i sources))
-texts_on named sources i it shown u same is lt =
-    let rest = texts_of named (units_of (drop (i + 1) sources)) in
-    ap (λ (units : List UnitText). units ++ rest) (shown_on shown u)
+pub texts_on : (named : FileNames) (units : List Lexed) (i : ℕ) (it : Lexed) (shown : List LentUnit) (u : LentUnit)
+    → scenes.unit_of u ≡ text_of named it → it ≡ slice_index_or units i it → i < length units
+    → scenes.units_of (shown ++ u ∷ []) ++ texts_of named (drop (i + 1) units) ≡ scenes.units_of shown ++ texts_of named (drop i units)
+texts_on named units i it shown u same is lt =
+    let rest = texts_of named (drop (i + 1) units) in
+    ap (λ (texts : List UnitText). texts ++ rest) (shown_on shown u)
     ∙ append_assoc (scenes.units_of shown) (scenes.unit_of u ∷ []) rest
-    ∙ ap (λ (units : List UnitText). scenes.units_of shown ++ units)
-    (ap (λ (one : UnitText). one ∷ rest) same ∙ next_text named sources i it is lt)
+    ∙ ap (λ (texts : List UnitText). scenes.units_of shown ++ texts)
+    (ap (λ (one : UnitText). one ∷ rest) same ∙ next_text named units i it is lt)

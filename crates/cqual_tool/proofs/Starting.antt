@@ -6,8 +6,8 @@ use Rattle.lattice_core.specs.View.{LatticeView}
 use Rattle.c_types.specs.Sources.{UnitRead}
 use Rattle.index_words.specs.Marks.{IndexMark}
 use Rattle.cqual_tool.specs.Words.{FileNames}
-use Rattle.cqual_tool.specs.Outcome.{AreBefore, IsCounted, LatticesRead, RecordsAll, Starts, ThenPrelude, ThenSource, ThenReport, named_one}
-use Rattle.cqual_tool.specs.Preparing.{EndStarts, NoReport, OneReport, SourceStarts, SourceAlone, ReportBehind, UnitsStart, PreludeAlone, SourceToo, ReportToo}
+use Rattle.cqual_tool.specs.Outcome.{AreBefore, IsCounted, LatticeAlone, LatticesRead, RecordsAll, Starts, ThenPrelude, ThenSource, ThenReport, named_one}
+use Rattle.cqual_tool.specs.Preparing.{EndStarts, NoReport, OneReport, SourceStarts, SourceAlone, ReportBehind, UnitsStart, NoUnit, PreludeAlone, SourceToo, ReportToo}
 use Rattle.cqual_tool.proofs.Outcomes.{when_told}
 
 -- names that were recorded behind one, and behind one that may be named
@@ -52,6 +52,7 @@ module _ (named : FileNames) (told : Option (List (List ℕ × List ℕ))) (latt
   -- all files behind the lattice file
   pub all_start : (names : List (List ℕ)) → IfSome told (λ all. LatticesRead (content_of all named.lattice) lattices)
       → UnitsStart named told lattices names → Starts named told (named.lattice ∷ names)
+  all_start _ read NoUnit = LatticeAlone
   all_start _ read (PreludeAlone file is) =
       ThenPrelude file is (when_told told read (λ all r. record { lattices = lattices; read = r }))
   all_start _ read (SourceToo are) =

@@ -14,17 +14,15 @@ use Rattle.c_lexer.specs.declared.lexing.LexFault.{LexFault}
 use Rattle.c_lexer.specs.declared.lexing.LexFault.TheVariants.{NoMemory as NoRoom}
 use Rattle.c_tree.specs.Unit.{Item}
 use Rattle.c_units.specs.Units.{IsWellFormed}
-use Rattle.c_units.specs.FirstBad.{IsFirstBad}
-use Rattle.refusal_rules.specs.Allowed.{BeginsUnitOfAnyHeight}
 use Rattle.c_parser.specs.Parsing.{lexemes_of}
-use Rattle.c_parser.specs.Refusing.{kinds_of, token_of, is_for_height}
+use Rattle.c_parser.specs.Refusing.{IsUnitRefusal}
 use Rattle.c_parser.specs.declared.parsing.ParseFault.{ParseFault}
 use Rattle.c_parser.specs.declared.parsing.ParseFault.TheVariants.{NoMemory as OutOfRoom}
 use Rattle.type_rules.specs.Program.{faults_of, HasNoFault}
 use Rattle.unit_types.specs.declared.fault.ShapeFault.{ShapeFault}
 use Rattle.unit_types.specs.declared.fault.ShapeFault.TheVariants.{NoMemory as OutOfNames}
 use Rattle.unit_types.specs.Faults.{IsFirstUnlessMemory}
-use Rattle.c_types.specs.Sources.{UnitRead, sources_in}
+use Rattle.c_types.specs.Sources.{UnitRead, lexed_of, sources_in}
 use Rattle.index_words.specs.Marks.{IndexMark}
 use Rattle.cq_prelude.specs.Preludes.{IsPrelude, IsFaultOf}
 use Rattle.cq_prelude.specs.declared.fault.PreludeFault.{PreludeFault}
@@ -124,13 +122,11 @@ pub record SourceReads (lattices : List LatticeView) (before : List UnitRead) (b
 pub data IsRefused (named : FileNames) (lattices : List LatticeView) (before : List UnitRead) (marks : List IndexMark) (bytes : List ℕ) : List ℕ → Type 0 where
   Unspelled : (fault : LexFault) → SourceFails lattices bytes fault →
       IsRefused named lattices before marks bytes (lex_line named.source bytes fault)
-  Unparsed : (lexed : Lexed) (fault : ParseFault) → SourceLexes lattices bytes lexed → fault ≢ OutOfRoom →
-      ((items : List Item) → IsWellFormed (lexemes_of lexed) items → ⊥) → IsFirstBad (kinds_of lexed) (token_of fault) →
-      (is_for_height fault ≡ false → ¬ BeginsUnitOfAnyHeight (take (token_of fault + 1) (kinds_of lexed))) →
+  Unparsed : (lexed : Lexed) (fault : ParseFault) → SourceLexes lattices bytes lexed → fault ≢ OutOfRoom → IsUnitRefusal lexed fault →
       IsRefused named lattices before marks bytes (syntax_line named.source lexed fault)
   Faulty : (it : UnitRead) (fault : ShapeFault) → SourceParses lattices bytes it → fault ≢ OutOfNames →
       IsFirstUnlessMemory fault (faults_of (sources_in (before ++ it ∷ []))) →
-      IsRefused named lattices before marks bytes (shape_line named.source (texts_of named (before ++ it ∷ [])) fault)
+      IsRefused named lattices before marks bytes (shape_line named.source (texts_of named (lexed_of (before ++ it ∷ []))) fault)
   ManyVariables : (it : UnitRead) → SourceReads lattices before bytes it →
       most_variables < length (judging_of named lattices marks (before ++ it ∷ [])).scene.positions →
       IsRefused named lattices before marks bytes (malformed_line named.source (codes "Q1"))

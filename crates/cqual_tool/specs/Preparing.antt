@@ -2,10 +2,13 @@
 use Rattle.std.specs.Prelude.{◌≡◌, ℕ, false, All, List, [], ◌∷◌, ◌++◌, Option, Some, IfSome}
 use Rattle.outside.specs.Outside.{content_of}
 use Rattle.lattice_core.specs.View.{LatticeView, orders_of}
+use Rattle.c_lexer.specs.Tokens.{Lexed}
+use Rattle.unit_types.specs.declared.program.UnitTape.{UnitTape}
 use Rattle.c_units.specs.Units.{IsWellFormed}
 use Rattle.c_parser.specs.Parsing.{lexemes_of}
-use Rattle.c_types.specs.Sources.{UnitRead, sources_in, units_of}
-use Rattle.key_laws.specs.Differing.{UnitsDiffer, has_unit}
+use Rattle.c_types.specs.Sources.{UnitRead, lexed_of, sources_in}
+use Rattle.c_types.specs.Units.{AreParts, AreReduced}
+use Rattle.key_laws.specs.Differing.{IsRead, UnitsDiffer, has_unit}
 use Rattle.flow_graph.specs.System.{IsWellOwned}
 use Rattle.flow_graph.specs.Unfolding.{NamesElements}
 use Rattle.annotate.specs.Solutions.{AllNamed}
@@ -13,6 +16,7 @@ use Rattle.index_words.specs.Marks.{IndexMark}
 use Rattle.constraint_gen.specs.Programs.{program_in}
 use Rattle.constraint_gen.specs.Generating.{IsGenerated}
 use Rattle.cqual_tool.specs.declared.status.Status.TheVariants.{Malformed}
+use Rattle.cqual_tool.specs.declared.preparing.Earlier.{Earlier}
 use Rattle.cqual_tool.specs.declared.preparing.Ready.{Ready}
 use Rattle.cqual_tool.specs.declared.preparing.Prepared.{Prepared}
 use Rattle.cqual_tool.specs.declared.preparing.Prepared.TheVariants.{Refused, Program}
@@ -29,12 +33,23 @@ pub record AreEarlier (units : List UnitRead) : Type 0 where
   pub differ : UnitsDiffer (sources_in units)
   pub none_is_source : has_unit 1 (sources_in units) ≡ false
 
+-- units that may stand before a source, of which this is left
+pub record IsEarlier (before : List UnitRead) (it : Earlier) : Type 0 where
+  pub are : AreReduced before it.units
+  pub may : AreEarlier before
+
+-- the tokens and the tapes of units that are read together: each is well formed of its tokens, and no two have one number
+pub record AreJoined (units : List UnitRead) (tokens : List Lexed) (tapes : List UnitTape) : Type 0 where
+  pub parts : AreParts units tokens tapes
+  pub read : All IsRead (sources_in units)
+  pub differ : UnitsDiffer (sources_in units)
+
 -- A program of the units before a source and of that source, within the limits, with its constraints: no flow leaves a
 -- function but by a call, and each constant and bound names a lattice and an element of it.
 pub record IsReady (named : FileNames) (lattices : List LatticeView) (before : List UnitRead) (marks : List IndexMark) (bytes : List ℕ) (it : Ready) : Type 0 where
   pub unit : UnitRead
   pub counted : IsCounted named lattices before marks bytes unit
-  pub units : units_of it.sources.items ≡ before ++ unit ∷ []
+  pub units : it.tokens.items ≡ lexed_of (before ++ unit ∷ [])
   pub made : IsGenerated (before ++ unit ∷ []) (program_in lattices marks (before ++ unit ∷ [])) it.made
   pub owned : IsWellOwned it.made.graph
   pub within : AllNamed lattices it.made.graph
@@ -69,8 +84,9 @@ pub record CountedIsRead (named : FileNames) (lattices : List LatticeView) (all 
   pub unit : UnitRead
   pub counted : IsCounted named lattices before marks (content_of all named.source) unit
 
--- behind the lattice file
+-- behind the lattice file; none where memory is wanting before
 pub data UnitsStart (named : FileNames) (files : Option (List (List ℕ × List ℕ))) (lattices : List LatticeView) : List (List ℕ) → Type 0 where
+  NoUnit : UnitsStart named files lattices []
   PreludeAlone : (file : List ℕ) → named.prelude ≡ Some file → UnitsStart named files lattices (file ∷ [])
   SourceToo : IfSome files (BeforeIsRead named lattices) → UnitsStart named files lattices (named_one named.prelude ++ named.source ∷ [])
   ReportToo : (file : List ℕ) → named.report ≡ Some file → IfSome files (CountedIsRead named lattices) →

@@ -4,7 +4,8 @@ use Rattle.lattice_core.specs.View.{LatticeView}
 use Rattle.flow_graph.specs.System.{System}
 use Rattle.annotate.specs.Texts.{Scene, UnitText}
 use Rattle.index_words.specs.Marks.{IndexMark}
-use Rattle.c_types.specs.Sources.{UnitRead}
+use Rattle.c_lexer.specs.Tokens.{Lexed}
+use Rattle.c_types.specs.Sources.{UnitRead, lexed_of}
 use Rattle.constraint_rules.specs.Systems.{system_of}
 use Rattle.constraint_gen.specs.Programs.{program_in, positions_in, listed_in}
 use Rattle.cqual_tool.specs.Words.{FileNames}
@@ -17,10 +18,10 @@ or_no_name (Some name) = name
 abbrev pub file_of : FileNames → ℕ → List ℕ
 file_of named unit = if nat_eq unit 0 then or_no_name named.prelude else named.source
 
-abbrev pub text_of : FileNames → UnitRead → UnitText
-text_of named it = record { file = file_of named it.lexed.unit; lexed = it.lexed }
+abbrev pub text_of : FileNames → Lexed → UnitText
+text_of named lexed = record { file = file_of named lexed.unit; lexed = lexed }
 
-abbrev pub texts_of : FileNames → List UnitRead → List UnitText
+abbrev pub texts_of : FileNames → List Lexed → List UnitText
 texts_of named units = map (text_of named) units
 
 -- what the reports name, and the constraints
@@ -33,7 +34,7 @@ abbrev pub judging_of : FileNames → List LatticeView → List IndexMark → Li
 judging_of named lattices marks units =
     let p = program_in lattices marks units in record {
       scene = record {
-        units = texts_of named units;
+        units = texts_of named (lexed_of units);
         lattices = lattices;
         positions = positions_in p;
         listed = listed_in units p;

@@ -5,7 +5,7 @@ ghost use Rattle.outside.specs.Counts.{GoesOn, Rose};
 ghost use Rattle.outside.specs.Outside.{content_of};
 ghost use Rattle.lattice_core.specs.View.{orders_of};
 ghost use Rattle.index_words.specs.Marks.{IndexMark};
-ghost use Rattle.c_types.specs.Sources.{UnitRead, units_of};
+ghost use Rattle.c_types.specs.Sources.{UnitRead, lexed_of};
 ghost use Rattle.constraint_gen.specs.Programs.{program_in};
 ghost use Rattle.constraint_gen.specs.Generating.{IsGenerated};
 ghost use Rattle.flow_graph.specs.System.{IsWellOwned};
@@ -87,14 +87,14 @@ fn inferred(
     requires named { AllNamed lattices.now ready.now.made.graph }
     requires owned { IsWellOwned ready.now.made.graph }
     ensures report { (units : List UnitRead) (marks : List IndexMark) →
-        units_of ready.now.sources.items ≡ units →
+        ready.now.tokens.items ≡ lexed_of units →
         IsGenerated units (program_in lattices.now marks units) ready.now.made →
         IfOk result (λ answer. IsReport (files_in named.now)
         (judging_of (files_in named.now) lattices.now marks units)
         answer.status answer.text.items) }
     ensures decided { IfOk result (λ answer. IsDecided answer.status) }
 {
-    let units = texts(alloc, named, &ready.sources)?;
+    let units = texts(alloc, named, &ready.tokens)?;
     let scene = Scene {
         units: &units,
         lattices,

@@ -98,7 +98,7 @@ fn of_program(
     ensures decided { IfOk result (λ answer. IsDecided answer.status) }
 {
     let named = made_names();
-    let units = texts(alloc, &named, &ready.sources)?;
+    let units = texts(alloc, &named, &ready.tokens)?;
     let scene = Scene {
         units: &units,
         lattices,
@@ -124,7 +124,15 @@ fn of_source(
         return too_large(alloc, SOURCE);
     }
     let named = made_names();
-    match prepare(alloc, &named, lattices, nothing_before(alloc), bytes)? {
+    let words = lattices.words(alloc)?;
+    match prepare(
+        alloc,
+        &named,
+        lattices,
+        &words,
+        nothing_before(alloc),
+        bytes,
+    )? {
         Prepared::Refused(answer) => Ok(answer),
         Prepared::Program(ready) => of_program(alloc, number, lattices, &ready),
     }

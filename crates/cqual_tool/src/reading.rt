@@ -3,10 +3,13 @@
 ghost use Rattle.std.specs.Prelude.{◌≡◌, ◌∷◌, [], ℕ, List, Some, IfOk, IfSome, IsErrOf};
 ghost use Rattle.outside.specs.Counts.{GoesOn, Rose};
 ghost use Rattle.outside.specs.Outside.{content_of};
-ghost use Rattle.c_types.specs.Sources.{unit_of, units_of};
+ghost use Rattle.qual_base.specs.Words.{MeansTheSame};
+ghost use Rattle.lattice_core.specs.Names.{words_of};
+ghost use Rattle.c_types.specs.Sources.{UnitRead, unit_of};
+ghost use Rattle.c_types.specs.Units.{AreReduced};
 ghost use Rattle.cqual_tool.specs.Words.{names_in as files_in};
 ghost use Rattle.cqual_tool.specs.Outcome.{IsDecided, OfFiles, OfSource, OfUnits, RecordsAll, Starts};
-ghost use Rattle.cqual_tool.specs.Preparing.{AreEarlier, SourceStarts, UnitsStart};
+ghost use Rattle.cqual_tool.specs.Preparing.{IsEarlier, SourceStarts, UnitsStart};
 
 use crate::answer::Answer;
 use crate::ending::end;
@@ -15,22 +18,24 @@ use crate::preludes::prelude_refused;
 use crate::preparing::{Earlier, Prepared, nothing_before, prepare};
 use crate::taking::{LATTICE_LIMIT, SOURCE_LIMIT, Stop, taken, too_large};
 use crate::words::Named;
+use c_types::Units;
 use cq_prelude::{PreludeRead, read_prelude};
 use lattice_core::Lattices;
 use lattice_file::read_lattices;
 use outside::Files;
-use qual_base::NoMemory;
+use qual_base::{NoMemory, QualWords};
 use std::alloc::Global;
 
-/// A prelude stands before the source.
+/// A prelude stands before the source. Its tree is let go.
 fn prelude_before<'a>(alloc: Global, read: PreludeRead<'a>) -> Result<Earlier<'a>, NoMemory>
-    ensures sources { IfOk result (λ it. it.sources.items ≡ read.entry.source ∷ []) }
+    ensures units { IfOk result
+        (λ it. AreReduced (unit_of read.entry.source ∷ []) it.units) }
     ensures prelude { IfOk result (λ it. it.prelude ≡ read.entry.prelude) }
 {
     let PreludeRead { source, prelude } = read;
-    let mut sources = Vec::new(alloc);
-    sources.push(source)?;
-    Ok(Earlier { sources, prelude })
+    let mut units = Units::new(alloc);
+    units.push_source(alloc, source)?;
+    Ok(Earlier { units, prelude })
 }
 
 /// Takes the source, and what is asked of the program.
@@ -38,23 +43,27 @@ fn take_source<F: Files>(
     alloc: Global,
     named: &Named<'_>,
     lattices: &Lattices,
+    words: &QualWords,
     earlier: Earlier<'_>,
     files: &mut F,
 ) -> Result<Answer, Stop>
-    requires { AreEarlier (units_of earlier.sources.items) }
-    ensures outcome { IfOk result (λ answer. IfSome (F.contents files.old) (λ all.
-        OfSource (files_in named.now) (content_of all) lattices.now
-        (units_of earlier.entry.sources.items) earlier.entry.prelude answer.status answer.text.items)) }
+    requires words { MeansTheSame words.now (words_of lattices.now) }
+    requires before { (before : List UnitRead) × IsEarlier before earlier }
+    ensures outcome { (before : List UnitRead) → IsEarlier before earlier.entry →
+        IfOk result (λ answer. IfSome (F.contents files.old) (λ all.
+        OfSource (files_in named.now) (content_of all) lattices.now before
+        earlier.entry.prelude answer.status answer.text.items)) }
     ensures decided { IfOk result (λ answer. IsDecided answer.status) }
     ensures read_fault { IsErrOf result Stop.ReadFault →
         Rose (F.faults files.old) (F.faults files.new) }
     ensures count { GoesOn (F.faults files.old) (F.faults files.new) }
-    ensures started { (names : List (List ℕ)) × RecordsAll (F.started files.old)
-        (F.started files.new) names × SourceStarts (files_in named.now) (F.contents files.old)
-        lattices.now (units_of earlier.entry.sources.items) earlier.entry.prelude names }
+    ensures started { (before : List UnitRead) → IsEarlier before earlier.entry →
+        (names : List (List ℕ)) × RecordsAll (F.started files.old) (F.started files.new) names
+        × SourceStarts (files_in named.now) (F.contents files.old) lattices.now before
+        earlier.entry.prelude names }
 {
     match taken(alloc, files, named.source, SOURCE_LIMIT)? {
-        Some(bytes) => match prepare(alloc, named, lattices, earlier, &bytes)? {
+        Some(bytes) => match prepare(alloc, named, lattices, words, earlier, &bytes)? {
             Prepared::Refused(answer) => Ok(answer),
             Prepared::Program(ready) => end(alloc, named, lattices, &ready, files),
         },
@@ -67,10 +76,12 @@ fn take_prelude<F: Files>(
     alloc: Global,
     named: &Named<'_>,
     lattices: &Lattices,
+    words: &QualWords,
     file: &str,
     files: &mut F,
 ) -> Result<Answer, Stop>
-    requires { (files_in named.now).prelude ≡ Some file.now }
+    requires words { MeansTheSame words.now (words_of lattices.now) }
+    requires named { (files_in named.now).prelude ≡ Some file.now }
     ensures outcome { IfOk result (λ answer. IfSome (F.contents files.old) (λ all.
         OfUnits (files_in named.now) (content_of all) lattices.now
         answer.status answer.text.items)) }
@@ -83,16 +94,13 @@ fn take_prelude<F: Files>(
         × UnitsStart (files_in named.now) (F.contents files.old) lattices.now names }
 {
     match taken(alloc, files, file, SOURCE_LIMIT)? {
-        Some(bytes) => {
-            let words = lattices.words(alloc)?;
-            match read_prelude(alloc, &bytes, &words) {
-                Ok(read) => {
-                    let earlier = prelude_before(alloc, read)?;
-                    take_source(alloc, named, lattices, earlier, files)
-                }
-                Err(fault) => Ok(prelude_refused(alloc, file, &bytes, &fault)?),
+        Some(bytes) => match read_prelude(alloc, &bytes, words) {
+            Ok(read) => {
+                let earlier = prelude_before(alloc, read)?;
+                take_source(alloc, named, lattices, words, earlier, files)
             }
-        }
+            Err(fault) => Ok(prelude_refused(alloc, file, &bytes, &fault)?),
+        },
         None => Ok(too_large(alloc, file)?),
     }
 }
@@ -115,9 +123,10 @@ fn take_units<F: Files>(
         (F.started files.new) names
         × UnitsStart (files_in named.now) (F.contents files.old) lattices.now names }
 {
+    let words = lattices.words(alloc)?;
     match named.prelude {
-        Some(file) => take_prelude(alloc, named, lattices, file, files),
-        None => take_source(alloc, named, lattices, nothing_before(alloc), files),
+        Some(file) => take_prelude(alloc, named, lattices, &words, file, files),
+        None => take_source(alloc, named, lattices, &words, nothing_before(alloc), files),
     }
 }
 

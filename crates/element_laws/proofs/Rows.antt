@@ -12,19 +12,21 @@ use Rattle.lattice_core.specs.View.{LatticeView, IsElement}
 use Rattle.flow_graph.specs.declared.constraint.Link.TheVariants.{Bound, Le}
 use Rattle.flow_graph.specs.declared.constraint.Constraint.{Constraint}
 use Rattle.type_table.specs.Types.{CType, pointer}
-use Rattle.qual_types.specs.Skel.{Skel, flat, ref, fun, root, param_at}
+use Rattle.qual_types.specs.declared.look.Kind.TheVariants as kinds
+use Rattle.qual_types.specs.Skel.{Skel, Skels, flat, ref, fun, no_skels, more_skels, root, param_at}
 use Rattle.flow_rules.specs.declared.arrow.Arrow.TheVariants.{Flow}
 use Rattle.flow_rules.specs.Lists.{flow, smash, unsmash, equal, cross}
 use Rattle.flow_rules.specs.Owners.{AllStay, AllLead}
 use Rattle.name_rules.specs.Spellings.{Place}
-use Rattle.name_rules.specs.Scopes.{Role, typedef_role, object_role, function_role, parameter_role, field_role, enumerator_role, Declared, declared_at, Use, means, called, missing, is_place}
-use Rattle.name_rules.specs.Values.{is_additive}
+use Rattle.name_rules.specs.Scopes.{Role, typedef_role, object_role, function_role, parameter_role, field_role, enumerator_role, Declared, declared_at, Use, means, called, missing, is_place, Aggregate, Own}
+use Rattle.name_rules.specs.Values.{is_additive, own_of}
 use Rattle.row_rules.specs.Starting.{is_some_function}
-use Rattle.row_rules.specs.Worlds.{World, all_lattices, at, constraint, constraints, site_number, skeleton, span, word_span}
+use Rattle.row_rules.specs.Forming.{Ways, ways_in, in_some, pointing, into_member, into_members, formed_in, all_formed_in, formed}
+use Rattle.row_rules.specs.Worlds.{World, Numbered, skeleton_among, all_lattices, at, constraint, constraints, site_number, skeleton, span, word_span}
 use Rattle.row_rules.specs.Annotations.{Annotation, entry_of_view, entry_at, signed, links_of_entry, alone, marked, annotation_constraints, annotated, annotating, bounds_of, bounds_from, write_bounds, deref_bounds, uncut, parameters}
 use Rattle.row_rules.specs.Indexing.{Indexed, indexed, value_lattices, is_below, below_each, below_all, indexing}
-use Rattle.row_rules.specs.Vals.{Val, contents, is_empty, is_fun, is_nothing, is_ref, result, value}
-use Rattle.row_rules.specs.Rows.{flowing, dereferenced, is_plus_or_minus, assigned, is_logical, computed, chosen, prefixed, passed, instance, some_instance, use_demand, annotating_some, annotating_place, cast_demand, annotating_name, tied_to_first, name_row, declared_row, some_declared_row, into_param, param_row, RowKind, no_row, row_of_name, row_of_param, row_at, returned, started, taken}
+use Rattle.row_rules.specs.Vals.{Val, contents, is_empty, is_fun, is_nothing, is_ref, own, result, value}
+use Rattle.row_rules.specs.Rows.{flowing, dereferenced, is_plus_or_minus, assigned, is_logical, computed, branched, chosen, prefixed, passed, formed_here, crossed, instance, some_instance, use_demand, annotating_some, annotating_place, casting, cast_demand, annotating_name, formed_name, plain_name_row, plain_param_row, tied_to_first, name_row, declared_row, some_declared_row, into_param, param_row, RowKind, no_row, row_of_name, row_of_param, row_at, returned, started, taken}
 use Rattle.element_laws.proofs.Elements.{AllNamed, lists_named, none_where, some_where, flows_named, calls_named, nobodys}
 
 -- the flow lists of rows are flows, calls and returns alone
@@ -189,9 +191,54 @@ module _ (law : Flows) (w : World) where
       none_where w.lattices (is_logical p || (is_additive p && (is_ref a || is_ref b))) _
       (both_named first last a b t where_)
 
+  -- what passes inside a skeleton
+
+  some_named : (lattices : ℕ) (where_ : Span) (u v : ℕ) → Named (in_some lattices where_ (Le u v))
+  some_named lattices where_ u v = none_where w.lattices (nat_eq lattices 0) (constraint lattices where_ (Le u v) ∷ []) (tt, tt)
+
+  into_members_named : (ways : Ways) (skeletons : List Numbered) (where_ : Span) (n : ℕ) (own : List Own) →
+      Named (into_members ways skeletons where_ n own)
+  into_members_named ways skeletons where_ n [] = tt
+  into_members_named ways skeletons where_ n (it ∷ own) =
+      let s = skeleton_among skeletons it.at in
+      lists_named w.lattices (into_member ways where_ n s) (into_members ways skeletons where_ n own)
+      (none_where w.lattices (is_nothing s) (in_some ways.field where_ (Le n (root (contents s)))) (some_named ways.field where_ n (root (contents s))))
+      (into_members_named ways skeletons where_ n own)
+
+  mutual
+    formed_in_named : (ways : Ways) (skeletons : List Numbered) (all : List Aggregate) (where_ : Span) (s : Skel) →
+        Named (formed_in ways skeletons all where_ s)
+    formed_in_named ways skeletons all where_ (flat v (kinds.Struct n)) = into_members_named ways skeletons where_ v (own_of all n)
+    formed_in_named ways skeletons all where_ (flat v kinds.Base) = tt
+    formed_in_named ways skeletons all where_ (flat v kinds.Void) = tt
+    formed_in_named ways skeletons all where_ (flat v kinds.Nothing) = tt
+    formed_in_named ways skeletons all where_ (ref v s) =
+        lists_named w.lattices (pointing ways where_ v (root s)) (formed_in ways skeletons all where_ s)
+        (lists_named w.lattices (in_some ways.up where_ (Le (root s) v)) (in_some ways.down where_ (Le v (root s)))
+        (some_named ways.up where_ (root s) v) (some_named ways.down where_ v (root s)))
+        (formed_in_named ways skeletons all where_ s)
+    formed_in_named ways skeletons all where_ (fun v ps r e) =
+        lists_named w.lattices (all_formed_in ways skeletons all where_ ps) (formed_in ways skeletons all where_ r)
+        (all_formed_in_named ways skeletons all where_ ps) (formed_in_named ways skeletons all where_ r)
+
+    all_formed_in_named : (ways : Ways) (skeletons : List Numbered) (all : List Aggregate) (where_ : Span) (ps : Skels) →
+        Named (all_formed_in ways skeletons all where_ ps)
+    all_formed_in_named ways skeletons all where_ no_skels = tt
+    all_formed_in_named ways skeletons all where_ (more_skels s ss) =
+        lists_named w.lattices (formed_in ways skeletons all where_ s) (all_formed_in ways skeletons all where_ ss)
+        (formed_in_named ways skeletons all where_ s) (all_formed_in_named ways skeletons all where_ ss)
+
+  pub formed_named : (where_ : Span) (s : Skel) → Named (formed w where_ s)
+  formed_named where_ s = formed_in_named (ways_in w.lattices) w.skeletons w.names.aggregates where_ s
+
+  pub formed_here_named : (token : ℕ) → Named (formed_here w token)
+  formed_here_named token = formed_named (span w token token) (own w token)
+
   pub chosen_named : (first last : Bool) (a b t : Skel) (where_ : Span) → Named (chosen w first last a b t where_)
   chosen_named first last a b t where_ =
-      none_where w.lattices (first || last) _ (both_named false false a b t where_)
+      none_where w.lattices (first || last) _
+      (lists_named w.lattices (formed w where_ t) (branched w a b t where_) (formed_named where_ t)
+      (both_named false false a b t where_))
 
   pub prefixed_named : (p : Punct) (is_zero : Bool) (e : Val) (t : Skel) (where_ : Span) →
       Named (prefixed w p is_zero e t where_)
@@ -219,8 +266,9 @@ module _ (law : Flows) (w : World) where
       Named (cast_demand w t is_zero a s where_)
   cast_named None is_zero a s where_ = tt
   cast_named (Some t) is_zero a s where_ =
-      lists_named w.lattices (annotating w t s) _ (annotating_named t s)
-      (none_where w.lattices (nat_eq (uncut w t) 0) _ (flowing_named is_zero a s (uncut w t) where_))
+      lists_named w.lattices (formed w where_ s) (casting w t is_zero a s where_) (formed_named where_ s)
+      (lists_named w.lattices (annotating w t s) _ (annotating_named t s)
+      (none_where w.lattices (nat_eq (uncut w t) 0) _ (flowing_named is_zero a s (uncut w t) where_)))
 
   -- further arguments
 
@@ -243,8 +291,9 @@ module _ (law : Flows) (w : World) where
   role_named : (token : ℕ) (p : Place) (role : Role) → Named (instance w token p role)
   role_named token p function_role =
       let site = site_number w (at w token) in
-      calls_named w.lattices nobodys Nobody Nobody site (all_lattices w) (span w token token)
-      (cross site (skeleton w p) (skeleton w (at w token))) (law.crossed site (skeleton w p) (skeleton w (at w token)))
+      lists_named w.lattices (formed_here w token) (crossed w token p) (formed_here_named token)
+      (calls_named w.lattices nobodys Nobody Nobody site (all_lattices w) (span w token token)
+      (cross site (skeleton w p) (skeleton w (at w token))) (law.crossed site (skeleton w p) (skeleton w (at w token))))
   role_named token p typedef_role = tt
   role_named token p object_role = tt
   role_named token p (parameter_role i) = tt
@@ -257,7 +306,7 @@ module _ (law : Flows) (w : World) where
 
   pub use_named : (token : ℕ) (use_ : Use) → Named (use_demand w token use_)
   use_named token (means p) = instance_named token (declared_at w.names.declared p)
-  use_named token called = tt
+  use_named token called = formed_here_named token
   use_named token missing = tt
 
   tied_named : (d : Declared) → Named (tied_to_first w d)
@@ -270,9 +319,10 @@ module _ (law : Flows) (w : World) where
   name_named d =
       let t = pointer [] d.type in
       let s = skeleton w d.at in
-      lists_named w.lattices (annotating_name w d) _ (annotating_named t s)
+      lists_named w.lattices (formed_name w d) (plain_name_row w d) (formed_named (word_span d.at) s)
+      (lists_named w.lattices (annotating_name w d) _ (annotating_named t s)
       (lists_named w.lattices (indexing w t s) (tied_to_first w d) (all_named (indexed w t s) (indexed w t s))
-      (tied_named d))
+      (tied_named d)))
 
   declared_named : (d : Declared) (role : Role) → Named (declared_row w d role)
   declared_named d typedef_role = tt
@@ -296,8 +346,9 @@ module _ (law : Flows) (w : World) where
   param_named : (f : Skel) (n : ℕ) (d : Option Declared) → Named (param_row w f n d)
   param_named f n None = tt
   param_named f n (Some d) =
-      lists_named w.lattices (annotating_name w d) (into_param w (param_at (parameters f) n) d)
-      (annotating_named (pointer [] d.type) (skeleton w d.at)) (into_param_named (param_at (parameters f) n) d)
+      lists_named w.lattices (formed_name w d) (plain_param_row w f n d) (formed_named (word_span d.at) (skeleton w d.at))
+      (lists_named w.lattices (annotating_name w d) (into_param w (param_at (parameters f) n) d)
+      (annotating_named (pointer [] d.type) (skeleton w d.at)) (into_param_named (param_at (parameters f) n) d))
 
   pub row_named : (kind : RowKind) (token : ℕ) → Named (row_at w kind token)
   row_named no_row token = tt

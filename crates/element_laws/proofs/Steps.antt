@@ -13,6 +13,8 @@ use Rattle.tape_ops.specs.declared.initialiser.InitOp.{InitOp}
 use Rattle.tape_ops.specs.declared.initialiser.InitOp.TheVariants as inits
 use Rattle.tape_ops.specs.declared.declarator.DeclrOp.{DeclrOp}
 use Rattle.tape_ops.specs.declared.declarator.DeclrOp.TheVariants as declrs
+use Rattle.tape_ops.specs.declared.specifier.SpecOp.{SpecOp}
+use Rattle.tape_ops.specs.declared.specifier.SpecOp.TheVariants as specs
 use Rattle.tape_ops.specs.declared.statement.StmtOp.{StmtOp}
 use Rattle.tape_ops.specs.declared.statement.StmtOp.TheVariants as stmts
 use Rattle.c_tape.specs.Tape.{tape_of}
@@ -24,17 +26,18 @@ use Rattle.row_rules.specs.Worlds.{World, at, all_lattices, span}
 use Rattle.row_rules.specs.Annotations.{parameters, further}
 use Rattle.row_rules.specs.Vals.{contents, is_ref, own}
 use Rattle.row_rules.specs.Vals as vals
-use Rattle.row_rules.specs.Rows.{annotating_some}
+use Rattle.row_rules.specs.Forming.{formed}
+use Rattle.row_rules.specs.Rows.{annotating_some, annotating_place, formed_here}
 use Rattle.row_steps.specs.Rounds.{naming, is_quiet}
 use Rattle.row_steps.specs.State.{Operand, State, nothing, first_operand, val_of_operand, is_zero_operand, type_of_operand, val_at, value_at, is_zero_at, type_at, operands_below, first_braces}
 use Rattle.row_steps.specs.Steps.{target_in, initialised_by, step}
-use Rattle.row_steps.specs.OpRows.{function_skeleton, naming_row, into_target, called_at, expr_row, form_row, init_row, declr_row, stmt_row, loud_row, op_row}
+use Rattle.row_steps.specs.OpRows.{function_skeleton, naming_row, into_target, called_at, expr_row, form_row, init_row, spec_row, declr_row, stmt_row, loud_row, op_row}
 use Rattle.row_steps.specs.Found.{rows_found, unit_rows}
 use Rattle.constraint_rules.specs.Systems.{Program, system_of, world_of}
 use Rattle.row_laws.specs.Laws.{ConstraintsAreFound, rows_among}
 use Rattle.element_laws.specs.Naming.{ElementsAreNamed, LatticesAreNamed}
 use Rattle.element_laws.proofs.Elements.{AllNamed, lists_named, none_where, system_named, lattices_named}
-use Rattle.element_laws.proofs.Rows.{Flows, writes_named, dereferenced_named, annotating_some_named, annotating_place_named, flowing_named, assigned_named, computed_named, chosen_named, prefixed_named, passed_named, returned_named, cast_named, started_named, taken_named, use_named, row_named}
+use Rattle.element_laws.proofs.Rows.{Flows, writes_named, dereferenced_named, formed_named, formed_here_named, annotating_some_named, annotating_place_named, flowing_named, assigned_named, computed_named, chosen_named, prefixed_named, passed_named, returned_named, cast_named, started_named, taken_named, use_named, row_named}
 
 module _ (law : Flows) (w : World) where
   abbrev Named : List Constraint → Type 0
@@ -49,7 +52,7 @@ module _ (law : Flows) (w : World) where
   expr_named st (exprs.Name is_called token name) = use_named law w token (use_at w.names.uses (at w token))
   expr_named st (exprs.Number token) = tt
   expr_named st (exprs.Char token) = tt
-  expr_named st (exprs.Text token) = tt
+  expr_named st (exprs.Text token) = formed_here_named law w token
   expr_named st (exprs.Paren token) = tt
   expr_named st (exprs.Ext token) = tt
   expr_named st (exprs.Comma token) = tt
@@ -80,9 +83,10 @@ module _ (law : Flows) (w : World) where
   form_named st (forms.Sizeof token) = tt
   form_named st (forms.StmtExpr has_value token) = tt
   form_named st (forms.VaArg token last) =
-      lists_named w.lattices (annotating_some w (type_at 0 st) (own w token)) _
+      lists_named w.lattices (formed w (span w token last) (own w token)) _ (formed_named law w (span w token last) (own w token))
+      (lists_named w.lattices (annotating_some w (type_at 0 st) (own w token)) _
       (annotating_some_named law w (type_at 0 st) (own w token))
-      (taken_named law w (value_at 1 st) (own w token) (span w token last))
+      (taken_named law w (value_at 1 st) (own w token) (span w token last)))
   form_named st (forms.VaStart token last) =
       started_named law w (function_skeleton w st.rounds.body) (value_at 1 st) (span w token last)
   form_named st (forms.VaCopy token last) =
@@ -97,7 +101,8 @@ module _ (law : Flows) (w : World) where
   init_named st inits.Begin = tt
   init_named st inits.Rule = tt
   init_named st (inits.Literal token) =
-      annotating_place_named law w (type_of_operand (first_operand (operands_below st))) (own w token)
+      lists_named w.lattices (formed_here w token) (annotating_place w (type_of_operand (first_operand (operands_below st))) (own w token))
+      (formed_here_named law w token) (annotating_place_named law w (type_of_operand (first_operand (operands_below st))) (own w token))
   init_named st inits.ListBegin = tt
   init_named st (inits.Member token name) = tt
   init_named st (inits.Index token) = tt
@@ -106,6 +111,10 @@ module _ (law : Flows) (w : World) where
   init_named st inits.ListEnd = tt
   init_named st inits.End = tt
   init_named st inits.LiteralEnd = tt
+
+  spec_named : (op : SpecOp) → Named (spec_row w op)
+  spec_named (specs.UnnamedMember token) = formed_here_named law w token
+  spec_named op = tt
 
   declr_named : (st : State) (op : DeclrOp) → Named (declr_row w st op)
   declr_named st (declrs.DeclName token name) = row_named law w (naming_row w (naming st.rounds)) token
@@ -135,7 +144,7 @@ module _ (law : Flows) (w : World) where
   loud_named st (ops.Expr op) = expr_named st op
   loud_named st (ops.Form op) = form_named st op
   loud_named st (ops.Init op) = init_named st op
-  loud_named st (ops.Spec op) = tt
+  loud_named st (ops.Spec op) = spec_named op
   loud_named st (ops.Declr op) = declr_named st op
   loud_named st (ops.Stmt op) = stmt_named st op
 

@@ -1,2 +1,2 @@
-mod Newest
+mod Known
 mod Innermost

@@ -1,2 +1,3 @@
+pub mod Changed
+pub mod Named
 pub mod Outcomes
-pub mod Released

@@ -1,10 +1,14 @@
 //! The scopes that are open, the innermost of which holds the name of a declarator.
 
-ghost use Rattle.std.specs.Prelude.{◌≡◌, IfOk, OnOk, OnErr, false, []};
+ghost use Rattle.std.specs.Prelude.{◌≡◌, ◌∷◌, IfOk, OnOk, OnErr, false, []};
+ghost use Rattle.typedef_scope.specs.Scopes.{kind_in};
 ghost use Rattle.c_units.specs.HeldScopes as held;
+ghost use Rattle.name_lists.specs.Newest as lists;
+ghost use Rattle.held_scopes.specs.Changed.{bound, holding, without_held};
 ghost use Rattle.held_scopes.specs.Outcomes.{Makes};
 
 use crate::scope::Closed;
+use name_lists::NameScopes;
 use qual_base::{NameId, NoMemory};
 use std::alloc::Global;
 use std::marker::Model;
@@ -15,19 +19,48 @@ use typedef_scope::Kind;
 ///
 /// A name's scope begins behind its declarator (C99, 6.2.1, 7): until then the name is held, and
 /// has no kind of its own. Clauses see the list of the scopes, the innermost first. Memory is
-/// linear in the names and scopes that are open.
+/// linear in the names and scopes that are open, with 4 bytes for each number of a name up to the
+/// highest that was declared.
 #[derive(Drop)]
 pub struct Scopes {
     open: Vec<Closed>,
+    names: NameScopes<Kind>,
 }
 
 impl Model for Scopes {
-    ghost use Rattle.std.specs.Prelude.{reverse};
+    ghost use Rattle.std.specs.Prelude.{◌≡◌, reverse};
     ghost use Rattle.c_units.specs.HeldScopes.{HeldScopes};
+    ghost use Rattle.held_scopes.specs.Named.{names_of};
 
     ghost Value = { HeldScopes };
 
     ghost view = { λ s. reverse s.open.items };
+
+    ghost invariant = { λ s. s.names ≡ names_of (reverse s.open.items) };
+}
+
+/// Has a scope, which is the innermost of some, give a name a kind, and the table of their names.
+/// For want of memory both stay as they were. Constant time but for growth.
+fn bind_in(
+    scope: &mut Closed,
+    names: &mut NameScopes<Kind>,
+    name: NameId,
+    kind: Kind,
+) -> Result<(), NoMemory>
+    ensures bound { OnOk result (scope.new ≡ bound name kind scope.old) }
+    ensures named { OnOk result (names.new
+        ≡ ((name, kind) ∷ lists.innermost names.old) ∷ lists.outer_scopes names.old) }
+    ensures err { OnErr result (scope.new ≡ scope.old) }
+    ensures same { OnErr result (names.new ≡ names.old) }
+{
+    scope.push(name, kind)?;
+    match names.bind(name, kind) {
+        Ok(()) => Ok(()),
+        Err(NoMemory) => {
+            scope.pop();
+            Err(NoMemory)
+        }
+    }
 }
 
 impl Scopes {
@@ -35,9 +68,12 @@ impl Scopes {
     pub fn new(alloc: Global) -> Result<Self, NoMemory>
         ensures { IfOk result (λ s. s ≡ held.file_scope) }
     {
-        let mut open = Vec::new(alloc);
-        open.push(Closed::new(alloc))?;
-        Ok(Scopes { open })
+        let mut scopes = Scopes {
+            open: Vec::new(alloc),
+            names: NameScopes::new(alloc),
+        };
+        scopes.enter()?;
+        Ok(scopes)
     }
 
     /// Opens a scope without names inside the innermost. For want of memory the scopes stay as
@@ -51,13 +87,19 @@ impl Scopes {
     }
 
     /// Opens a scope that was closed, inside the innermost. For want of memory the scopes stay as
-    /// they were, and the closed one is let go. Constant time but for growth.
+    /// they were, and the closed one is let go. Linear in its names.
     pub fn reopen(&mut self, scope: Closed) -> Result<(), NoMemory>
         ensures reopened { OnOk result (self.new ≡ held.reopen scope self.old) }
         ensures err { OnErr result (self.new ≡ self.old) }
     {
-        self.open.push(scope)?;
-        Ok(())
+        self.names.reopen(scope.names())?;
+        match self.open.push(scope) {
+            Ok(()) => Ok(()),
+            Err(_) => {
+                self.names.leave();
+                Err(NoMemory)
+            }
+        }
     }
 
     /// Closes the innermost scope, if one is open, and lets its names go. Takes no memory, and time
@@ -65,19 +107,29 @@ impl Scopes {
     pub fn leave(&mut self)
         ensures { self.new ≡ held.leave self.old }
     {
-        let _closed = self.open.pop();
+        let _closed = self.close();
     }
 
     /// Closes the innermost scope and answers it; where none is open, one without names. Takes no
-    /// memory, and constant time.
+    /// memory, and time linear in its names.
     pub fn close(&mut self) -> Closed
         ensures closed { result ≡ held.innermost self.old }
         ensures left { self.new ≡ held.leave self.old }
     {
         match self.open.pop() {
-            Some(scope) => scope,
+            Some(scope) => {
+                self.names.leave();
+                scope
+            }
             None => Closed::new(*self.open.allocator()),
         }
+    }
+
+    /// The kind that the innermost scope gives a name. Takes no memory, and constant time.
+    fn kind_here(&self, name: NameId) -> Option<Kind>
+        ensures { result ≡ kind_in (held.innermost self.now).names name }
+    {
+        self.names.newest_here(name)
     }
 
     /// Whether the innermost scope gives a name no other kind than this (C99, 6.7, 3). Takes no
@@ -85,9 +137,30 @@ impl Scopes {
     pub fn may_declare(&self, name: NameId, kind: Kind) -> bool
         ensures { result ≡ held.may_declare (held.innermost self.now) name kind }
     {
-        match self.open.last() {
-            Some(scope) => scope.may_declare(name, kind),
+        match self.kind_here(name) {
+            Some(known) => known.is_same(kind),
             None => true,
+        }
+    }
+
+    /// Has the innermost scope hold a name; where none is open, one is opened. Memory is wanted only
+    /// there, and the scopes stay as they were without it.
+    fn hold_here(&mut self, name: NameId) -> Result<(), NoMemory>
+        ensures held { OnOk result
+            (self.new ≡ holding name (held.innermost self.old) ∷ held.leave self.old) }
+        ensures err { OnErr result (self.new ≡ self.old) }
+        ensures memory { OnErr result (self.old ≡ []) }
+    {
+        match self.open.last_mut() {
+            Some(scope) => {
+                scope.hold(name);
+                Ok(())
+            }
+            None => {
+                let mut scope = Closed::new(*self.open.allocator());
+                scope.hold(name);
+                self.reopen(scope)
+            }
         }
     }
 
@@ -104,15 +177,51 @@ impl Scopes {
         if !self.may_declare(name, kind) {
             return Ok(false);
         }
+        self.hold_here(name)?;
+        Ok(true)
+    }
+
+    /// Has the innermost scope give a name a kind; where none is open, one is opened. For want of
+    /// memory the scopes stay as they were. Constant time but for growth.
+    fn bind(&mut self, name: NameId, kind: Kind) -> Result<(), NoMemory>
+        ensures bound { OnOk result
+            (self.new ≡ bound name kind (held.innermost self.old) ∷ held.leave self.old) }
+        ensures err { OnErr result (self.new ≡ self.old) }
+    {
         match self.open.last_mut() {
-            Some(scope) => scope.hold(name),
+            Some(scope) => {
+                bind_in(scope, &mut self.names, name, kind)?;
+                Ok(())
+            }
             None => {
                 let mut scope = Closed::new(*self.open.allocator());
-                scope.hold(name);
-                self.reopen(scope)?;
+                scope.push(name, kind)?;
+                self.reopen(scope)
             }
         }
-        Ok(true)
+    }
+
+    /// Has the innermost scope give a name a kind, where it gives it none; where no scope is open,
+    /// one is opened. For want of memory the scopes stay as they were. Constant time but for growth.
+    fn add(&mut self, name: NameId, kind: Kind) -> Result<(), NoMemory>
+        ensures added { OnOk result
+            (self.new ≡ held.with_name (held.innermost self.old) name kind ∷ held.leave self.old) }
+        ensures err { OnErr result (self.new ≡ self.old) }
+    {
+        match self.kind_here(name) {
+            Some(_) => Ok(()),
+            None => self.bind(name, kind),
+        }
+    }
+
+    /// Has the innermost scope, if one is open, hold no name. Takes no memory, and constant time.
+    fn let_go(&mut self)
+        ensures { self.new ≡ without_held self.old }
+    {
+        let Some(scope) = self.open.last_mut() else {
+            return;
+        };
+        scope.let_go();
     }
 
     /// Has the innermost scope let go the name that it holds, and declare it with a kind where it
@@ -122,10 +231,11 @@ impl Scopes {
         ensures released { OnOk result (self.new ≡ held.release kind self.old) }
         ensures err { OnErr result (self.new ≡ self.old) }
     {
-        let Some(scope) = self.open.last_mut() else {
+        let Some(name) = self.held() else {
             return Ok(());
         };
-        scope.release(kind)?;
+        self.add(name, kind)?;
+        self.let_go();
         Ok(())
     }
 
@@ -140,43 +250,39 @@ impl Scopes {
         if self.holds(name) || !self.may_declare(name, kind) {
             return Ok(false);
         }
-        match self.open.last_mut() {
-            Some(scope) => scope.declare(name, kind)?,
-            None => {
-                let mut scope = Closed::new(*self.open.allocator());
-                scope.declare(name, kind)?;
-                self.reopen(scope)?;
-            }
-        }
+        self.add(name, kind)?;
         Ok(true)
+    }
+
+    /// The name that the innermost scope holds. Takes no memory, and constant time.
+    fn held(&self) -> Option<NameId>
+        ensures { result ≡ (held.innermost self.now).held }
+    {
+        match self.open.last() {
+            Some(scope) => scope.held(),
+            None => None,
+        }
     }
 
     /// Whether the innermost scope holds this name. Takes no memory, and constant time.
     pub fn holds(&self, name: NameId) -> bool
         ensures { result ≡ held.is_name (held.innermost self.now).held name }
     {
-        match self.open.last() {
-            Some(scope) => scope.holds(name),
+        match self.held() {
+            Some(held) => held == name,
             None => false,
         }
     }
 
     /// The kind of a name, that of the innermost scope which declares it, or none where no open
-    /// scope does. Takes no memory, and constant time a scope that is open, however many names they
-    /// have.
+    /// scope does. Takes no memory, and constant time.
     pub fn kind_of(&self, name: NameId) -> Option<Kind>
         ensures { result ≡ held.kind_of self.now name }
     {
-        for at in (0..self.open.len()).rev() {
-            if let Some(kind) = self.open[at].kind_of(name) {
-                return Some(kind);
-            }
-        }
-        None
+        self.names.newest(name)
     }
 
-    /// Whether a name is a typedef's (C99, 6.7.7). Takes no memory, and constant time a scope that
-    /// is open.
+    /// Whether a name is a typedef's (C99, 6.7.7). Takes no memory, and constant time.
     pub fn names_type(&self, name: NameId) -> bool
         ensures { result ≡ held.names_type self.now name }
     {

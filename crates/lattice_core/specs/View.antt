@@ -1,12 +1,14 @@
--- What callers see of a lattice: its entries, and the order on their numbers.
+-- What callers see of a lattice: its entries, the order on their numbers, and what passes through pointers and structs.
 use Rattle.std.specs.Prelude.{◌≡◌, ◌<◌, ℕ, List, length, map, slice_get, Some}
 use Rattle.lattice_core.specs.Order.{Order, size, IsLattice}
 use Rattle.lattice_core.specs.declared.Entry.{Entry}
+use Rattle.lattice_core.specs.declared.Flows.{Flows}
 
 -- element n is entry n
 pub record LatticeView : Type 0 where
   pub entries : List Entry
   pub order : Order
+  pub flows : Flows
 
 -- the orders of several lattices
 abbrev pub orders_of : List LatticeView → List Order

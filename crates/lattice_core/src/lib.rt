@@ -10,6 +10,7 @@ mod tables;
 mod tests;
 
 ghost use Rattle.std.specs.Prelude.{◌≡◌, ℕ, List, IfOk};
+ghost use Rattle.lattice_core.specs.Passing.{no_flows};
 
 pub use collection::Lattices;
 use std::alloc::{AllocError, AllocFailed, Global};
@@ -64,6 +65,36 @@ pub enum Sign {
     Pos,
     Neg,
     Eq,
+}
+
+/// How a qualifier passes between a pointer and what it points to.
+#[derive(Clone, Copy, PartialEq, Eq, Debug)]
+pub enum Direction {
+    /// The pointer is at or above what it points to.
+    Up,
+    /// The pointer is at or below what it points to.
+    Down,
+}
+
+/// What a lattice says of pointers and structs as a whole.
+#[derive(Clone, Copy, PartialEq, Eq, Debug)]
+pub struct Flows {
+    /// How qualifiers pass through pointers, if they do.
+    pub ptr: Option<Direction>,
+    /// Whether each field of a struct is at or above the struct.
+    pub field: bool,
+}
+
+impl Flows {
+    /// Nothing passes.
+    pub fn none() -> Flows
+        ensures { result ≡ no_flows }
+    {
+        Flows {
+            ptr: None,
+            field: false,
+        }
+    }
 }
 
 /// An element as it is written.

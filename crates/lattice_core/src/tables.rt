@@ -7,12 +7,13 @@ ghost use Rattle.lattice_core.specs.Order.{IsJoinOf};
 ghost use Rattle.lattice_core.specs.Entries.{AreDistinct, name_at, number_of};
 ghost use Rattle.lattice_core.specs.Building.{AreBuilt, Refuses};
 ghost use Rattle.lattice_core.specs.Names.{entry_words};
+ghost use Rattle.lattice_core.specs.Passing.{no_flows};
 ghost use Rattle.qual_base.specs.Words.{MeansTheSame};
 
 use crate::bounds::first_lack;
 use crate::checks::{find_name, first_cycle, first_mixed, first_repeated, links, name_of};
 use crate::rows::{all_below, closure, common, converse, has, row_of};
-use crate::{Entry, LatticeFault, Pair};
+use crate::{Direction, Entry, Flows, LatticeFault, Pair};
 use qual_base::{Elem, ElemSet, LatticeNo, NoMemory, QualWords};
 use std::alloc::{AllocError, Global};
 use std::marker::Model;
@@ -23,6 +24,7 @@ pub struct Lattice {
     entries: Vec<Entry>,
     above: Vec<u64>,
     below: Vec<u64>,
+    flows: Flows,
 }
 
 impl Model for Lattice {
@@ -32,7 +34,11 @@ impl Model for Lattice {
 
     ghost Value = { LatticeView };
 
-    ghost view = { λ a. record { entries = a.entries.items; order = order_of a.above.items } };
+    ghost view = { λ a. record {
+      entries = a.entries.items;
+      order = order_of a.above.items;
+      flows = a.flows;
+    } };
 
     ghost invariant = { λ a. AreTables a.entries.items a.above.items a.below.items };
 }
@@ -49,6 +55,7 @@ impl Lattice {
         ensures built { IfOk result (AreBuilt entries.items pairs.now) }
         ensures refused { IfErr result (Refuses entries.items pairs.now) }
         ensures too_many { IsErrOf result LatticeFault.TooMany ↔ (64 < length entries.items) }
+        ensures flows { IfOk result (λ lattice. lattice.flows ≡ no_flows) }
     {
         if entries.len() > 64 {
             return Err(LatticeFault::TooMany);
@@ -75,7 +82,30 @@ impl Lattice {
             entries,
             above,
             below,
+            flows: Flows::none(),
         })
+    }
+
+    /// Says what passes through pointers and structs, in place of what was said before. A built lattice lets nothing
+    /// pass.
+    pub fn set_flows(&mut self, ptr: Option<Direction>, field: bool)
+        ensures { self.new ≡ record self.old { flows = record { ptr = ptr; field = field } } }
+    {
+        self.flows = Flows { ptr, field };
+    }
+
+    /// How qualifiers pass between a pointer and what it points to; none where no direction was set.
+    pub fn ptrflow(&self) -> Option<Direction>
+        ensures { result ≡ self.now.flows.ptr }
+    {
+        self.flows.ptr
+    }
+
+    /// Whether each field of a struct is at or above the struct.
+    pub fn fieldflow(&self) -> bool
+        ensures { result ≡ self.now.flows.field }
+    {
+        self.flows.field
     }
 
     /// What is true of every lattice.

@@ -1,13 +1,12 @@
 -- Blocks and their lattices, one by one.
 use Rattle.std.proofs.Common.{◌≡◌, ℕ, ◌<◌, ◌≤◌, ◌+◌, suc, List, [], ◌∷◌, ◌++◌, length, take, Some, slice_get, refl, sym, ◌∙◌, ap, arith, append_assoc, length-append}
 use Rattle.lattice_core.specs.View.{LatticeView}
-use Rattle.lattice_core.specs.Building.{AreBuilt}
-use Rattle.lattice_file.specs.Blocks.{BlockView, AreAllBuilt}
+use Rattle.lattice_file.specs.Blocks.{BlockView, IsBuilt, AreAllBuilt}
 use Rattle.lattice_file.specs.Faults.{IsBlockFault, IsBuildFault}
 use Rattle.lattice_file.specs.declared.reading.LatticeFileFault.{LatticeFileFault}
 use Rattle.lattice_file.specs.declared.reading.LatticeFileFault.TheVariants.{Block, Grammar, TooManyLattices, SharedName, NoMemory}
 
-pub built_on : (blocks : List BlockView) (lattices : List LatticeView) (block : BlockView) (lattice : LatticeView) → AreAllBuilt blocks lattices → AreBuilt block.entries block.pairs lattice →
+pub built_on : (blocks : List BlockView) (lattices : List LatticeView) (block : BlockView) (lattice : LatticeView) → AreAllBuilt blocks lattices → IsBuilt block lattice →
     AreAllBuilt (blocks ++ block ∷ []) (lattices ++ lattice ∷ [])
 built_on [] [] block lattice before here = (here, tt)
 built_on [] (l ∷ ls) block lattice before here = absurd before

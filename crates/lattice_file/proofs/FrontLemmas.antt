@@ -10,8 +10,10 @@ use Rattle.std.proofs.Math.Seq.{take-add}
 use Rattle.std.proofs.lemmas.List.Folds.{list_all-append, list_all_more}
 use Rattle.lattice_file.specs.declared.words.Attribute.{Attribute}
 use Rattle.lattice_file.specs.declared.words.Given.{Given}
-use Rattle.lattice_file.specs.Text.{is_letter, is_name_byte, begins_with_dollar, is_element_name, attribute_word, has_attribute}
-use Rattle.lattice_file.specs.Steps.{only_if, map_some, if_named, attribute_named, with_value, Standing, next_by_word}
+use Rattle.lattice_core.specs.declared.Flows.{Flows}
+use Rattle.lattice_file.specs.declared.passing.BlockAttribute.{BlockAttribute}
+use Rattle.lattice_file.specs.Text.{is_letter, is_name_byte, begins_with_dollar, is_element_name, attribute_word, has_attribute, block_attribute_word, has_flow}
+use Rattle.lattice_file.specs.Steps.{only_if, map_some, if_named, attribute_named, with_value, if_flow, flow_named, with_flow, Standing, next_by_word}
 use Rattle.lattice_file.specs.declared.blocks.Stage.{Stage}
 use Rattle.lattice_file.specs.declared.blocks.Stage.TheVariants as stages
 use Rattle.lattice_file.specs.Extents.{IsFront, may_come}
@@ -185,6 +187,24 @@ front_given given attribute word given_it =
     over true b e = rw e refl
     over false b e = refl
 
+pub front_new : (flows : Flows) (attribute : BlockAttribute) (word : List ℕ) (count : ℕ) → has_flow flows attribute ≡ false → IsFront (λ w. bytes_eq w (block_attribute_word attribute)) word count →
+    IsFront (λ w. is_some (if_flow flows w attribute)) word count
+front_new flows attribute word count free f =
+    front_as (λ w. bytes_eq w (block_attribute_word attribute)) (λ w. is_some (if_flow flows w attribute)) word count
+    (λ w. same (bytes_eq w (block_attribute_word attribute)) (has_flow flows attribute) free ∙ only_some (bytes_eq w (block_attribute_word attribute) && not (has_flow flows attribute)) attribute) f
+  where
+    same : (a b : Bool) → b ≡ false → a ≡ (a && not b)
+    same true b e = rw e refl
+    same false b e = refl
+
+pub front_had : (flows : Flows) (attribute : BlockAttribute) (word : List ℕ) → has_flow flows attribute ≡ true → IsFront (λ w. is_some (if_flow flows w attribute)) word 0
+front_had flows attribute word had =
+    front_none (λ w. is_some (if_flow flows w attribute)) word (λ w. sym (only_some (bytes_eq w (block_attribute_word attribute) && not (has_flow flows attribute)) attribute) ∙ over (bytes_eq w (block_attribute_word attribute)) (has_flow flows attribute) had)
+  where
+    over : (a b : Bool) → b ≡ true → (a && not b) ≡ false
+    over true b e = rw e refl
+    over false b e = refl
+
 -- and at the stages of a reader
 pub front_stage : (standing : Standing) (stage : Stage) (test : List ℕ → Bool) (word : List ℕ) (count : ℕ) → standing.stage ≡ stage →
     ((w : List ℕ) → test w ≡ is_some (next_by_word stage standing.given standing.draft w)) → IsFront test word count → IsFront (may_come standing) word count
@@ -210,6 +230,15 @@ front_attribute standing word count e f =
 pub front_value : (standing : Standing) (attribute : Attribute) (word : List ℕ) (count : ℕ) → standing.stage ≡ stages.Value attribute → IsFront (λ w. is_some (with_value attribute standing.given w)) word count → IsFront (may_come standing) word count
 front_value standing attribute word count e f =
     front_stage standing (stages.Value attribute) (λ w. is_some (with_value attribute standing.given w)) word count e (λ w. map_test (λ then. At stages.Attributed then standing.draft) (with_value attribute standing.given w)) f
+
+pub front_flow_name : (standing : Standing) (word : List ℕ) (count : ℕ) → standing.stage ≡ stages.FlowName → IsFront (λ w. is_some (flow_named standing.draft.flows w)) word count → IsFront (may_come standing) word count
+front_flow_name standing word count e f =
+    front_stage standing stages.FlowName (λ w. is_some (flow_named standing.draft.flows w)) word count e (λ w. map_test (λ attribute. At (stages.FlowEquals attribute) standing.given standing.draft) (flow_named standing.draft.flows w)) f
+
+pub front_flow : (standing : Standing) (attribute : BlockAttribute) (word : List ℕ) (count : ℕ) → standing.stage ≡ stages.FlowValue attribute → IsFront (λ w. is_some (with_flow attribute standing.draft.flows w)) word count → IsFront (may_come standing) word count
+front_flow standing attribute word count e f =
+    front_stage standing (stages.FlowValue attribute) (λ w. is_some (with_flow attribute standing.draft.flows w)) word count e
+    (λ w. map_test (λ flows. At stages.Flowed standing.given (record standing.draft { flows = flows })) (with_flow attribute standing.draft.flows w)) f
 
 -- no word may come where a sign must
 pub front_sign : (standing : Standing) (stage : Stage) (word : List ℕ) → standing.stage ≡ stage → ((w : List ℕ) → next_by_word stage standing.given standing.draft w ≡ None) → IsFront (may_come standing) word 0

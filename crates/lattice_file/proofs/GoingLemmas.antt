@@ -3,14 +3,17 @@ use Rattle.std.proofs.Common.{◌≡◌, ℕ, ◌<◌, true, false, List, [], �
 use Rattle.std.specs.Prelude.{codes}
 use Rattle.lattice_core.specs.declared.Entry.{Entry}
 use Rattle.lattice_core.specs.declared.Pair.{Pair}
+use Rattle.lattice_core.specs.declared.Flows.{Flows}
 use Rattle.lattice_file.specs.declared.words.Attribute.{Attribute}
 use Rattle.lattice_file.specs.declared.words.Given.{Given}
+use Rattle.lattice_file.specs.declared.passing.BlockAttribute.{BlockAttribute}
 use Rattle.lattice_file.specs.Blocks.{BlockView}
-use Rattle.lattice_file.specs.Text.{TakesWord, TakesSign, Attributes, Last, More, Close, EntryItem, LineItem, IsLatticeText, NextBlock, is_element_name, attribute_word, has_attribute, entry_of, no_attribute}
-use Rattle.lattice_file.specs.Going.{Draft, GoesOnItems, GoesOnAttributes, GoesBehindAttribute, EndEntry, Comma, GoesBehindName, Bracket, Below, GoesOnOpen, GoesOnValue}
+use Rattle.lattice_file.specs.Text.{TakesWord, TakesSign, Attributes, Last, More, Close, EntryItem, LineItem, IsLatticeText, NextBlock, TakesFlow, LastFlow, MoreFlows, block_attribute_word, has_flow, is_element_name, attribute_word, has_attribute, entry_of, no_attribute}
+use Rattle.lattice_file.specs.Going.{Draft, GoesOnItems, GoesOnAttributes, GoesBehindAttribute, EndEntry, Comma, GoesBehindName, Bracket, Below, GoesOnOpen, GoesOnValue, GoesOnFlows, GoesBehindFlow, EndFlows, CommaFlows, GoesOnFlow}
 
-pub block_is : (block : BlockView) (entries : List Entry) (pairs : List Pair) → block.entries ≡ entries → block.pairs ≡ pairs → block ≡ record { entries = entries; pairs = pairs }
-block_is block entries pairs e f = rw (← e, ← f) refl
+pub block_is : (block : BlockView) (entries : List Entry) (pairs : List Pair) (flows : Flows) → block.entries ≡ entries → block.pairs ≡ pairs → block.flows ≡ flows →
+    block ≡ record { entries = entries; pairs = pairs; flows = flows }
+block_is block entries pairs flows e f g = rw (← e, ← f, ← g) refl
 
 -- one block more
 pub open_goes : (draft : Draft) (rest after : List ℕ) (all : List BlockView) → TakesWord (codes "partial") rest after →
@@ -18,15 +21,15 @@ pub open_goes : (draft : Draft) (rest after : List ℕ) (all : List BlockView) �
 open_goes draft rest after all word goes =
     let opened = goes.2 in
     let items = opened.items in (
-      record { entries = items.more_entries; pairs = items.more_pairs } ∷ items.more,
-      NextBlock (record { entries = items.more_entries; pairs = items.more_pairs }) items.more rest after goes.0 opened.behind items.behind word goes.1 opened.sign items.items items.filled items.others,
+      record { entries = items.more_entries; pairs = items.more_pairs; flows = opened.flows } ∷ items.more,
+      NextBlock (record { entries = items.more_entries; pairs = items.more_pairs; flows = opened.flows }) items.more rest after goes.0 opened.behind items.behind word goes.1 opened.head items.items items.filled items.others,
       items.is,
     )
 
 -- the end of a block
-pub close_goes : (entries : List Entry) (pairs : List Pair) (blocks : List BlockView) (rest after : List ℕ) (all : List BlockView) → 0 < length entries → TakesSign 125 rest after →
-    (more : List BlockView) × IsLatticeText more after × (all ≡ (blocks ++ record { entries = entries; pairs = pairs } ∷ []) ++ more) → GoesOnItems entries pairs blocks rest all
-close_goes entries pairs blocks rest after all filled sign goes = record {
+pub close_goes : (flows : Flows) (entries : List Entry) (pairs : List Pair) (blocks : List BlockView) (rest after : List ℕ) (all : List BlockView) → 0 < length entries → TakesSign 125 rest after →
+    (more : List BlockView) × IsLatticeText more after × (all ≡ (blocks ++ record { entries = entries; pairs = pairs; flows = flows } ∷ []) ++ more) → GoesOnItems flows entries pairs blocks rest all
+close_goes flows entries pairs blocks rest after all filled sign goes = record {
   more_entries = [];
   more_pairs = [];
   more = goes.0;
@@ -34,18 +37,18 @@ close_goes entries pairs blocks rest after all filled sign goes = record {
   items = Close rest after sign;
   filled = rw (append-nil entries) filled;
   others = goes.1;
-  is = goes.2 ∙ append_assoc blocks (record { entries = entries; pairs = pairs } ∷ []) goes.0
-      ∙ ap (λ (p : List Entry × List Pair). blocks ++ record { entries = p.0; pairs = p.1 } ∷ goes.0) (sym (both (append-nil entries) (append-nil pairs)));
+  is = goes.2 ∙ append_assoc blocks (record { entries = entries; pairs = pairs; flows = flows } ∷ []) goes.0
+      ∙ ap (λ (p : List Entry × List Pair). blocks ++ record { entries = p.0; pairs = p.1; flows = flows } ∷ goes.0) (sym (both (append-nil entries) (append-nil pairs)));
 }
   where
     both : {A B : Type 0} {a a' : A} {b b' : B} → a ≡ a' → b ≡ b' → (let p : A × B = (a, b) in p) ≡ (let p : A × B = (a', b') in p)
     both e f = cc
 
 -- an entry more
-entry_goes : (name : List ℕ) (given : Given) (entries : List Entry) (pairs : List Pair) (blocks : List BlockView) (b0 b1 b2 b3 : List ℕ) (all : List BlockView) →
+entry_goes : (flows : Flows) (name : List ℕ) (given : Given) (entries : List Entry) (pairs : List Pair) (blocks : List BlockView) (b0 b1 b2 b3 : List ℕ) (all : List BlockView) →
     is_element_name name ≡ true → TakesWord name b0 b1 → TakesSign 91 b1 b2 → Attributes no_attribute given b2 b3 →
-    GoesOnItems (entries ++ entry_of name given ∷ []) pairs blocks b3 all → GoesOnItems entries pairs blocks b0 all
-entry_goes name given entries pairs blocks b0 b1 b2 b3 all named word sign attributes goes =
+    GoesOnItems flows (entries ++ entry_of name given ∷ []) pairs blocks b3 all → GoesOnItems flows entries pairs blocks b0 all
+entry_goes flows name given entries pairs blocks b0 b1 b2 b3 all named word sign attributes goes =
     let same : (entries ++ entry_of name given ∷ []) ++ goes.more_entries ≡ entries ++ (entry_of name given ∷ goes.more_entries) = append_assoc entries (entry_of name given ∷ []) goes.more_entries in
     record {
       more_entries = entry_of name given ∷ goes.more_entries;
@@ -55,14 +58,14 @@ entry_goes name given entries pairs blocks b0 b1 b2 b3 all named word sign attri
       items = EntryItem name given goes.more_entries goes.more_pairs b0 b1 b2 b3 goes.behind named word sign attributes goes.items;
       filled = rw same at goes.filled;
       others = goes.others;
-      is = goes.is ∙ ap (λ (es : List Entry). blocks ++ record { entries = es; pairs = pairs ++ goes.more_pairs } ∷ goes.more) same;
+      is = goes.is ∙ ap (λ (es : List Entry). blocks ++ record { entries = es; pairs = pairs ++ goes.more_pairs; flows = flows } ∷ goes.more) same;
     }
 
 -- an order line more
-line_goes : (low high : List ℕ) (entries : List Entry) (pairs : List Pair) (blocks : List BlockView) (b0 b1 b2 b3 : List ℕ) (all : List BlockView) →
+line_goes : (flows : Flows) (low high : List ℕ) (entries : List Entry) (pairs : List Pair) (blocks : List BlockView) (b0 b1 b2 b3 : List ℕ) (all : List BlockView) →
     is_element_name low ≡ true → is_element_name high ≡ true → TakesWord low b0 b1 → TakesSign 60 b1 b2 → TakesWord high b2 b3 →
-    GoesOnItems entries (pairs ++ record { low = low; high = high } ∷ []) blocks b3 all → GoesOnItems entries pairs blocks b0 all
-line_goes low high entries pairs blocks b0 b1 b2 b3 all named named_high word sign word_high goes =
+    GoesOnItems flows entries (pairs ++ record { low = low; high = high } ∷ []) blocks b3 all → GoesOnItems flows entries pairs blocks b0 all
+line_goes flows low high entries pairs blocks b0 b1 b2 b3 all named named_high word sign word_high goes =
     let pair : Pair = record { low = low; high = high } in
     let same : (pairs ++ pair ∷ []) ++ goes.more_pairs ≡ pairs ++ (pair ∷ goes.more_pairs) = append_assoc pairs (pair ∷ []) goes.more_pairs in
     record {
@@ -73,16 +76,16 @@ line_goes low high entries pairs blocks b0 b1 b2 b3 all named named_high word si
       items = LineItem low high goes.more_entries goes.more_pairs b0 b1 b2 b3 goes.behind named named_high word sign word_high goes.items;
       filled = goes.filled;
       others = goes.others;
-      is = goes.is ∙ ap (λ (ps : List Pair). blocks ++ record { entries = entries ++ goes.more_entries; pairs = ps } ∷ goes.more) same;
+      is = goes.is ∙ ap (λ (ps : List Pair). blocks ++ record { entries = entries ++ goes.more_entries; pairs = ps; flows = flows } ∷ goes.more) same;
     }
 
 -- the name of an item
 pub name_goes : (draft : Draft) (rest after : List ℕ) (all : List BlockView) → is_element_name draft.name ≡ true → TakesWord draft.name rest after → GoesBehindName draft after all →
-    GoesOnItems draft.entries draft.pairs draft.blocks rest all
+    GoesOnItems draft.flows draft.entries draft.pairs draft.blocks rest all
 name_goes draft rest after all named word (Bracket behind sign on) =
-    entry_goes draft.name on.end draft.entries draft.pairs draft.blocks rest after behind on.behind all named word sign on.attributes on.items
+    entry_goes draft.flows draft.name on.end draft.entries draft.pairs draft.blocks rest after behind on.behind all named word sign on.attributes on.items
 name_goes draft rest after all named word (Below behind sign on) =
-    line_goes draft.name on.high draft.entries draft.pairs draft.blocks rest after behind on.behind all named on.named word sign on.word on.items
+    line_goes draft.flows draft.name on.high draft.entries draft.pairs draft.blocks rest after behind on.behind all named on.named word sign on.word on.items
 
 -- an attribute's name, its = and its value
 pub attribute_goes : (attribute : Attribute) (given : Given) (draft : Draft) (rest after : List ℕ) (all : List BlockView) → has_attribute given attribute ≡ false → TakesWord (attribute_word attribute) rest after →
@@ -105,3 +108,18 @@ attribute_goes attribute given draft rest after all new word goes = go goes.2.at
       attributes = More attribute given value.then on.end rest after goes.0 value.behind behind on.behind new word goes.1 value.value sign on.attributes;
       items = on.items;
     }
+
+-- an attribute of a block: its name, its = and its value
+pub flow_goes : (attribute : BlockAttribute) (flows : Flows) (blocks : List BlockView) (rest after : List ℕ) (all : List BlockView) → has_flow flows attribute ≡ false → TakesWord (block_attribute_word attribute) rest after →
+    (behind : List ℕ) × TakesSign 61 after behind × GoesOnFlow attribute flows blocks behind all → GoesOnFlows flows blocks rest all
+flow_goes attribute flows blocks rest after all free name goes = go goes.2.attributes
+  where
+    value : GoesOnFlow attribute flows blocks goes.0 all
+    value = goes.2
+
+    takes : TakesFlow flows value.then rest value.behind
+    takes = record { attribute = attribute; free = free; b1 = after; name = name; b2 = goes.0; equals = goes.1; word = value.word; value = value.value; gives = value.gives }
+
+    go : GoesBehindFlow value.then blocks value.behind all → GoesOnFlows flows blocks rest all
+    go (EndFlows behind sign braced) = record { end = value.then; behind = behind; attributes = LastFlow flows value.then rest value.behind behind takes sign; braced = braced }
+    go (CommaFlows behind sign on) = record { end = on.end; behind = on.behind; attributes = MoreFlows flows value.then on.end rest value.behind behind on.behind takes sign on.attributes; braced = on.braced }

@@ -1,6 +1,7 @@
 -- Bytes are a text of one list of blocks alone.
 use Rattle.std.proofs.Common.{◌≡◌, ℕ, zero, suc, ◌<◌, ◌≤◌, List, [], ◌∷◌, length, refl, sym, ◌∙◌, ap, subst, arith, Some}
 use Rattle.lattice_file.specs.declared.blocks.Stage.TheVariants as stages
+use Rattle.lattice_core.specs.Passing.{no_flows}
 use Rattle.lattice_file.specs.Blocks.{BlockView}
 use Rattle.lattice_file.specs.Text.{Gap, IsLatticeText, no_attribute}
 use Rattle.lattice_file.specs.Steps.{Lexeme, WordLexeme, SignLexeme, TextLexeme, Spells, Standing, GoesFrom, next}
@@ -57,7 +58,7 @@ one_from (suc n) old bytes a b h ga gb = by (λ new rest less ha hb. one_from n 
         again new rest less goes (step_one old lexeme new bytes rest b e takes gb)
 
 abbrev pub first_standing : Standing
-first_standing = At stages.Outside no_attribute (record { name = []; entries = []; pairs = []; blocks = [] })
+first_standing = At stages.Outside no_attribute (record { name = []; entries = []; pairs = []; flows = no_flows; blocks = [] })
 
 pub one_reading : (a b : List BlockView) (bytes : List ℕ) → IsLatticeText a bytes → IsLatticeText b bytes → a ≡ b
 one_reading a b bytes ta tb = one_from (suc (length bytes)) first_standing bytes a b (omega arith) (a, ta, refl) (b, tb, refl)

@@ -4,6 +4,9 @@ use Rattle.std.specs.Prelude.{codes, is_some}
 use Rattle.std.specs.Str.{bytes_eq}
 use Rattle.std.proofs.lemmas.Bool.{eqb-true}
 use Rattle.lattice_core.specs.declared.Entry.{Entry}
+use Rattle.lattice_core.specs.declared.Direction.TheVariants.{Up, Down}
+use Rattle.lattice_core.specs.declared.Flows.{Flows}
+use Rattle.lattice_core.specs.Passing.{no_flows}
 use Rattle.lattice_core.specs.declared.Level.TheVariants.{Ref, Value}
 use Rattle.lattice_core.specs.declared.Sign.TheVariants.{Pos, Neg, Eq}
 use Rattle.lattice_file.specs.declared.words.Attribute.{Attribute}
@@ -11,23 +14,26 @@ use Rattle.lattice_file.specs.declared.words.Attribute.TheVariants as attributes
 use Rattle.lattice_file.specs.declared.words.Given.{Given}
 use Rattle.lattice_file.specs.declared.blocks.Stage.{Stage}
 use Rattle.lattice_file.specs.declared.blocks.Stage.TheVariants as stages
+use Rattle.lattice_file.specs.declared.passing.BlockAttribute.{BlockAttribute}
+use Rattle.lattice_file.specs.declared.passing.BlockAttribute.TheVariants.{Ptrflow, Fieldflow}
 use Rattle.lattice_file.specs.Blocks.{BlockView}
-use Rattle.lattice_file.specs.Text.{End, is_element_name, attribute_word, has_attribute, entry_of, no_attribute, Gives}
+use Rattle.lattice_file.specs.Text.{End, is_element_name, attribute_word, has_attribute, entry_of, no_attribute, Gives, block_attribute_word, has_flow, GivesFlow}
 use Rattle.lattice_file.specs.Going.{Draft}
-use Rattle.lattice_file.specs.Steps.{Lexeme, WordLexeme, SignLexeme, TextLexeme, Spells, Standing, GoesFrom, only_if, attribute_named, with_value, is_full, is_nonempty, next_by_word, with_block, with_entry, next_by_sign, next_by_text, next}
+use Rattle.lattice_file.specs.Steps.{Lexeme, WordLexeme, SignLexeme, TextLexeme, Spells, Standing, GoesFrom, only_if, attribute_named, with_value, flow_named, with_flow, has_all_flows, is_full, is_nonempty, next_by_word, with_block, with_entry, next_by_sign, next_by_text, next}
 use Rattle.std.specs.List.{list_all}
 use Rattle.lattice_file.specs.Text.{Nothing, Blank, stands_in_words, is_letter, is_name_byte, begins_with_dollar}
 use Rattle.lattice_file.proofs.LexemeUnique.{IsProper, kind_of, AtSign}
 use Rattle.lattice_file.proofs.GapUnique.{and_first, and_second, or_cases}
-use Rattle.lattice_file.proofs.StepLeads.{At, some_is, only_is, first_is, map_is, attribute_is, value_is, word_is, named_new, leads}
+use Rattle.lattice_file.proofs.StepLeads.{At, some_is, only_is, first_is, map_is, attribute_is, value_is, word_is, named_new, flow_is, flow_new, gives_flow, leads}
 
 -- an attribute is left where one may come
-abbrev pub IsReadyAt : Stage → Given → Type 0
-IsReadyAt stages.Attribute given = is_full given ≡ false
-IsReadyAt _ given = Unit {0}
+abbrev pub IsReadyAt : Stage → Given → Draft → Type 0
+IsReadyAt stages.Attribute given draft = is_full given ≡ false
+IsReadyAt stages.FlowName given draft = has_all_flows draft.flows ≡ false
+IsReadyAt _ given draft = Unit {0}
 
 abbrev pub IsReady : Standing → Type 0
-IsReady standing = IsReadyAt standing.stage standing.given
+IsReady standing = IsReadyAt standing.stage standing.given standing.draft
 
 ready_as : (to new : Standing) → to ≡ new → IsReady to → IsReady new
 ready_as to new e h = subst IsReady e h
@@ -40,6 +46,13 @@ ready_word : (stage : Stage) (given : Given) (draft : Draft) (word : List ℕ) (
 ready_word stages.Outside given draft word new e = let p = only_is (bytes_eq word (codes "partial")) (At stages.Order given draft) new e in ready_as (At stages.Order given draft) new p.1 tt
 ready_word stages.Order given draft word new e = let p = only_is (bytes_eq word (codes "order")) (At stages.Open given draft) new e in ready_as (At stages.Open given draft) new p.1 tt
 ready_word stages.Open given draft word new e = absurd cc
+ready_word stages.FlowName given draft word new e =
+    let p = map_is (λ attribute. At (stages.FlowEquals attribute) given draft) (flow_named draft.flows word) new e in ready_as (At (stages.FlowEquals p.0) given draft) new p.2 tt
+ready_word (stages.FlowEquals attribute) given draft word new e = absurd cc
+ready_word (stages.FlowValue attribute) given draft word new e =
+    let p = map_is (λ flows. At stages.Flowed given (record draft { flows = flows })) (with_flow attribute draft.flows word) new e in ready_as (At stages.Flowed given (record draft { flows = p.0 })) new p.2 tt
+ready_word stages.Flowed given draft word new e = absurd cc
+ready_word stages.Braced given draft word new e = absurd cc
 ready_word stages.Items given draft word new e =
     let to = At stages.Named given (record draft { name = word }) in let p = only_is (is_element_name word) to new e in ready_as to new p.1 tt
 ready_word stages.Named given draft word new e = absurd cc
@@ -55,7 +68,23 @@ ready_word stages.Attributed given draft word new e = absurd cc
 ready_sign : (stage : Stage) (given : Given) (draft : Draft) (sign : ℕ) (new : Standing) → next_by_sign stage given draft sign ≡ Some new → IsReady new
 ready_sign stages.Outside given draft sign new e = absurd cc
 ready_sign stages.Order given draft sign new e = absurd cc
-ready_sign stages.Open given draft sign new e =
+ready_sign stages.Open given draft sign new e = by (first_is (only_if (nat_eq sign 123) (At stages.Items given (record draft { entries = []; pairs = []; flows = no_flows }))) _ new e)
+  where
+    by : (only_if (nat_eq sign 123) (At stages.Items given (record draft { entries = []; pairs = []; flows = no_flows })) ≡ Some new) ⊎ (only_if (nat_eq sign 91) (At stages.FlowName given (record draft { flows = no_flows })) ≡ Some new) → IsReady new
+    by (inl e) = let to = At stages.Items given (record draft { entries = []; pairs = []; flows = no_flows }) in let p = only_is (nat_eq sign 123) to new e in ready_as to new p.1 tt
+    by (inr e) = let to = At stages.FlowName given (record draft { flows = no_flows }) in let p = only_is (nat_eq sign 91) to new e in ready_as to new p.1 refl
+ready_sign stages.FlowName given draft sign new e = absurd cc
+ready_sign (stages.FlowEquals attribute) given draft sign new e =
+    let p = only_is (nat_eq sign 61) (At (stages.FlowValue attribute) given draft) new e in ready_as (At (stages.FlowValue attribute) given draft) new p.1 tt
+ready_sign (stages.FlowValue attribute) given draft sign new e = absurd cc
+ready_sign stages.Flowed given draft sign new e = by (first_is (only_if (nat_eq sign 44 && not (has_all_flows draft.flows)) (At stages.FlowName given draft)) _ new e)
+  where
+    by : (only_if (nat_eq sign 44 && not (has_all_flows draft.flows)) (At stages.FlowName given draft) ≡ Some new) ⊎ (only_if (nat_eq sign 93) (At stages.Braced given draft) ≡ Some new) → IsReady new
+    by (inl e) =
+        let p = only_is (nat_eq sign 44 && not (has_all_flows draft.flows)) (At stages.FlowName given draft) new e in
+        ready_as (At stages.FlowName given draft) new p.1 (not_full (has_all_flows draft.flows) (and_second (nat_eq sign 44) (not (has_all_flows draft.flows)) p.0))
+    by (inr e) = let p = only_is (nat_eq sign 93) (At stages.Braced given draft) new e in ready_as (At stages.Braced given draft) new p.1 tt
+ready_sign stages.Braced given draft sign new e =
     let to = At stages.Items given (record draft { entries = []; pairs = [] }) in let p = only_is (nat_eq sign 123) to new e in ready_as to new p.1 tt
 ready_sign stages.Items given draft sign new e =
     let p = only_is (nat_eq sign 125 && is_nonempty draft.entries) (At stages.Outside given (with_block draft)) new e in ready_as (At stages.Outside given (with_block draft)) new p.1 tt
@@ -143,12 +172,29 @@ value_proper attributes.Color given then word h = absurd h
 value_proper attributes.Write given then word (e, f) = as_proper word (codes "yes") e (121, codes "es", refl, refl)
 value_proper attributes.Deref given then word (e, f) = as_proper word (codes "yes") e (121, codes "es", refl, refl)
 
+block_attribute_proper : (attribute : BlockAttribute) → IsProper (WordLexeme (block_attribute_word attribute))
+block_attribute_proper Ptrflow = (112, codes "trflow", refl, refl)
+block_attribute_proper Fieldflow = (102, codes "ieldflow", refl, refl)
+
+flow_proper : (attribute : BlockAttribute) (flows then : Flows) (word : List ℕ) → GivesFlow attribute word flows then → IsProper (WordLexeme word)
+flow_proper Ptrflow flows then word (Up, e, f) = as_proper word (codes "up") e (117, codes "p", refl, refl)
+flow_proper Ptrflow flows then word (Down, e, f) = as_proper word (codes "down") e (100, codes "own", refl, refl)
+flow_proper Fieldflow flows then word (e, f) = as_proper word (codes "down") e (100, codes "own", refl, refl)
+
 proper_word : (stage : Stage) (given : Given) (draft : Draft) (word : List ℕ) (new : Standing) → next_by_word stage given draft word ≡ Some new → IsProper (WordLexeme word)
 proper_word stages.Outside given draft word new e =
     let p = only_is (bytes_eq word (codes "partial")) (At stages.Order given draft) new e in as_proper word (codes "partial") (word_is word (codes "partial") p.0) (112, codes "artial", refl, refl)
 proper_word stages.Order given draft word new e =
     let p = only_is (bytes_eq word (codes "order")) (At stages.Open given draft) new e in as_proper word (codes "order") (word_is word (codes "order") p.0) (111, codes "rder", refl, refl)
 proper_word stages.Open given draft word new e = absurd cc
+proper_word stages.FlowName given draft word new e =
+    let p = map_is (λ attribute. At (stages.FlowEquals attribute) given draft) (flow_named draft.flows word) new e in
+    as_proper word (block_attribute_word p.0) (flow_is draft.flows word p.0 p.1).0 (block_attribute_proper p.0)
+proper_word (stages.FlowEquals attribute) given draft word new e = absurd cc
+proper_word (stages.FlowValue attribute) given draft word new e =
+    let p = map_is (λ flows. At stages.Flowed given (record draft { flows = flows })) (with_flow attribute draft.flows word) new e in flow_proper attribute draft.flows p.0 word (gives_flow attribute draft.flows p.0 word p.1)
+proper_word stages.Flowed given draft word new e = absurd cc
+proper_word stages.Braced given draft word new e = absurd cc
 proper_word stages.Items given draft word new e = name_proper word (only_is (is_element_name word) (At stages.Named given (record draft { name = word })) new e).0
 proper_word stages.Named given draft word new e = absurd cc
 proper_word stages.High given draft word new e =
@@ -167,7 +213,20 @@ as_sign sign other e h = subst (λ (s : ℕ). kind_of s ≡ AtSign) (sym (eqb-tr
 proper_sign : (stage : Stage) (given : Given) (draft : Draft) (sign : ℕ) (new : Standing) → next_by_sign stage given draft sign ≡ Some new → kind_of sign ≡ AtSign
 proper_sign stages.Outside given draft sign new e = absurd cc
 proper_sign stages.Order given draft sign new e = absurd cc
-proper_sign stages.Open given draft sign new e = as_sign sign 123 (only_is (nat_eq sign 123) (At stages.Items given (record draft { entries = []; pairs = [] })) new e).0 refl
+proper_sign stages.Open given draft sign new e = by (first_is (only_if (nat_eq sign 123) (At stages.Items given (record draft { entries = []; pairs = []; flows = no_flows }))) _ new e)
+  where
+    by : (only_if (nat_eq sign 123) (At stages.Items given (record draft { entries = []; pairs = []; flows = no_flows })) ≡ Some new) ⊎ (only_if (nat_eq sign 91) (At stages.FlowName given (record draft { flows = no_flows })) ≡ Some new) → kind_of sign ≡ AtSign
+    by (inl e) = as_sign sign 123 (only_is (nat_eq sign 123) (At stages.Items given (record draft { entries = []; pairs = []; flows = no_flows })) new e).0 refl
+    by (inr e) = as_sign sign 91 (only_is (nat_eq sign 91) (At stages.FlowName given (record draft { flows = no_flows })) new e).0 refl
+proper_sign stages.FlowName given draft sign new e = absurd cc
+proper_sign (stages.FlowEquals attribute) given draft sign new e = as_sign sign 61 (only_is (nat_eq sign 61) (At (stages.FlowValue attribute) given draft) new e).0 refl
+proper_sign (stages.FlowValue attribute) given draft sign new e = absurd cc
+proper_sign stages.Flowed given draft sign new e = by (first_is (only_if (nat_eq sign 44 && not (has_all_flows draft.flows)) (At stages.FlowName given draft)) _ new e)
+  where
+    by : (only_if (nat_eq sign 44 && not (has_all_flows draft.flows)) (At stages.FlowName given draft) ≡ Some new) ⊎ (only_if (nat_eq sign 93) (At stages.Braced given draft) ≡ Some new) → kind_of sign ≡ AtSign
+    by (inl e) = as_sign sign 44 (and_first (nat_eq sign 44) (not (has_all_flows draft.flows)) (only_is (nat_eq sign 44 && not (has_all_flows draft.flows)) (At stages.FlowName given draft) new e).0) refl
+    by (inr e) = as_sign sign 93 (only_is (nat_eq sign 93) (At stages.Braced given draft) new e).0 refl
+proper_sign stages.Braced given draft sign new e = as_sign sign 123 (only_is (nat_eq sign 123) (At stages.Items given (record draft { entries = []; pairs = [] })) new e).0 refl
 proper_sign stages.Items given draft sign new e =
     as_sign sign 125 (and_first (nat_eq sign 125) (is_nonempty draft.entries) (only_is (nat_eq sign 125 && is_nonempty draft.entries) (At stages.Outside given (with_block draft)) new e).0) refl
 proper_sign stages.Named given draft sign new e = by (first_is (only_if (nat_eq sign 91) (At stages.Attribute no_attribute draft)) _ new e)
@@ -272,12 +331,47 @@ able_high given draft =
     able_word (At stages.High given draft) (codes "$a") (At stages.Items given then) refl (able_items given then)
 
 able_open : (given : Given) (draft : Draft) → Able (At stages.Open given draft)
-able_open given draft = let then = record draft { entries = []; pairs = [] } in able_sign (At stages.Open given draft) 123 (At stages.Items given then) refl (able_items given then)
+able_open given draft = let then = record draft { entries = []; pairs = []; flows = no_flows } in able_sign (At stages.Open given draft) 123 (At stages.Items given then) refl (able_items given then)
 
-able_at : (stage : Stage) (given : Given) (draft : Draft) → IsReadyAt stage given → Able (At stage given draft)
+able_braced : (given : Given) (draft : Draft) → Able (At stages.Braced given draft)
+able_braced given draft = let then = record draft { entries = []; pairs = [] } in able_sign (At stages.Braced given draft) 123 (At stages.Items given then) refl (able_items given then)
+
+able_flowed : (given : Given) (draft : Draft) → Able (At stages.Flowed given draft)
+able_flowed given draft = able_sign (At stages.Flowed given draft) 93 (At stages.Braced given draft) refl (able_braced given draft)
+
+able_flow : (attribute : BlockAttribute) (given : Given) (draft : Draft) → Able (At (stages.FlowValue attribute) given draft)
+able_flow Ptrflow given draft =
+    let then = record draft { flows = record draft.flows { ptr = Some Up } } in able_word (At (stages.FlowValue Ptrflow) given draft) (codes "up") (At stages.Flowed given then) refl (able_flowed given then)
+able_flow Fieldflow given draft =
+    let then = record draft { flows = record draft.flows { field = true } } in able_word (At (stages.FlowValue Fieldflow) given draft) (codes "down") (At stages.Flowed given then) refl (able_flowed given then)
+
+able_flow_equals : (attribute : BlockAttribute) (given : Given) (draft : Draft) → Able (At (stages.FlowEquals attribute) given draft)
+able_flow_equals attribute given draft = able_sign (At (stages.FlowEquals attribute) given draft) 61 (At (stages.FlowValue attribute) given draft) refl (able_flow attribute given draft)
+
+able_flows : (given : Given) (draft : Draft) → has_all_flows draft.flows ≡ false → Able (At stages.FlowName given draft)
+able_flows given draft h = by_ptr (is_some draft.flows.ptr) refl
+  where
+    able_with : (attribute : BlockAttribute) → has_flow draft.flows attribute ≡ false → Able (At stages.FlowName given draft)
+    able_with attribute e =
+        able_word (At stages.FlowName given draft) (block_attribute_word attribute) (At (stages.FlowEquals attribute) given draft) (rw (flow_new draft.flows attribute e) refl) (able_flow_equals attribute given draft)
+
+    by_field : (e : is_some draft.flows.ptr ≡ true) (b : Bool) → draft.flows.field ≡ b → Able (At stages.FlowName given draft)
+    by_field e false j = able_with Fieldflow j
+    by_field e true j = let full : has_all_flows draft.flows ≡ true = rw (e, j) refl in let clash : false ≡ true = sym h ∙ full in absurd cc
+
+    by_ptr : (b : Bool) → is_some draft.flows.ptr ≡ b → Able (At stages.FlowName given draft)
+    by_ptr false j = able_with Ptrflow j
+    by_ptr true j = by_field j draft.flows.field refl
+
+able_at : (stage : Stage) (given : Given) (draft : Draft) → IsReadyAt stage given draft → Able (At stage given draft)
 able_at stages.Outside given draft h = able_outside given draft
 able_at stages.Order given draft h = able_word (At stages.Order given draft) (codes "order") (At stages.Open given draft) refl (able_open given draft)
 able_at stages.Open given draft h = able_open given draft
+able_at stages.FlowName given draft h = able_flows given draft h
+able_at (stages.FlowEquals attribute) given draft h = able_flow_equals attribute given draft
+able_at (stages.FlowValue attribute) given draft h = able_flow attribute given draft
+able_at stages.Flowed given draft h = able_flowed given draft
+able_at stages.Braced given draft h = able_braced given draft
 able_at stages.Items given draft h = able_items given draft
 able_at stages.Named given draft h = able_named given draft
 able_at stages.High given draft h = able_high given draft

@@ -6,6 +6,10 @@ use Rattle.std.specs.Option.{option_or}
 use Rattle.std.proofs.lemmas.Bool.{eqb-true}
 use Rattle.std.proofs.lemmas.Slice.Eq.{bytes_eq-Decides}
 use Rattle.lattice_core.specs.declared.Entry.{Entry}
+use Rattle.lattice_core.specs.declared.Direction.{Direction}
+use Rattle.lattice_core.specs.declared.Direction.TheVariants.{Up, Down}
+use Rattle.lattice_core.specs.declared.Flows.{Flows}
+use Rattle.lattice_core.specs.Passing.{no_flows}
 use Rattle.lattice_core.specs.declared.Level.{Level}
 use Rattle.lattice_core.specs.declared.Sign.{Sign}
 use Rattle.lattice_core.specs.declared.Level.TheVariants.{Ref, Value}
@@ -15,13 +19,15 @@ use Rattle.lattice_file.specs.declared.words.Attribute.TheVariants as attributes
 use Rattle.lattice_file.specs.declared.words.Given.{Given}
 use Rattle.lattice_file.specs.declared.blocks.Stage.{Stage}
 use Rattle.lattice_file.specs.declared.blocks.Stage.TheVariants as stages
+use Rattle.lattice_file.specs.declared.passing.BlockAttribute.{BlockAttribute}
+use Rattle.lattice_file.specs.declared.passing.BlockAttribute.TheVariants.{Ptrflow, Fieldflow}
 use Rattle.lattice_file.specs.Blocks.{BlockView}
-use Rattle.lattice_file.specs.Text.{TakesWord, TakesSign, TakesText, Word, Color, is_element_name, attribute_word, has_attribute, no_attribute, Gives, IsLevel, IsSign}
-use Rattle.lattice_file.specs.Going.{Draft, Goes, GoesBehindAttribute, EndEntry, Comma, GoesBehindName, Bracket, Below}
-use Rattle.lattice_file.specs.Steps.{Lexeme, WordLexeme, SignLexeme, TextLexeme, Standing, GoesFrom, only_if, map_some, if_named, attribute_named, level_named, sign_named, with_value, is_full, is_nonempty, with_block, with_entry, next_by, next}
+use Rattle.lattice_file.specs.Text.{TakesWord, TakesSign, TakesText, Word, Color, is_element_name, attribute_word, has_attribute, no_attribute, Gives, IsLevel, IsSign, block_attribute_word, has_flow, direction_word, GivesFlow, Plain, WithFlows}
+use Rattle.lattice_file.specs.Going.{Draft, Goes, GoesBehindAttribute, EndEntry, Comma, GoesBehindName, Bracket, Below, GoesOnOpen, GoesBehindFlow, EndFlows, CommaFlows}
+use Rattle.lattice_file.specs.Steps.{Lexeme, WordLexeme, SignLexeme, TextLexeme, Standing, GoesFrom, only_if, map_some, if_named, attribute_named, level_named, sign_named, with_value, if_flow, flow_named, direction_named, with_flow, has_all_flows, is_full, is_nonempty, with_block, with_entry, next_by, next}
 use Rattle.lattice_file.proofs.GapUnique.{and_first, and_second}
 use Rattle.lattice_file.proofs.LexemeUnique.{Takes}
-use Rattle.lattice_file.proofs.GoingLemmas.{open_goes, close_goes, name_goes, attribute_goes}
+use Rattle.lattice_file.proofs.GoingLemmas.{open_goes, close_goes, name_goes, attribute_goes, flow_goes}
 
 pub some_is : {A : Type 0} (to new : A) → Some to ≡ Some new → to ≡ new
 some_is to new e = cc
@@ -137,6 +143,45 @@ is_value attributes.Color given then word h = absurd h
 is_value attributes.Write given then word (e, f) = rw (e, f) refl
 is_value attributes.Deref given then word (e, f) = rw (e, f) refl
 
+if_flow_is : (flows : Flows) (word : List ℕ) (attribute new : BlockAttribute) → if_flow flows word attribute ≡ Some new → (word ≡ block_attribute_word new) × (has_flow flows new ≡ false)
+if_flow_is flows word attribute new e =
+    let p = only_is (bytes_eq word (block_attribute_word attribute) && not (has_flow flows attribute)) attribute new e in
+    let named : word ≡ block_attribute_word attribute = word_is word (block_attribute_word attribute) (and_first (bytes_eq word (block_attribute_word attribute)) (not (has_flow flows attribute)) p.0) in
+    let free : has_flow flows attribute ≡ false = not_true (has_flow flows attribute) (and_second (bytes_eq word (block_attribute_word attribute)) (not (has_flow flows attribute)) p.0) in
+    subst (λ (a : BlockAttribute). (word ≡ block_attribute_word a) × (has_flow flows a ≡ false)) p.1 (named, free)
+  where
+    not_true : (b : Bool) → not b ≡ true → b ≡ false
+    not_true true e = absurd cc
+    not_true false e = refl
+
+pub flow_is : (flows : Flows) (word : List ℕ) (new : BlockAttribute) → flow_named flows word ≡ Some new → (word ≡ block_attribute_word new) × (has_flow flows new ≡ false)
+flow_is flows word new e = by (first_is (if_flow flows word Ptrflow) _ new e)
+  where
+    by : (if_flow flows word Ptrflow ≡ Some new) ⊎ (if_flow flows word Fieldflow ≡ Some new) → (word ≡ block_attribute_word new) × (has_flow flows new ≡ false)
+    by (inl e) = if_flow_is flows word Ptrflow new e
+    by (inr e) = if_flow_is flows word Fieldflow new e
+
+pub flow_new : (flows : Flows) (attribute : BlockAttribute) → has_flow flows attribute ≡ false → flow_named flows (block_attribute_word attribute) ≡ Some attribute
+flow_new flows Ptrflow e = rw e refl
+flow_new flows Fieldflow e = rw e refl
+
+direction_is : (word : List ℕ) (direction : Direction) → direction_named word ≡ Some direction → word ≡ direction_word direction
+direction_is word direction e = by (first_is (only_if (bytes_eq word (codes "up")) Up) _ direction e)
+  where
+    by : (only_if (bytes_eq word (codes "up")) Up ≡ Some direction) ⊎ (only_if (bytes_eq word (codes "down")) Down ≡ Some direction) → word ≡ direction_word direction
+    by (inl e) = let p = only_is (bytes_eq word (codes "up")) Up direction e in subst (λ (d : Direction). word ≡ direction_word d) p.1 (word_is word (codes "up") p.0)
+    by (inr e) = let p = only_is (bytes_eq word (codes "down")) Down direction e in subst (λ (d : Direction). word ≡ direction_word d) p.1 (word_is word (codes "down") p.0)
+
+pub gives_flow : (attribute : BlockAttribute) (flows then : Flows) (word : List ℕ) → with_flow attribute flows word ≡ Some then → GivesFlow attribute word flows then
+gives_flow Ptrflow flows then word e =
+    let p = map_is (λ direction. record flows { ptr = Some direction }) (direction_named word) then e in (p.0, direction_is word p.0 p.1, sym p.2)
+gives_flow Fieldflow flows then word e = let p = only_is (bytes_eq word (codes "down")) (record flows { field = true }) then e in (word_is word (codes "down") p.0, sym p.1)
+
+pub flow_given : (attribute : BlockAttribute) (flows then : Flows) (word : List ℕ) → GivesFlow attribute word flows then → with_flow attribute flows word ≡ Some then
+flow_given Ptrflow flows then word (Up, e, f) = rw (e, f) refl
+flow_given Ptrflow flows then word (Down, e, f) = rw (e, f) refl
+flow_given Fieldflow flows then word (e, f) = rw (e, f) refl
+
 pub nonempty_long : (entries : List Entry) → is_nonempty entries ≡ true → 0 < length entries
 nonempty_long [] e = absurd cc
 nonempty_long (entry ∷ entries) e = omega arith
@@ -163,6 +208,23 @@ leads_word stages.Order given draft word new rest after all e takes goes =
     let p = only_is (bytes_eq word (codes "order")) (At stages.Open given draft) new e in
     (after, subst (λ (w : List ℕ). TakesWord w rest after) (word_is word (codes "order") p.0) (takes_word word rest after takes), moved (At stages.Open given draft) new after all p.1 goes)
 leads_word stages.Open given draft word new rest after all e takes goes = absurd cc
+leads_word stages.FlowName given draft word new rest after all e takes goes =
+    let p = map_is (λ attribute. At (stages.FlowEquals attribute) given draft) (flow_named draft.flows word) new e in
+    let q = flow_is draft.flows word p.0 p.1 in
+    flow_goes p.0 draft.flows draft.blocks rest after all q.1 (subst (λ (w : List ℕ). TakesWord w rest after) q.0 (takes_word word rest after takes)) (moved (At (stages.FlowEquals p.0) given draft) new after all p.2 goes)
+leads_word (stages.FlowEquals attribute) given draft word new rest after all e takes goes = absurd cc
+leads_word (stages.FlowValue attribute) given draft word new rest after all e takes goes =
+    let p = map_is (λ flows. At stages.Flowed given (record draft { flows = flows })) (with_flow attribute draft.flows word) new e in
+    record {
+      word = word;
+      then = p.0;
+      behind = after;
+      value = takes_word word rest after takes;
+      gives = gives_flow attribute draft.flows p.0 word p.1;
+      attributes = moved (At stages.Flowed given (record draft { flows = p.0 })) new after all p.2 goes;
+    }
+leads_word stages.Flowed given draft word new rest after all e takes goes = absurd cc
+leads_word stages.Braced given draft word new rest after all e takes goes = absurd cc
 leads_word stages.Items given draft word new rest after all e takes goes =
     let p = only_is (is_element_name word) (At stages.Named given (record draft { name = word })) new e in
     name_goes (record draft { name = word }) rest after all p.0 (takes_word word rest after takes) (moved (At stages.Named given (record draft { name = word })) new after all p.1 goes)
@@ -187,13 +249,44 @@ sign_same sign other rest after e takes = subst (λ (s : ℕ). TakesSign s rest 
 leads_sign : (stage : Stage) (given : Given) (draft : Draft) (sign : ℕ) → Leads stage given draft (SignLexeme sign)
 leads_sign stages.Outside given draft sign new rest after all e takes goes = absurd cc
 leads_sign stages.Order given draft sign new rest after all e takes goes = absurd cc
-leads_sign stages.Open given draft sign new rest after all e takes goes =
+leads_sign stages.Open given draft sign new rest after all e takes goes = by (first_is (only_if (nat_eq sign 123) (At stages.Items given (record draft { entries = []; pairs = []; flows = no_flows }))) _ new e)
+  where
+    by : (only_if (nat_eq sign 123) (At stages.Items given (record draft { entries = []; pairs = []; flows = no_flows })) ≡ Some new) ⊎ (only_if (nat_eq sign 91) (At stages.FlowName given (record draft { flows = no_flows })) ≡ Some new) → GoesOnOpen draft rest all
+    by (inl e) =
+        let to = At stages.Items given (record draft { entries = []; pairs = []; flows = no_flows }) in
+        let p = only_is (nat_eq sign 123) to new e in
+        record { flows = no_flows; behind = after; head = Plain rest after (sign_same sign 123 rest after p.0 takes); items = moved to new after all p.1 goes }
+    by (inr e) =
+        let to = At stages.FlowName given (record draft { flows = no_flows }) in
+        let p = only_is (nat_eq sign 91) to new e in
+        let on = moved to new after all p.1 goes in
+        record {
+          flows = on.end;
+          behind = on.braced.behind;
+          head = WithFlows on.end rest after on.behind on.braced.behind (sign_same sign 91 rest after p.0 takes) on.attributes on.braced.sign;
+          items = on.braced.items;
+        }
+leads_sign stages.FlowName given draft sign new rest after all e takes goes = absurd cc
+leads_sign (stages.FlowEquals attribute) given draft sign new rest after all e takes goes =
+    let p = only_is (nat_eq sign 61) (At (stages.FlowValue attribute) given draft) new e in
+    (after, sign_same sign 61 rest after p.0 takes, moved (At (stages.FlowValue attribute) given draft) new after all p.1 goes)
+leads_sign (stages.FlowValue attribute) given draft sign new rest after all e takes goes = absurd cc
+leads_sign stages.Flowed given draft sign new rest after all e takes goes = by (first_is (only_if (nat_eq sign 44 && not (has_all_flows draft.flows)) (At stages.FlowName given draft)) _ new e)
+  where
+    by : (only_if (nat_eq sign 44 && not (has_all_flows draft.flows)) (At stages.FlowName given draft) ≡ Some new) ⊎ (only_if (nat_eq sign 93) (At stages.Braced given draft) ≡ Some new) → GoesBehindFlow draft.flows draft.blocks rest all
+    by (inl e) =
+        let p = only_is (nat_eq sign 44 && not (has_all_flows draft.flows)) (At stages.FlowName given draft) new e in
+        CommaFlows after (sign_same sign 44 rest after (and_first (nat_eq sign 44) (not (has_all_flows draft.flows)) p.0) takes) (moved (At stages.FlowName given draft) new after all p.1 goes)
+    by (inr e) =
+        let p = only_is (nat_eq sign 93) (At stages.Braced given draft) new e in
+        EndFlows after (sign_same sign 93 rest after p.0 takes) (moved (At stages.Braced given draft) new after all p.1 goes)
+leads_sign stages.Braced given draft sign new rest after all e takes goes =
     let to = At stages.Items given (record draft { entries = []; pairs = [] }) in
     let p = only_is (nat_eq sign 123) to new e in
     record { behind = after; sign = sign_same sign 123 rest after p.0 takes; items = moved to new after all p.1 goes }
 leads_sign stages.Items given draft sign new rest after all e takes goes =
     let p = only_is (nat_eq sign 125 && is_nonempty draft.entries) (At stages.Outside given (with_block draft)) new e in
-    close_goes draft.entries draft.pairs draft.blocks rest after all (nonempty_long draft.entries (and_second (nat_eq sign 125) (is_nonempty draft.entries) p.0))
+    close_goes draft.flows draft.entries draft.pairs draft.blocks rest after all (nonempty_long draft.entries (and_second (nat_eq sign 125) (is_nonempty draft.entries) p.0))
     (sign_same sign 125 rest after (and_first (nat_eq sign 125) (is_nonempty draft.entries) p.0) takes) (moved (At stages.Outside given (with_block draft)) new after all p.1 goes)
 leads_sign stages.Named given draft sign new rest after all e takes goes = by (first_is (only_if (nat_eq sign 91) (At stages.Attribute no_attribute draft)) _ new e)
   where

@@ -2,22 +2,29 @@
 use Rattle.std.specs.Prelude.{◌≡◌, ◌≢◌, ℕ, ◌+◌, List, [], ◌∷◌, take, Some, slice_get}
 use Rattle.lattice_core.specs.declared.Entry.{Entry}
 use Rattle.lattice_core.specs.declared.Pair.{Pair}
+use Rattle.lattice_core.specs.declared.Flows.{Flows}
 use Rattle.lattice_core.specs.declared.LatticeFault.{LatticeFault}
 use Rattle.lattice_core.specs.declared.LatticeFault.TheVariants.{NoMemory}
 use Rattle.lattice_core.specs.View.{LatticeView}
 use Rattle.lattice_core.specs.Building.{AreBuilt, Refuses}
 
--- the entries and the order lines of a block, as they are written
+-- the entries and the order lines of a block, as they are written, and its attributes
 pub record BlockView : Type 0 where
   pub entries : List Entry
   pub pairs : List Pair
+  pub flows : Flows
+
+-- a block makes this lattice
+pub record IsBuilt (block : BlockView) (lattice : LatticeView) : Type 0 where
+  pub built : AreBuilt block.entries block.pairs lattice
+  pub flows : lattice.flows ≡ block.flows
 
 -- each block makes the lattice in its place
 abbrev pub AreAllBuilt : List BlockView → List LatticeView → Type 0
 AreAllBuilt [] [] = Unit {0}
 AreAllBuilt [] (lattice ∷ lattices) = ⊥
 AreAllBuilt (block ∷ blocks) [] = ⊥
-AreAllBuilt (block ∷ blocks) (lattice ∷ lattices) = AreBuilt block.entries block.pairs lattice × AreAllBuilt blocks lattices
+AreAllBuilt (block ∷ blocks) (lattice ∷ lattices) = IsBuilt block lattice × AreAllBuilt blocks lattices
 
 -- the block with this number, counted from 1, is the first that makes no lattice, for this reason
 pub record IsFirstRefused (blocks : List BlockView) (number : ℕ) (fault : LatticeFault) : Type 0 where

@@ -9,7 +9,7 @@ use Rattle.lattice_file.specs.Extents.{LexemeFails}
 use Rattle.lattice_file.specs.Begins.{IsFirstBad}
 
 abbrev pub draft_of : Reader → Draft
-draft_of reader = record { name = reader.name; entries = reader.entries.items; pairs = reader.pairs.items; blocks = reader.blocks.items }
+draft_of reader = record { name = reader.name; entries = reader.entries.items; pairs = reader.pairs.items; flows = reader.flows; blocks = reader.blocks.items }
 
 abbrev pub standing_of : Reader → Standing
 standing_of reader = record { stage = reader.stage; given = reader.given; draft = draft_of reader }

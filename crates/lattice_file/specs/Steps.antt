@@ -4,6 +4,10 @@ use Rattle.std.specs.List.{list_all}
 use Rattle.std.specs.Str.{bytes_eq}
 use Rattle.std.specs.Option.{option_or}
 use Rattle.lattice_core.specs.declared.Entry.{Entry}
+use Rattle.lattice_core.specs.declared.Direction.{Direction}
+use Rattle.lattice_core.specs.declared.Direction.TheVariants.{Up, Down}
+use Rattle.lattice_core.specs.declared.Flows.{Flows}
+use Rattle.lattice_core.specs.Passing.{no_flows}
 use Rattle.lattice_core.specs.declared.Level.{Level}
 use Rattle.lattice_core.specs.declared.Sign.{Sign}
 use Rattle.lattice_core.specs.declared.Level.TheVariants.{Ref, Value}
@@ -11,10 +15,12 @@ use Rattle.lattice_core.specs.declared.Sign.TheVariants.{Pos, Neg, Eq}
 use Rattle.lattice_file.specs.declared.words.Attribute.{Attribute}
 use Rattle.lattice_file.specs.declared.words.Attribute.TheVariants as attributes
 use Rattle.lattice_file.specs.declared.words.Given.{Given}
+use Rattle.lattice_file.specs.declared.passing.BlockAttribute.{BlockAttribute}
+use Rattle.lattice_file.specs.declared.passing.BlockAttribute.TheVariants.{Ptrflow, Fieldflow}
 use Rattle.lattice_file.specs.declared.blocks.Stage.{Stage}
 use Rattle.lattice_file.specs.declared.blocks.Stage.TheVariants as stages
 use Rattle.lattice_file.specs.Blocks.{BlockView}
-use Rattle.lattice_file.specs.Text.{lengthens, stands_in_text, is_element_name, entry_of, no_attribute, attribute_word, has_attribute}
+use Rattle.lattice_file.specs.Text.{lengthens, stands_in_text, is_element_name, entry_of, no_attribute, attribute_word, has_attribute, block_attribute_word, has_flow}
 use Rattle.lattice_file.specs.Going.{Draft, Goes}
 
 pub data Lexeme : Type 0 where
@@ -74,6 +80,26 @@ with_value attributes.Deref given word = only_if (bytes_eq word (codes "yes")) (
 abbrev pub is_full : Given → Bool
 is_full given = is_some given.level && is_some given.sign && given.color && given.write && given.deref
 
+-- this attribute of a block, if a word is its name and the block does not have it yet
+abbrev pub if_flow : Flows → List ℕ → BlockAttribute → Option BlockAttribute
+if_flow flows word attribute = only_if (bytes_eq word (block_attribute_word attribute) && not (has_flow flows attribute)) attribute
+
+-- the attribute of a name, if the block does not have it yet
+abbrev pub flow_named : Flows → List ℕ → Option BlockAttribute
+flow_named flows word = option_or (if_flow flows word Ptrflow) (if_flow flows word Fieldflow)
+
+abbrev pub direction_named : List ℕ → Option Direction
+direction_named word = option_or (only_if (bytes_eq word (codes "up")) Up) (only_if (bytes_eq word (codes "down")) Down)
+
+-- the attributes of a block with a word as the value of one
+abbrev pub with_flow : BlockAttribute → Flows → List ℕ → Option Flows
+with_flow Ptrflow flows word = map_some (λ direction. record flows { ptr = Some direction }) (direction_named word)
+with_flow Fieldflow flows word = only_if (bytes_eq word (codes "down")) (record flows { field = true })
+
+-- no attribute of a block is left
+abbrev pub has_all_flows : Flows → Bool
+has_all_flows flows = is_some flows.ptr && flows.field
+
 abbrev pub is_nonempty : List Entry → Bool
 is_nonempty [] = false
 is_nonempty (entry ∷ entries) = true
@@ -83,6 +109,11 @@ abbrev pub next_by_word : Stage → Given → Draft → List ℕ → Option Stan
 next_by_word stages.Outside given draft word = only_if (bytes_eq word (codes "partial")) (record { stage = stages.Order; given = given; draft = draft })
 next_by_word stages.Order given draft word = only_if (bytes_eq word (codes "order")) (record { stage = stages.Open; given = given; draft = draft })
 next_by_word stages.Open given draft word = None
+next_by_word stages.FlowName given draft word = map_some (λ attribute. record { stage = stages.FlowEquals attribute; given = given; draft = draft }) (flow_named draft.flows word)
+next_by_word (stages.FlowEquals attribute) given draft word = None
+next_by_word (stages.FlowValue attribute) given draft word = map_some (λ flows. record { stage = stages.Flowed; given = given; draft = record draft { flows = flows } }) (with_flow attribute draft.flows word)
+next_by_word stages.Flowed given draft word = None
+next_by_word stages.Braced given draft word = None
 next_by_word stages.Items given draft word = only_if (is_element_name word) (record { stage = stages.Named; given = given; draft = record draft { name = word } })
 next_by_word stages.Named given draft word = None
 next_by_word stages.High given draft word = only_if (is_element_name word)
@@ -92,9 +123,15 @@ next_by_word (stages.Equals attribute) given draft word = None
 next_by_word (stages.Value attribute) given draft word = map_some (λ then. record { stage = stages.Attributed; given = then; draft = draft }) (with_value attribute given word)
 next_by_word stages.Attributed given draft word = None
 
--- a block more, of the entries and the order lines that are read
+-- a block more, of the entries, the order lines and the attributes that are read
 abbrev pub with_block : Draft → Draft
-with_block draft = record { name = draft.name; entries = []; pairs = []; blocks = draft.blocks ++ record { entries = draft.entries; pairs = draft.pairs } ∷ [] }
+with_block draft = record {
+  name = draft.name;
+  entries = [];
+  pairs = [];
+  flows = draft.flows;
+  blocks = draft.blocks ++ record { entries = draft.entries; pairs = draft.pairs; flows = draft.flows } ∷ [];
+}
 
 abbrev pub with_entry : Given → Draft → Draft
 with_entry given draft = record draft { entries = draft.entries ++ entry_of draft.name given ∷ [] }
@@ -111,7 +148,16 @@ behind_entry standing = record { stage = stages.Items; given = standing.given; d
 abbrev pub next_by_sign : Stage → Given → Draft → ℕ → Option Standing
 next_by_sign stages.Outside given draft sign = None
 next_by_sign stages.Order given draft sign = None
-next_by_sign stages.Open given draft sign = only_if (nat_eq sign 123) (record { stage = stages.Items; given = given; draft = record draft { entries = []; pairs = [] } })
+next_by_sign stages.Open given draft sign = option_or
+    (only_if (nat_eq sign 123) (record { stage = stages.Items; given = given; draft = record draft { entries = []; pairs = []; flows = no_flows } }))
+    (only_if (nat_eq sign 91) (record { stage = stages.FlowName; given = given; draft = record draft { flows = no_flows } }))
+next_by_sign stages.FlowName given draft sign = None
+next_by_sign (stages.FlowEquals attribute) given draft sign = only_if (nat_eq sign 61) (record { stage = stages.FlowValue attribute; given = given; draft = draft })
+next_by_sign (stages.FlowValue attribute) given draft sign = None
+next_by_sign stages.Flowed given draft sign = option_or
+    (only_if (nat_eq sign 44 && not (has_all_flows draft.flows)) (record { stage = stages.FlowName; given = given; draft = draft }))
+    (only_if (nat_eq sign 93) (record { stage = stages.Braced; given = given; draft = draft }))
+next_by_sign stages.Braced given draft sign = only_if (nat_eq sign 123) (record { stage = stages.Items; given = given; draft = record draft { entries = []; pairs = [] } })
 next_by_sign stages.Items given draft sign = only_if (nat_eq sign 125 && is_nonempty draft.entries) (record { stage = stages.Outside; given = given; draft = with_block draft })
 next_by_sign stages.Named given draft sign = option_or
     (only_if (nat_eq sign 91) (record { stage = stages.Attribute; given = no_attribute; draft = draft }))

@@ -5,6 +5,10 @@ use Rattle.std.specs.List.{list_all}
 use Rattle.std.specs.Str.{bytes_eq}
 use Rattle.lattice_core.specs.declared.Entry.{Entry}
 use Rattle.lattice_core.specs.declared.Pair.{Pair}
+use Rattle.lattice_core.specs.declared.Direction.{Direction}
+use Rattle.lattice_core.specs.declared.Direction.TheVariants.{Up, Down}
+use Rattle.lattice_core.specs.declared.Flows.{Flows}
+use Rattle.lattice_core.specs.Passing.{no_flows}
 use Rattle.lattice_core.specs.declared.Level.{Level}
 use Rattle.lattice_core.specs.declared.Sign.{Sign}
 use Rattle.lattice_core.specs.declared.Level.TheVariants.{Ref, Value}
@@ -12,6 +16,8 @@ use Rattle.lattice_core.specs.declared.Sign.TheVariants.{Pos, Neg, Eq}
 use Rattle.lattice_file.specs.declared.words.Attribute.{Attribute}
 use Rattle.lattice_file.specs.declared.words.Attribute.TheVariants as attributes
 use Rattle.lattice_file.specs.declared.words.Given.{Given}
+use Rattle.lattice_file.specs.declared.passing.BlockAttribute.{BlockAttribute}
+use Rattle.lattice_file.specs.declared.passing.BlockAttribute.TheVariants.{Ptrflow, Fieldflow}
 use Rattle.lattice_file.specs.Blocks.{BlockView}
 
 -- space, tab, carriage return, line feed
@@ -155,8 +161,49 @@ pub data Items : List Entry → List Pair → List ℕ → List ℕ → Type 0 w
   LineItem : (low high : List ℕ) (entries : List Entry) (pairs : List Pair) (b0 b1 b2 b3 rest : List ℕ) → is_element_name low ≡ true → is_element_name high ≡ true → TakesWord low b0 b1 → TakesSign 60 b1 b2 →
       TakesWord high b2 b3 → Items entries pairs b3 rest → Items entries (record { low = low; high = high } ∷ pairs) b0 rest
 
+-- the word of an attribute of a block
+abbrev pub block_attribute_word : BlockAttribute → List ℕ
+block_attribute_word Ptrflow = codes "ptrflow"
+block_attribute_word Fieldflow = codes "fieldflow"
+
+-- a block has this attribute already
+abbrev pub has_flow : Flows → BlockAttribute → Bool
+has_flow flows Ptrflow = is_some flows.ptr
+has_flow flows Fieldflow = flows.field
+
+abbrev pub direction_word : Direction → List ℕ
+direction_word Up = codes "up"
+direction_word Down = codes "down"
+
+-- what a word as the value of an attribute makes of the attributes of a block
+abbrev pub GivesFlow : BlockAttribute → List ℕ → Flows → Flows → Type 0
+GivesFlow Ptrflow word flows then = (direction : Direction) × (word ≡ direction_word direction) × (then ≡ record flows { ptr = Some direction })
+GivesFlow Fieldflow word flows then = (word ≡ codes "down") × (then ≡ record flows { field = true })
+
+-- an attribute that the block does not have yet, with its value
+pub record TakesFlow (flows then : Flows) (bytes rest : List ℕ) : Type 0 where
+  pub attribute : BlockAttribute
+  pub free : has_flow flows attribute ≡ false
+  pub b1 : List ℕ
+  pub name : TakesWord (block_attribute_word attribute) bytes b1
+  pub b2 : List ℕ
+  pub equals : TakesSign 61 b1 b2
+  pub word : List ℕ
+  pub value : TakesWord word b2 rest
+  pub gives : GivesFlow attribute word flows then
+
+-- the attributes of a block, none of which it has already, with commas between them, and ]
+pub data BlockAttributes : Flows → Flows → List ℕ → List ℕ → Type 0 where
+  LastFlow : (flows then : Flows) (b0 b1 rest : List ℕ) → TakesFlow flows then b0 b1 → TakesSign 93 b1 rest → BlockAttributes flows then b0 rest
+  MoreFlows : (flows then end : Flows) (b0 b1 b2 rest : List ℕ) → TakesFlow flows then b0 b1 → TakesSign 44 b1 b2 → BlockAttributes then end b2 rest → BlockAttributes flows end b0 rest
+
+-- what stands before the items of a block: its attributes, where it has any, and {
+pub data Head : Flows → List ℕ → List ℕ → Type 0 where
+  Plain : (b0 rest : List ℕ) → TakesSign 123 b0 rest → Head no_flows b0 rest
+  WithFlows : (flows : Flows) (b0 b1 b2 rest : List ℕ) → TakesSign 91 b0 b1 → BlockAttributes no_flows flows b1 b2 → TakesSign 123 b2 rest → Head flows b0 rest
+
 -- the bytes are a lattice text of these blocks, each with at least one entry
 pub data IsLatticeText : List BlockView → List ℕ → Type 0 where
   End : (bytes : List ℕ) → Gap bytes [] → IsLatticeText [] bytes
-  NextBlock : (block : BlockView) (blocks : List BlockView) (b0 b1 b2 b3 rest : List ℕ) → TakesWord (codes "partial") b0 b1 → TakesWord (codes "order") b1 b2 → TakesSign 123 b2 b3 →
+  NextBlock : (block : BlockView) (blocks : List BlockView) (b0 b1 b2 b3 rest : List ℕ) → TakesWord (codes "partial") b0 b1 → TakesWord (codes "order") b1 b2 → Head block.flows b2 b3 →
       Items block.entries block.pairs b3 rest → 0 < length block.entries → IsLatticeText blocks rest → IsLatticeText (block ∷ blocks) b0

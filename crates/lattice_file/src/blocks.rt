@@ -6,20 +6,25 @@ ghost use Rattle.lattice_file.specs.Steps.{WordLexeme, SignLexeme, TextLexeme, n
 ghost use Rattle.lattice_file.specs.Steps.{behind_entry, behind_block};
 ghost use Rattle.lattice_file.specs.Reading.{standing_of, GoesOnBy};
 ghost use Rattle.lattice_file.specs.Extents.{IsFront, may_come};
-ghost use Rattle.lattice_core.specs.Building.{AreBuilt, Refuses};
+ghost use Rattle.lattice_core.specs.Building.{Refuses};
+ghost use Rattle.lattice_file.specs.Blocks.{IsBuilt};
 
 use crate::lexemes::shared_front;
+use crate::passing::{
+    BlockAttribute, give, has_all, name_front as name_of_flow_front, named as flow_named,
+};
 use crate::words::{Attribute, Given, is_name, name_front};
-use lattice_core::{Entry, Lattice, LatticeFault, Level, Name, Pair, Sign};
+use lattice_core::{Entry, Flows, Lattice, LatticeFault, Level, Name, Pair, Sign};
 use std::alloc::{AllocError, AllocFailed, Global};
 use std::marker::Model;
 
 /// The entries, of which there is at least one, and the order lines of a block, each in the order in which they are
-/// written.
+/// written, and its attributes.
 #[derive(Drop)]
 pub struct Block {
     entries: Vec<Entry>,
     pairs: Vec<Pair>,
+    flows: Flows,
 }
 
 impl Model for Block {
@@ -28,27 +33,38 @@ impl Model for Block {
 
     ghost Value = { BlockView };
 
-    ghost view = { λ a. record { entries = a.entries.items; pairs = a.pairs.items } };
+    ghost view = { λ a. record {
+      entries = a.entries.items;
+      pairs = a.pairs.items;
+      flows = a.flows;
+    } };
 
     ghost invariant = { λ a. 0 < length a.entries.items };
 }
 
 impl Block {
-    /// A block of these entries and order lines.
-    pub fn new(entries: Vec<Entry>, pairs: Vec<Pair>) -> Block
+    /// A block of these entries, order lines and attributes.
+    pub fn new(entries: Vec<Entry>, pairs: Vec<Pair>, flows: Flows) -> Block
         requires { 0 < length entries.items }
         ensures entries { result.entries ≡ entries.items }
         ensures pairs { result.pairs ≡ pairs.items }
+        ensures flows { result.flows ≡ flows }
     {
-        Block { entries, pairs }
+        Block {
+            entries,
+            pairs,
+            flows,
+        }
     }
 
     /// The lattice of a block, or the first reason why there is none.
     pub fn build(self, alloc: Global) -> Result<Lattice, LatticeFault>
-        ensures built { IfOk result (AreBuilt self.entries self.pairs) }
+        ensures built { IfOk result (IsBuilt self) }
         ensures refused { IfErr result (Refuses self.entries self.pairs) }
     {
-        Lattice::build(alloc, self.entries, &self.pairs)
+        let mut lattice = Lattice::build(alloc, self.entries, &self.pairs)?;
+        lattice.set_flows(self.flows.ptr, self.flows.field);
+        Ok(lattice)
     }
 }
 
@@ -59,8 +75,18 @@ pub enum Stage {
     Outside,
     /// `order`.
     Order,
-    /// `{`.
+    /// `{`, or `[` before attributes of the block.
     Open,
+    /// The name of an attribute that the block does not have yet.
+    FlowName,
+    /// `=` behind the name of an attribute of the block.
+    FlowEquals(BlockAttribute),
+    /// A value of the attribute of the block.
+    FlowValue(BlockAttribute),
+    /// `,` where an attribute of the block is left, or `]`.
+    Flowed,
+    /// `{` behind attributes.
+    Braced,
     /// A name, or `}` behind an entry.
     Items,
     /// `[` or `<`.
@@ -86,6 +112,7 @@ pub struct Reader {
     name: Name,
     entries: Vec<Entry>,
     pairs: Vec<Pair>,
+    flows: Flows,
     blocks: Vec<Block>,
 }
 
@@ -101,6 +128,7 @@ impl Reader {
             name: Name::new(Vec::new(alloc)),
             entries: Vec::new(alloc),
             pairs: Vec::new(alloc),
+            flows: Flows::none(),
             blocks: Vec::new(alloc),
         }
     }
@@ -146,7 +174,10 @@ impl Reader {
             Stage::Items | Stage::High => name_front(word),
             Stage::Attribute => self.given.name_front(word),
             Stage::Value(attribute) => attribute.value_front(word),
-            Stage::Open | Stage::Named | Stage::Equals(_) | Stage::Attributed => 0,
+            Stage::FlowName => name_of_flow_front(&self.flows, word),
+            Stage::FlowValue(attribute) => attribute.value_front(word),
+            Stage::Open | Stage::FlowEquals(_) | Stage::Flowed | Stage::Braced => 0,
+            Stage::Named | Stage::Equals(_) | Stage::Attributed => 0,
         }
     }
 
@@ -161,7 +192,10 @@ impl Reader {
             Stage::High => self.end_line(word),
             Stage::Attribute => Ok(self.begin_attribute(word)),
             Stage::Value(attribute) => Ok(self.end_value(attribute, word)),
-            Stage::Open | Stage::Named | Stage::Equals(_) | Stage::Attributed => Ok(false),
+            Stage::FlowName => Ok(self.begin_flow(word)),
+            Stage::FlowValue(attribute) => Ok(self.end_flow(attribute, word)),
+            Stage::Open | Stage::FlowEquals(_) | Stage::Flowed | Stage::Braced => Ok(false),
+            Stage::Named | Stage::Equals(_) | Stage::Attributed => Ok(false),
         }
     }
 
@@ -175,6 +209,10 @@ impl Reader {
             Stage::Named => Ok(self.behind_name(sign)),
             Stage::Equals(attribute) => Ok(self.begin_value(attribute, sign)),
             Stage::Attributed => self.behind_attribute(sign),
+            Stage::FlowEquals(attribute) => Ok(self.begin_direction(attribute, sign)),
+            Stage::Flowed => Ok(self.behind_flow(sign)),
+            Stage::Braced => Ok(self.open_items(sign)),
+            Stage::FlowName | Stage::FlowValue(_) => Ok(false),
             Stage::Outside | Stage::Order | Stage::High | Stage::Attribute | Stage::Value(_) => {
                 Ok(false)
             }
@@ -205,6 +243,78 @@ impl Reader {
 
     fn open_block(&mut self, sign: u8) -> bool
         requires { self.old.stage ≡ Stage.Open }
+        ensures { GoesOnBy self.old self.new (SignLexeme sign) result }
+    {
+        if sign == b'{' {
+            self.entries = Vec::new(self.alloc);
+            self.pairs = Vec::new(self.alloc);
+            self.flows = Flows::none();
+            self.stage = Stage::Items;
+            return true;
+        }
+        if sign != b'[' {
+            return false;
+        }
+        self.flows = Flows::none();
+        self.stage = Stage::FlowName;
+        true
+    }
+
+    fn begin_flow(&mut self, word: &[u8]) -> bool
+        requires { self.old.stage ≡ Stage.FlowName }
+        ensures { GoesOnBy self.old self.new (WordLexeme word.now) result }
+    {
+        match flow_named(&self.flows, word) {
+            Some(attribute) => {
+                self.stage = Stage::FlowEquals(attribute);
+                true
+            }
+            None => false,
+        }
+    }
+
+    fn begin_direction(&mut self, attribute: BlockAttribute, sign: u8) -> bool
+        requires { self.old.stage ≡ Stage.FlowEquals attribute }
+        ensures { GoesOnBy self.old self.new (SignLexeme sign) result }
+    {
+        if sign != b'=' {
+            return false;
+        }
+        self.stage = Stage::FlowValue(attribute);
+        true
+    }
+
+    fn end_flow(&mut self, attribute: BlockAttribute, word: &[u8]) -> bool
+        requires { self.old.stage ≡ Stage.FlowValue attribute }
+        ensures { GoesOnBy self.old self.new (WordLexeme word.now) result }
+    {
+        match give(self.flows, attribute, word) {
+            Some(flows) => {
+                self.flows = flows;
+                self.stage = Stage::Flowed;
+                true
+            }
+            None => false,
+        }
+    }
+
+    fn behind_flow(&mut self, sign: u8) -> bool
+        requires { self.old.stage ≡ Stage.Flowed }
+        ensures { GoesOnBy self.old self.new (SignLexeme sign) result }
+    {
+        if sign == b',' && !has_all(&self.flows) {
+            self.stage = Stage::FlowName;
+            return true;
+        }
+        if sign != b']' {
+            return false;
+        }
+        self.stage = Stage::Braced;
+        true
+    }
+
+    fn open_items(&mut self, sign: u8) -> bool
+        requires { self.old.stage ≡ Stage.Braced }
         ensures { GoesOnBy self.old self.new (SignLexeme sign) result }
     {
         if sign != b'{' {
@@ -345,7 +455,7 @@ impl Reader {
     {
         let entries = std::mem::replace(&mut self.entries, Vec::new(self.alloc));
         let pairs = std::mem::replace(&mut self.pairs, Vec::new(self.alloc));
-        self.blocks.push(Block::new(entries, pairs))?;
+        self.blocks.push(Block::new(entries, pairs, self.flows))?;
         self.stage = Stage::Outside;
         Ok(())
     }

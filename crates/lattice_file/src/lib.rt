@@ -3,6 +3,7 @@
 
 mod blocks;
 mod lexemes;
+mod passing;
 mod places;
 mod reading;
 mod sharing;

@@ -2,8 +2,7 @@
 
 ghost use Rattle.std.specs.Prelude.{◌≡◌, ◌≤◌, ◌<◌, ◌^◌, ◌-◌, true, false, length, is_some};
 ghost use Rattle.std.specs.Prelude.{slice_index, IfOk, IfErr};
-ghost use Rattle.lattice_core.specs.Building.{AreBuilt};
-ghost use Rattle.lattice_file.specs.Blocks.{AreAllBuilt};
+ghost use Rattle.lattice_file.specs.Blocks.{IsBuilt, AreAllBuilt};
 ghost use Rattle.lattice_file.specs.Faults.{IsBlockFault, IsBuildFault, Reads, IsFileFault};
 ghost use Rattle.lattice_file.specs.Faults.{IsAnswerFor};
 ghost use Rattle.lattice_file.specs.Text.{IsLatticeText, stands_in_words};
@@ -182,7 +181,7 @@ fn read_blocks(alloc: Global, bytes: &[u8]) -> Result<Vec<Block>, TextFault>
 
 /// The lattice of a block that follows so many others.
 fn build_next(alloc: Global, block: Block, before: u8) -> Result<Lattice, LatticeFileFault>
-    ensures built { IfOk result (AreBuilt block.entries block.pairs) }
+    ensures built { IfOk result (IsBuilt block) }
     ensures refused { IfErr result (IsBlockFault block before) }
 {
     match block.build(alloc) {

@@ -204,7 +204,7 @@ fn sign_of(word: &[u8]) -> Option<Sign>
 }
 
 /// The longer of two fronts.
-fn longer(one: usize, other: usize) -> usize
+pub(crate) fn longer(one: usize, other: usize) -> usize
     ensures first { one ≤ result }
     ensures second { other ≤ result }
     ensures which { (result ≡ one) ⊎ (result ≡ other) }

@@ -1,2 +1,2 @@
 pub mod Meanings
-pub mod Held
+pub mod Tabled

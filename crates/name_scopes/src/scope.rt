@@ -1,12 +1,10 @@
 //! One scope.
 
-ghost use Rattle.std.specs.Prelude.{◌≡◌, ◌∷◌, OnOk, OnErr, reverse};
-ghost use Rattle.name_lists.specs.Newest.{newest};
-ghost use Rattle.name_scopes.specs.Meanings.{tag_found, no_scope, with_name, with_tag};
+ghost use Rattle.std.specs.Prelude.{◌≡◌, drop, reverse, OnOk, OnErr};
+ghost use Rattle.name_scopes.specs.Meanings.{no_scope, with_name, with_tag};
 
 use crate::meant::Meant;
-use crate::tags::Tags;
-use name_lists::NameList;
+use crate::tags::Tag;
 use qual_base::{NameId, NoMemory, StructId};
 use std::alloc::Global;
 use std::marker::Model;
@@ -15,16 +13,17 @@ use tape_ops::TagKind;
 /// A scope: its names and tags with what they stand for. Memory is linear in its declarations.
 #[derive(Drop)]
 pub struct Scope {
-    names: NameList<Meant>,
-    tags: Tags,
+    names: Vec<(NameId, Meant)>,
+    tags: Vec<Tag>,
 }
 
 impl Model for Scope {
+    ghost use Rattle.std.specs.Prelude.{reverse};
     ghost use Rattle.name_scopes.specs.Meanings.{OneScope};
 
     ghost Value = { OneScope };
 
-    ghost view = { λ s. record { names = s.names; tags = s.tags } };
+    ghost view = { λ s. record { names = reverse s.names.items; tags = reverse s.tags.items } };
 }
 
 impl Scope {
@@ -33,8 +32,8 @@ impl Scope {
         ensures { result ≡ no_scope }
     {
         Scope {
-            names: NameList::new(alloc),
-            tags: Tags::new(alloc),
+            names: Vec::new(alloc),
+            tags: Vec::new(alloc),
         }
     }
 
@@ -45,30 +44,31 @@ impl Scope {
         self.names.as_slice()
     }
 
-    /// What the scope says of a name. Takes no memory, and constant time.
-    pub(crate) fn meaning(&self, name: NameId) -> Option<Meant>
-        ensures { result ≡ newest self.now.names name }
+    /// The tags with what they stand for, the oldest first. Constant time.
+    pub(crate) fn tags(&self) -> &[Tag]
+        ensures { reverse result.now ≡ self.now.tags }
     {
-        self.names.get(name)
-    }
-
-    /// What the scope says of a tag. Takes no memory, and constant time.
-    pub(crate) fn tag(&self, kind: TagKind, tag: NameId) -> Option<StructId>
-        ensures { result ≡ tag_found self.now.tags kind tag }
-    {
-        self.tags.get(kind, tag)
+        self.tags.as_slice()
     }
 
     /// One more name. For want of memory the scope stays as it was.
-    pub(crate) fn bind(&mut self, name: NameId, meant: Meant) -> Result<(), NoMemory>
+    pub(crate) fn push(&mut self, name: NameId, meant: Meant) -> Result<(), NoMemory>
         ensures bound { OnOk result (self.new ≡ with_name name meant self.old) }
         ensures err { OnErr result (self.new ≡ self.old) }
     {
-        self.names.push(name, meant)
+        self.names.push((name, meant))?;
+        Ok(())
+    }
+
+    /// Takes the newest name back, if there is one. Takes no memory.
+    pub(crate) fn pop(&mut self)
+        ensures { self.new ≡ record self.old { names = drop 1 self.old.names } }
+    {
+        let _newest = self.names.pop();
     }
 
     /// One more tag. For want of memory the scope stays as it was.
-    pub(crate) fn bind_tag(
+    pub(crate) fn push_tag(
         &mut self,
         kind: TagKind,
         tag: NameId,
@@ -77,6 +77,14 @@ impl Scope {
         ensures bound { OnOk result (self.new ≡ with_tag kind tag number self.old) }
         ensures err { OnErr result (self.new ≡ self.old) }
     {
-        self.tags.push(kind, tag, number)
+        self.tags.push(Tag { kind, tag, number })?;
+        Ok(())
+    }
+
+    /// Takes the newest tag back, if there is one. Takes no memory.
+    pub(crate) fn pop_tag(&mut self)
+        ensures { self.new ≡ record self.old { tags = drop 1 self.old.tags } }
+    {
+        let _newest = self.tags.pop();
     }
 }

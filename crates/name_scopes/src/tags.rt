@@ -1,14 +1,13 @@
-//! The tags of a scope.
+//! Tags, and the scopes of tags by their kind.
 
-ghost use Rattle.std.specs.Prelude.{◌≡◌, ◌∷◌, [], ℕ, None, OnOk, OnErr};
+ghost use Rattle.std.specs.Prelude.{◌≡◌, ◌∷◌, ◌++◌, [], reverse, OnOk, OnErr};
 ghost use Rattle.tape_ops.specs.declared.specifier.TagKind.{TagKind};
-ghost use Rattle.name_scopes.specs.Meanings.{tag_found};
-ghost use Rattle.name_scopes.specs.Held.{number_in, IsSet, AreSame};
+ghost use Rattle.name_lists.specs.Newest.{innermost, outer_scopes};
+ghost use Rattle.name_scopes.specs.Tabled.{scopes_in, in_kind, IsBound, AreSame};
 
+use name_lists::NameScopes;
 use qual_base::{NameId, NoMemory, StructId};
 use std::alloc::Global;
-use std::collections::HashMap;
-use std::marker::Model;
 use tape_ops::TagKind;
 
 /// A tag, with the number of what it stands for.
@@ -19,109 +18,125 @@ pub struct Tag {
     pub number: StructId,
 }
 
-/// The numbers of tags, a map a kind.
+/// The scopes that are open with their tags, a table a kind.
 #[derive(Drop)]
-struct TagMaps {
-    structs: HashMap<NameId, StructId>,
-    unions: HashMap<NameId, StructId>,
-    enums: HashMap<NameId, StructId>,
+pub struct TagScopes {
+    structs: NameScopes<StructId>,
+    unions: NameScopes<StructId>,
+    enums: NameScopes<StructId>,
 }
 
-impl TagMaps {
-    /// No tags. Takes no memory.
-    fn new(alloc: Global) -> Self
-        ensures { (kind : TagKind) (tag : ℕ) → number_in result kind tag ≡ None }
+/// Opens a scope in two tables. For want of memory both stay as they were.
+fn enter_both(
+    first: &mut NameScopes<StructId>,
+    second: &mut NameScopes<StructId>,
+) -> Result<(), NoMemory>
+    ensures entered { OnOk result
+        ((first.new ≡ [] ∷ first.old) × (second.new ≡ [] ∷ second.old)) }
+    ensures err { OnErr result ((first.new ≡ first.old) × (second.new ≡ second.old)) }
+{
+    first.enter()?;
+    match second.enter() {
+        Ok(()) => Ok(()),
+        Err(NoMemory) => {
+            first.leave();
+            Err(NoMemory)
+        }
+    }
+}
+
+impl TagScopes {
+    /// No open scope. Takes no memory.
+    pub fn new(alloc: Global) -> Self
+        ensures { (kind : TagKind) → scopes_in result kind ≡ [] }
     {
-        TagMaps {
-            structs: HashMap::new(alloc),
-            unions: HashMap::new(alloc),
-            enums: HashMap::new(alloc),
+        TagScopes {
+            structs: NameScopes::new(alloc),
+            unions: NameScopes::new(alloc),
+            enums: NameScopes::new(alloc),
         }
     }
 
-    /// The number of a tag. Takes no memory, and constant time.
-    fn get(&self, kind: TagKind, tag: NameId) -> Option<StructId>
-        ensures { result ≡ number_in self.now kind tag }
+    /// The scopes with their tags of a kind. Constant time.
+    pub fn of_kind(&self, kind: TagKind) -> &NameScopes<StructId>
+        ensures { result.now ≡ scopes_in self.now kind }
     {
         match kind {
-            TagKind::Struct => self.structs.get(&tag).copied(),
-            TagKind::Union => self.unions.get(&tag).copied(),
-            TagKind::Enum => self.enums.get(&tag).copied(),
+            TagKind::Struct => &self.structs,
+            TagKind::Union => &self.unions,
+            TagKind::Enum => &self.enums,
         }
     }
 
-    /// Has a tag have this number. For want of memory the numbers stay as they were. Constant time but for growth.
-    fn set(&mut self, kind: TagKind, tag: NameId, number: StructId) -> Result<(), NoMemory>
-        ensures set { OnOk result (IsSet self.old self.new kind tag number) }
+    /// Has the innermost scope say what a tag stands for. For want of memory the tags stay as they were. Constant time
+    /// but for growth.
+    pub fn bind(&mut self, kind: TagKind, tag: NameId, number: StructId) -> Result<(), NoMemory>
+        ensures bound { OnOk result (IsBound self.old self.new kind tag number) }
         ensures err { OnErr result (AreSame self.old self.new) }
     {
         match kind {
-            TagKind::Struct => {
-                self.structs.insert(tag, number)?;
+            TagKind::Struct => self.structs.bind(tag, number),
+            TagKind::Union => self.unions.bind(tag, number),
+            TagKind::Enum => self.enums.bind(tag, number),
+        }
+    }
+
+    /// Opens a scope without tags inside the innermost. For want of memory the tags stay as they were. Constant time
+    /// but for growth.
+    fn enter(&mut self) -> Result<(), NoMemory>
+        ensures entered { OnOk result
+            ((kind : TagKind) → scopes_in self.new kind ≡ [] ∷ scopes_in self.old kind) }
+        ensures err { OnErr result (AreSame self.old self.new) }
+    {
+        self.structs.enter()?;
+        match enter_both(&mut self.unions, &mut self.enums) {
+            Ok(()) => Ok(()),
+            Err(NoMemory) => {
+                self.structs.leave();
+                Err(NoMemory)
             }
-            TagKind::Union => {
-                self.unions.insert(tag, number)?;
-            }
-            TagKind::Enum => {
-                self.enums.insert(tag, number)?;
-            }
+        }
+    }
+
+    /// Closes the innermost scope, if one is open. Takes no memory, and time linear in its tags.
+    pub fn leave(&mut self)
+        ensures { (kind : TagKind) →
+            scopes_in self.new kind ≡ outer_scopes (scopes_in self.old kind) }
+    {
+        self.structs.leave();
+        self.unions.leave();
+        self.enums.leave();
+    }
+
+    /// Has the innermost scope say what tags stand for, one after the other. Want of memory may leave it with some of
+    /// them.
+    fn bind_all(&mut self, tags: &[Tag]) -> Result<(), NoMemory>
+        requires { (kind : TagKind) → scopes_in self.old kind
+            ≡ innermost (scopes_in self.old kind) ∷ outer_scopes (scopes_in self.old kind) }
+        ensures bound { OnOk result ((kind : TagKind) → scopes_in self.new kind
+            ≡ (in_kind kind (reverse tags.now) ++ innermost (scopes_in self.old kind))
+            ∷ outer_scopes (scopes_in self.old kind)) }
+        ensures err { OnErr result ((kind : TagKind) →
+            outer_scopes (scopes_in self.new kind) ≡ outer_scopes (scopes_in self.old kind)) }
+    {
+        for it in tags {
+            self.bind(it.kind, it.tag, it.number)?;
         }
         Ok(())
     }
-}
 
-/// The tags of a scope. Clauses see their list, the newest first.
-#[derive(Drop)]
-pub struct Tags {
-    entries: Vec<Tag>,
-    maps: TagMaps,
-}
-
-impl Model for Tags {
-    ghost use Rattle.std.specs.Prelude.{List, reverse};
-    ghost use Rattle.name_scopes.specs.declared.tags.Tag.{Tag};
-    ghost use Rattle.name_scopes.specs.Held.{AreHeld};
-
-    ghost Value = { List Tag };
-
-    ghost view = { λ s. reverse s.entries.items };
-
-    ghost invariant = { λ s. AreHeld (reverse s.entries.items) s.maps };
-}
-
-impl Tags {
-    /// No tags. Takes no memory.
-    pub fn new(alloc: Global) -> Self
-        ensures { result ≡ [] }
+    /// Opens a scope inside the innermost, with these tags, the oldest first. For want of memory the tags stay as they
+    /// were. Linear in them.
+    pub fn reopen(&mut self, tags: &[Tag]) -> Result<(), NoMemory>
+        ensures reopened { OnOk result ((kind : TagKind) →
+            scopes_in self.new kind ≡ in_kind kind (reverse tags.now) ∷ scopes_in self.old kind) }
+        ensures err { OnErr result (AreSame self.old self.new) }
     {
-        Tags {
-            entries: Vec::new(alloc),
-            maps: TagMaps::new(alloc),
-        }
-    }
-
-    /// What a tag of a kind stands for by its newest entry. Takes no memory, and constant time.
-    pub fn get(&self, kind: TagKind, tag: NameId) -> Option<StructId>
-        ensures { result ≡ tag_found self.now kind tag }
-    {
-        self.maps.get(kind, tag)
-    }
-
-    /// Adds an entry. For want of memory the tags stay as they were. Constant time but for growth.
-    pub fn push(&mut self, kind: TagKind, tag: NameId, number: StructId) -> Result<(), NoMemory>
-        ensures pushed { OnOk result
-            (self.new ≡ record { kind = kind; tag = tag; number = number } ∷ self.old) }
-        ensures err { OnErr result (self.new ≡ self.old) }
-    {
-        let count = self.entries.len();
-        match self.entries.push(Tag { kind, tag, number }) {
-            Ok(()) => {}
-            Err(_) => return Err(NoMemory),
-        }
-        match self.maps.set(kind, tag, number) {
+        self.enter()?;
+        match self.bind_all(tags) {
             Ok(()) => Ok(()),
             Err(NoMemory) => {
-                self.entries.truncate(count);
+                self.leave();
                 Err(NoMemory)
             }
         }

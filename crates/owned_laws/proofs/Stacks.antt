@@ -6,13 +6,13 @@ use Rattle.c_words.specs.declared.kinds.Punct.{Punct}
 use Rattle.c_words.specs.declared.kinds.Punct.TheVariants as signs
 use Rattle.flow_graph.specs.System.{owner_of}
 use Rattle.qual_types.specs.declared.look.Kind.TheVariants as kinds
-use Rattle.qual_types.specs.Skel.{Skel, flat, ref, fun, nodes, all_nodes, of_some}
+use Rattle.qual_types.specs.Skel.{Skel, flat, ref, fun, nodes, all_nodes, of_some, struct_of}
 use Rattle.flow_rules.specs.Owners.{AllIn}
 use Rattle.name_rules.specs.Scopes.{Role, typedef_role, object_role, function_role, parameter_role, field_role, enumerator_role, Declared, declared_at, Use, means, called, missing, Own, Known, body_of}
 use Rattle.name_rules.specs.Values.{is_additive, member_in, own_of, own_number}
 use Rattle.row_rules.specs.Worlds.{at, skeleton}
 use Rattle.row_rules.specs.Annotations.{further}
-use Rattle.row_rules.specs.Vals.{Val, contents, read, value, is_ref, result, struct_of, member_of, known_skeleton, member_skel, sum_of, binary_of, prefix_of, used_by_role, used_some, used, own, branch}
+use Rattle.row_rules.specs.Vals.{Val, contents, read, value, is_ref, result, member_of, known_skeleton, member_skel, sum_of, binary_of, prefix_of, used_by_role, used_some, used, own, branch}
 use Rattle.row_rules.specs.Rows.{own_skel, next_of_struct, first_alone, by_role, by_first, initialised_at}
 use Rattle.row_steps.specs.State.{Operand, expression, named_type, Braces, whole, untargeted, listed, first_operand, val_of_operand, first_braces}
 use Rattle.row_steps.specs.Steps.{item_target, target_in, list_of, with_member, with_index, with_item, initialised_by}

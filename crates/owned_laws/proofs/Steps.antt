@@ -1,5 +1,5 @@
 -- Each op of a tape whose look-ups stay in the function around keeps its stacks in it, and its constraints fit.
-use Rattle.std.proofs.Common.{◌≡◌, inl, inr, ℕ, suc, ◌+◌, Bool, true, false, List, [], ◌∷◌, drop, Option, None, Some, refl, subst, sym}
+use Rattle.std.proofs.Common.{◌≡◌, inl, inr, ℕ, suc, ◌+◌, Bool, true, false, List, [], ◌∷◌, drop, Option, None, Some, refl, subst, sym, ap, ◌∙◌}
 use Rattle.std.specs.Prelude.{take, if◌then◌else◌}
 use Rattle.qual_base.specs.declared.places.Span.{Span}
 use Rattle.tape_ops.specs.declared.op.Op.{Op}
@@ -22,18 +22,20 @@ use Rattle.name_rules.specs.Spellings.{Place}
 use Rattle.name_rules.specs.Scopes.{Role, typedef_role, object_role, function_role, parameter_role, field_role, enumerator_role, Declared, declared_at, Use, means, called, missing}
 use Rattle.name_rules.specs.Uses.{use_at}
 use Rattle.shape_steps.specs.State.{declared_last, without_innermost}
-use Rattle.row_rules.specs.Worlds.{World, at, all_lattices, span}
+use Rattle.row_rules.specs.Starting.{Start}
+use Rattle.row_rules.specs.Worlds.{World, at, all_lattices, skeleton, span, word_span}
+use Rattle.row_rules.specs.Forming.{formed}
 use Rattle.row_rules.specs.Annotations.{parameters, further}
 use Rattle.row_rules.specs.Vals.{contents, is_ref, own}
 use Rattle.row_rules.specs.Vals as vals
-use Rattle.row_rules.specs.Rows.{instance, some_instance, use_demand, annotating_some, annotating_place, name_row, declared_row, some_declared_row, param_row, row_at}
+use Rattle.row_rules.specs.Rows.{crossed, formed_here, instance, some_instance, use_demand, annotating_some, annotating_place, name_row, declared_row, some_declared_row, param_row, row_at}
 use Rattle.row_steps.specs.Rounds.{Naming, a_name, own_param, other_param, naming, is_quiet, Rounds, round_step, stmt_round}
 use Rattle.row_steps.specs.State.{Operand, Braces, State, nothing, first_operand, val_of_operand, is_zero_operand, type_of_operand, val_at, value_at, is_zero_at, type_at, operand_put, dropped, depth_below, operands_below, operands_within, first_braces}
 use Rattle.row_steps.specs.Steps.{target_in, with_member, with_index, with_item, initialised_by, expr_step, form_step, init_step, spec_step, declr_step, stmt_step, step}
-use Rattle.row_steps.specs.OpRows.{function_skeleton, some_param_row, naming_row, into_target, called_at, expr_row, form_row, init_row, declr_row, stmt_row, loud_row, op_row}
+use Rattle.row_steps.specs.OpRows.{function_skeleton, some_param_row, naming_row, into_target, called_at, expr_row, form_row, init_row, spec_row, declr_row, stmt_row, loud_row, op_row}
 use Rattle.row_steps.specs.Found.{rows_found}
-use Rattle.owner_laws.specs.Fitting.{AllFit}
-use Rattle.owner_laws.specs.Rows.{RowsOf}
+use Rattle.owner_laws.specs.Fitting.{AllFit, start_at}
+use Rattle.owner_laws.specs.Rows.{MembersInside, RowsOf}
 use Rattle.owned_laws.specs.Around.{MeantFits, SomeMeantFits, UseFits, DeclaredFits, ParamFits, FunctionFits, NamingFits, ExprFits, FormFits, InitOpFits, DeclrFits, StmtFits, OpFits}
 use Rattle.owned_laws.specs.Tapes.{OpsFit}
 use Rattle.owned_laws.proofs.Opening.{form_body, spec_body, declr_body}
@@ -246,10 +248,33 @@ module _ (k : Setting) where
   rows : RowsOf (sys k) (owner k) w
   rows = k.law.rows (sys k) (owner k) w
 
+  -- what passes inside a skeleton that begins anywhere
+
+  members_inside : MembersInside (sys k) w
+  members_inside n i it e = skeleton_in (record k { function = None }) it.at (k.settled.members.own n i it e)
+
+  forms_in : (p : Place) (where_ : Span) → (o : Option Start) → start_at k.starts p ≡ o → AllFit (sys k) (formed w where_ (skeleton w p))
+  forms_in p where_ None e =
+      rows.form (skeleton w p) where_ members_inside (skeleton_in k p (λ it is. let clash : None ≡ Some it = sym e ∙ is in absurd cc))
+  forms_in p where_ (Some start) e =
+      let there : Setting = record k { function = start.owner } in
+      (k.law.rows (sys k) (owner there) w).form (skeleton w p) where_ members_inside
+      (skeleton_in there p (λ it is. let same : Some start ≡ Some it = sym e ∙ is in inr (ap (λ (s : Start). s.owner) (some_is start it same))))
+    where
+      some_is : (one other : Start) → Some one ≡ Some other → other ≡ one
+      some_is one other is = cc
+
+  form_at : (p : Place) (where_ : Span) → AllFit (sys k) (formed w where_ (skeleton w p))
+  form_at p where_ = forms_in p where_ (start_at k.starts p) refl
+
+  form_here : (token : ℕ) → AllFit (sys k) (formed_here w token)
+  form_here token = form_at (at w token) (span w token token)
+
   role_row : (token : ℕ) (d : Declared) (role : Role) → MeantFits w k.starts k.function false token d role →
       AllFit (sys k) (instance w token d.at role)
   role_row token d function_role h =
-      k.law.instances k.functions k.starts k.constraints w token d.at k.settled.sites_differ k.settled.knows (h.1 refl)
+      k.law.lists (sys k) (formed_here w token) (crossed w token d.at) (form_here token)
+      (k.law.instances k.functions k.starts k.constraints w token d.at k.settled.sites_differ k.settled.knows (h.1 refl))
   role_row token d typedef_role h = tt
   role_row token d object_role h = tt
   role_row token d (parameter_role i) h = tt
@@ -264,7 +289,7 @@ module _ (k : Setting) where
   use_row : (token : ℕ) (use_ : Use) → UseFits w k.starts k.function false token use_ →
       AllFit (sys k) (use_demand w token use_)
   use_row token (means p) h = some_meant_row token (declared_at w.names.declared p) h
-  use_row token called h = tt
+  use_row token called h = form_here token
   use_row token missing h = tt
 
   annotating_some_fits : (t : Option CType) (s : Skel) → AllFit (sys k) (annotating_some w t s)
@@ -290,6 +315,7 @@ module _ (k : Setting) where
   expr_fits st (exprs.Cond has_middle token first last) loud h fit =
       rows.condition (is_zero_at 1 st) (is_zero_at 0 st) (value_at 1 st) (value_at 0 st) (own w token)
       (span w first last) (value_at_in 1 st h) (value_at_in 0 st h) (own_in k token fit)
+      (form_at (at w token) (span w first last))
   expr_fits st (exprs.Binary sign token first last) loud h fit =
       rows.operator sign (is_zero_at 1 st) (is_zero_at 0 st) (value_at 1 st) (value_at 0 st) (own w token)
       (span w first last) (value_at_in 1 st h) (value_at_in 0 st h) (own_in k token fit)
@@ -307,17 +333,19 @@ module _ (k : Setting) where
       (span w first last) (value_at_in behind st h)
       (arg_in f st.passed inside (param_at (parameters f) st.passed) refl) (further_in k f inside)
   expr_fits st (exprs.Arrow token first last) loud h fit = rows.dereference (value_at 0 st) (span w first last)
+  expr_fits st (exprs.Text token) loud h fit = form_here token
   expr_fits st op loud h fit = tt
 
   form_fits : (st : State) (op : FormOp) → StacksIn k st → BodyFits st.rounds →
       FormFits w k.starts k.function op → AllFit (sys k) (form_row w st op)
   form_fits st (forms.Cast token last) h b fit =
       rows.cast (type_at 1 st) (is_zero_at 0 st) (value_at 0 st) (own w token) (span w token last)
-      (value_at_in 0 st h) (own_in k token fit)
+      (value_at_in 0 st h) (own_in k token fit) (form_at (at w token) (span w token last))
   form_fits st (forms.VaArg token last) h b fit =
-      k.law.lists (sys k) (annotating_some w (type_at 0 st) (own w token)) _
+      k.law.lists (sys k) (formed w (span w token last) (own w token)) _ (form_at (at w token) (span w token last))
+      (k.law.lists (sys k) (annotating_some w (type_at 0 st) (own w token)) _
       (annotating_some_fits (type_at 0 st) (own w token))
-      (rows.next_of_list (value_at 1 st) (own w token) (span w token last) (value_at_in 1 st h) (own_in k token fit))
+      (rows.next_of_list (value_at 1 st) (own w token) (span w token last) (value_at_in 1 st h) (own_in k token fit)))
   form_fits st (forms.VaStart token last) h b fit =
       rows.start_of_list (function_skeleton w st.rounds.body) (value_at 1 st) (span w token last)
       (function_in k st.rounds.body b) (value_at_in 1 st h)
@@ -338,7 +366,8 @@ module _ (k : Setting) where
       target_fits (initialised_by w (declared_last st.declarations)) (first_operand st.operands) (span w first last)
       (initialised_in k (declared_last st.declarations) fit) (first_value_in k st.operands h.operands)
   init_fits st (inits.Literal token) h fit =
-      annotating_place_fits (type_of_operand (first_operand (operands_below st))) (own w token)
+      k.law.lists (sys k) (formed_here w token) (annotating_place w (type_of_operand (first_operand (operands_below st))) (own w token))
+      (form_here token) (annotating_place_fits (type_of_operand (first_operand (operands_below st))) (own w token))
   init_fits st (inits.Leaf first last) h fit =
       target_fits (target_in w (first_braces st.braces)) (first_operand st.leaves) (span w first last)
       (target_in_in k (first_braces st.braces) (first_braces_in k st.braces h.braces))
@@ -350,7 +379,7 @@ module _ (k : Setting) where
   name_fits : (d : Declared) (g : Option Place) → Begins (record k { function = g }) d.first →
       Begins (record k { function = g }) d.at → AllFit (sys k) (name_row w d)
   name_fits d g first here =
-      (k.law.rows (sys k) (owner (record k { function = g })) w).name d
+      (k.law.rows (sys k) (owner (record k { function = g })) w).name d (form_at d.at (word_span d.at))
       (skeleton_in (record k { function = g }) d.first first) (skeleton_in (record k { function = g }) d.at here)
 
   declared_fits : (d : Declared) (role : Role) → AllFit (sys k) (name_row w d) →
@@ -369,8 +398,8 @@ module _ (k : Setting) where
   param_fits : (f : Skel) (n : ℕ) (d : Option Declared) → In k f → ParamFits w k.starts k.function d →
       AllFit (sys k) (param_row w f n d)
   param_fits f n None h l = tt
-  param_fits f n (Some d) h (inl e) = rows.parameter f n d h (inl e)
-  param_fits f n (Some d) h (inr l) = rows.parameter f n d h (inr (skeleton_in k d.at l))
+  param_fits f n (Some d) h (inl e) = rows.parameter f n d (form_at d.at (word_span d.at)) h (inl e)
+  param_fits f n (Some d) h (inr l) = rows.parameter f n d (form_at d.at (word_span d.at)) h (inr (skeleton_in k d.at l))
 
   some_param_fits : (f : Option Skel) (n token : ℕ) → SomeSkelIn k f →
       ParamFits w k.starts k.function (declared_at w.names.declared (at w token)) →
@@ -384,6 +413,10 @@ module _ (k : Setting) where
   naming_fits token (own_param g n) h =
       some_param_fits (function_skeleton w g) n token (function_in k g h.0) h.1
   naming_fits token other_param h = tt
+
+  spec_fits : (op : SpecOp) → AllFit (sys k) (spec_row w op)
+  spec_fits (specs.UnnamedMember token) = form_here token
+  spec_fits op = tt
 
   declr_fits : (st : State) (op : DeclrOp) → DeclrFits w k.starts k.function st op →
       AllFit (sys k) (declr_row w st op)
@@ -401,7 +434,7 @@ module _ (k : Setting) where
   loud_fits st (ops.Expr op) loud h b fit = expr_fits st op loud h fit
   loud_fits st (ops.Form op) loud h b fit = form_fits st op h b fit
   loud_fits st (ops.Init op) loud h b fit = init_fits st op h fit
-  loud_fits st (ops.Spec op) loud h b fit = tt
+  loud_fits st (ops.Spec op) loud h b fit = spec_fits op
   loud_fits st (ops.Declr op) loud h b fit = declr_fits st op fit
   loud_fits st (ops.Stmt op) loud h b fit = stmt_fits st op h b
 

@@ -6,11 +6,11 @@ use Rattle.flow_graph.specs.declared.constraint.Site.{Site}
 use Rattle.qual_types.specs.Skel.{Skel}
 use Rattle.flow_rules.specs.Lists.{cross}
 use Rattle.name_rules.specs.Spellings.{Place}
-use Rattle.name_rules.specs.Scopes.{is_place, function_role}
+use Rattle.name_rules.specs.Scopes.{is_place}
 use Rattle.row_rules.specs.Starting.{Start}
 use Rattle.row_rules.specs.Worlds.{World, Numbered, at, span, all_lattices, numbered_from, number_among, skeleton_among, constraints}
 use Rattle.row_rules.specs.Sites.{owner_by, site_places}
-use Rattle.row_rules.specs.Rows.{instance}
+use Rattle.row_rules.specs.Rows.{crossed}
 use Rattle.owner_laws.specs.Laws.{skeleton_of, Leads, CallsLead}
 use Rattle.owner_laws.specs.Fitting.{AllFit, start_at}
 use Rattle.owner_laws.specs.Rows.{system_with, KnowsStarts, InstancesFit}
@@ -27,7 +27,7 @@ begins_at (head ∷ starts) p start e = by (is_place head.at p) (place_is head.a
     by true is e more = let same : head ≡ start = cc in subst (λ (it : Start). it.at ≡ p) same (is refl)
     by false is e more = more e
 
--- the flows of an instance, by the place that its token has
+-- the flows of an by the place that its token has
 crossing : (functions : List Place) (starts : List Start) (cs : List Constraint) (w : World) (token : ℕ) (f : Place)
     (it of : Numbered) → it.start.at ≡ at w token → Leads functions starts it of f →
     AllFit (system_with functions starts cs)
@@ -56,7 +56,7 @@ known : (functions : List Place) (starts : List Start) (cs : List Constraint) (w
     (constraints (all_lattices w) (span w token token)
     (cross (number_among 0 (site_places starts) (at w token)) (skeleton_among (numbered_from 0 starts) f)
     (skeleton_among (numbered_from 0 starts) (at w token)))) →
-    AllFit (system_with functions starts cs) (instance w token f function_role)
+    AllFit (system_with functions starts cs) (crossed w token f)
 known functions starts cs w token f knows h =
     subst (λ (all : List Numbered). AllFit (system_with functions starts cs)
     (constraints (all_lattices w) (span w token token)

@@ -1,9 +1,10 @@
 -- The constraints of each form fit where the skeletons of its parts belong to one owner or to nobody.
 use Rattle.std.proofs.Common.{◌≡◌, ◌⊎◌, inl, inr, ℕ, suc, Bool, true, false, List, [], ◌∷◌, ◌++◌, Option, None, Some, refl}
-use Rattle.std.specs.Prelude.{◌&&◌, ◌||◌, ◌^◌, nat_eq, if◌then◌else◌}
+use Rattle.std.specs.Prelude.{◌&&◌, ◌||◌, ◌^◌, nat_eq, slice_get, if◌then◌else◌}
 use Rattle.c_words.specs.declared.kinds.Punct.{Punct}
 use Rattle.c_words.specs.declared.kinds.Punct.TheVariants as signs
 use Rattle.qual_base.specs.declared.places.Owner.{Owner}
+use Rattle.qual_base.specs.declared.places.Owner.TheVariants.{Nobody}
 use Rattle.qual_base.specs.declared.places.Span.{Span}
 use Rattle.lattice_core.specs.declared.Entry.{Entry}
 use Rattle.lattice_core.specs.declared.Sign.{Sign}
@@ -14,21 +15,23 @@ use Rattle.flow_graph.specs.declared.constraint.Constraint.{Constraint}
 use Rattle.flow_graph.specs.System.{System, owner_of}
 use Rattle.type_table.specs.Types.{CType, pointer}
 use Rattle.qual_types.specs.declared.look.Kind.TheVariants as kinds
-use Rattle.qual_types.specs.Skel.{Skel, nodes, root, flat, ref, fun, all_nodes, param_at}
+use Rattle.qual_types.specs.Skel.{Skel, Skels, nodes, root, flat, ref, fun, no_skels, more_skels, all_nodes, of_some, param_at}
 use Rattle.flow_rules.specs.declared.arrow.Arrow.TheVariants.{Flow}
 use Rattle.flow_rules.specs.Lists.{flow, smash, unsmash, equal}
 use Rattle.flow_rules.specs.Owners.{IsIn, AllIn, AllStay}
+use Rattle.name_rules.specs.Values.{own_of}
 use Rattle.row_rules.specs.Starting.{is_some_function}
+use Rattle.row_rules.specs.Forming.{Ways, ways_in, in_some, pointing, into_member, into_members, formed_in, all_formed_in, formed}
 use Rattle.row_rules.specs.Worlds.{World, all_lattices, constraint, constraints, word_span, skeleton}
 use Rattle.row_rules.specs.Annotations.{Annotation, entry_at, signed, links_of_entry, alone, marked, annotation_constraints, annotated, annotating, bounds_of, bounds_from, write_bounds, deref_bounds, uncut, parameters}
 use Rattle.row_rules.specs.Vals.{Val, contents, is_empty, is_fun, is_nothing, is_ref, result, value, read}
-use Rattle.row_rules.specs.Rows.{flowing, dereferenced, is_plus_or_minus, assigned, is_logical, prefixed, passed, cast_demand, returned, annotating_name, name_row, into_param, param_row, started, taken, tied_to_first}
+use Rattle.row_rules.specs.Rows.{flowing, dereferenced, is_plus_or_minus, assigned, is_logical, prefixed, passed, cast_demand, returned, annotating_name, branched, casting, formed_name, plain_name_row, plain_param_row, name_row, into_param, param_row, started, taken, tied_to_first}
 use Rattle.row_rules.specs.Indexing.{indexing}
 use Rattle.name_rules.specs.Values.{is_additive}
-use Rattle.name_rules.specs.Scopes.{Declared, declared_at, is_place}
+use Rattle.name_rules.specs.Scopes.{Declared, Own, declared_at, is_place}
 use Rattle.owner_laws.specs.Fitting.{AllFit}
-use Rattle.owner_laws.specs.Rows.{Inside, SomeInside, SomeIn, PartsInside, AllPartsInside, RowsFit}
-use Rattle.owner_laws.proofs.Fitting.{lists_fit, staying_fits, parts_stay, back}
+use Rattle.owner_laws.specs.Rows.{Inside, SomeInside, SomeIn, PartsInside, AllPartsInside, MembersInside, RowsFit}
+use Rattle.owner_laws.proofs.Fitting.{lists_fit, staying_fits, parts_stay, front, back}
 use Rattle.owner_laws.proofs.Indexing.{indexing_fits, root_in}
 
 -- the laws of flow lists that rows stand on
@@ -173,6 +176,70 @@ module _ (law : Flows) (sys : System) (owner : Owner) (w : World) where
       (flowing_fits zero b (contents a) (all_lattices w) where_ k
       (parts_inside sys owner a h).contents_in))
 
+  -- what passes inside a skeleton
+
+  nobodys_in : (v : ℕ) → IsIn (owner_of sys) Nobody v → IsIn (owner_of sys) owner v
+  nobodys_in v (inl e) = inr e
+  nobodys_in v (inr e) = inr e
+
+  some_fit : (lattices : ℕ) (where_ : Span) (u v : ℕ) → IsIn (owner_of sys) owner u → IsIn (owner_of sys) owner v →
+      AllFit sys (in_some lattices where_ (Le u v))
+  some_fit lattices where_ u v h k =
+      none_where sys (nat_eq lattices 0) (constraint lattices where_ (Le u v) ∷ []) (record { owner = owner; from = h; to = k }, tt)
+
+  into_member_fits : (ways : Ways) (where_ : Span) (n : ℕ) (s : Skel) → IsIn (owner_of sys) owner n → Inside sys Nobody s →
+      AllFit sys (into_member ways where_ n s)
+  into_member_fits ways where_ n s h (inl e) = none_or sys (is_nothing s) (in_some ways.field where_ (Le n (root (contents s)))) (inl e)
+  into_member_fits ways where_ n s h (inr k) =
+      none_where sys (is_nothing s) (in_some ways.field where_ (Le n (root (contents s))))
+      (some_fit ways.field where_ n (root (contents s)) h (nobodys_in (root (contents s))
+      (root_in (owner_of sys) Nobody (contents s) (parts_stay (owner_of sys) Nobody s k).contents_in)))
+
+  into_members_fit : (ways : Ways) (where_ : Span) (n : ℕ) (own : List Own) → IsIn (owner_of sys) owner n →
+      ((i : ℕ) (it : Own) → slice_get own i ≡ Some it → Inside sys Nobody (skeleton w it.at)) →
+      AllFit sys (into_members ways w.skeletons where_ n own)
+  into_members_fit ways where_ n [] h k = tt
+  into_members_fit ways where_ n (it ∷ own) h k =
+      lists_fit sys (into_member ways where_ n (skeleton w it.at)) (into_members ways w.skeletons where_ n own)
+      (into_member_fits ways where_ n (skeleton w it.at) h (k 0 it refl))
+      (into_members_fit ways where_ n own h (λ i. k (suc i)))
+
+  mutual
+    formed_in_fits : (ways : Ways) (where_ : Span) (s : Skel) → MembersInside sys w → AllIn (owner_of sys) owner (nodes s) →
+        AllFit sys (formed_in ways w.skeletons w.names.aggregates where_ s)
+    formed_in_fits ways where_ (flat v (kinds.Struct n)) m h = into_members_fit ways where_ v (own_of w.names.aggregates n) h.0 (m n)
+    formed_in_fits ways where_ (flat v kinds.Base) m h = tt
+    formed_in_fits ways where_ (flat v kinds.Void) m h = tt
+    formed_in_fits ways where_ (flat v kinds.Nothing) m h = tt
+    formed_in_fits ways where_ (ref v s) m h =
+        let inside = root_in (owner_of sys) owner s h.1 in
+        lists_fit sys (pointing ways where_ v (root s)) (formed_in ways w.skeletons w.names.aggregates where_ s)
+        (lists_fit sys (in_some ways.up where_ (Le (root s) v)) (in_some ways.down where_ (Le v (root s)))
+        (some_fit ways.up where_ (root s) v inside h.0) (some_fit ways.down where_ v (root s) h.0 inside))
+        (formed_in_fits ways where_ s m h.1)
+    formed_in_fits ways where_ (fun v ps r e) m h =
+        lists_fit sys (all_formed_in ways w.skeletons w.names.aggregates where_ ps) (formed_in ways w.skeletons w.names.aggregates where_ r)
+        (all_formed_in_fit ways where_ ps m (front (owner_of sys) owner (all_nodes ps) (nodes r ++ of_some e) h.1))
+        (formed_in_fits ways where_ r m
+        (front (owner_of sys) owner (nodes r) (of_some e) (back (owner_of sys) owner (all_nodes ps) (nodes r ++ of_some e) h.1)))
+
+    all_formed_in_fit : (ways : Ways) (where_ : Span) (ps : Skels) → MembersInside sys w →
+        AllIn (owner_of sys) owner (all_nodes ps) → AllFit sys (all_formed_in ways w.skeletons w.names.aggregates where_ ps)
+    all_formed_in_fit ways where_ no_skels m h = tt
+    all_formed_in_fit ways where_ (more_skels s ss) m h =
+        lists_fit sys (formed_in ways w.skeletons w.names.aggregates where_ s) (all_formed_in ways w.skeletons w.names.aggregates where_ ss)
+        (formed_in_fits ways where_ s m (front (owner_of sys) owner (nodes s) (all_nodes ss) h))
+        (all_formed_in_fit ways where_ ss m (back (owner_of sys) owner (nodes s) (all_nodes ss) h))
+
+  form_fits : (s : Skel) (where_ : Span) → MembersInside sys w → Inside sys owner s → AllFit sys (formed w where_ s)
+  form_fits (flat v kinds.Nothing) where_ m (inl e) = tt
+  form_fits (flat v kinds.Void) where_ m (inl e) = tt
+  form_fits (flat v kinds.Base) where_ m (inl e) = tt
+  form_fits (flat v (kinds.Struct n)) where_ m (inl e) = absurd cc
+  form_fits (ref v s) where_ m (inl e) = absurd cc
+  form_fits (fun v ps r e) where_ m (inl is) = absurd cc
+  form_fits s where_ m (inr h) = formed_in_fits (ways_in w.lattices) where_ s m h
+
   both_flow : (first last : Bool) (a b t : Skel) (where_ : Span) → Inside sys owner a → Inside sys owner b →
       Inside sys owner t →
       AllFit sys (flowing first a t (all_lattices w) where_ ++ flowing last b t (all_lattices w) where_)
@@ -213,12 +280,13 @@ module _ (law : Flows) (sys : System) (owner : Owner) (w : World) where
       flowing_fits zero a (result f) (all_lattices w) where_ k (parts_inside sys owner f h).result_in
 
   cast_fits : (t : Option CType) (zero : Bool) (a s : Skel) (where_ : Span) → Inside sys owner a →
-      Inside sys owner s → AllFit sys (cast_demand w t zero a s where_)
-  cast_fits None zero a s where_ h k = tt
-  cast_fits (Some t) zero a s where_ h k =
-      lists_fit sys (annotating w t s) _ (annotations_fit sys w (annotated w t s))
+      Inside sys owner s → AllFit sys (formed w where_ s) → AllFit sys (cast_demand w t zero a s where_)
+  cast_fits None zero a s where_ h k f = tt
+  cast_fits (Some t) zero a s where_ h k f =
+      lists_fit sys (formed w where_ s) (casting w t zero a s where_) f
+      (lists_fit sys (annotating w t s) _ (annotations_fit sys w (annotated w t s))
       (none_where sys (nat_eq (uncut w t) 0) (flowing zero a s (uncut w t) where_)
-      (flowing_fits zero a s (uncut w t) where_ h k))
+      (flowing_fits zero a s (uncut w t) where_ h k)))
 
   -- names
 
@@ -251,12 +319,13 @@ module _ (law : Flows) (sys : System) (owner : Owner) (w : World) where
           (equal Flow true (skeleton w d.first) (skeleton w d.at))
           (law.made_equal (owner_of sys) owner (skeleton w d.first) (skeleton w d.at) h k))
 
-  name_fits : (d : Declared) → Inside sys owner (skeleton w d.first) → Inside sys owner (skeleton w d.at) →
-      AllFit sys (name_row w d)
-  name_fits d h k =
-      lists_fit sys (annotating_name w d) _ (annotations_fit sys w (annotated w (pointer [] d.type) (skeleton w d.at)))
+  name_fits : (d : Declared) → AllFit sys (formed_name w d) → Inside sys owner (skeleton w d.first) →
+      Inside sys owner (skeleton w d.at) → AllFit sys (name_row w d)
+  name_fits d f h k =
+      lists_fit sys (formed_name w d) (plain_name_row w d) f
+      (lists_fit sys (annotating_name w d) _ (annotations_fit sys w (annotated w (pointer [] d.type) (skeleton w d.at)))
       (lists_fit sys (indexing w (pointer [] d.type) (skeleton w d.at)) (tied_to_first w d)
-      (indexed_fit (pointer [] d.type) (skeleton w d.at) k) (tied_fit d h k))
+      (indexed_fit (pointer [] d.type) (skeleton w d.at) k) (tied_fit d h k)))
 
   abbrev HasPlace : Declared → Type 0
   HasPlace d = (is_some_function (declared_at w.names.declared d.first) ≡ true) ⊎ Inside sys owner (skeleton w d.at)
@@ -292,12 +361,13 @@ module _ (law : Flows) (sys : System) (owner : Owner) (w : World) where
   params_in (fun v ps r o) n (inl is) s e = absurd cc
   params_in (fun v ps r o) n (inr h) s e = (parts_stay (owner_of sys) owner (fun v ps r o) h).param_in n s e
 
-  param_fits : (f : Skel) (n : ℕ) (d : Declared) → Inside sys owner f → HasPlace d →
+  param_fits : (f : Skel) (n : ℕ) (d : Declared) → AllFit sys (formed_name w d) → Inside sys owner f → HasPlace d →
       AllFit sys (param_row w f n (Some d))
-  param_fits f n d h k =
-      lists_fit sys (annotating_name w d) (into_param w (param_at (parameters f) n) d)
+  param_fits f n d formed_fits h k =
+      lists_fit sys (formed_name w d) (plain_param_row w f n d) formed_fits
+      (lists_fit sys (annotating_name w d) (into_param w (param_at (parameters f) n) d)
       (annotations_fit sys w (annotated w (pointer [] d.type) (skeleton w d.at)))
-      (into_param_fits (param_at (parameters f) n) d (params_in f n h) k)
+      (into_param_fits (param_at (parameters f) n) d (params_in f n h) k))
 
   -- further arguments
 
@@ -343,13 +413,16 @@ rows_fit law sys owner w = record {
   operator = λ p first last a b t where_ h k l.
       none_where sys (is_logical p || (is_additive p && (is_ref a || is_ref b))) _
       (both_flow law sys owner w first last a b t where_ h k l);
-  condition = λ first last a b t where_ h k l.
-      none_where sys (first || last) _ (both_flow law sys owner w false false a b t where_ h k l);
+  condition = λ first last a b t where_ h k l f.
+      none_where sys (first || last) _
+      (lists_fit sys (formed w where_ t) (branched w a b t where_) f
+      (both_flow law sys owner w false false a b t where_ h k l));
   prefix = prefixed_fits law sys owner w;
   argument = passed_fits law sys owner w;
   cast = cast_fits law sys owner w;
   returning = returned_fits law sys owner w;
   flow_into = flowing_fits law sys owner w;
+  form = form_fits law sys owner w;
   name = name_fits law sys owner w;
   parameter = param_fits law sys owner w;
   start_of_list = started_fits law sys owner w;

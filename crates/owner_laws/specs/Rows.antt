@@ -1,7 +1,8 @@
 -- The constraints of each form fit where the skeletons of its parts belong to one owner or to nobody.
-use Rattle.std.specs.Prelude.{◌≡◌, ◌⊎◌, ℕ, Bool, true, List, Option, None, Some}
+use Rattle.std.specs.Prelude.{◌≡◌, ◌⊎◌, ℕ, Bool, true, List, slice_get, Option, None, Some}
 use Rattle.c_words.specs.declared.kinds.Punct.{Punct}
 use Rattle.qual_base.specs.declared.places.Owner.{Owner}
+use Rattle.qual_base.specs.declared.places.Owner.TheVariants.{Nobody}
 use Rattle.qual_base.specs.declared.places.Span.{Span}
 use Rattle.flow_graph.specs.declared.constraint.Constraint.{Constraint}
 use Rattle.flow_graph.specs.System.{System, owner_of}
@@ -9,13 +10,15 @@ use Rattle.type_table.specs.Types.{CType}
 use Rattle.qual_types.specs.Skel.{Skel, nodes, param_at}
 use Rattle.flow_rules.specs.Owners.{IsIn, AllIn}
 use Rattle.name_rules.specs.Spellings.{Place}
-use Rattle.name_rules.specs.Scopes.{function_role, Declared, declared_at}
+use Rattle.name_rules.specs.Scopes.{Declared, Own, declared_at}
+use Rattle.name_rules.specs.Values.{own_of}
 use Rattle.row_rules.specs.Starting.{Start, is_some_function}
 use Rattle.row_rules.specs.Worlds.{World, at, numbered_from, skeleton}
 use Rattle.row_rules.specs.Sites.{AreDifferent, owners_among, site_places, sites_among}
 use Rattle.row_rules.specs.Annotations.{annotating, parameters, write_bounds}
 use Rattle.row_rules.specs.Vals.{Val, contents, is_nothing, read, result}
-use Rattle.row_rules.specs.Rows.{dereferenced, assigned, computed, chosen, prefixed, passed, instance, cast_demand, returned, flowing, name_row, param_row, started, taken}
+use Rattle.row_rules.specs.Forming.{formed}
+use Rattle.row_rules.specs.Rows.{dereferenced, assigned, computed, chosen, prefixed, passed, crossed, cast_demand, returned, flowing, formed_name, name_row, param_row, started, taken}
 use Rattle.owner_laws.specs.Fitting.{AllFit, start_at}
 
 -- it is no skeleton, or all of its variables belong to the owner or to nobody
@@ -40,6 +43,11 @@ abbrev pub SomeIn : System → Owner → Option ℕ → Type 0
 SomeIn sys owner None = Unit {0}
 SomeIn sys owner (Some v) = IsIn (owner_of sys) owner v
 
+-- the skeletons of the own members of structs belong to nobody
+abbrev pub MembersInside : System → World → Type 0
+MembersInside sys w =
+    (n i : ℕ) (it : Own) → slice_get (own_of w.names.aggregates n) i ≡ Some it → Inside sys Nobody (skeleton w it.at)
+
 pub record RowsOf (sys : System) (owner : Owner) (w : World) : Type 0 where
   pub annotations : (t : CType) (s : Skel) → AllFit sys (annotating w t s)
   pub writes : (v : ℕ) (where_ : Span) → AllFit sys (write_bounds w v where_)
@@ -49,20 +57,21 @@ pub record RowsOf (sys : System) (owner : Owner) (w : World) : Type 0 where
   pub operator : (p : Punct) (first last : Bool) (a b t : Skel) (where_ : Span) → Inside sys owner a →
       Inside sys owner b → Inside sys owner t → AllFit sys (computed w p first last a b t where_)
   pub condition : (first last : Bool) (a b t : Skel) (where_ : Span) → Inside sys owner a → Inside sys owner b →
-      Inside sys owner t → AllFit sys (chosen w first last a b t where_)
+      Inside sys owner t → AllFit sys (formed w where_ t) → AllFit sys (chosen w first last a b t where_)
   pub prefix : (p : Punct) (zero : Bool) (e : Val) (t : Skel) (where_ : Span) → Inside sys owner e.skel →
       Inside sys owner t → AllFit sys (prefixed w p zero e t where_)
   pub argument : (zero : Bool) (a : Skel) (t : Option Skel) (e : Option ℕ) (where_ : Span) → Inside sys owner a →
       SomeInside sys owner t → SomeIn sys owner e → AllFit sys (passed w zero a t e where_)
   pub cast : (t : Option CType) (zero : Bool) (a s : Skel) (where_ : Span) → Inside sys owner a →
-      Inside sys owner s → AllFit sys (cast_demand w t zero a s where_)
+      Inside sys owner s → AllFit sys (formed w where_ s) → AllFit sys (cast_demand w t zero a s where_)
   pub returning : (f : Option Skel) (zero : Bool) (a : Skel) (where_ : Span) → SomeInside sys owner f →
       Inside sys owner a → AllFit sys (returned w f zero a where_)
   pub flow_into : (zero : Bool) (a t : Skel) (lattices : ℕ) (where_ : Span) → Inside sys owner a →
       Inside sys owner t → AllFit sys (flowing zero a t lattices where_)
-  pub name : (d : Declared) → Inside sys owner (skeleton w d.first) → Inside sys owner (skeleton w d.at) →
+  pub form : (s : Skel) (where_ : Span) → MembersInside sys w → Inside sys owner s → AllFit sys (formed w where_ s)
+  pub name : (d : Declared) → AllFit sys (formed_name w d) → Inside sys owner (skeleton w d.first) → Inside sys owner (skeleton w d.at) →
       AllFit sys (name_row w d)
-  pub parameter : (f : Skel) (n : ℕ) (d : Declared) → Inside sys owner f →
+  pub parameter : (f : Skel) (n : ℕ) (d : Declared) → AllFit sys (formed_name w d) → Inside sys owner f →
       (is_some_function (declared_at w.names.declared d.first) ≡ true) ⊎ Inside sys owner (skeleton w d.at) →
       AllFit sys (param_row w f n (Some d))
   pub start_of_list : (f : Option Skel) (list : Skel) (where_ : Span) → SomeInside sys owner f →
@@ -99,4 +108,4 @@ abbrev pub InstancesFit : Type 0
 InstancesFit =
     (functions : List Place) (starts : List Start) (cs : List Constraint) (w : World) (token : ℕ) (f : Place)
     → AreDifferent (site_places starts) → KnowsStarts w starts → IsInstance w starts token f
-    → AllFit (system_with functions starts cs) (instance w token f function_role)
+    → AllFit (system_with functions starts cs) (crossed w token f)

@@ -47,6 +47,15 @@ ellipsis_of (flat v k) = None
 ellipsis_of (ref v s) = None
 ellipsis_of (fun v ps r e) = e
 
+-- the number of a struct
+abbrev pub struct_of : Skel → Option ℕ
+struct_of (flat v (Struct n)) = Some n
+struct_of (flat v Base) = None
+struct_of (flat v Void) = None
+struct_of (flat v Nothing) = None
+struct_of (ref v s) = None
+struct_of (fun v ps r e) = None
+
 abbrev pub param_at : Skels → ℕ → Option Skel
 param_at no_skels i = None
 param_at (more_skels p ps) zero = Some p

@@ -8,7 +8,7 @@ ghost use Rattle.type_table.specs.Types.{size};
 ghost use Rattle.type_table.specs.Rows.{type_of};
 ghost use Rattle.qual_types.specs.Positions.{view_of};
 ghost use Rattle.qual_types.specs.Skel.{root, inside_of, params_of, param_at, result_of};
-ghost use Rattle.qual_types.specs.Skel.{ellipsis_of, numbered, within};
+ghost use Rattle.qual_types.specs.Skel.{ellipsis_of, struct_of, numbered, within, flat};
 ghost use Rattle.qual_types.specs.Rows.{owner_set, owners_of, skel_of, params_from, seen_in};
 ghost use Rattle.qual_types.specs.Rows.{tree_seen, ellipsis_seen, next_seen};
 ghost use Rattle.qual_types.specs.Table.{owner_of, mark_of, looked, part_seen, IsVar, IsSomeVar};
@@ -20,7 +20,7 @@ use crate::growing::grow_skeleton;
 use crate::look::{Kind, Look};
 use crate::position::{Position, Step};
 use crate::row::{Node, Place, Row};
-use qual_base::{NoMemory, Numbered, Owner, SkelId, TokenId, TypeId, UnitNo, VarId};
+use qual_base::{NoMemory, Numbered, Owner, SkelId, StructId, TokenId, TypeId, UnitNo, VarId};
 use std::alloc::Global;
 use std::marker::Model;
 use type_table::TypeTable;
@@ -212,6 +212,17 @@ impl VarTable {
         }
     }
 
+    /// The number of a struct; none of a skeleton that is no struct. Constant time.
+    pub fn struct_of(&self, at: SkelId) -> Option<StructId>
+        ensures { result ≡ struct_of (skel_of self.now at) }
+    {
+        match self.look(at) {
+            Look::Flat(_, kind) => struct_in(kind),
+            Look::Ref(_, _) => None,
+            Look::Fun { .. } => None,
+        }
+    }
+
     /// A function's parameter of a number from 0. Linear in that number; all of them in turn are walked by `next_part`.
     pub fn param(&self, at: SkelId, i: u32) -> Option<SkelId>
         ensures { option_map (skel_of self.now) result
@@ -384,5 +395,17 @@ fn next_of_place(place: Place) -> Option<SkelId>
         Place::Inside { .. } => None,
         Place::Result { .. } => None,
         Place::Ellipsis { .. } => None,
+    }
+}
+
+/// The number of a struct, by what a constructor without parts is.
+fn struct_in(kind: Kind) -> Option<StructId>
+    ensures { (v : ℕ) → result ≡ struct_of (flat v kind) }
+{
+    match kind {
+        Kind::Struct(of) => Some(of),
+        Kind::Base => None,
+        Kind::Void => None,
+        Kind::Nothing => None,
     }
 }

@@ -1,3 +1,4 @@
+mod Behind
 mod Bounding
 mod Comparing
 mod Crossing
@@ -5,6 +6,7 @@ mod Cutting
 mod Gathering
 mod Lists
 mod Noding
+mod Passing
 mod Rowing
 mod Sorting
 mod Wording

@@ -1,4 +1,5 @@
 pub mod Adding
+pub mod Forming
 pub mod Indexing
 pub mod Kinds
 pub mod Nodes

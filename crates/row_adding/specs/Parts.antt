@@ -1,5 +1,5 @@
 -- Parts of rows.
-use Rattle.std.specs.Prelude.{ℕ, ◌^◌, nat_eq, Bool, true, ◌&&◌, ◌||◌, List, [], ◌∷◌, Option, None, Some, if◌then◌else◌}
+use Rattle.std.specs.Prelude.{ℕ, ◌^◌, nat_eq, Bool, true, ◌&&◌, ◌||◌, List, [], ◌∷◌, ◌++◌, Option, None, Some, if◌then◌else◌}
 use Rattle.c_words.specs.declared.kinds.Punct.{Punct}
 use Rattle.qual_base.specs.declared.places.Span.{Span}
 use Rattle.lattice_core.specs.declared.Entry.{Entry}
@@ -14,7 +14,8 @@ use Rattle.row_rules.specs.Worlds.{World, all_lattices, at, constraint, in_all, 
 use Rattle.type_table.specs.Types.{CType}
 use Rattle.row_rules.specs.Annotations.{uncut}
 use Rattle.row_rules.specs.Vals.{Val, is_nothing, is_ref, value}
-use Rattle.row_rules.specs.Rows.{is_plus_or_minus, is_logical, flowing}
+use Rattle.row_rules.specs.Forming.{formed}
+use Rattle.row_rules.specs.Rows.{is_plus_or_minus, is_logical, flowing, formed_here, branched}
 use Rattle.row_adding.specs.declared.bounds.Attribute.{Attribute}
 use Rattle.row_adding.specs.declared.bounds.Attribute.TheVariants as attributes
 
@@ -36,6 +37,14 @@ bound_by test v where_ lattice n entry = if test entry then constraint (2 ^ latt
 -- the signature of the function of a place, crossed with the instance at a token
 abbrev pub instance_row : World → ℕ → Place → List Constraint
 instance_row w token p = in_all w (span w token token) (cross (site_number w (at w token)) (skeleton w p) (skeleton w (at w token)))
+
+-- what a condition gives that has a fresh value
+abbrev pub chosen_row : World → Skel → Skel → Skel → Span → List Constraint
+chosen_row w a b t where_ = formed w where_ t ++ branched w a b t where_
+
+-- with what passes inside the instance before it
+abbrev pub function_instance : World → ℕ → Place → List Constraint
+function_instance w token p = formed_here w token ++ instance_row w token p
 
 -- an operand flows into what it initialises
 abbrev pub into_some : World → Option Skel → Bool → Val → Span → List Constraint

@@ -14,6 +14,7 @@ ghost use Rattle.row_adding.specs.Parts.{cast_row};
 use crate::annotating::annotate;
 use crate::bounds::alone;
 use crate::flows::flowing;
+use crate::forming::form;
 use flow_graph::{FlowGraph, GraphFault};
 use name_scopes::Place;
 use qual_base::{LatticeNo, SkelId, Span, TypeId};
@@ -148,7 +149,29 @@ fn flow_uncut(
     flowing(known.vars, graph, is_zero, operand, own, lattices, span)
 }
 
-/// A cast to a type: its annotations, and the operand flows in the lattices of which it has no word.
+/// The annotations of the type of a cast, and the operand flows in the lattices of which it has no word.
+fn casting(
+    alloc: Global,
+    known: &Known,
+    graph: &mut FlowGraph,
+    ty: TypeId,
+    is_zero: bool,
+    operand: SkelId,
+    own: SkelId,
+    span: &Span,
+) -> Result<(), GraphFault>
+    ensures ok { OnOk result (Adds known.now graph.old graph.new (λ w. rows.casting w
+        (type known.now ty) is_zero (skel known.now operand) (skel known.now own) span.now)) }
+    ensures err { IfErr result (λ fault. Halts known.now graph.old graph.new fault (λ w.
+        rows.casting w (type known.now ty) is_zero (skel known.now operand)
+        (skel known.now own) span.now)) }
+{
+    annotate(alloc, known, graph, ty, own)?;
+    flow_uncut(known, graph, ty, is_zero, operand, own, span)
+}
+
+/// A cast to a type: what passes inside its skeleton, its annotations, and the operand flows in the lattices of which it has no
+/// word.
 fn cast_to(
     alloc: Global,
     known: &Known,
@@ -166,8 +189,8 @@ fn cast_to(
         rows.cast_demand w (Some (type known.now ty)) is_zero (skel known.now operand)
         (skel known.now own) span.now)) }
 {
-    annotate(alloc, known, graph, ty, own)?;
-    flow_uncut(known, graph, ty, is_zero, operand, own, span)
+    form(known, graph, own, span)?;
+    casting(alloc, known, graph, ty, is_zero, operand, own, span)
 }
 
 /// A cast to a type, where that is known: its annotations, and the operand flows in the lattices of which it has no word. Linear

@@ -9,6 +9,7 @@ mod bounds;
 mod casts;
 mod collecting;
 mod flows;
+mod forming;
 mod indexed;
 mod indexing;
 mod marks;
@@ -24,7 +25,8 @@ pub use casts::{cast, uncut};
 pub use flows::{
     cross_in_all, equate_in_all, flow_in_all, flowing, flowing_in_all, smash_in_all, unsmash_in_all,
 };
+pub use forming::{form, form_here};
 pub use naming::{RowKind, annotate_name, declared, name};
 pub use operators::{assigned, chosen, computed, passed, prefixed};
-pub use others::{into_target, returned, started, taken};
+pub use others::{into_target, literal, returned, started, taken, taken_fresh};
 pub use uses::used;

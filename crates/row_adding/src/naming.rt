@@ -14,6 +14,7 @@ ghost use Rattle.row_adding.specs.Parts.{given, tied};
 
 use crate::annotating::annotate_place;
 use crate::flows::{equate_in_all, flow_in_all};
+use crate::forming::form;
 use crate::indexing::index_place;
 use crate::marks::word_span;
 use flow_graph::{FlowGraph, GraphFault};
@@ -103,8 +104,36 @@ fn index_name(
     index_place(alloc, known, graph, declared.ty, at)
 }
 
-/// A declared name: its annotations, what its index words say, and, where it is a further declaration, it is as the first. A step
-/// for each two nodes with index words, besides, and each two of their numbers.
+/// What passes inside the skeleton of a declared name.
+fn form_name(known: &Known, graph: &mut FlowGraph, declared: &Declared) -> Result<(), GraphFault>
+    ensures ok { OnOk result (Adds known.now graph.old graph.new
+        (λ w. rows.formed_name w (declared_of (type known.now) declared.now))) }
+    ensures err { IfErr result (λ fault. Halts known.now graph.old graph.new fault
+        (λ w. rows.formed_name w (declared_of (type known.now) declared.now))) }
+{
+    let at = known.skeleton(&declared.at);
+    form(known, graph, at, &word_span(&declared.at))
+}
+
+/// The annotations of a declared name, what its index words say, and, where it is a further declaration, it is as the first.
+fn plain_name(
+    alloc: Global,
+    known: &Known,
+    graph: &mut FlowGraph,
+    declared: &Declared,
+) -> Result<(), GraphFault>
+    ensures ok { OnOk result (Adds known.now graph.old graph.new
+        (λ w. rows.plain_name_row w (declared_of (type known.now) declared.now))) }
+    ensures err { IfErr result (λ fault. Halts known.now graph.old graph.new fault
+        (λ w. rows.plain_name_row w (declared_of (type known.now) declared.now))) }
+{
+    annotate_name(alloc, known, graph, declared)?;
+    index_name(alloc, known, graph, declared)?;
+    as_first(known, graph, declared)
+}
+
+/// A declared name: what passes inside its skeleton, its annotations, what its index words say, and, where it is a further
+/// declaration, it is as the first. A step for each two nodes with index words, besides, and each two of their numbers.
 pub fn name(
     alloc: Global,
     known: &Known,
@@ -116,9 +145,8 @@ pub fn name(
     ensures err { IfErr result (λ fault. Halts known.now graph.old graph.new fault
         (λ w. rows.name_row w (declared_of (type known.now) declared.now))) }
 {
-    annotate_name(alloc, known, graph, declared)?;
-    index_name(alloc, known, graph, declared)?;
-    as_first(known, graph, declared)
+    form_name(known, graph, declared)?;
+    plain_name(alloc, known, graph, declared)
 }
 
 /// The row of a declared name, by what it is declared as.
@@ -230,7 +258,27 @@ fn into_param_at(
     into_param(known, graph, &parameter(known.vars, own, i), declared)
 }
 
-/// A parameter of the function of a skeleton: its annotations, and what the function is given flows into it.
+/// The annotations of a parameter of the function of a skeleton, and what the function is given flows into it.
+fn plain_param(
+    alloc: Global,
+    known: &Known,
+    graph: &mut FlowGraph,
+    own: SkelId,
+    i: u32,
+    declared: &Declared,
+) -> Result<(), GraphFault>
+    ensures ok { OnOk result (Adds known.now graph.old graph.new (λ w. rows.plain_param_row w
+        (skel known.now own) i (declared_of (type known.now) declared.now))) }
+    ensures err { IfErr result (λ fault. Halts known.now graph.old graph.new fault (λ w.
+        rows.plain_param_row w (skel known.now own) i
+        (declared_of (type known.now) declared.now))) }
+{
+    annotate_name(alloc, known, graph, declared)?;
+    into_param_at(known, graph, own, i, declared)
+}
+
+/// A parameter of the function of a skeleton: what passes inside its skeleton, its annotations, and what the function is given
+/// flows into it.
 fn param(
     alloc: Global,
     known: &Known,
@@ -245,8 +293,8 @@ fn param(
         rows.param_row w (skel known.now own) i
         (Some (declared_of (type known.now) declared.now)))) }
 {
-    annotate_name(alloc, known, graph, declared)?;
-    into_param_at(known, graph, own, i, declared)
+    form_name(known, graph, declared)?;
+    plain_param(alloc, known, graph, own, i, declared)
 }
 
 /// The row of a parameter that may be declared.

@@ -7,10 +7,11 @@ ghost use Rattle.row_rules.specs.Rows as rows;
 ghost use Rattle.row_rules.specs.Vals as vals;
 ghost use Rattle.row_world.specs.Shown.{skel, val};
 ghost use Rattle.row_adding.specs.Adding.{Adds, Halts};
-ghost use Rattle.row_adding.specs.Parts.{moved, computes_none};
+ghost use Rattle.row_adding.specs.Parts.{chosen_row, moved, computes_none};
 
 use crate::bounds::{dereferenced, written};
 use crate::flows::{flowing_in_all, smash_in_all};
+use crate::forming::form;
 use c_words::Punct;
 use flow_graph::{FlowGraph, GraphFault};
 use qual_base::{SkelId, Span, VarId};
@@ -119,7 +120,45 @@ pub fn computed(
     flowing_in_all(known, graph, last_is_zero, last, own, span)
 }
 
-/// Both branches of a condition flow into its fresh value, where there is one.
+/// Both branches of a condition flow into its fresh value.
+fn branched(
+    known: &Known,
+    graph: &mut FlowGraph,
+    first: SkelId,
+    last: SkelId,
+    own: SkelId,
+    span: &Span,
+) -> Result<(), GraphFault>
+    ensures ok { OnOk result (Adds known.now graph.old graph.new (λ w. rows.branched w
+        (skel known.now first) (skel known.now last) (skel known.now own) span.now)) }
+    ensures err { IfErr result (λ fault. Halts known.now graph.old graph.new fault (λ w.
+        rows.branched w (skel known.now first) (skel known.now last) (skel known.now own)
+        span.now)) }
+{
+    flowing_in_all(known, graph, false, first, own, span)?;
+    flowing_in_all(known, graph, false, last, own, span)
+}
+
+/// What passes inside the fresh value of a condition, and both branches flow into it.
+fn chosen_fresh(
+    known: &Known,
+    graph: &mut FlowGraph,
+    first: SkelId,
+    last: SkelId,
+    own: SkelId,
+    span: &Span,
+) -> Result<(), GraphFault>
+    ensures ok { OnOk result (Adds known.now graph.old graph.new (λ w. chosen_row w
+        (skel known.now first) (skel known.now last) (skel known.now own) span.now)) }
+    ensures err { IfErr result (λ fault. Halts known.now graph.old graph.new fault (λ w.
+        chosen_row w (skel known.now first) (skel known.now last) (skel known.now own)
+        span.now)) }
+{
+    form(known, graph, own, span)?;
+    branched(known, graph, first, last, own, span)
+}
+
+/// A condition has a fresh value where no branch is a zero: what passes inside that, and both branches flow into it.
 pub fn chosen(
     known: &Known,
     graph: &mut FlowGraph,
@@ -139,8 +178,7 @@ pub fn chosen(
     if first_is_zero || last_is_zero {
         return Ok(());
     }
-    flowing_in_all(known, graph, false, first, own, span)?;
-    flowing_in_all(known, graph, false, last, own, span)
+    chosen_fresh(known, graph, first, last, own, span)
 }
 
 /// An operator before an operand: what `++` and `--` write to and what `*` dereferences is bounded, and the operand of `+`, `-`

@@ -1,5 +1,5 @@
 //! Functions' names in expressions: their signatures, crossed with instances at call sites.
-#![tactic(auto, using(crate::proofs::Lists::with_none, crate::proofs::Lists::stop_first))]
+#![tactic(auto, using(crate::proofs::Lists::with_none, crate::proofs::Lists::with_append, crate::proofs::Lists::stop_front, crate::proofs::Lists::stop_back, crate::proofs::Lists::stop_first))]
 
 ghost use Rattle.std.specs.Prelude.{◌≡◌, ◌<◌, IfErr, MatchOption, OnOk, length, option_map};
 ghost use Rattle.unit_names.specs.Shown.{use_of, role_of, declared_of};
@@ -8,9 +8,10 @@ ghost use Rattle.row_rules.specs.Worlds.{World, in_all, site_number, skeleton};
 ghost use Rattle.row_world.specs.Shown.{Shows, type};
 ghost use Rattle.flow_rules.specs.Lists.{cross};
 ghost use Rattle.row_adding.specs.Adding.{Adds, Halts};
-ghost use Rattle.row_adding.specs.Parts.{instance_row};
+ghost use Rattle.row_adding.specs.Parts.{function_instance, instance_row};
 
 use crate::flows::cross_in_all;
+use crate::forming::form_here;
 use flow_graph::{FlowGraph, GraphFault};
 use name_records::{Declared, Role, Use};
 use name_scopes::Place;
@@ -105,6 +106,22 @@ fn cross_here(
     cross_at(known, graph, at, &here, &span)
 }
 
+/// The row of a function's name: what passes inside the instance, and the signature, crossed with it.
+fn instance(
+    known: &Known,
+    graph: &mut FlowGraph,
+    token: TokenId,
+    at: &Place,
+) -> Result<(), GraphFault>
+    ensures ok { OnOk result (Adds known.now graph.old graph.new
+        (λ w. function_instance w token at.now)) }
+    ensures err { IfErr result (λ fault. Halts known.now graph.old graph.new fault
+        (λ w. function_instance w token at.now)) }
+{
+    form_here(known, graph, token)?;
+    cross_here(known, graph, token, at)
+}
+
 /// The row of a name by where it is declared and as what.
 fn used_by_role(
     known: &Known,
@@ -119,7 +136,7 @@ fn used_by_role(
         (λ w. rows.instance w token at.now (role_of role))) }
 {
     match role {
-        Role::Function => cross_here(known, graph, token, at),
+        Role::Function => instance(known, graph, token, at),
         Role::Typedef => Ok(()),
         Role::Object => Ok(()),
         Role::Parameter(_) => Ok(()),
@@ -163,7 +180,7 @@ pub fn used(
 {
     match found {
         Use::Means(first) => used_some(known, graph, token, &known.declared(first)),
-        Use::Called => Ok(()),
+        Use::Called => form_here(known, graph, token),
         Use::Missing => Ok(()),
     }
 }

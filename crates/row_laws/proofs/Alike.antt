@@ -16,24 +16,27 @@ use Rattle.tape_ops.specs.declared.initialiser.InitOp.{InitOp}
 use Rattle.tape_ops.specs.declared.initialiser.InitOp.TheVariants as inits
 use Rattle.tape_ops.specs.declared.declarator.DeclrOp.{DeclrOp}
 use Rattle.tape_ops.specs.declared.declarator.DeclrOp.TheVariants as declrs
+use Rattle.tape_ops.specs.declared.specifier.SpecOp.{SpecOp}
+use Rattle.tape_ops.specs.declared.specifier.SpecOp.TheVariants as specs
 use Rattle.tape_ops.specs.declared.statement.StmtOp.{StmtOp}
 use Rattle.tape_ops.specs.declared.statement.StmtOp.TheVariants as stmts
 use Rattle.type_table.specs.Types.{Words, CType, base, void, struct, pointer, function, CTypes, no_types, more_types, words_of, words_or_none}
 use Rattle.qual_types.specs.declared.look.Kind.TheVariants as kinds
-use Rattle.qual_types.specs.Skel.{Skel, flat, ref, fun, Skels, no_skels, more_skels, root, param_at}
+use Rattle.qual_types.specs.Skel.{Skel, flat, ref, fun, Skels, no_skels, more_skels, root, param_at, struct_of}
 use Rattle.name_rules.specs.Spellings.{Place}
 use Rattle.name_rules.specs.Scopes.{Role, typedef_role, object_role, function_role, parameter_role, field_role, enumerator_role, Declared, declared_at, Use, means, called, missing, Known, Own}
 use Rattle.name_rules.specs.Uses.{use_at}
 use Rattle.shape_steps.specs.State.{declared_last, changed}
 use Rattle.row_rules.specs.Worlds.{World, at, span, skeleton}
 use Rattle.row_rules.specs.Annotations.{Annotation, is_reference_mark, is_reference_word, words_of_level, sorted, annotations_at, some_annotations_at, inner, parameters, outcome, further, annotated, annotated_params, marked, annotation_constraints, annotating, names_lattice, all_words, uncut_from, uncut}
-use Rattle.row_rules.specs.Vals.{Val, a_place, contents, struct_of, member_of, known_skeleton, member_skel, prefix_of, used_by_role, used_some, used, own}
-use Rattle.row_rules.specs.Rows.{flowing, prefixed, passed, instance, some_instance, use_demand, annotating_some, cast_demand, annotating_name, name_row, declared_row, some_declared_row, into_param, param_row, RowKind, no_row, row_of_name, row_of_param, row_at, returned, started, own_skel, behind_known, annotating_place, by_role, by_first, initialised_at, taken, tied_to_first}
+use Rattle.row_rules.specs.Vals.{Val, a_place, contents, member_of, known_skeleton, member_skel, prefix_of, used_by_role, used_some, used, own}
+use Rattle.row_rules.specs.Forming.{formed}
+use Rattle.row_rules.specs.Rows.{flowing, formed_here, formed_name, prefixed, passed, instance, some_instance, use_demand, annotating_some, cast_demand, annotating_name, name_row, declared_row, some_declared_row, into_param, param_row, RowKind, no_row, row_of_name, row_of_param, row_at, returned, started, own_skel, behind_known, annotating_place, by_role, by_first, initialised_at, taken, tied_to_first}
 use Rattle.row_rules.specs.Indexing.{indexing}
 use Rattle.row_steps.specs.Rounds.{Naming, a_name, own_param, other_param, naming, is_quiet}
 use Rattle.row_steps.specs.State.{Operand, Braces, whole, untargeted, listed, State, put, val_at, value_at, is_zero_at, type_at, first_operand, type_of_operand, operands_below, first_braces}
 use Rattle.row_steps.specs.Steps.{item_target, target_in, list_of, with_member, initialised_by, gone_through, expr_step, form_step, init_step, declr_step, stack_step, with_round_step, step, run}
-use Rattle.row_steps.specs.OpRows.{function_skeleton, some_param_row, naming_row, into_target, expr_row, form_row, init_row, declr_row, stmt_row, loud_row, op_row}
+use Rattle.row_steps.specs.OpRows.{function_skeleton, some_param_row, naming_row, into_target, expr_row, form_row, init_row, spec_row, declr_row, stmt_row, loud_row, op_row}
 use Rattle.row_steps.specs.Found.{rows_found}
 use Rattle.row_laws.proofs.Indexing.{indexing_alike}
 
@@ -297,18 +300,18 @@ module _ (w : World) (o : Option Skel) where
       cast_demand (inside o w) t is_zero a own where_ ≡ cast_demand w t is_zero a own where_
   cast_alike None is_zero a own where_ = refl
   cast_alike (Some t) is_zero a own where_ =
-      ap (λ (rows : List Constraint). rows ++ flowing_in (uncut (inside o w) t)) (annotating_alike t own)
-      ∙ ap (λ (n : ℕ). annotating w t own ++ flowing_in n) (uncut_from_alike (all_words t) 0 w.lattices)
+      ap (λ (rows : List Constraint). formed w where_ own ++ (rows ++ flowing_in (uncut (inside o w) t))) (annotating_alike t own)
+      ∙ ap (λ (n : ℕ). formed w where_ own ++ (annotating w t own ++ flowing_in n)) (uncut_from_alike (all_words t) 0 w.lattices)
     where
       flowing_in : ℕ → List Constraint
       flowing_in n = if nat_eq n 0 then [] else flowing is_zero a own n where_
 
   name_alike : (d : Declared) → name_row (inside o w) d ≡ name_row w d
   name_alike d =
-      ap (λ (rows : List Constraint). rows
-      ++ (indexing (inside o w) (pointer [] d.type) (skeleton w d.at) ++ tied_to_first w d))
+      ap (λ (rows : List Constraint). formed_name w d ++ (rows
+      ++ (indexing (inside o w) (pointer [] d.type) (skeleton w d.at) ++ tied_to_first w d)))
       (annotating_alike (pointer [] d.type) (skeleton w d.at))
-      ∙ ap (λ (rows : List Constraint). annotating_name w d ++ (rows ++ tied_to_first w d))
+      ∙ ap (λ (rows : List Constraint). formed_name w d ++ (annotating_name w d ++ (rows ++ tied_to_first w d)))
       (indexing_alike w o (pointer [] d.type) (skeleton w d.at))
 
   declared_alike : (d : Declared) (role : Role) → declared_row (inside o w) d role ≡ declared_row w d role
@@ -330,9 +333,9 @@ module _ (w : World) (o : Option Skel) where
   param_alike : (s : Skel) (i : ℕ) (d : Option Declared) → param_row (inside o w) s i d ≡ param_row w s i d
   param_alike s i None = refl
   param_alike s i (Some d) =
-      ap (λ (rows : List Constraint). rows ++ into_param (inside o w) (param_at (parameters s) i) d)
+      ap (λ (rows : List Constraint). formed_name w d ++ (rows ++ into_param (inside o w) (param_at (parameters s) i) d))
       (annotating_alike (pointer [] d.type) (skeleton w d.at))
-      ∙ ap (λ (rows : List Constraint). annotating_name w d ++ rows) (into_alike (param_at (parameters s) i) d)
+      ∙ ap (λ (rows : List Constraint). formed_name w d ++ (annotating_name w d ++ rows)) (into_alike (param_at (parameters s) i) d)
 
   row_alike : (row : RowKind) (token : ℕ) → row_at (inside o w) row token ≡ row_at w row token
   row_alike no_row token = refl
@@ -526,8 +529,8 @@ module _ (w : World) (o : Option Skel) where
   form_row_alike st (forms.Sizeof token) = refl
   form_row_alike st (forms.StmtExpr has_value token) = refl
   form_row_alike st (forms.VaArg token last) =
-      ap (λ (rows : List Constraint). rows
-      ++ taken w (value_at 1 st) (own w token) (span w token last))
+      ap (λ (rows : List Constraint). formed w (span w token last) (own w token) ++ (rows
+      ++ taken w (value_at 1 st) (own w token) (span w token last)))
       (annotating_some_alike (type_at 0 st) (own w token))
   form_row_alike st (forms.VaStart token last) =
       started_alike (function_skeleton (inside o w) st.rounds.body) (value_at 1 st) (span w token last)
@@ -546,7 +549,8 @@ module _ (w : World) (o : Option Skel) where
   init_row_alike st inits.Begin = refl
   init_row_alike st inits.Rule = refl
   init_row_alike st (inits.Literal token) =
-      annotating_place_alike (type_of_operand (first_operand (operands_below st))) (own w token)
+      ap (λ (rows : List Constraint). formed_here w token ++ rows)
+      (annotating_place_alike (type_of_operand (first_operand (operands_below st))) (own w token))
   init_row_alike st inits.ListBegin = refl
   init_row_alike st (inits.Member token name) = refl
   init_row_alike st (inits.Index token) = refl
@@ -588,11 +592,25 @@ module _ (w : World) (o : Option Skel) where
   stmt_row_alike st stmts.FunctionBody = refl
   stmt_row_alike st stmts.FunctionEnd = refl
 
+  spec_row_alike : (op : SpecOp) → spec_row (inside o w) op ≡ spec_row w op
+  spec_row_alike (specs.Word token) = refl
+  spec_row_alike (specs.Storage keyword) = refl
+  spec_row_alike specs.Void = refl
+  spec_row_alike (specs.Typedef token name) = refl
+  spec_row_alike (specs.TagUse kind token name) = refl
+  spec_row_alike (specs.TagAlone kind token name) = refl
+  spec_row_alike (specs.TagBody kind token name) = refl
+  spec_row_alike (specs.Untagged kind token) = refl
+  spec_row_alike specs.BodyEnd = refl
+  spec_row_alike (specs.Enumerator token name) = refl
+  spec_row_alike (specs.UnnamedMember token) = refl
+  spec_row_alike specs.SpecsEnd = refl
+
   loud_alike : (st : State) (op : Op) → loud_row (inside o w) st op ≡ loud_row w st op
   loud_alike st (ops.Expr op) = expr_row_alike st op
   loud_alike st (ops.Form op) = form_row_alike st op
   loud_alike st (ops.Init op) = init_row_alike st op
-  loud_alike st (ops.Spec op) = refl
+  loud_alike st (ops.Spec op) = spec_row_alike op
   loud_alike st (ops.Declr op) = declr_row_alike st op
   loud_alike st (ops.Stmt op) = stmt_row_alike st op
 

@@ -13,7 +13,7 @@ use Rattle.tape_ops.specs.declared.specifier.TagKind.{TagKind}
 use Rattle.c_tree.specs.Tree.{SpecWords, no_words, more_words, SpecWord, storage, thread, inline_word, noreturn, qualifier, basic, struct_type, enum_type, typedef_name, attribute, EnumType, enum_of, Declr, pointer, declr_name, declr_paren, array, params, abs_pointer, abs_paren, abs_array, abs_params, SomeDeclr, no_declr, some_declr, Params, no_params, more_params, Dots}
 use Rattle.c_tree.specs.Firsts as tape_tokens
 use Rattle.c_tape.specs.Tests.{is_bare_word, is_bare, is_name, says_none}
-use Rattle.c_tape.specs.Tape.{pointer_words_tape, array_words_tape, quals_tape, dots_tape, pieces, some_pieces, unnamed_tape, unnamed_word_tape, tag_tape}
+use Rattle.c_tape.specs.Tape.{pointer_words_tape, array_words_tape, quals_tape, dots_tape, pieces, some_pieces, tag_tape}
 use Rattle.flow_graph.specs.declared.constraint.Constraint.{Constraint}
 use Rattle.type_rules.specs.Tokens as rule_tokens
 use Rattle.qual_types.specs.Skel.{Skel}
@@ -77,24 +77,7 @@ module _ (k : Over) (r : Rounds) where
     some_pieces_idle no_declr = nowhere
     some_pieces_idle (some_declr d) = pieces_idle d
 
-  -- tags and members without a declarator
-
-  unnamed_word_idle : (word : SpecWord) → Idle k r (unnamed_word_tape word)
-  unnamed_word_idle (storage word) = nowhere
-  unnamed_word_idle (thread token) = nowhere
-  unnamed_word_idle (inline_word token) = nowhere
-  unnamed_word_idle (noreturn token) = nowhere
-  unnamed_word_idle (qualifier q) = nowhere
-  unnamed_word_idle (basic word) = nowhere
-  unnamed_word_idle (struct_type word attrs None body) = one [] (λ y c s. refl) (λ c s. refl)
-  unnamed_word_idle (struct_type word attrs (Some tag) body) = nowhere
-  unnamed_word_idle (enum_type e) = nowhere
-  unnamed_word_idle (typedef_name name) = nowhere
-  unnamed_word_idle (attribute attr) = nowhere
-
-  pub unnamed_idle : (ws : SpecWords) → Idle k r (unnamed_tape ws)
-  unnamed_idle no_words = nowhere
-  unnamed_idle (more_words word ws) = both (unnamed_word_idle word) (unnamed_idle ws)
+  -- tags
 
   pub tag_idle : (alone : Bool) (kind : TagKind) (tag : Option Identifier) → Idle k r (tag_tape alone kind tag)
   tag_idle alone kind None = nowhere

@@ -24,7 +24,7 @@ use Rattle.qual_types.specs.Skel.{Skel, param_at}
 use Rattle.shape_steps.specs.State.{OpenDeclaration}
 use Rattle.row_rules.specs.Worlds.{World, at}
 use Rattle.row_rules.specs.Annotations.{parameters, further}
-use Rattle.row_rules.specs.Rows.{param_kind, annotating_place, own_skeleton, assigned, chosen, computed}
+use Rattle.row_rules.specs.Rows.{param_kind, literal_row, own_skeleton, assigned, chosen, computed}
 use Rattle.row_rules.specs.Rows as rows_of
 use Rattle.row_rules.specs.Vals.{a_value, a_place, contents, value, result, own}
 use Rattle.constraint_rules.specs.Values.{val}
@@ -245,16 +245,16 @@ module _ (k : Over) (r : Rounds) where
       Goes k r tape as_is (with_leaves (leaves_in k list)) gs
       → Goes k r (types ++ init inits.Begin ++ tape ++ init (inits.Literal opening) ++ rule_of_list list ++ init
       inits.LiteralEnd) as_is (with_val 0 (a_place (own k.world opening)))
-      (fs ++ (gs ++ (annotating_place k.world t (own k.world opening)
+      (fs ++ (gs ++ (literal_row k.world opening t
       ++ list_rule k.world (contents (own k.world opening)) list)))
   literal_goes {types} {tape} {fs} {gs} t opening list p q =
       record {
         runs = giving (ending_at _ (λ c s. own k.world opening) (chain (chain behind_type
             (ruled_from (taken_in k list) left (λ c s. gone list (with_value t) c (own k.world opening))
             (list_runs k r list (whole (Some (contents (own k.world opening))))))) (op_runs [] (λ y c s. refl))) put_there)
-            (λ y. append-nil (((fs ++ gs) ++ annotating_place k.world t (own k.world opening)) ++
+            (λ y. append-nil (((fs ++ gs) ++ literal_row k.world opening t) ++
             list_rule k.world (contents (own k.world opening)) list)
-            ∙ group_three fs gs (annotating_place k.world t (own k.world opening))
+            ∙ group_three fs gs (literal_row k.world opening t)
             (list_rule k.world (contents (own k.world opening)) list));
       }
     where
@@ -267,12 +267,12 @@ module _ (k : Over) (r : Rounds) where
           (λ c s. state r c s)
           (λ c s. ruling r (whole (Some (contents (own k.world opening)))) (taken_in k list)
           (gone list (with_value t) c (own k.world opening)) s)
-          ((fs ++ gs) ++ annotating_place k.world t (own k.world opening))
+          ((fs ++ gs) ++ literal_row k.world opening t)
       behind_type =
           ending _ (chain (next (without p (one [] (λ y c s. refl) (λ c s. refl))) q).runs
-          (op_runs (annotating_place k.world t (own k.world opening))
+          (op_runs (literal_row k.world opening t)
           (λ y c s. ap (λ (operands : List Operand). unless (is_quiet r)
-          (annotating_place k.world (type_of_operand (first_operand operands)) (own k.world opening))) (below c))))
+          (literal_row k.world opening (type_of_operand (first_operand operands)))) (below c))))
           (λ c s. ap (λ (operands : List Operand). ruling r (whole (Some (contents (own k.world opening))))
           (λ rest. operands) (gone list (with_value t) c (own k.world opening)) s)
           (taken_above k list (with_value t c).operands))

@@ -1,5 +1,5 @@
 -- What the tape of each part of a tree does: by cases on the tree.
-use Rattle.std.proofs.Common.{◌≡◌, ℕ, suc, Bool, true, false, List, [], ◌++◌, Option, None, refl, sym, ◌∙◌, ap, append_assoc}
+use Rattle.std.proofs.Common.{◌≡◌, ℕ, suc, Bool, true, false, List, [], ◌++◌, Option, None, Some, refl, sym, ◌∙◌, ap, append_assoc}
 use Rattle.std.specs.Prelude.{◌&&◌}
 use Rattle.std.proofs.lemmas.List.{append-nil}
 use Rattle.flow_graph.specs.declared.constraint.Constraint.{Constraint}
@@ -10,8 +10,9 @@ use Rattle.tape_ops.specs.declared.specifier.TagKind.TheVariants as tags
 use Rattle.tape_ops.specs.declared.statement.StmtOp.TheVariants as stmts
 use Rattle.tape_ops.specs.declared.declarator.DeclrOp.TheVariants as declrs
 use Rattle.c_tree.specs.Tree.{Expr, operation, cast, prefix, sizeof_value, sizeof_type, extension, index, call, dot, arrow, post, compound, name_use, number_use, char_use, text_use, paren, statement_expr, va_arg, va_start, va_copy, offset, Operator, comma, assign, cond, binary, SomeExpr, no_expr, some_expr, Exprs, no_exprs, more_exprs, SpecWords, no_words, more_words, SpecWord, storage, thread, inline_word, noreturn, qualifier, basic, struct_type, enum_type, typedef_name, attribute, SomeBody, no_body, some_body, StructItems, no_struct_items, more_struct_items, StructItem, member, member_semi, member_assert, MemDeclrs, no_mem_declrs, more_mem_declrs, MemDeclr, named, unnamed, SomeValue, no_value, some_value, EnumType, enum_of, no_enum_body, some_enum_body, Enumerators, no_enumerators, more_enumerators, Declr, pointer, declr_name, declr_paren, array, params, abs_pointer, abs_paren, abs_array, abs_params, SomeDeclr, no_declr, some_declr, SomeSize, no_size, some_size, ArraySize, size_value, size_star, Params, no_params, more_params, Init, init_value, init_braced, InitList, init_list, InitItems, no_init_items, more_init_items, Desigs, no_desigs, more_desigs, Desig, member_desig, index_desig, SomeInit, no_init, some_init, InitDeclrs, no_init_declrs, more_init_declrs, Declaration, declaration, Decl, decl_declaration, decl_assert, BlockItems, no_block_items, more_block_items, BlockItem, block_decl, block_stmt, Stmt, block, expr_stmt, attr_stmt, label, case_stmt, default_stmt, if_stmt, switch_stmt, while_stmt, do_stmt, for_stmt, goto_stmt, continue_stmt, break_stmt, return_stmt, asm_stmt, SomeElse, no_else, some_else, ForStart, start_declaration, start_value}
+use Rattle.c_tree.specs.Ends.{first_text}
 use Rattle.c_tape.specs.Tests.{is_void, tag_kind, declares_tag, is_name, is_end, says_none}
-use Rattle.c_tape.specs.Tape.{stmt, declr, in_scope, specs_with, params_with, declared_init_tape, expr_tape, middle_tape, some_expr_tape, exprs_tape, dropped_tape, steps_tape, step_tape, words_tape, word_tape, struct_tape, struct_items_tape, struct_item_tape, members_tape, mem_declrs_tape, mem_declr_tape, some_value_tape, enum_tape, enumerators_tape, some_declr_tape, contents, some_contents, some_size_tape, size_tape, params_tape, init_tape, list_tape, init_items_tape, indices_tape, index_tape, some_init_tape, init_declrs_tape, declaration_tape, decl_tape, block_items_tape, block_item_tape, stmt_tape, some_else_tape, for_start_tape}
+use Rattle.c_tape.specs.Tape.{stmt, declr, in_scope, specs_with, params_with, declared_init_tape, expr_tape, middle_tape, some_expr_tape, exprs_tape, dropped_tape, steps_tape, step_tape, words_tape, word_tape, struct_tape, struct_items_tape, struct_item_tape, members_tape, unnamed_tape, unnamed_word_tape, mem_declrs_tape, mem_declr_tape, some_value_tape, enum_tape, enumerators_tape, some_declr_tape, contents, some_contents, some_size_tape, size_tape, params_tape, init_tape, list_tape, init_items_tape, indices_tape, index_tape, some_init_tape, init_declrs_tape, declaration_tape, decl_tape, block_items_tape, block_item_tape, stmt_tape, some_else_tape, for_start_tape}
 use Rattle.name_rules.specs.Spellings.{Named}
 use Rattle.type_rules.specs.Tokens.{declared_name}
 use Rattle.type_rules.specs.Tokens as rule_tokens
@@ -21,9 +22,9 @@ use Rattle.row_rules.specs.Vals as vals
 use Rattle.row_rules.specs.Annotations.{write_bounds}
 use Rattle.name_rules.specs.Uses.{use_at}
 use Rattle.row_rules.specs.Worlds.{World, at, all_lattices, span}
-use Rattle.row_rules.specs.Rows.{RowKind, row_of_name, param_kind, row_at, returned, started, taken, flowing, prefixed, dereferenced, use_demand, cast_demand, annotating_some, annotating_place}
+use Rattle.row_rules.specs.Rows.{RowKind, row_of_name, param_kind, row_at, returned, started, flowing, prefixed, dereferenced, use_demand, formed_here, taken_fresh, literal_row, cast_demand}
 use Rattle.constraint_rules.specs.Values.{val}
-use Rattle.constraint_rules.specs.Demands.{type_of_name, zero_at, where_is, list_rule, demand, some_expr_demand, exprs_demand, words_demand, word_demand, some_body_demand, struct_items_demand, struct_item_demand, mem_declrs_demand, mem_declr_demand, declr_demand, some_declr_demand, params_demand, init_demand, init_list_demand, init_items_demand, init_declrs_demand, some_init_demand, declaration_demand, decl_demand, block_items_demand, block_item_demand, stmt_demand, some_else_demand, for_start_demand}
+use Rattle.constraint_rules.specs.Demands.{type_of_name, zero_at, where_is, list_rule, demand, some_expr_demand, exprs_demand, words_demand, word_demand, some_body_demand, struct_items_demand, struct_item_demand, unnamed_word_demand, unnamed_demand, members_demand, mem_declrs_demand, mem_declr_demand, declr_demand, some_declr_demand, params_demand, init_demand, init_list_demand, init_items_demand, init_declrs_demand, some_init_demand, declaration_demand, decl_demand, block_items_demand, block_item_demand, stmt_demand, some_else_demand, for_start_demand}
 use Rattle.constraint_rules.specs.Demands as demands
 use Rattle.row_steps.specs.Rounds.{Naming, Rounds, is_quiet, naming, with_round, entered, silenced}
 use Rattle.row_steps.specs.State.{Operand, named_type}
@@ -31,7 +32,7 @@ use Rattle.row_steps.specs.Steps.{initialised_by}
 use Rattle.row_steps.specs.OpRows.{naming_row}
 use Rattle.row_laws.proofs.Goes.{Over, unless, Stacks, state, Runs, stay, op_runs, chain, giving, ending, Goes, as_is, nowhere, one, join, from, next, same, reaching, without, group_two, group_three}
 use Rattle.row_laws.proofs.Stacks.{operand_of, with_expr, with_some_expr, with_middle, with_arguments, type_at_words, leaves, leaves_in, leaves_of, with_leaves, with_stmt, with_block_item, with_items, no_stmt_kept, none_kept, value_kept, declaring, token_in, token_in_some, token_of, declared_in, target_named}
-use Rattle.row_laws.proofs.Idle.{either, pieces_idle, unnamed_idle, tag_idle, same_name, none_said}
+use Rattle.row_laws.proofs.Idle.{either, pieces_idle, tag_idle, same_name, none_said}
 use Rattle.row_laws.proofs.Rules.{leaf_row}
 use Rattle.row_laws.proofs.Parts.{IsOwn, IsNamed, nth_naming, further_naming, own_skel_of, param_rows, middle_demand, operation_rows, operator_goes, stmt_expr_goes, call_goes, type_name_goes, literal_goes, braced_goes, scoped, body_goes, quietly_goes, sizeof_goes, offset_goes, param_round, number_behind, params_with_go}
 
@@ -122,6 +123,25 @@ module _ (k : Over) where
       (λ c s. ap (λ (it : Naming). state (with_round it (is_quiet r) r) c s) (further_naming b name i)))
       (λ y. append-nil (words_demand k.world ws ++ some_declr_demand k.world row d))
 
+  -- what passes inside a member without a declarator
+
+  unnamed_word_goes : (word : SpecWord) → (r : Rounds) → Goes k r (unnamed_word_tape word) as_is as_is (unnamed_word_demand k.world word)
+  unnamed_word_goes (storage word) r = nowhere
+  unnamed_word_goes (thread token) r = nowhere
+  unnamed_word_goes (inline_word token) r = nowhere
+  unnamed_word_goes (noreturn token) r = nowhere
+  unnamed_word_goes (qualifier q) r = nowhere
+  unnamed_word_goes (basic word) r = nowhere
+  unnamed_word_goes (struct_type word attrs None body) r = one (formed_here k.world word.token) (λ y c s. refl) (λ c s. refl)
+  unnamed_word_goes (struct_type word attrs (Some tag) body) r = nowhere
+  unnamed_word_goes (enum_type e) r = nowhere
+  unnamed_word_goes (typedef_name name) r = nowhere
+  unnamed_word_goes (attribute attr) r = nowhere
+
+  unnamed_goes : (ws : SpecWords) → (r : Rounds) → Goes k r (unnamed_tape ws) as_is as_is (unnamed_demand k.world ws)
+  unnamed_goes no_words r = nowhere
+  unnamed_goes (more_words word ws) r = next (unnamed_word_goes word r) (unnamed_goes ws r)
+
   mutual
     pub expr_goes : (e : Expr) → (r : Rounds) → IsOwn k r → IsNamed k r → (called : Bool) →
         Goes k r (expr_tape called e) as_is (with_expr k e) (demand k.world e)
@@ -171,13 +191,13 @@ module _ (k : Over) where
         (some_declr_goes d r o row_of_name (named_row r n) None))
         (list_goes list r o n))
         (group_two (words_demand k.world ws) (some_declr_demand k.world row_of_name d) (init_list_demand k.world list
-        ++ (annotating_place k.world (type_of_name k.world ws) (own k.world opening)
+        ++ (literal_row k.world opening (type_of_name k.world ws)
         ++ list_rule k.world (vals.contents (own k.world opening)) list)))
     expr_goes (name_use token name) r o n called =
         one (use_demand k.world token (use_at k.world.names.uses (at k.world token))) (λ y c s. refl) (λ c s. refl)
     expr_goes (number_use token) r o n called = one [] (λ y c s. refl) (λ c s. refl)
     expr_goes (char_use token) r o n called = one [] (λ y c s. refl) (λ c s. refl)
-    expr_goes (text_use texts) r o n called = one [] (λ y c s. refl) (λ c s. refl)
+    expr_goes (text_use texts) r o n called = one (formed_here k.world (first_text texts)) (λ y c s. refl) (λ c s. refl)
     expr_goes (paren opening e closing) r o n called = without (expr_goes e r o n false) (one [] (λ y c s. refl) (λ c s. refl))
     expr_goes (statement_expr opening opening2 items closing closing2) r o n called =
         reaching _ (without (scoped k r (block_items_go items (entered r) o (in_own r) true)) (from _ (stmt_expr_goes k r _ opening)))
@@ -185,12 +205,10 @@ module _ (k : Over) where
     expr_goes (va_arg keyword opening e separator ws d closing) r o n called =
         same (join (next (expr_goes e r o n false) (type_name_goes k r ws (token_in_some d) (words_go ws r o false)
         (some_declr_goes d r o row_of_name (named_row r n) None)))
-        (one (annotating_some k.world (type_of_name k.world ws) (own k.world keyword)
-        ++ taken k.world (value (val k.world e)) (own k.world keyword)
+        (one (taken_fresh k.world keyword (type_of_name k.world ws) (value (val k.world e))
         (where_is k.world (va_arg keyword opening e separator ws d closing))) (λ y c s. refl) (λ c s. refl)))
         (va_arg_rows (demand k.world e) (words_demand k.world ws) (some_declr_demand k.world row_of_name d)
-        (annotating_some k.world (type_of_name k.world ws) (own k.world keyword)
-        ++ taken k.world (value (val k.world e)) (own k.world keyword)
+        (taken_fresh k.world keyword (type_of_name k.world ws) (value (val k.world e))
         (where_is k.world (va_arg keyword opening e separator ws d closing))))
     expr_goes (va_start keyword opening e separator e2 closing) r o n called =
         same (join (next (expr_goes e r o n false) (expr_goes e2 r o n false))
@@ -288,8 +306,8 @@ module _ (k : Over) where
     struct_item_goes (member_assert it) r o row = nowhere
 
     members_go : (ds : MemDeclrs) → (r : Rounds) → IsOwn k r → IsRow r row_of_name → (ws : SpecWords) →
-        Goes k r (members_tape ws ds) (declaring None None) (declaring None None) (mem_declrs_demand k.world ds)
-    members_go no_mem_declrs r o row ws = from (declaring None None) (unnamed_idle k r ws)
+        Goes k r (members_tape ws ds) (declaring None None) (declaring None None) (members_demand k.world ws ds)
+    members_go no_mem_declrs r o row ws = from (declaring None None) (unnamed_goes ws r)
     members_go (more_mem_declrs attrs d ds) r o row ws = join (mem_declr_goes d r o row) (mem_declrs_go ds r o row)
 
     mem_declrs_go : (ds : MemDeclrs) → (r : Rounds) → IsOwn k r → IsRow r row_of_name →

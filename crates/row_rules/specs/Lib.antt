@@ -1,5 +1,6 @@
 pub mod Annotations
 pub mod Indexing
+pub mod Forming
 pub mod Rows
 pub mod Sites
 pub mod Starting

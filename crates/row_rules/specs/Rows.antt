@@ -14,6 +14,7 @@ use Rattle.name_rules.specs.Scopes.{Role, typedef_role, object_role, function_ro
 use Rattle.name_rules.specs.Values.{is_additive, own_of, own_number}
 use Rattle.row_rules.specs.Annotations.{annotating, deref_bounds, further, parameters, uncut, write_bounds}
 use Rattle.row_rules.specs.Indexing.{indexing}
+use Rattle.row_rules.specs.Forming.{formed}
 use Rattle.row_rules.specs.Starting.{is_some_function}
 use Rattle.row_rules.specs.Vals.{Val, contents, is_empty, is_fun, is_nothing, is_ref, own, result, value}
 use Rattle.row_rules.specs.Worlds.{World, all_lattices, at, constraints, in_all, site_number, skeleton, span, word_span}
@@ -53,10 +54,14 @@ computed w p first_is_zero last_is_zero a b t where_ =
     if is_logical p || (is_additive p && (is_ref a || is_ref b)) then []
     else flowing first_is_zero a t (all_lattices w) where_ ++ flowing last_is_zero b t (all_lattices w) where_
 
--- both branches of a condition flow into its fresh value, where there is one
+-- both branches of a condition flow into its fresh value
+abbrev pub branched : World → Skel → Skel → Skel → Span → List Constraint
+branched w a b t where_ = flowing false a t (all_lattices w) where_ ++ flowing false b t (all_lattices w) where_
+
+-- so, where there is one
 abbrev pub chosen : World → Bool → Bool → Skel → Skel → Skel → Span → List Constraint
 chosen w first_is_zero last_is_zero a b t where_ =
-    if first_is_zero || last_is_zero then [] else flowing false a t (all_lattices w) where_ ++ flowing false b t (all_lattices w) where_
+    if first_is_zero || last_is_zero then [] else formed w where_ t ++ branched w a b t where_
 
 abbrev pub prefixed : World → Punct → Bool → Val → Skel → Span → List Constraint
 prefixed w signs.PlusPlus is_zero e t where_ = write_bounds w (root e.skel) where_
@@ -73,9 +78,16 @@ passed w is_zero a (Some t) e where_ = flowing is_zero a t (all_lattices w) wher
 passed w is_zero a None None where_ = []
 passed w is_zero a None (Some e) where_ = if is_zero || is_empty a then [] else in_all w where_ (smash a e)
 
+-- the skeleton of an expression of one token
+abbrev pub formed_here : World → ℕ → List Constraint
+formed_here w token = formed w (span w token token) (own w token)
+
 -- a function's name: its signature, crossed with the instance here
+abbrev pub crossed : World → ℕ → Place → List Constraint
+crossed w token p = in_all w (span w token token) (cross (site_number w (at w token)) (skeleton w p) (skeleton w (at w token)))
+
 abbrev pub instance : World → ℕ → Place → Role → List Constraint
-instance w token p function_role = in_all w (span w token token) (cross (site_number w (at w token)) (skeleton w p) (skeleton w (at w token)))
+instance w token p function_role = formed_here w token ++ crossed w token p
 instance w token p typedef_role = []
 instance w token p object_role = []
 instance w token p (parameter_role i) = []
@@ -88,7 +100,7 @@ some_instance w token (Some d) = instance w token d.at d.role
 
 abbrev pub use_demand : World → ℕ → Use → List Constraint
 use_demand w token (means p) = some_instance w token (declared_at w.names.declared p)
-use_demand w token called = []
+use_demand w token called = formed_here w token
 use_demand w token missing = []
 
 -- names
@@ -97,10 +109,13 @@ abbrev pub annotating_some : World → Option CType → Skel → List Constraint
 annotating_some w None s = []
 annotating_some w (Some t) s = annotating w t s
 
--- a cast: the operand flows in the lattices of which the type has no word
+-- what the type of a cast says, and the operand flows in the lattices of which it has no word
+abbrev pub casting : World → CType → Bool → Skel → Skel → Span → List Constraint
+casting w type is_zero a t where_ = annotating w type t ++ (if nat_eq (uncut w type) 0 then [] else flowing is_zero a t (uncut w type) where_)
+
 abbrev pub cast_demand : World → Option CType → Bool → Skel → Skel → Span → List Constraint
 cast_demand w None is_zero a t where_ = []
-cast_demand w (Some type) is_zero a t where_ = annotating w type t ++ (if nat_eq (uncut w type) 0 then [] else flowing is_zero a t (uncut w type) where_)
+cast_demand w (Some type) is_zero a t where_ = formed w where_ t ++ casting w type is_zero a t where_
 
 -- annotations of a declared name, whose skeleton is a reference to one of its type
 abbrev pub annotating_name : World → Declared → List Constraint
@@ -112,9 +127,16 @@ tied_to_first w d =
     if is_place d.first d.at || (is_nothing (skeleton w d.first) || is_nothing (skeleton w d.at)) then []
     else in_all w (word_span d.at) (equal Flow true (skeleton w d.first) (skeleton w d.at))
 
--- a declared name: its annotations, what its index words say, and that it is as the first
+-- what passes inside the skeleton of a declared name
+abbrev pub formed_name : World → Declared → List Constraint
+formed_name w d = formed w (word_span d.at) (skeleton w d.at)
+
+-- the annotations of a declared name, what its index words say, and that it is as the first
+abbrev pub plain_name_row : World → Declared → List Constraint
+plain_name_row w d = annotating_name w d ++ (indexing w (pointer [] d.type) (skeleton w d.at) ++ tied_to_first w d)
+
 abbrev pub name_row : World → Declared → List Constraint
-name_row w d = annotating_name w d ++ (indexing w (pointer [] d.type) (skeleton w d.at) ++ tied_to_first w d)
+name_row w d = formed_name w d ++ plain_name_row w d
 
 abbrev pub declared_row : World → Declared → Role → List Constraint
 declared_row w d typedef_role = []
@@ -135,9 +157,12 @@ into_param w None d = []
 into_param w (Some s) d =
     if is_some_function (declared_at w.names.declared d.first) || is_nothing (contents (skeleton w d.at)) then [] else in_all w (word_span d.at) (flow Flow true s (contents (skeleton w d.at)))
 
+abbrev pub plain_param_row : World → Skel → ℕ → Declared → List Constraint
+plain_param_row w own i d = annotating_name w d ++ into_param w (param_at (parameters own) i) d
+
 abbrev pub param_row : World → Skel → ℕ → Option Declared → List Constraint
 param_row w own i None = []
-param_row w own i (Some d) = annotating_name w d ++ into_param w (param_at (parameters own) i) d
+param_row w own i (Some d) = formed_name w d ++ plain_param_row w own i d
 
 -- which row the name of a declarator has: none in a type's name and in a prototype, that of a name, or that of a parameter of the
 -- function of this skeleton
@@ -189,10 +214,20 @@ abbrev pub behind_known : Option Known → ℕ → ℕ
 behind_known None next = next
 behind_known (Some it) next = suc it.own
 
+-- a list of further arguments: what is taken from it is of a type
+abbrev pub taken_of_type : World → ℕ → Option CType → Skel → Span → List Constraint
+taken_of_type w token type list where_ = annotating_some w type (own w token) ++ taken w list (own w token) where_
+
+abbrev pub taken_fresh : World → ℕ → Option CType → Skel → Span → List Constraint
+taken_fresh w token type list where_ = formed w where_ (own w token) ++ taken_of_type w token type list where_
+
 -- a compound literal is a place of its type
 abbrev pub annotating_place : World → Option CType → Skel → List Constraint
 annotating_place w None s = []
 annotating_place w (Some t) s = annotating w (pointer [] t) s
+
+abbrev pub literal_row : World → ℕ → Option CType → List Constraint
+literal_row w token type = formed_here w token ++ annotating_place w type (own w token)
 
 abbrev pub by_role : World → Declared → Role → Option Skel
 by_role w d typedef_role = None

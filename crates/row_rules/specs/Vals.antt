@@ -4,7 +4,7 @@ use Rattle.std.specs.Prelude.{ℕ, Bool, true, false, Option, None, Some, if◌t
 use Rattle.c_words.specs.declared.kinds.Punct.{Punct}
 use Rattle.c_words.specs.declared.kinds.Punct.TheVariants as signs
 use Rattle.qual_types.specs.declared.look.Kind.TheVariants as kinds
-use Rattle.qual_types.specs.Skel.{Skel, flat, ref, fun, no_skeleton}
+use Rattle.qual_types.specs.Skel.{Skel, flat, ref, fun, no_skeleton, struct_of}
 use Rattle.name_rules.specs.Spellings.{Place}
 use Rattle.name_rules.specs.Scopes.{Role, typedef_role, object_role, function_role, parameter_role, field_role, enumerator_role, Declared, declared_at, Use, means, called, missing, Known, body_of}
 use Rattle.name_rules.specs.Values.{is_additive, member_in}
@@ -68,14 +68,6 @@ abbrev pub result : Skel → Skel
 result (fun v ps r e) = r
 result (flat v k) = flat v k
 result (ref v s) = ref v s
-
-abbrev pub struct_of : Skel → Option ℕ
-struct_of (flat v (kinds.Struct n)) = Some n
-struct_of (flat v kinds.Base) = None
-struct_of (flat v kinds.Void) = None
-struct_of (flat v kinds.Nothing) = None
-struct_of (ref v s) = None
-struct_of (fun v ps r e) = None
 
 abbrev pub member_of : World → Option ℕ → ℕ → Option Known
 member_of w None name = None

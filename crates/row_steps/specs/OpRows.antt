@@ -12,6 +12,8 @@ use Rattle.tape_ops.specs.declared.initialiser.InitOp.{InitOp}
 use Rattle.tape_ops.specs.declared.initialiser.InitOp.TheVariants as inits
 use Rattle.tape_ops.specs.declared.declarator.DeclrOp.{DeclrOp}
 use Rattle.tape_ops.specs.declared.declarator.DeclrOp.TheVariants as declrs
+use Rattle.tape_ops.specs.declared.specifier.SpecOp.{SpecOp}
+use Rattle.tape_ops.specs.declared.specifier.SpecOp.TheVariants as specs
 use Rattle.tape_ops.specs.declared.statement.StmtOp.{StmtOp}
 use Rattle.tape_ops.specs.declared.statement.StmtOp.TheVariants as stmts
 use Rattle.name_rules.specs.Uses.{use_at}
@@ -20,7 +22,7 @@ use Rattle.shape_steps.specs.State.{declared_last}
 use Rattle.row_rules.specs.Worlds.{World, at, all_lattices, span}
 use Rattle.row_rules.specs.Annotations.{parameters, further, write_bounds}
 use Rattle.row_rules.specs.Vals.{contents, is_ref, own}
-use Rattle.row_rules.specs.Rows.{flowing, dereferenced, assigned, computed, chosen, prefixed, passed, use_demand, annotating_some, annotating_place, cast_demand, RowKind, no_row, row_of_name, row_of_param, row_at, returned, started, taken}
+use Rattle.row_rules.specs.Rows.{flowing, dereferenced, assigned, computed, chosen, prefixed, passed, use_demand, formed_here, taken_fresh, literal_row, cast_demand, RowKind, no_row, row_of_name, row_of_param, row_at, returned, started}
 use Rattle.row_rules.specs.Worlds.{skeleton}
 use Rattle.row_steps.specs.Rounds.{Naming, a_name, own_param, other_param, naming, is_quiet}
 use Rattle.row_steps.specs.State.{Operand, State, first_operand, val_of_operand, is_zero_operand, type_of_operand, val_at, value_at, is_zero_at, type_at, operands_below, first_braces}
@@ -55,7 +57,7 @@ abbrev pub expr_row : World → State → ExprOp → List Constraint
 expr_row w st (exprs.Name is_called token name) = use_demand w token (use_at w.names.uses (at w token))
 expr_row w st (exprs.Number token) = []
 expr_row w st (exprs.Char token) = []
-expr_row w st (exprs.Text token) = []
+expr_row w st (exprs.Text token) = formed_here w token
 expr_row w st (exprs.Paren token) = []
 expr_row w st (exprs.Ext token) = []
 expr_row w st (exprs.Comma token) = []
@@ -83,9 +85,7 @@ form_row w st (forms.Cast token last) =
     cast_demand w (type_at 1 st) (is_zero_at 0 st) (value_at 0 st) (own w token) (span w token last)
 form_row w st (forms.Sizeof token) = []
 form_row w st (forms.StmtExpr has_value token) = []
-form_row w st (forms.VaArg token last) =
-    annotating_some w (type_at 0 st) (own w token)
-    ++ taken w (value_at 1 st) (own w token) (span w token last)
+form_row w st (forms.VaArg token last) = taken_fresh w token (type_at 0 st) (value_at 1 st) (span w token last)
 form_row w st (forms.VaStart token last) =
     started w (function_skeleton w st.rounds.body) (value_at 1 st) (span w token last)
 form_row w st (forms.VaCopy token last) =
@@ -100,7 +100,7 @@ init_row w st (inits.Value first last) =
 init_row w st inits.Begin = []
 init_row w st inits.Rule = []
 init_row w st (inits.Literal token) =
-    annotating_place w (type_of_operand (first_operand (operands_below st))) (own w token)
+    literal_row w token (type_of_operand (first_operand (operands_below st)))
 init_row w st inits.ListBegin = []
 init_row w st (inits.Member token name) = []
 init_row w st (inits.Index token) = []
@@ -109,6 +109,20 @@ init_row w st (inits.Leaf first last) =
 init_row w st inits.ListEnd = []
 init_row w st inits.End = []
 init_row w st inits.LiteralEnd = []
+
+abbrev pub spec_row : World → SpecOp → List Constraint
+spec_row w (specs.Word token) = []
+spec_row w (specs.Storage keyword) = []
+spec_row w specs.Void = []
+spec_row w (specs.Typedef token name) = []
+spec_row w (specs.TagUse kind token name) = []
+spec_row w (specs.TagAlone kind token name) = []
+spec_row w (specs.TagBody kind token name) = []
+spec_row w (specs.Untagged kind token) = []
+spec_row w specs.BodyEnd = []
+spec_row w (specs.Enumerator token name) = []
+spec_row w (specs.UnnamedMember token) = formed_here w token
+spec_row w specs.SpecsEnd = []
 
 abbrev pub declr_row : World → State → DeclrOp → List Constraint
 declr_row w st (declrs.DeclName token name) = row_at w (naming_row w (naming st.rounds)) token
@@ -138,7 +152,7 @@ abbrev pub loud_row : World → State → Op → List Constraint
 loud_row w st (ops.Expr op) = expr_row w st op
 loud_row w st (ops.Form op) = form_row w st op
 loud_row w st (ops.Init op) = init_row w st op
-loud_row w st (ops.Spec op) = []
+loud_row w st (ops.Spec op) = spec_row w op
 loud_row w st (ops.Declr op) = declr_row w st op
 loud_row w st (ops.Stmt op) = stmt_row w st op
 

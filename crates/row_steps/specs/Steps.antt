@@ -18,10 +18,10 @@ use Rattle.name_rules.specs.Values.{is_plain_void_pointer}
 use Rattle.name_rules.specs.Scopes.{declared_at}
 use Rattle.name_rules.specs.Uses.{use_at, type_named_at}
 use Rattle.qual_types.specs.declared.look.Kind.TheVariants as kinds
-use Rattle.qual_types.specs.Skel.{Skel, flat, ref, fun}
+use Rattle.qual_types.specs.Skel.{Skel, flat, ref, fun, struct_of}
 use Rattle.shape_steps.specs.State.{OpenDeclaration, changed, without_innermost, declared_last, with_name, with_declared, without_name}
 use Rattle.row_rules.specs.Worlds.{World, at}
-use Rattle.row_rules.specs.Vals.{a_value, a_place, contents, is_ref, result, struct_of, member_of, member_skel, own, binary_of, branch, prefix_of, used}
+use Rattle.row_rules.specs.Vals.{a_value, a_place, contents, is_ref, result, member_of, member_skel, own, binary_of, branch, prefix_of, used}
 use Rattle.row_rules.specs.Rows.{initialised_at, next_of_struct, first_alone, behind_known}
 use Rattle.row_steps.specs.Rounds.{round_step}
 use Rattle.row_steps.specs.State.{Operand, expression, named_type, Braces, whole, untargeted, listed, State, val_at, value_at, is_zero_at, type_at, dropped, operand_put, put, operands_below, operands_within, first_braces}

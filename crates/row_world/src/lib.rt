@@ -14,6 +14,5 @@ pub use known::Known;
 pub use operand::Operand;
 pub use skels::{
     contents, further, is_empty, is_fun, is_nothing, is_ref, nowhere, outcome, parameter, read,
-    struct_of,
 };
 pub use values::{binary, is_additive, value};

@@ -1,13 +1,13 @@
 //! Skeletons by their numbers: what operators make of them. Each call takes constant time, but for what is said.
 
 ghost use Rattle.std.specs.Prelude.{◌≡◌, ℕ, option_map};
-ghost use Rattle.qual_types.specs.Skel.{flat, no_skeleton, param_at};
+ghost use Rattle.qual_types.specs.Skel.{no_skeleton, param_at};
 ghost use Rattle.qual_types.specs.Rows.{skel_of};
 ghost use Rattle.qual_types.specs.Table.{IsSomeVar};
 ghost use Rattle.row_rules.specs.Annotations.{parameters, further, outcome};
 ghost use Rattle.row_rules.specs.Vals as vals;
 
-use qual_base::{Numbered, SkelId, StructId, VarId};
+use qual_base::{Numbered, SkelId, VarId};
 use qual_types::{Kind, Look, VarTable};
 
 /// What stands for the skeleton of what has none.
@@ -126,27 +126,4 @@ pub fn parameter(vars: &VarTable, at: SkelId, i: u32) -> Option<SkelId>
         ≡ param_at (parameters (skel_of vars.now at)) i }
 {
     vars.param(at, i)
-}
-
-/// The number of a struct.
-pub fn struct_of(vars: &VarTable, at: SkelId) -> Option<StructId>
-    ensures { result ≡ vals.struct_of (skel_of vars.now at) }
-{
-    match vars.look(at) {
-        Look::Flat(_, kind) => struct_in(kind),
-        Look::Ref(_, _) => None,
-        Look::Fun { .. } => None,
-    }
-}
-
-/// The number of a struct, by what a constructor without parts is.
-fn struct_in(kind: Kind) -> Option<StructId>
-    ensures { (v : ℕ) → result ≡ vals.struct_of (flat v kind) }
-{
-    match kind {
-        Kind::Struct(of) => Some(of),
-        Kind::Base => None,
-        Kind::Void => None,
-        Kind::Nothing => None,
-    }
 }

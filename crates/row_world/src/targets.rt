@@ -4,13 +4,14 @@ ghost use Rattle.std.specs.Prelude.{◌≡◌, ℕ, IfOk, option_map};
 ghost use Rattle.type_table.specs.Types.{CType};
 ghost use Rattle.name_rules.specs.Scopes.{declared_at};
 ghost use Rattle.unit_names.specs.Shown as shown;
+ghost use Rattle.qual_types.specs.Skel.{struct_of};
 ghost use Rattle.row_rules.specs.Worlds.{World, at};
 ghost use Rattle.row_rules.specs.Vals as vals;
 ghost use Rattle.row_rules.specs.Rows as rows;
 ghost use Rattle.row_world.specs.Shown.{Shows, skel, type};
 
 use crate::known::Known;
-use crate::skels::{contents, nowhere, struct_of};
+use crate::skels::{contents, nowhere};
 use name_records as records;
 use name_records::{Declared, Own, Role};
 use qual_base::{NameId, NoMemory, SkelId, StructId, TokenId};
@@ -32,7 +33,7 @@ impl<'a> Known<'a> {
         ensures { (w : World) → Shows self.now w →
             skel self.now result ≡ vals.member_skel w (skel self.now of) name }
     {
-        let found = self.member_of(&struct_of(self.vars, of), name);
+        let found = self.member_of(&self.vars.struct_of(of), name);
         self.known_skeleton(&found)
     }
 
@@ -51,10 +52,10 @@ impl<'a> Known<'a> {
     /// of the struct.
     pub fn behind_member(&self, of: SkelId, name: NameId, next: usize) -> Result<usize, NoMemory>
         ensures { IfOk result (λ n. (w : World) → Shows self.now w →
-            n ≡ rows.behind_known (vals.member_of w (vals.struct_of (skel self.now of)) name)
+            n ≡ rows.behind_known (vals.member_of w (struct_of (skel self.now of)) name)
             next) }
     {
-        let found = self.member_of(&struct_of(self.vars, of), name);
+        let found = self.member_of(&self.vars.struct_of(of), name);
         behind(&found, next)
     }
 

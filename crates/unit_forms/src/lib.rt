@@ -5,4 +5,4 @@ mod declared;
 mod functions;
 mod units;
 
-pub use units::items;
+pub use units::{item, items};

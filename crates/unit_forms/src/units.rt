@@ -73,9 +73,16 @@ where
     first_declr(lent, exts, words, room, place, depth)
 }
 
-/// `item = Function | decl | AsmDecl | Semi`, by its first token.
+/// `item = Function | decl | AsmDecl | Semi`, by its first token (C99, 6.9).
+///
+/// Linear in its tokens; what is inside is read by `lent`. A height above the room is refused.
 #[tactic(auto, unfolding(c_reading::specs::Items::item_with))]
-fn item<'a, F>(lent: &F, room: u16, place: &mut Place<'a>, depth: u32) -> Result<Item, ReadError>
+pub fn item<'a, F>(
+    lent: &F,
+    room: u16,
+    place: &mut Place<'a>,
+    depth: u32,
+) -> Result<Item, ReadError>
 where
     F: Fn(Ask, &mut Place<'a>) -> Result<Answer, ReadError>,
     requires { Lends F.Fn lent.now depth }

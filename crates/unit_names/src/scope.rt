@@ -68,7 +68,7 @@ impl Names {
         Ok(())
     }
 
-    /// What a name stands for. Takes no memory, and constant time a scope that is open.
+    /// What a name stands for. Takes no memory, and constant time.
     #[tactic(auto, using(crate::proofs::Views::views), unfolding(crate::specs::Shown::names_of))]
     pub fn meaning(&self, name: NameId) -> Option<Meant>
         ensures { (t : ℕ → CType) → option_map (meaning_of t) result
@@ -101,7 +101,7 @@ impl Names {
         self.scopes.tag_here(kind, tag)
     }
 
-    /// What a tag stands for. Takes no memory, and constant time a scope that is open.
+    /// What a tag stands for. Takes no memory, and constant time.
     #[tactic(auto, using(crate::proofs::Views::views), unfolding(crate::specs::Shown::names_of))]
     pub fn tag(&self, kind: TagKind, tag: NameId) -> Option<StructId>
         ensures { (t : ℕ → CType) → result ≡ tag_through (names_of t self.now).scopes kind tag }

@@ -126,8 +126,7 @@ pub(crate) fn literal_row(
         op_rows.init_row w (state_of known.now stacks.now) (inits.Literal token))) }
 {
     let ty = stacks.type_below();
-    let own = known.own(token);
-    adding::annotate_some_place(alloc, known, graph, &ty, own)
+    adding::literal(alloc, known, graph, token, &ty)
 }
 
 /// The kind of the row of a parameter, by the token of its function's name and by its number. Constant time.

@@ -52,11 +52,9 @@ pub(crate) fn va_arg_row(
         op_rows.form_row w (state_of known.now stacks.now) (forms.VaArg token last))) }
 {
     let ty = stacks.type_at(0);
-    let own = known.own(token);
-    adding::annotate_some(alloc, known, graph, &ty, own)?;
     let list = value_at(known, stacks, 1);
     let span = known.span(token, last);
-    adding::taken(known, graph, list, own, &span)
+    adding::taken_fresh(alloc, known, graph, token, &ty, list, &span)
 }
 
 /// `va_start`.

@@ -11,10 +11,11 @@ use crate::operators::{
     argument_row, arrow_row, assign_row, binary_row, cond_row, index_row, post_row, prefix_row,
 };
 use flow_graph::{FlowGraph, GraphFault};
+use row_adding as adding;
 use row_world::Known;
 use skel_stacks::Stacks;
 use std::alloc::Global;
-use tape_ops::{DeclrOp, ExprOp, FormOp, InitOp, Op, StmtOp};
+use tape_ops::{DeclrOp, ExprOp, FormOp, InitOp, Op, SpecOp, StmtOp};
 
 /// What an operand or operator gives. Linear in its row, but for what is said at its parts.
 fn expression_row(
@@ -32,7 +33,7 @@ fn expression_row(
         ExprOp::Name { token, .. } => name_row(known, graph, token),
         ExprOp::Number { .. } => Ok(()),
         ExprOp::Char { .. } => Ok(()),
-        ExprOp::Text { .. } => Ok(()),
+        ExprOp::Text { token } => adding::form_here(known, graph, token),
         ExprOp::Paren { .. } => Ok(()),
         ExprOp::Ext { .. } => Ok(()),
         ExprOp::Comma { .. } => Ok(()),
@@ -122,6 +123,28 @@ fn initialiser_row(
     }
 }
 
+/// What a part of specifiers gives. Linear in its row.
+fn specifier_row(known: &Known, graph: &mut FlowGraph, op: SpecOp) -> Result<(), GraphFault>
+    ensures ok { OnOk result (Adds known.now graph.old graph.new (λ w. op_rows.spec_row w op)) }
+    ensures err { IfErr result (λ fault. Halts known.now graph.old graph.new fault
+        (λ w. op_rows.spec_row w op)) }
+{
+    match op {
+        SpecOp::Word { .. } => Ok(()),
+        SpecOp::Storage { .. } => Ok(()),
+        SpecOp::Void => Ok(()),
+        SpecOp::Typedef { .. } => Ok(()),
+        SpecOp::TagUse { .. } => Ok(()),
+        SpecOp::TagAlone { .. } => Ok(()),
+        SpecOp::TagBody { .. } => Ok(()),
+        SpecOp::Untagged { .. } => Ok(()),
+        SpecOp::BodyEnd => Ok(()),
+        SpecOp::Enumerator { .. } => Ok(()),
+        SpecOp::UnnamedMember { token } => adding::form_here(known, graph, token),
+        SpecOp::SpecsEnd => Ok(()),
+    }
+}
+
 /// What a part of a declarator gives. Linear in its row.
 fn declarator_row(
     alloc: Global,
@@ -191,7 +214,7 @@ fn loud_row(
         Op::Expr(op) => expression_row(known, stacks, graph, op),
         Op::Form(op) => form_row(alloc, known, stacks, graph, op),
         Op::Init(op) => initialiser_row(alloc, known, stacks, graph, op),
-        Op::Spec(_) => Ok(()),
+        Op::Spec(op) => specifier_row(known, graph, op),
         Op::Declr(op) => declarator_row(alloc, known, stacks, graph, op),
         Op::Stmt(op) => statement_row(known, stacks, graph, op),
     }

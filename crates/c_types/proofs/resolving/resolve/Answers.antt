@@ -1,32 +1,26 @@
 use Rattle.std.proofs.Common.{◌∙◌, ap}
 use Rattle.std.proofs.lemmas.Result.{IfOk-weaker, IfErr-weaker}
-use Rattle.unit_shapes.specs.Views.{names_in}
 use Rattle.unit_types.specs.Resolved.{tapes_of}
 use Rattle.c_types.specs.Sources.{sources_of}
-use Rattle.c_types.proofs.Sources.{named_is, none_is, first_is}
+use Rattle.c_types.specs.Units.{AreTapesOf}
 use Rattle.c_types.proofs.resolving.resolve.Goals as goal
+
+-- the tapes that were made are those of the sources
+taped : (c : goal.After-resolve_tapes) → AreTapesOf c.in-Ok.units.items (sources_of c.args.sources.now)
+taped c = record { sound = c.requires.formed; taped = c.in-Ok.ensures }
 
 pub returns-clause-none : goal.returns-clause-none
 returns-clause-none c =
-    IfOk-weaker c.resolve_units.result _ _
-    (λ it is. none_is c.names_of_tapes.ensures (sources_of c.args.sources.now) c.requires.formed
-    (tapes_of c.in-Ok.units.items) c.in-Ok.ensures c.none_is_found.ensures is)
-    c.resolve_units.ensures.none
+    IfOk-weaker c.resolve_tapes.result _ _ (λ it is. is (sources_of c.args.sources.now) (taped c)) c.resolve_tapes.ensures.none
 
 pub returns-clause-names : goal.returns-clause-names
 returns-clause-names c =
-    IfOk-weaker c.resolve_units.result _ _
-    (λ it is. named_is c.names_of_tapes.ensures (sources_of c.args.sources.now) c.requires.formed
-    (tapes_of c.in-Ok.units.items) c.in-Ok.ensures (names_in it.rows it.names) is)
-    c.resolve_units.ensures.names
+    IfOk-weaker c.resolve_tapes.result _ _ (λ it is. is (sources_of c.args.sources.now) (taped c)) c.resolve_tapes.ensures.names
 
 pub returns-clause-tapes : goal.returns-clause-tapes
 returns-clause-tapes c =
-    IfOk-weaker c.resolve_units.result _ _ (λ it is. ap tapes_of is ∙ c.in-Ok.ensures) c.resolve_units.ensures.units
+    IfOk-weaker c.resolve_tapes.result _ _ (λ it is. ap tapes_of is ∙ c.in-Ok.ensures) c.resolve_tapes.ensures.tapes
 
 pub returns-clause-first : goal.returns-clause-first
 returns-clause-first c =
-    IfErr-weaker c.resolve_units.result _ _
-    (λ fault is. first_is c.names_of_tapes.ensures (sources_of c.args.sources.now) c.requires.formed
-    (tapes_of c.in-Ok.units.items) c.in-Ok.ensures c.first_fault_is_found.ensures fault is)
-    c.resolve_units.ensures.first
+    IfErr-weaker c.resolve_tapes.result _ _ (λ fault is. is (sources_of c.args.sources.now) (taped c)) c.resolve_tapes.ensures.first

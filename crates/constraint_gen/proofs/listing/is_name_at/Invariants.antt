@@ -1,8 +1,6 @@
 use Rattle.std.proofs.Common.{◌≡◌, drop}
-use Rattle.c_types.specs.Sources.{units_of, lexed_of}
 use Rattle.constraint_gen.specs.Listing.{is_name_at}
 use Rattle.constraint_gen.proofs.listing.is_name_at.Given as goal
 
-abbrev pub invariant-loop-source : goal.invariant-loop-source
-invariant-loop-source l =
-    is_name_at (lexed_of (units_of (drop l.source-index l.sources))) l.at ≡ is_name_at (lexed_of (units_of l.sources)) l.at
+abbrev pub invariant-loop-tokens : goal.invariant-loop-tokens
+invariant-loop-tokens l = is_name_at (drop l.tokens-index l.units) l.at ≡ is_name_at l.units l.at

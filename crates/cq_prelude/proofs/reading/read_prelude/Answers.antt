@@ -26,9 +26,9 @@ returns-in-Ok-clause-only c it marks h =
 
 pub returns-clause-refused : goal.returns-clause-refused
 returns-clause-refused c =
-    rw c.parse_refused.ensures (parse_fault _ _ _ _ c.in_ok-tokens.ensures.lexes (c.in-Err.ensures.none _ refl) (c.in-Err.ensures.first _ refl))
+    rw c.parse_refused.ensures (parse_fault _ _ _ _ c.in_ok-tokens.ensures.lexes (c.in-Err.ensures.refused _ refl))
 
 pub returns-clause-only : goal.returns-clause-only
 returns-clause-only c it marks h =
     c.parse_refused.ensures ∙ not_parsed _ _ it marks _ _ (c.in_ok-tokens.ensures.only it.lexed h.parses.lexes)
-    (c.in-Err.ensures.none _ refl) h
+    (λ reason. (c.in-Err.ensures.refused _ refl reason).none) h

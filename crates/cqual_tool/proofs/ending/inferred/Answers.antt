@@ -3,8 +3,7 @@ use Rattle.std.proofs.lemmas.Result.{IfOk-weaker}
 use Rattle.qual_types.specs.declared.row.Row.{Row}
 use Rattle.qual_types.specs.Table.{Stands}
 use Rattle.annotate.specs.Scenes as scenes
-use Rattle.c_types.specs.declared.source.Source.{Source}
-use Rattle.c_types.specs.Sources.{units_of}
+use Rattle.c_lexer.specs.Tokens.{Lexed}
 use Rattle.cqual_tool.specs.Words.{names_in}
 use Rattle.cqual_tool.specs.Programs.{judging_of, texts_of}
 use Rattle.cqual_tool.proofs.ending.inferred.Goals as goal
@@ -18,7 +17,7 @@ returns-clause-report c = λ units marks are made.
     (record {
       units =
           sym (ap scenes.units_of c.deref-2.ensures.value ∙ c.in_ok-units.ensures
-          ∙ ap (λ (ss : List Source). texts_of (names_in c.args.named.now) (units_of ss)) c.deref.ensures.value
+          ∙ ap (λ (ls : List Lexed). texts_of (names_in c.args.named.now) ls) c.deref.ensures.value
           ∙ ap (texts_of (names_in c.args.named.now)) are);
       lattices = refl;
       listed = sym (c.deref-3.ensures.value ∙ made.listed);

@@ -3,8 +3,8 @@ use Rattle.std.proofs.lemmas.Result.{IfOk-weaker}
 use Rattle.qual_types.specs.declared.row.Row.{Row}
 use Rattle.qual_types.specs.Table.{Stands}
 use Rattle.annotate.specs.Scenes as scenes
-use Rattle.c_types.specs.declared.source.Source.{Source}
-use Rattle.c_types.specs.Sources.{units_of}
+use Rattle.c_lexer.specs.Tokens.{Lexed}
+use Rattle.c_types.specs.Sources.{lexed_of}
 use Rattle.cqual_tool.specs.Words.{FileNames, names_in}
 use Rattle.cqual_tool.specs.Programs.{judging_of, texts_of}
 use Rattle.cqual_tool.specs.Outcome.{made_names}
@@ -20,9 +20,9 @@ returns-clause-sum c = λ bytes is.
     (record {
       units =
           sym (ap scenes.units_of c.deref-2.ensures.value ∙ c.in_ok-units.ensures
-          ∙ ap (λ (ss : List Source). texts_of names (units_of ss)) c.deref.ensures.value
+          ∙ ap (λ (ls : List Lexed). texts_of names ls) c.deref.ensures.value
           ∙ ap (texts_of names) is.units
-          ∙ ap (λ (ns : FileNames). texts_of ns (is.unit ∷ [])) c.made_names-named.ensures);
+          ∙ ap (λ (ns : FileNames). texts_of ns (lexed_of (is.unit ∷ []))) c.made_names-named.ensures);
       lattices = refl;
       listed = sym (c.deref-3.ensures.value ∙ is.made.listed);
       count = sym is.made.count ∙ ap (λ (rows : List Row). length rows) (sym c.vars.ensures);

@@ -1,12 +1,12 @@
-use Rattle.std.proofs.Common.{arith, ℕ, ◌<◌, List, [], length, refl, ap, subst}
+use Rattle.std.proofs.Common.{arith, ℕ, ◌<◌, List, [], length, refl, sym, subst}
 use Rattle.std.proofs.lemmas.Result.{IfOk-weaker}
 use Rattle.generated_source.specs.Source.{generated_text}
-use Rattle.c_types.specs.Sources.{units_of}
 use Rattle.cqual_tool.specs.declared.status.Status.TheVariants.{Malformed}
 use Rattle.cqual_tool.specs.Words.{names_in}
-use Rattle.cqual_tool.specs.Outcome.{IsRefused, OfMade, MadeRead, MadeRefused, MadeTooLarge, made_names, source_limit}
-use Rattle.cqual_tool.specs.Preparing.{IsPrepared, IsReady}
+use Rattle.cqual_tool.specs.Outcome.{IsDecided, IsRefused, OfMade, MadeRead, MadeRefused, MadeTooLarge, made_names, source_limit}
+use Rattle.cqual_tool.specs.Preparing.{IsEarlier, IsPrepared, IsReady}
 use Rattle.cqual_tool.proofs.Outcomes.{at_equal}
+use Rattle.cqual_tool.proofs.Joining.{nothing_earlier}
 use Rattle.cqual_tool.proofs.Summing.{at_made}
 use Rattle.cqual_tool.proofs.making.of_source.Goals as goal
 
@@ -23,36 +23,43 @@ returns-in-Refused-clause-outcome c = λ read.
     let lattices = c.args.lattices.now in
     let answer = c.in-Refused.answer in
     let names = names_in c.made_names-named.result in
-    let before = units_of c.nothing_before.result.sources.items in
+    let earlier : IsEarlier [] c.nothing_before.result = record { are = c.nothing_before.ensures.units; may = nothing_earlier } in
     let marks = c.nothing_before.result.prelude in
-    let is = subst (IsPrepared names lattices before marks c.args.bytes.now) c.in-Refused.is c.in_ok-answer.ensures in
+    let is = subst (IsPrepared names lattices [] marks c.args.bytes.now) c.in-Refused.is (c.in_ok-answer.ensures [] earlier) in
     at_equal (OfMade c.args.number) _ Malformed _ _ is.0 refl
     (MadeRefused lattices _ read
-    (at_made (λ ns us ms bs. IsRefused ns lattices us ms bs answer.text.items) names before marks c.args.bytes.now made_names [] []
-    (generated_text c.args.number) c.made_names-named.ensures (ap units_of c.nothing_before.ensures.sources) c.nothing_before.ensures.prelude
+    (at_made (λ ns us ms bs. IsRefused ns lattices us ms bs answer.text.items) names [] marks c.args.bytes.now made_names [] []
+    (generated_text c.args.number) c.made_names-named.ensures refl c.nothing_before.ensures.prelude
     c.requires is.1))
 
 pub of_program-requires : goal.of_program-requires
 of_program-requires c =
     let names = names_in c.made_names-named.result in
-    let before = units_of c.nothing_before.result.sources.items in
+    let earlier : IsEarlier [] c.nothing_before.result = record { are = c.nothing_before.ensures.units; may = nothing_earlier } in
     let marks = c.nothing_before.result.prelude in
-    let is : IsReady names c.args.lattices.now before marks c.args.bytes.now c.in-Program.ready =
-    subst (IsPrepared names c.args.lattices.now before marks c.args.bytes.now) c.in-Program.is c.in_ok-answer.ensures in
+    let is : IsReady names c.args.lattices.now [] marks c.args.bytes.now c.in-Program.ready =
+    subst (IsPrepared names c.args.lattices.now [] marks c.args.bytes.now) c.in-Program.is (c.in_ok-answer.ensures [] earlier) in
     record { named = is.within; owned = is.owned }
 
-pub returns-in-Program-clause-outcome : goal.returns-in-Program-clause-outcome
-returns-in-Program-clause-outcome c = λ read.
+pub returns-clause-outcome : goal.returns-clause-outcome
+returns-clause-outcome c = λ read.
     let lattices = c.args.lattices.now in
     let ready = c.in-Program.ready in
     let names = names_in c.made_names-named.result in
-    let before = units_of c.nothing_before.result.sources.items in
+    let earlier : IsEarlier [] c.nothing_before.result = record { are = c.nothing_before.ensures.units; may = nothing_earlier } in
     let marks = c.nothing_before.result.prelude in
-    let there : IsReady names lattices before marks c.args.bytes.now ready =
-    subst (IsPrepared names lattices before marks c.args.bytes.now) c.in-Program.is c.in_ok-answer.ensures in
+    let there : IsReady names lattices [] marks c.args.bytes.now ready =
+    subst (IsPrepared names lattices [] marks c.args.bytes.now) c.in-Program.is (c.in_ok-answer.ensures [] earlier) in
     let is =
-    at_made (λ ns us ms bs. IsReady ns lattices us ms bs ready) names before marks c.args.bytes.now made_names [] []
-    (generated_text c.args.number) c.made_names-named.ensures (ap units_of c.nothing_before.ensures.sources) c.nothing_before.ensures.prelude
+    at_made (λ ns us ms bs. IsReady ns lattices us ms bs ready) names [] marks c.args.bytes.now made_names [] []
+    (generated_text c.args.number) c.made_names-named.ensures refl c.nothing_before.ensures.prelude
     c.requires there in
     IfOk-weaker c.of_program.result _ _ (λ answer sum. MadeRead lattices is.unit _ _ read is.counted sum)
     (c.of_program.ensures.sum (generated_text c.args.number) is)
+
+pub returns-in-Refused-clause-decided : goal.returns-in-Refused-clause-decided
+returns-in-Refused-clause-decided c =
+    let names = names_in c.made_names-named.result in
+    let earlier : IsEarlier [] c.nothing_before.result = record { are = c.nothing_before.ensures.units; may = nothing_earlier } in
+    let is = subst (IsPrepared names c.args.lattices.now [] c.nothing_before.result.prelude c.args.bytes.now) c.in-Refused.is (c.in_ok-answer.ensures [] earlier) in
+    subst IsDecided (sym is.0) tt

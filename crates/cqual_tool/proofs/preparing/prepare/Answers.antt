@@ -6,26 +6,26 @@ use Rattle.cqual_tool.proofs.Joining.{refused}
 use Rattle.cqual_tool.proofs.preparing.prepare.Goals as goal
 
 pub returns-in-Ok : goal.returns-in-Ok
-returns-in-Ok c =
+returns-in-Ok c = λ before earlier.
     let lexed = c.in-Ok.ensures in
     let lexes : SourceLexes c.args.lattices.now c.args.bytes.now c.in-Ok.tokens = record {
       within = c.requires.within;
       unit = lexed.unit ∙ c.new.ensures;
       bytes_are = lexed.bytes;
-      marks = record { words = c.in_ok-words.words; mean = c.in_ok-words.ensures; spelled = lexed.spelled; keywords = lexed.keywords };
+      marks = record { words = c.args.words.now; mean = c.requires.words; spelled = lexed.spelled; keywords = lexed.keywords };
     } in
-    c.parsed.ensures c.args.bytes.now lexes
+    c.parsed.ensures before c.args.bytes.now earlier lexes
 
 pub returns : goal.returns
-returns c =
+returns c = λ before earlier.
     let fault = c.in-Err.fault in
     let said = c.in_ok-source_refused-in-Err.ensures in
-    let In : ℕ → Type 0 = λ unit. IsRefusal unit c.in_ok-words.words c.args.bytes.now fault in
+    let In : ℕ → Type 0 = λ unit. IsRefusal unit c.args.words.now c.args.bytes.now fault in
     let fails : SourceFails c.args.lattices.now c.args.bytes.now fault = record {
       within = c.requires.within;
-      words = c.in_ok-words.words;
-      mean = c.in_ok-words.ensures;
+      words = c.args.words.now;
+      mean = c.requires.words;
       refused = subst In c.new.ensures c.in-Err.ensures.refused;
       reason = said.reason;
     } in
-    refused (names_in c.args.named.now) c.args.lattices.now _ c.args.earlier.prelude c.args.bytes.now _ c.in_ok-source_refused-in-Err.field-0 said.line (Unspelled fault fails)
+    refused (names_in c.args.named.now) c.args.lattices.now before c.args.earlier.prelude c.args.bytes.now _ c.in_ok-source_refused-in-Err.field-0 said.line (Unspelled fault fails)

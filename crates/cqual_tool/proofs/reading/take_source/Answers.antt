@@ -2,7 +2,6 @@ use Rattle.std.proofs.Common.{ℕ, List, [], ◌∷◌, ◌++◌, IfSome, length
 use Rattle.std.specs.declared.option.Option.{Option}
 use Rattle.std.proofs.lemmas.Result.{IfOk-weaker}
 use Rattle.outside.specs.Outside.{content_of}
-use Rattle.c_types.specs.Sources.{units_of}
 use Rattle.cqual_tool.specs.declared.status.Status.TheVariants.{Malformed}
 use Rattle.cqual_tool.specs.Words.{names_in}
 use Rattle.cqual_tool.specs.Programs.{judging_of}
@@ -17,49 +16,47 @@ pub end-requires : goal.end-requires
 end-requires g c =
     let named = names_in c.args.named.now in
     let lattices = c.args.lattices.now in
-    let before = units_of c.args.earlier.sources.items in
+    let before = c.requires.before.0 in
     let marks = c.args.earlier.prelude in
     let is : IsReady named lattices before marks c.deref.result.now c.in-Program.ready =
-    subst (IsPrepared named lattices before marks c.deref.result.now) c.in-Program.is c.in_ok-answer-in-Some.ensures in
+    subst (IsPrepared named lattices before marks c.deref.result.now) c.in-Program.is (c.in_ok-answer-in-Some.ensures before c.requires.before.1) in
     record { named = is.within; owned = is.owned; elements = is.elements }
 
 pub returns-in_err-bytes-clause-started : goal.returns-in_err-bytes-clause-started
-returns-in_err-bytes-clause-started g c = (c.args.named.now.source.now ∷ [], records_one _ _ _ c.taken.ensures.started, SourceAlone)
+returns-in_err-bytes-clause-started g c = λ before earlier. (c.args.named.now.source.now ∷ [], records_one _ _ _ c.taken.ensures.started, SourceAlone)
 
 pub returns-in_err-answer-in-Some-clause-started : goal.returns-in_err-answer-in-Some-clause-started
-returns-in_err-answer-in-Some-clause-started g c =
+returns-in_err-answer-in-Some-clause-started g c = λ before earlier.
     (c.args.named.now.source.now ∷ [], records_one _ _ _ c.in_ok-bytes.ensures.started, SourceAlone)
 
 pub returns-in-Refused-clause-started : goal.returns-in-Refused-clause-started
-returns-in-Refused-clause-started g c =
+returns-in-Refused-clause-started g c = λ before earlier.
     (c.args.named.now.source.now ∷ [], records_one _ _ _ c.in_ok-bytes.ensures.started, SourceAlone)
 
 pub returns-in_err-too_large-in-None-clause-started : goal.returns-in_err-too_large-in-None-clause-started
-returns-in_err-too_large-in-None-clause-started g c =
+returns-in_err-too_large-in-None-clause-started g c = λ before earlier.
     (c.args.named.now.source.now ∷ [], records_one _ _ _ c.in_ok-bytes.ensures.started, SourceAlone)
 
 pub returns-clause-started : goal.returns-clause-started
-returns-clause-started g c =
+returns-clause-started g c = λ before earlier.
     (c.args.named.now.source.now ∷ [], records_one _ _ _ c.in_ok-bytes.ensures.started, SourceAlone)
 
 pub returns-clause-outcome : goal.returns-clause-outcome
-returns-clause-outcome g c =
+returns-clause-outcome g c = λ before earlier.
     let named = names_in c.args.named.now in
-    let before = units_of c.args.earlier.sources.items in
     when_told (g.F.Files.contents c.args.files.now) c.in_ok-bytes.ensures.whole (λ all found.
     at_equal (OfSource named (content_of all) c.args.lattices.now before c.args.earlier.prelude) _ Malformed _ _
     c.in_ok-too_large-in-None.ensures.0 c.in_ok-too_large-in-None.ensures.1
     (SourceTooLarge (none_found (length (content_of all named.source)) (content_of all named.source) source_limit c.in_ok-bytes.field-0 found c.in-None.is)))
 
 pub returns-in-Refused-clause-outcome : goal.returns-in-Refused-clause-outcome
-returns-in-Refused-clause-outcome g c =
+returns-in-Refused-clause-outcome g c = λ before earlier.
     let named = names_in c.args.named.now in
     let lattices = c.args.lattices.now in
-    let before = units_of c.args.earlier.sources.items in
     let marks = c.args.earlier.prelude in
     let answer = c.in-Refused.answer in
     let is : IsPrepared named lattices before marks c.deref.result.now (Refused answer) =
-    subst (IsPrepared named lattices before marks c.deref.result.now) c.in-Refused.is c.in_ok-answer-in-Some.ensures in
+    subst (IsPrepared named lattices before marks c.deref.result.now) c.in-Refused.is (c.in_ok-answer-in-Some.ensures before earlier) in
     let Refuses : List ℕ → Type 0 = λ bytes. IsRefused named lattices before marks bytes answer.text.items in
     let found = c.in_ok-bytes.field-0 in
     when_told (g.F.Files.contents c.args.files.now) c.in_ok-bytes.ensures.whole (λ all whole.
@@ -69,13 +66,12 @@ returns-in-Refused-clause-outcome g c =
     at_equal (OfSource named (content_of all) lattices before marks) _ Malformed _ _ is.0 refl (SourceRefused _ (subst Refuses same is.1)))
 
 pub returns-in-Some-clause-outcome : goal.returns-in-Some-clause-outcome
-returns-in-Some-clause-outcome g c =
+returns-in-Some-clause-outcome g c = λ before earlier.
     let named = names_in c.args.named.now in
     let lattices = c.args.lattices.now in
-    let before = units_of c.args.earlier.sources.items in
     let marks = c.args.earlier.prelude in
     let is : IsReady named lattices before marks c.deref.result.now c.in-Program.ready =
-    subst (IsPrepared named lattices before marks c.deref.result.now) c.in-Program.is c.in_ok-answer-in-Some.ensures in
+    subst (IsPrepared named lattices before marks c.deref.result.now) c.in-Program.is (c.in_ok-answer-in-Some.ensures before earlier) in
     let Counts : List ℕ → Type 0 = λ bytes. IsCounted named lattices before marks bytes is.unit in
     let told = g.F.Files.contents c.args.files.now in
     let found = c.in_ok-bytes.field-0 in
@@ -91,13 +87,12 @@ returns-in-Some-clause-outcome g c =
     (c.end.ensures.outcome before marks c.deref.result.now is)
 
 pub returns-in-Some-clause-started : goal.returns-in-Some-clause-started
-returns-in-Some-clause-started g c =
+returns-in-Some-clause-started g c = λ before earlier.
     let named = names_in c.args.named.now in
     let lattices = c.args.lattices.now in
-    let before = units_of c.args.earlier.sources.items in
     let marks = c.args.earlier.prelude in
     let is : IsReady named lattices before marks c.deref.result.now c.in-Program.ready =
-    subst (IsPrepared named lattices before marks c.deref.result.now) c.in-Program.is c.in_ok-answer-in-Some.ensures in
+    subst (IsPrepared named lattices before marks c.deref.result.now) c.in-Program.is (c.in_ok-answer-in-Some.ensures before earlier) in
     let Counts : List ℕ → Type 0 = λ bytes. IsCounted named lattices before marks bytes is.unit in
     let told = g.F.Files.contents c.args.files.now in
     let found = c.in_ok-bytes.field-0 in

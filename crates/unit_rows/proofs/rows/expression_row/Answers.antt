@@ -36,8 +36,8 @@ returns-in-Text c =
     let k = c.args.known.now in
     let st = state_of k c.args.stacks.now in
     record {
-      ok = none_added k c.args.graph.now _ (λ w shows. ap (op_rows.expr_row w st) c.in-Text.is);
-      err = tt;
+      ok = row_added c.form_here.result k c.args.graph.now c.form_here.new.graph _ _ (λ w shows. ap (op_rows.expr_row w st) (sym c.in-Text.is)) c.form_here.ensures.ok;
+      err = row_halted c.form_here.result k c.args.graph.now c.form_here.new.graph _ _ (λ w shows. ap (op_rows.expr_row w st) (sym c.in-Text.is)) c.form_here.ensures.err;
     }
 
 pub returns-in-Paren : goal.returns-in-Paren

@@ -1,7 +1,7 @@
 use Rattle.std.proofs.Common.{sym, ap}
 use Rattle.row_steps.specs.OpRows as op_rows
 use Rattle.skel_steps.specs.Stepping.{state_of}
-use Rattle.unit_rows.proofs.RowLists.{row_added, row_halted, none_added}
+use Rattle.unit_rows.proofs.RowLists.{row_added, row_halted}
 use Rattle.unit_rows.proofs.rows.loud_row.Goals as goal
 
 pub returns-in-Expr : goal.returns-in-Expr
@@ -36,8 +36,8 @@ returns-in-Spec c =
     let k = c.args.known.now in
     let st = state_of k c.args.stacks.now in
     record {
-      ok = none_added k c.args.graph.now _ (λ w shows. ap (op_rows.loud_row w st) c.in-Spec.is);
-      err = tt;
+      ok = row_added c.specifier_row.result k c.args.graph.now c.specifier_row.new.graph _ _ (λ w shows. ap (op_rows.loud_row w st) (sym c.in-Spec.is)) c.specifier_row.ensures.ok;
+      err = row_halted c.specifier_row.result k c.args.graph.now c.specifier_row.new.graph _ _ (λ w shows. ap (op_rows.loud_row w st) (sym c.in-Spec.is)) c.specifier_row.ensures.err;
     }
 
 pub returns-in-Declr : goal.returns-in-Declr

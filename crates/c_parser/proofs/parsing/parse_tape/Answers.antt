@@ -1,0 +1,27 @@
+use Rattle.std.proofs.Common.{◌≡◌, List, sym, ap, subst, ◌∙◌}
+use Rattle.c_tree.specs.declared.lexeme.Lexeme.{Lexeme}
+use Rattle.c_reading.specs.Knot.{unit_at}
+use Rattle.reader_base.specs.Gives.{Fails}
+use Rattle.c_parser.specs.Parsing.{lexemes_of}
+use Rattle.c_parser.specs.Taping.{tape_at}
+use Rattle.c_parser.specs.Whole.{unit_found}
+use Rattle.c_parser.proofs.Numbering.{numbered_from_zero}
+use Rattle.c_parser.proofs.TapeOfItems.{taped_unit, whole, fails_alike}
+use Rattle.c_parser.proofs.parsing.parse_tape.Goals as goal
+
+pub returns-in-Ok-unit_tape-clause-tape : goal.returns-in-Ok-unit_tape-clause-tape
+returns-in-Ok-unit_tape-clause-tape c =
+    let same : c.as_slice.result.now ≡ lexemes_of c.args.tokens.now = c.as_slice.ensures.value ∙ c.in-Ok.ensures in
+    let all = lexemes_of c.args.tokens.now in
+    let found = whole (unit_at all) _ (sym (taped_unit all) ∙ ap tape_at (sym same) ∙ c.in-Ok-unit_tape.ensures) in
+    record {
+      items = found.0;
+      formed = c.unit_is_well_formed.ensures all (numbered_from_zero c.args.tokens.now.tokens) (unit_found found.0) found.1;
+      taped = found.2;
+    }
+
+pub refusal-requires : goal.refusal-requires
+refusal-requires c =
+    let same : c.as_slice.result.now ≡ lexemes_of c.args.tokens.now = c.as_slice.ensures.value ∙ c.in-Ok.ensures in
+    fails_alike c.in-Err.error (lexemes_of c.args.tokens.now)
+    (subst (λ (all : List Lexeme). Fails c.in-Err.error (tape_at all)) same c.in-Err.ensures)

@@ -1,0 +1,12 @@
+use Rattle.std.proofs.Common.{◌≡◌, length, []}
+use Rattle.c_reading.specs.Reading.{run}
+use Rattle.c_parser.specs.Taping.{tape_turn}
+use Rattle.c_parser.proofs.taping.tapes.Given as goal
+
+abbrev pub invariant-loop-ops : goal.invariant-loop-ops
+invariant-loop-ops g l =
+    run (tape_turn l.depth l.room) l.ops.items l.place.scopes l.place.rest.now
+    ≡ run (tape_turn l.depth l.room) [] l.fn.place.scopes l.fn.place.rest.now
+
+abbrev pub decreases-loop-ops : goal.decreases-loop-ops
+decreases-loop-ops g l = length l.place.rest.now
