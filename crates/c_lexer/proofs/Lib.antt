@@ -13,3 +13,4 @@ pub mod UniqueLemmas
 pub mod OnceLemmas
 pub mod PlaceLemmas
 pub mod NumberLemmas
+pub mod WordLemmas
