@@ -6,3 +6,4 @@ mod SolutionLemmas
 mod ReportLemmas
 mod Annotating
 mod Counting
+pub mod Firsts

@@ -1,5 +1,5 @@
 -- What is found of each lattice, and what of a report follows from it.
-use Rattle.std.specs.Prelude.{◌≡◌, ℕ, ◌↔◌, List, ◌++◌, length, slice_get, Some}
+use Rattle.std.specs.Prelude.{◌≡◌, ℕ, ◌<◌, ◌↔◌, nat_lt, List, ◌++◌, length, slice_get, Option, Some, None, if◌then◌else◌}
 use Rattle.flow_graph.specs.System.{System}
 use Rattle.flow_graph.specs.Paths.{Lead}
 use Rattle.flow_graph.specs.declared.constraint.Link.{Link}
@@ -63,9 +63,21 @@ pub record IsOverIn (lattices : List LatticeView) (sys : System) (of : Solved) (
   pub elem : ℕ
   pub exceeds : Exceeds sys of.solver view.order bound elem
 
--- a bound of some lattice is exceeded
-abbrev pub IsSomeOver : Lent → System → Type 0
-IsSomeOver lent sys = (scene : Scene) → Shows lent scene → (n : ℕ) × IsOver scene sys n
+-- no constraint before this one is an exceeded bound
+abbrev pub NoneBefore : Lent → System → ℕ → Type 0
+NoneBefore lent sys number = (scene : Scene) → Shows lent scene → (n : ℕ) → n < number → IsOver scene sys n → ⊥
+
+-- the first constraint that is an exceeded bound of some lattice
+pub record IsFirstOver (lent : Lent) (sys : System) (number : ℕ) : Type 0 where
+  pub within : number < length sys.constraints
+  pub over : (scene : Scene) → Shows lent scene → IsOver scene sys number
+  pub before : NoneBefore lent sys number
+
+-- the earlier of two numbers, each of which may not be there
+abbrev pub earlier : Option ℕ → Option ℕ → Option ℕ
+earlier None other = other
+earlier (Some first) None = Some first
+earlier (Some first) (Some second) = if nat_lt second first then Some second else Some first
 
 -- so many of the constraints below a number are exceeded bounds, in each scene that is what the code holds
 abbrev pub CountsOver : Lent → System → ℕ → ℕ → Type 0

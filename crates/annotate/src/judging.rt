@@ -1,13 +1,12 @@
 //! Whether a program is accepted, and its report.
 
-ghost use Rattle.std.specs.Prelude.{◌≡◌, ◌<◌, IfOk, length};
-ghost use Rattle.std.specs.Bool.{OnTrue, OnFalse};
+ghost use Rattle.std.specs.Prelude.{◌≡◌, ◌<◌, IfOk, IfSome, IfNone, length};
 ghost use Rattle.flow_graph.specs.System.{IsWellOwned};
 ghost use Rattle.flow_graph.specs.Unfolding.{IsAccepted};
 ghost use Rattle.lattice_core.specs.View.{orders_of};
 ghost use Rattle.annotate.specs.Scenes.{Shows};
 ghost use Rattle.annotate.specs.Solutions.{AllNamed, AreKept, AreSolutions};
-ghost use Rattle.annotate.specs.Solutions.{CountsOver, IsSomeOver};
+ghost use Rattle.annotate.specs.Solutions.{CountsOver, IsFirstOver, earlier};
 ghost use Rattle.annotate.specs.Reports.{ErrorCount, IsJudged, IsJudgedWith};
 
 use crate::reports::{accepted, over_in, rejected};
@@ -25,26 +24,43 @@ pub struct Judged {
     pub text: Vec<u8>,
 }
 
-/// Whether a bound of some lattice is exceeded. Linear in the constraints and the lattices.
-fn is_exceeded(scene: &Scene<'_>, graph: &FlowGraph, solutions: &[Solved]) -> bool
+/// The earlier of two constraints, each of which may not be there.
+fn earlier(one: Option<EdgeId>, other: Option<EdgeId>) -> Option<EdgeId>
+    ensures { result ≡ earlier one other }
+{
+    match one {
+        None => other,
+        Some(first) => match other {
+            None => Some(first),
+            Some(second) => {
+                if second.number() < first.number() {
+                    Some(second)
+                } else {
+                    Some(first)
+                }
+            }
+        },
+    }
+}
+
+/// The first constraint that is an exceeded bound of some lattice. Linear in the constraints and the lattices.
+fn first_exceeded(scene: &Scene<'_>, graph: &FlowGraph, solutions: &[Solved]) -> Option<EdgeId>
     requires named { AllNamed scene.now.lattices.now graph.now }
     requires owned { IsWellOwned graph.now }
     requires solutions { AreSolutions graph.now scene.now.lattices.now solutions.now }
-    ensures over { OnTrue result (IsSomeOver scene.now graph.now) }
-    ensures kept { OnFalse result (AreKept graph.now scene.now.lattices.now solutions.now) }
+    ensures over { IfSome result (IsFirstOver scene.now graph.now) }
+    ensures kept { IfNone result (AreKept graph.now scene.now.lattices.now solutions.now) }
 {
+    let mut first = None;
     for n in 0..scene.lattices.len() {
         let number = LatticeNo::new(n);
         let solved = solved_of(solutions, number);
-        if solved
+        let found = solved
             .solver
-            .first_exceeded(graph, scene.lattices.get(number))
-            .is_some()
-        {
-            return true;
-        }
+            .first_exceeded(graph, scene.lattices.get(number));
+        first = earlier(first, found);
     }
-    false
+    first
 }
 
 /// The report of a program whose constraints are there, and behind an accepted one the annotated source of a unit, if it is
@@ -67,8 +83,8 @@ pub fn judge_with(
         IsJudgedWith s graph.now annotated judged.accepted judged.text.items) }
 {
     let solutions = solve_all(alloc, graph, scene.lattices)?;
-    if is_exceeded(scene, graph, &solutions) {
-        let text = rejected(alloc, scene, graph, &solutions)?;
+    if let Some(first) = first_exceeded(scene, graph, &solutions) {
+        let text = rejected(alloc, scene, graph, &solutions, first)?;
         return Ok(Judged {
             accepted: false,
             text,
@@ -91,15 +107,17 @@ pub fn judge(alloc: Global, scene: &Scene<'_>, graph: &FlowGraph) -> Result<Judg
     judge_with(alloc, scene, graph, None)
 }
 
-/// How many constraints are exceeded bounds. Linear in the constraints, with at most 64 steps for each, and takes no memory.
-fn count_over(scene: &Scene<'_>, graph: &FlowGraph, solutions: &[Solved]) -> u32
+/// How many constraints are exceeded bounds, of which this is the first. Linear in the constraints, with at most 64 steps for
+/// each, and takes no memory.
+fn count_over(scene: &Scene<'_>, graph: &FlowGraph, solutions: &[Solved], first: EdgeId) -> u32
     requires named { AllNamed scene.now.lattices.now graph.now }
     requires owned { IsWellOwned graph.now }
     requires solutions { AreSolutions graph.now scene.now.lattices.now solutions.now }
+    requires first { IsFirstOver scene.now graph.now first }
     ensures { CountsOver scene.now graph.now (length graph.now.constraints) result }
 {
     let mut count = 0;
-    for n in 0..graph.len() {
+    for n in first.number()..graph.len() {
         if over_in(scene, graph, solutions, EdgeId::new(n)).is_some() {
             count += 1;
         }
@@ -122,8 +140,8 @@ pub fn count_errors(alloc: Global, scene: &Scene<'_>, graph: &FlowGraph) -> Resu
     exceeded_is_refuted();
     let solutions = solve_all(alloc, graph, scene.lattices)?;
     // asked as `judge_with` asks it, so that none are counted exactly where that accepts
-    if !is_exceeded(scene, graph, &solutions) {
-        return Ok(0);
+    match first_exceeded(scene, graph, &solutions) {
+        Some(first) => Ok(count_over(scene, graph, &solutions, first)),
+        None => Ok(0),
     }
-    Ok(count_over(scene, graph, &solutions))
 }

@@ -11,7 +11,7 @@ ghost use Rattle.annotate.specs.Texts.{listing_line, listing_lines, accepted_tex
 ghost use Rattle.annotate.specs.Annotated.{annotation};
 ghost use Rattle.annotate.specs.Scenes.{Shows, Writes, WritesSome};
 ghost use Rattle.annotate.specs.Solutions.{AllNamed, AreKept, AreSolutions};
-ghost use Rattle.annotate.specs.Solutions.{IsNoBound, IsOverIn, IsSomeOver};
+ghost use Rattle.annotate.specs.Solutions.{IsNoBound, IsOverIn, IsFirstOver};
 ghost use Rattle.annotate.specs.Reports.{IsOver, IsError, IsErrorOf, Errors};
 ghost use Rattle.annotate.specs.Reports.{IsJudgedWith, IsRejectedReport};
 
@@ -220,46 +220,50 @@ fn put_error_of(
     }
 }
 
-/// The errors of all exceeded bounds, in the order of the constraints. What each element leads to is searched for once.
+/// The errors of all exceeded bounds, of which this is the first, in the order of the constraints. What each element leads to is
+/// searched for once.
 fn put_errors(
     alloc: Global,
     out: &mut Vec<u8>,
     scene: &Scene<'_>,
     graph: &FlowGraph,
     solutions: &[Solved],
+    first: EdgeId,
 ) -> Result<(), NoMemory>
     requires named { AllNamed scene.now.lattices.now graph.now }
     requires owned { IsWellOwned graph.now }
     requires solutions { AreSolutions graph.now scene.now.lattices.now solutions.now }
+    requires first { IsFirstOver scene.now graph.now first }
     ensures { OnOk result (WritesSome scene.now out.old.items out.new.items
         (λ s errors. Errors s graph.now (length graph.now.constraints) errors)) }
 {
     let mut reaches = Reaches::new(alloc);
-    for n in 0..graph.len() {
+    for n in first.number()..graph.len() {
         let number = EdgeId::new(n);
         put_error_of(alloc, out, scene, graph, solutions, &mut reaches, number)?;
     }
     Ok(())
 }
 
-/// The rejected report. It takes a search for each element of a lattice that exceeds some bound; beside that its time is
+/// The rejected report, of which this is the first exceeded bound. It takes a search for each element of a lattice that exceeds some bound; beside that its time is
 /// linear in the constraints, at most 64 steps for each, in its text, and in the places of its lines.
 pub fn rejected(
     alloc: Global,
     scene: &Scene<'_>,
     graph: &FlowGraph,
     solutions: &[Solved],
+    first: EdgeId,
 ) -> Result<Vec<u8>, NoMemory>
     requires named { AllNamed scene.now.lattices.now graph.now }
     requires owned { IsWellOwned graph.now }
     requires solutions { AreSolutions graph.now scene.now.lattices.now solutions.now }
-    requires exceeded { IsSomeOver scene.now graph.now }
+    requires first { IsFirstOver scene.now graph.now first }
     ensures { IfOk result
         (λ text. (s : _) → Shows scene.now s → IsRejectedReport s graph.now text.items) }
 {
     exceeded_is_refuted();
     let mut text = Vec::new(alloc);
     put(&mut text, b"rejected\n")?;
-    put_errors(alloc, &mut text, scene, graph, solutions)?;
+    put_errors(alloc, &mut text, scene, graph, solutions, first)?;
     Ok(text)
 }

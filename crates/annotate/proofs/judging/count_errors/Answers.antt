@@ -5,35 +5,34 @@ use Rattle.annotate.specs.declared.solving.Solved.{Solved}
 use Rattle.annotate.specs.Solutions.{AreSolutions}
 use Rattle.annotate.proofs.LatticeLemmas.{accepted_all}
 use Rattle.annotate.proofs.ReportLemmas.{over_is_refuted}
-use Rattle.annotate.proofs.Counting.{none_counted, over_counted, over_within}
+use Rattle.annotate.proofs.Counting.{none_counted, over_counted}
 use Rattle.annotate.proofs.judging.count_errors.Goals as goal
 
-pub returns-then-not-is_exceeded-clause-accepted : goal.returns-then-not-is_exceeded-clause-accepted
-returns-then-not-is_exceeded-clause-accepted c =
+pub returns-clause-accepted : goal.returns-clause-accepted
+returns-clause-accepted c =
     let Solved : List Solved → Type 0 = λ solutions. AreSolutions c.args.graph.now c.args.scene.now.lattices.now solutions in
     let Accepted : List LatticeView → Type 0 = λ lattices. IsAccepted c.args.graph.now (orders_of lattices) in
     λ none s shows.
     let solved = subst Solved (sym c.deref.ensures.value) c.in_ok-solutions.ensures in
-    let kept = c.if-not-is_exceeded.ensures.kept in
-    subst Accepted (sym shows.lattices) (accepted_all c.args.graph.now c.args.scene.now.lattices.now c.deref.result.now solved kept)
+    subst Accepted (sym shows.lattices)
+    (accepted_all c.args.graph.now c.args.scene.now.lattices.now c.deref.result.now solved c.in-None.ensures.kept)
 
-pub returns-then-not-is_exceeded-clause-count : goal.returns-then-not-is_exceeded-clause-count
-returns-then-not-is_exceeded-clause-count c =
+pub returns-clause-count : goal.returns-clause-count
+returns-clause-count c =
     λ s shows.
     none_counted s c.args.graph.now (length c.args.graph.now.constraints) c.exceeded_is_refuted.ensures
-    (returns-then-not-is_exceeded-clause-accepted c refl s shows)
+    (returns-clause-accepted c refl s shows)
 
-pub returns-clause-accepted : goal.returns-clause-accepted
-returns-clause-accepted c =
+pub returns-in-Some-clause-accepted : goal.returns-in-Some-clause-accepted
+returns-in-Some-clause-accepted c =
     λ none s shows.
-    let over = c.if-not-is_exceeded.ensures.over s shows in
-    let within = over_within s c.args.graph.now over.0 over.1 in
+    let first = c.in-Some.ensures.over in
     let counted = c.count_over.ensures s shows in
-    let some = over_counted s c.args.graph.now (length c.args.graph.now.constraints) c.count_over.result over.0 counted within over.1 in
+    let some = over_counted s c.args.graph.now (length c.args.graph.now.constraints) c.count_over.result c.in-Some.first counted
+    first.within (first.over s shows) in
     absurd (omega (arith, none, some))
 
-pub returns-clause-rejected : goal.returns-clause-rejected
-returns-clause-rejected c =
+pub returns-in-Some-clause-rejected : goal.returns-in-Some-clause-rejected
+returns-in-Some-clause-rejected c =
     λ some s shows accepted.
-    let over = c.if-not-is_exceeded.ensures.over s shows in
-    over_is_refuted s c.args.graph.now over.0 c.exceeded_is_refuted.ensures over.1 accepted
+    over_is_refuted s c.args.graph.now c.in-Some.first c.exceeded_is_refuted.ensures (c.in-Some.ensures.over.over s shows) accepted

@@ -1,12 +1,17 @@
 use Rattle.std.proofs.Common.{ℕ, ◌+◌, sym, ◌∙◌, subst, arith}
-use Rattle.annotate.specs.Reports.{NoneBelow}
 use Rattle.annotate.specs.Solutions.{CountsOver}
+use Rattle.annotate.proofs.Firsts.{none_before}
 use Rattle.annotate.proofs.Counting.{one_more, none_more}
 use Rattle.annotate.proofs.judging.count_over.Goals.{then-is_some, else-is_some}
 use Rattle.annotate.proofs.judging.count_over.Goals as goal
 
 pub loop-n-init : goal.loop-n-init
-loop-n-init c = record { counted = λ s shows. NoneBelow; most = omega arith }
+loop-n-init c = record {
+  counted = λ s shows.
+      none_before s c.args.graph.now c.number-n.result
+      (λ n lt. c.requires.first.before s shows n (let is = c.number-n.ensures in omega arith));
+  most = omega arith;
+}
 
 pub loop-n-preserved : goal.loop-n-preserved
 loop-n-preserved c =

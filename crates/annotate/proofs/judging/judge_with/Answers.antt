@@ -7,7 +7,7 @@ use Rattle.annotate.proofs.judging.judge_with.Goals as goal
 pub accepted-requires-clause-kept : goal.accepted-requires-clause-kept
 accepted-requires-clause-kept c =
     let Kept : List Solved → Type 0 = λ solutions. AreKept c.args.graph.now c.args.scene.now.lattices.now solutions in
-    subst Kept (c.deref.ensures.value ∙ sym c.deref-2.ensures.value) c.if-is_exceeded.ensures.kept
+    subst Kept (c.deref.ensures.value ∙ sym c.deref-2.ensures.value) c.in_default.ensures.kept
 
-pub returns-then-is_exceeded : goal.returns-then-is_exceeded
-returns-then-is_exceeded c = λ s shows. RejectedWith _ (c.in_ok-text.ensures s shows)
+pub returns-in-Some : goal.returns-in-Some
+returns-in-Some c = λ s shows. RejectedWith _ (c.in_ok-text.ensures s shows)

@@ -1,12 +1,16 @@
-use Rattle.std.proofs.Common.{ℕ, ◌+◌, subst}
-use Rattle.annotate.specs.Reports.{Errors, IsErrorOf, NoConstraint, NextError}
+use Rattle.std.proofs.Common.{ℕ, ◌+◌, subst, arith}
+use Rattle.annotate.specs.Reports.{Errors, IsErrorOf, NextError}
+use Rattle.annotate.proofs.Firsts.{no_errors}
 use Rattle.annotate.proofs.Writing.{none_of, then_some}
 use Rattle.annotate.proofs.reports.put_errors.Goals as goal
 
 pub loop-n-init : goal.loop-n-init
 loop-n-init c = record {
   kept = c.new-reaches.ensures c.args.graph.now;
-  errors = none_of c.args.scene.now c.args.out.now.items (λ s errors. Errors s c.args.graph.now 0 errors) (λ s shows. NoConstraint);
+  errors = none_of c.args.scene.now c.args.out.now.items (λ s errors. Errors s c.args.graph.now c.number-n.result errors)
+      (λ s shows.
+      no_errors s c.args.graph.now c.number-n.result
+      (λ n lt. c.requires.first.before s shows n (let is = c.number-n.ensures in omega arith)));
 }
 
 pub loop-n-preserved : goal.loop-n-preserved
