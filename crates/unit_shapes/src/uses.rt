@@ -46,7 +46,12 @@ fn declared_shape(implicit: &ImplicitTypes, types: &TypeTable, declared: &Declar
 }
 
 /// What the first declaration at a place is in an expression. Constant time.
-fn shape_at(names: &FoundNames, implicit: &ImplicitTypes, types: &TypeTable, at: &Place) -> ExprShape
+fn shape_at(
+    names: &FoundNames,
+    implicit: &ImplicitTypes,
+    types: &TypeTable,
+    at: &Place,
+) -> ExprShape
     requires { AreImplicit types.now implicit.now }
     ensures { shape_in types.now result
         ≡ some_declared_shape (declared_at (names_in types.now names.now).declared at.now) }
