@@ -42,7 +42,8 @@ fn add_unit(
 }
 
 /// The lattice and the element that each annotation word of units names, by the unit's number; of several with one number it is
-/// the first. Linear in the tokens, but for growth, and in the square of the number of units; memory is linear in the words.
+/// the first. Linear in the tokens, but for growth, and in the square of the number of units; memory is linear in the tokens, and in
+/// the highest number of a unit.
 #[tactic(auto, using(crate::proofs::Words::units_next, crate::proofs::Words::units_whole))]
 pub(crate) fn marks(
     alloc: Global,

@@ -1,10 +1,5 @@
--- Members that are found are those that the rules find.
-use Rattle.std.proofs.Common.{◌≡◌, ℕ, zero, suc, ◌<◌, ◌≤◌, length, get_or, arith, nat_eq, Bool, true, false, List, [], ◌∷◌, map, slice_get, Some, None, option_map, refl, sym, ap, if◌then◌else◌}
-use Rattle.type_table.specs.Types.{CType}
-use Rattle.name_rules.specs.Values.{known_named}
-use Rattle.name_records.specs.declared.body.Known.{Known}
-use Rattle.unit_names.specs.Shown.{known_of}
-use Rattle.found_names.specs.Members.{known_first}
+-- Structs and members by their numbers.
+use Rattle.std.proofs.Common.{◌≡◌, ℕ, zero, suc, ◌<◌, ◌≤◌, length, get_or, arith, List, [], ◌∷◌, map, slice_get, Some, None, option_map, refl, sym, ap}
 
 pub map_get : {A B : Type 0} (f : A → B) (xs : List A) (n : ℕ) → slice_get (map f xs) n ≡ option_map f (slice_get xs n)
 map_get f [] n = refl
@@ -21,16 +16,3 @@ pub none_at : {A : Type 0} (xs : List A) (n : ℕ) → length xs ≤ n → slice
 none_at [] n le = refl
 none_at (x ∷ xs) zero le = absurd (omega arith)
 none_at (x ∷ xs) (suc n) le = none_at xs n (omega arith)
-
-module _ (t : ℕ → CType) where
-  pub known_found : (known : List Known) (name : ℕ) → option_map (known_of t) (known_first known name)
-      ≡ known_named (map (known_of t) known) name
-  known_found [] name = refl
-  known_found (it ∷ known) name = by_test (nat_eq it.name name) (known_found known name)
-    where
-      by_test : (b : Bool) → option_map (known_of t) (known_first known name)
-          ≡ known_named (map (known_of t) known) name
-          → option_map (known_of t) (if b then Some it else known_first known name)
-          ≡ (if b then Some (known_of t it) else known_named (map (known_of t) known) name)
-      by_test true is = refl
-      by_test false is = is

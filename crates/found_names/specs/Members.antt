@@ -1,7 +1,9 @@
--- Members by their names.
-use Rattle.std.specs.Prelude.{ℕ, nat_eq, List, [], ◌∷◌, Option, Some, None, if◌then◌else◌}
+-- Members by the numbers of their structs and by their names.
+use Rattle.std.specs.Prelude.{Option}
+use Rattle.name_rules.specs.Spellings.{Place}
+use Rattle.name_records.specs.Held.{PlaceMap, value_at}
 use Rattle.name_records.specs.declared.body.Known.{Known}
 
-abbrev pub known_first : List Known → ℕ → Option Known
-known_first [] name = None
-known_first (it ∷ known) name = if nat_eq it.name name then Some it else known_first known name
+-- the member of a struct's number and a name
+abbrev pub member_there : PlaceMap Known → Place → Option Known
+member_there table at = value_at table at

@@ -2,109 +2,132 @@
 
 ghost use Rattle.std.specs.Prelude.{◌≡◌, ℕ, IfOk, option_map};
 ghost use Rattle.type_table.specs.Types.{CType};
-ghost use Rattle.name_rules.specs.Spellings.{Place};
-ghost use Rattle.name_rules.specs.Scopes.{declared_at};
+ghost use Rattle.name_rules.specs.Scopes.{declared_at, body_of};
 ghost use Rattle.name_rules.specs.Uses.{use_at, type_named_at};
-ghost use Rattle.place_map.specs.Values.{value_at};
-ghost use Rattle.unit_names.specs.Shown.{names_of, use_of, declared_of};
-ghost use Rattle.found_names.specs.First.{first_in, use_entry, type_entry, declared_entry};
+ghost use Rattle.name_rules.specs.Values.{member_in};
+ghost use Rattle.place_map.specs.Firsts.{item_of, AreFirst};
+ghost use Rattle.unit_names.specs.Shown.{names_of, use_of, declared_of, known_of};
+ghost use Rattle.found_names.specs.First.{use_place, type_place, use_or_missing, type_of_some};
 
-use name_records::{Declared, NameUse, TypeNamed, Use};
+use crate::member_map::{MemberMap, all_members};
+use name_records::{Declared, Known, NameUse, TypeNamed, Use};
 use name_scopes::Place;
-use place_map::PlaceMap;
-use qual_base::{NoMemory, TypeId};
+use place_map::PlaceIndex;
+use qual_base::{NameId, NoMemory, StructId, TypeId};
 use std::alloc::Global;
 use std::marker::Model;
 use unit_names::Names;
 
-/// The first use at each place. Linear in the uses.
-fn first_uses(alloc: Global, uses: &[NameUse]) -> Result<PlaceMap<Use>, NoMemory>
-    ensures { IfOk result
-        (λ it. (at : Place) → value_at it at ≡ first_in use_entry uses.now at) }
+/// The number of the first use at each place. Linear in the uses, but for growth.
+#[tactic(auto, using(crate::proofs::Adding::numbers_on, crate::proofs::Adding::all_numbered))]
+fn first_uses(alloc: Global, uses: &[NameUse]) -> Result<PlaceIndex, NoMemory>
+    ensures { IfOk result (AreFirst use_place uses.now) }
 {
-    let mut found = PlaceMap::new(alloc);
+    let mut found = PlaceIndex::new(alloc);
+    let mut number = 0u32;
     for it in uses {
-        found.add(&it.at, &it.use_of)?;
+        found.add(&it.at, number)?;
+        number = match number.checked_add(1) {
+            Some(next) => next,
+            None => return Err(NoMemory),
+        };
     }
     Ok(found)
 }
 
-/// The first type's name at each place. Linear in them.
-fn first_types(alloc: Global, types: &[TypeNamed]) -> Result<PlaceMap<TypeId>, NoMemory>
-    ensures { IfOk result
-        (λ it. (at : Place) → value_at it at ≡ first_in type_entry types.now at) }
+/// The number of the first type's name at each place. Linear in them, but for growth.
+#[tactic(auto, using(crate::proofs::Adding::numbers_on, crate::proofs::Adding::all_numbered))]
+fn first_types(alloc: Global, types: &[TypeNamed]) -> Result<PlaceIndex, NoMemory>
+    ensures { IfOk result (AreFirst type_place types.now) }
 {
-    let mut found = PlaceMap::new(alloc);
+    let mut found = PlaceIndex::new(alloc);
+    let mut number = 0u32;
     for it in types {
-        found.add(&it.at, &it.ty)?;
+        found.add(&it.at, number)?;
+        number = match number.checked_add(1) {
+            Some(next) => next,
+            None => return Err(NoMemory),
+        };
     }
     Ok(found)
 }
 
-/// The first declaration at each place. Linear in them.
-fn first_declared(alloc: Global, all: &[Declared]) -> Result<PlaceMap<Declared>, NoMemory>
-    ensures { IfOk result
-        (λ it. (at : Place) → value_at it at ≡ first_in declared_entry all.now at) }
+/// What the use of a number stands for. Constant time.
+fn use_by(uses: &[NameUse], number: &Option<u32>) -> Use
+    ensures { use_of result ≡ use_or_missing (item_of uses.now number.now) }
 {
-    let mut found = PlaceMap::new(alloc);
-    for it in all {
-        found.add(&it.at, it)?;
+    match number {
+        Some(number) => match uses.get(*number as usize) {
+            Some(it) => it.use_of,
+            None => Use::Missing,
+        },
+        None => Use::Missing,
     }
-    Ok(found)
 }
 
-/// The names of a unit, each found at once by its place. Clauses see the names. Memory is linear in
-/// them.
+/// The type of a type's name by its number. Constant time.
+fn type_by(types: &[TypeNamed], number: &Option<u32>) -> Option<TypeId>
+    ensures { result ≡ type_of_some (item_of types.now number.now) }
+{
+    match number {
+        Some(number) => match types.get(*number as usize) {
+            Some(it) => Some(it.ty),
+            None => None,
+        },
+        None => None,
+    }
+}
+
+/// The names of a unit, each found at once by its place. Clauses see the names. Memory is linear in them and in the tokens.
 #[derive(Drop)]
-pub struct FoundNames<'a> {
-    names: &'a Names,
-    uses: PlaceMap<Use>,
-    types: PlaceMap<TypeId>,
-    declared: PlaceMap<Declared>,
+pub struct FoundNames {
+    names: Names,
+    /// The number of the first use at each place.
+    uses: PlaceIndex,
+    /// The number of the first type's name at each place.
+    types: PlaceIndex,
+    members: MemberMap,
 }
 
-impl<'a> Model for FoundNames<'a> {
+impl Model for FoundNames {
     ghost use Rattle.unit_names.specs.declared.names.Names as known;
     ghost use Rattle.found_names.specs.Held.{AreFound};
 
     ghost Value = { known.Names };
 
-    ghost view = { λ s. s.names.now };
+    ghost view = { λ s. s.names };
 
     ghost invariant = { AreFound };
 }
 
-impl<'a> FoundNames<'a> {
-    /// Finds names by their places. Linear in them.
-    pub fn new(alloc: Global, names: &'a Names) -> Result<Self, NoMemory>
-        ensures { IfOk result (λ it. it ≡ names.now) }
+impl FoundNames {
+    /// Finds names by their places. Linear in them, but for growth.
+    pub fn new(alloc: Global, names: Names) -> Result<Self, NoMemory>
+        ensures { IfOk result (λ it. it ≡ names) }
     {
         let uses = first_uses(alloc, names.uses())?;
         let types = first_types(alloc, names.type_names())?;
-        let declared = first_declared(alloc, names.declared())?;
+        let members = all_members(alloc, names.aggregates())?;
         Ok(FoundNames {
             names,
             uses,
             types,
-            declared,
+            members,
         })
     }
 
     /// The names.
-    pub fn names(&self) -> &'a Names
+    pub fn names(&self) -> &Names
         ensures { result.now ≡ self.now }
     {
-        self.names
+        &self.names
     }
 
     /// What the name at a place stands for. Constant time.
     pub fn use_at(&self, at: &Place) -> Use
         ensures { (t : ℕ → CType) → use_of result ≡ use_at (names_of t self.now).uses at.now }
     {
-        match self.uses.get(at) {
-            Some(found) => found,
-            None => Use::Missing,
-        }
+        use_by(self.names.uses(), &self.uses.get(at))
     }
 
     /// The type whose name begins at a place. Constant time.
@@ -112,7 +135,7 @@ impl<'a> FoundNames<'a> {
         ensures { (t : ℕ → CType) → option_map t result
             ≡ type_named_at (names_of t self.now).type_names at.now }
     {
-        self.types.get(at)
+        type_by(self.names.type_names(), &self.types.get(at))
     }
 
     /// The first declaration at a place. Constant time.
@@ -120,6 +143,14 @@ impl<'a> FoundNames<'a> {
         ensures { (t : ℕ → CType) → option_map (declared_of t) result
             ≡ declared_at (names_of t self.now).declared at.now }
     {
-        self.declared.get(at)
+        self.names.declared_at(at)
+    }
+
+    /// A member of a struct by its name. Constant time.
+    pub fn member_at(&self, number: StructId, name: NameId) -> Option<Known>
+        ensures { (t : ℕ → CType) → option_map (known_of t) result
+            ≡ member_in (body_of (names_of t self.now).aggregates number) name }
+    {
+        self.members.get(number, name)
     }
 }

@@ -2,6 +2,7 @@
 #![tactic(auto)]
 
 mod found;
+mod member_map;
 mod members;
 
 pub use found::FoundNames;

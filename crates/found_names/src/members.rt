@@ -5,27 +5,14 @@ ghost use Rattle.type_table.specs.Types.{CType};
 ghost use Rattle.name_rules.specs.Scopes.{body_of};
 ghost use Rattle.name_rules.specs.Values as rules;
 ghost use Rattle.unit_names.specs.Shown as shown;
-ghost use Rattle.unit_names.specs.Shown.{names_of, known_of, own_of, aggregate_of};
-ghost use Rattle.found_names.specs.Members.{known_first};
+ghost use Rattle.unit_names.specs.Shown.{names_of, own_of, aggregate_of};
 
 use crate::found::FoundNames;
-use name_records::{Aggregate, Body, Known, Own};
-use qual_base::{NameId, Numbered, StructId};
+use name_records::{Aggregate, Body, Own};
+use qual_base::{Numbered, StructId};
 use tape_ops::TagKind;
 
-/// The first of some members that has a name. Linear in them.
-fn known_first(known: &[Known], name: NameId) -> Option<Known>
-    ensures { result ≡ known_first known.now name }
-{
-    for it in known {
-        if it.name == name {
-            return Some(*it);
-        }
-    }
-    None
-}
-
-impl<'a> FoundNames<'a> {
+impl FoundNames {
     /// A struct, union or enum by its number. Constant time.
     #[tactic(auto, using(crate::proofs::Knowing::there_at, crate::proofs::Knowing::none_at, crate::proofs::Knowing::map_get))]
     pub fn aggregate(&self, number: StructId) -> Option<&Aggregate>
@@ -61,18 +48,6 @@ impl<'a> FoundNames<'a> {
                 TagKind::Enum => false,
             },
             None => false,
-        }
-    }
-
-    /// A member of a struct by its name. Linear in the members of the struct.
-    #[tactic(auto, using(crate::proofs::Knowing::known_found))]
-    pub fn member_at(&self, number: StructId, name: NameId) -> Option<Known>
-        ensures { (t : ℕ → CType) → option_map (known_of t) result
-            ≡ rules.member_in (body_of (names_of t self.now).aggregates number) name }
-    {
-        match self.body(number) {
-            Some(body) => known_first(body.known(), name),
-            None => None,
         }
     }
 

@@ -1,1 +1,4 @@
-mod Adding
+mod Cells
+pub mod Adding
+pub mod Firsts
+mod Placing

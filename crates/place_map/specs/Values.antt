@@ -1,12 +1,54 @@
--- The value at each place.
-use Rattle.std.specs.Prelude.{◌≡◌, Option, Some, None, if◌then◌else◌}
+-- The number and the value at each place.
+use Rattle.std.specs.Prelude.{◌≡◌, ◌<◌, ℕ, zero, suc, true, List, [], length, slice_get, Option, Some, None, if◌then◌else◌}
 use Rattle.name_rules.specs.Spellings.{Place}
 use Rattle.name_rules.specs.Scopes.{is_place}
-use Rattle.name_records.specs.Held as held
+use Rattle.place_map.specs.declared.index.PlaceIndex.{PlaceIndex}
+use Rattle.place_map.specs.declared.map.Placed.{Placed}
 use Rattle.place_map.specs.declared.map.PlaceMap.{PlaceMap}
 
+abbrev pub or_zero : Option ℕ → ℕ
+or_zero None = 0
+or_zero (Some cell) = cell
+
+-- what is written at a token, and 0 behind the last one that has something
+abbrev pub cell_in : List ℕ → ℕ → ℕ
+cell_in row token = or_zero (slice_get row token)
+
+abbrev pub or_empty : Option (List ℕ) → List ℕ
+or_empty None = []
+or_empty (Some row) = row
+
+-- what is written at a place, by the rows of units
+abbrev pub cell_at : List (List ℕ) → Place → ℕ
+cell_at units p = cell_in (or_empty (slice_get units p.0)) p.1
+
+-- a number is written as one more, and none as 0
+abbrev pub number_of : ℕ → Option ℕ
+number_of zero = None
+number_of (suc n) = Some n
+
+abbrev pub number_at : PlaceIndex → Place → Option ℕ
+number_at index p = number_of (cell_at index.units.items p)
+
+-- a value, where it is at this place
+abbrev pub value_here : {V : Type 0} → Place → Option (Placed V) → Option V
+value_here p None = None
+value_here p (Some it) = if is_place it.at p then Some it.value else None
+
+-- the value of a number, where it is at this place
+abbrev pub value_of : {V : Type 0} → List (Placed V) → Place → Option ℕ → Option V
+value_of values p None = None
+value_of values p (Some n) = value_here p (slice_get values n)
+
 abbrev pub value_at : {V : Type 0} → PlaceMap V → Place → Option V
-value_at s at = held.value_at s.map at
+value_at s p = value_of s.values.items p (number_at s.numbers p)
+
+-- a place has this number, and the others have theirs
+abbrev pub IsNumbered : PlaceIndex → PlaceIndex → Place → ℕ → Type 0
+IsNumbered old new at n = (p : Place) → number_at new p ≡ (if is_place at p then Some n else number_at old p)
+
+abbrev pub AreAsBefore : PlaceIndex → PlaceIndex → Type 0
+AreAsBefore old new = (p : Place) → number_at new p ≡ number_at old p
 
 -- a place has this value, and the others have theirs
 abbrev pub IsSet : {V : Type 0} → PlaceMap V → PlaceMap V → Place → V → Type 0
@@ -23,3 +65,10 @@ or_else (Some v) other = Some v
 -- a value that is at this place
 abbrev pub there : {V : Type 0} → Place → V → Place → Option V
 there at v p = if is_place at p then Some v else None
+
+-- the value of a number is at a place, and is the one that is found there
+pub record IsThere {V : Type 0} (s : PlaceMap V) (at : Place) (n : ℕ) : Type 0 where
+  pub number : number_at s.numbers at ≡ Some n
+  pub placed : Placed V
+  pub there : slice_get s.values.items n ≡ Some placed
+  pub same : is_place placed.at at ≡ true

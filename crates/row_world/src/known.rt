@@ -22,7 +22,7 @@ use unit_spelling::Spelling;
 #[derive(Clone, Copy)]
 pub struct Known<'a> {
     pub types: &'a TypeTable,
-    pub names: &'a FoundNames<'a>,
+    pub names: &'a FoundNames,
     pub spelling: &'a Spelling,
     pub vars: &'a VarTable,
     /// The skeleton that begins at a place.

@@ -24,7 +24,7 @@ fn add_mark(
 }
 
 /// Adds the lattice and the element that each annotation word of a unit names: a `$` word, or a keyword that a lattice names.
-/// Linear in the tokens, but for growth; memory is linear in the words.
+/// Linear in the tokens, but for growth; so is memory.
 #[tactic(auto, using(crate::proofs::Marking::none_before, crate::proofs::Marking::mark_next, crate::proofs::Marking::mark_all))]
 pub fn add_marks(found: &mut PlaceMap<(LatticeNo, Elem)>, tokens: &Tokens) -> Result<(), NoMemory>
     ensures { OnOk result (IsMarked (mark_in tokens.now) found.old found.new) }

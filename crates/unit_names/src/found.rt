@@ -1,11 +1,13 @@
 //! What was found.
 
-ghost use Rattle.std.specs.Prelude.{◌≡◌, ℕ, map};
+ghost use Rattle.std.specs.Prelude.{◌≡◌, ℕ, map, option_map};
 ghost use Rattle.type_table.specs.Types.{CType};
+ghost use Rattle.name_rules.specs.Scopes.{declared_at};
 ghost use Rattle.unit_names.specs.Shown.{names_of, declared_of, aggregate_of, name_use_of, type_named_of, fault_of};
 
 use crate::names::Names;
 use name_records::{Aggregate, Declared, Fault, NameUse, TypeNamed};
+use name_scopes::Place;
 
 impl Names {
     /// The declarations, in the order of the text.
@@ -15,6 +17,15 @@ impl Names {
             ≡ (names_of t self.now).declared }
     {
         self.declared.as_slice()
+    }
+
+    /// The first declaration at a place. Constant time.
+    #[tactic(auto, using(crate::proofs::Views::views), unfolding(crate::specs::Shown::names_of))]
+    pub fn declared_at(&self, at: &Place) -> Option<Declared>
+        ensures { (t : ℕ → CType) → option_map (declared_of t) result
+            ≡ declared_at (names_of t self.now).declared at.now }
+    {
+        self.declared.first_at(at)
     }
 
     /// The structs, unions and enums, by their numbers.

@@ -8,9 +8,10 @@ ghost use Rattle.unit_shapes.specs.Views.{names_in, AreImplicit};
 ghost use Rattle.tape_ops.specs.declared.expression.ExprOp.TheVariants as exprs;
 ghost use Rattle.tape_ops.specs.declared.form.FormOp.TheVariants as forms;
 
-use crate::found::FoundNames;
-use crate::uses::ImplicitTypes;
+use crate::members::{member_of_type, member_type};
+use crate::uses::{ImplicitTypes, shape_of_use};
 use expr_shapes as shapes;
+use found_names::FoundNames;
 use qual_base::{NameId, NoMemory, TokenId};
 use shape_stacks::Stacks;
 use shape_values::ValueType;
@@ -34,7 +35,7 @@ fn name(
         (state_in types.now stacks.old) (exprs.Name is_called token name)) }
 {
     let at = spelling.place(token);
-    let shape = names.shape_of_use(implicit, types, &at);
+    let shape = shape_of_use(names, implicit, types, &at);
     shapes::name(stacks, &shape)
 }
 
@@ -52,7 +53,7 @@ fn dot(
         (state_in types.now stacks.old) (exprs.Dot token member name)) }
 {
     let value = stacks.value_at(types, 0);
-    let ty = names.member_type(types, &value, spelling.key(name));
+    let ty = member_type(names, types, &value, spelling.key(name));
     shapes::member(stacks, &ty)
 }
 
@@ -70,7 +71,7 @@ fn offset_member(
         (state_in types.now stacks.old) (forms.OffsetMember token name)) }
 {
     let named = stacks.type_at(0);
-    let ty = names.member_of_type(types, &named, spelling.key(name));
+    let ty = member_of_type(names, types, &named, spelling.key(name));
     shapes::offset_member(stacks, &ty)
 }
 

@@ -10,8 +10,9 @@ ghost use Rattle.unit_spelling.specs.Spelled.{spelling_of};
 ghost use Rattle.unit_shapes.specs.Targets.{is_listed};
 ghost use Rattle.unit_shapes.specs.Views.{names_in};
 
-use crate::found::FoundNames;
-use crate::targets::list_of;
+use crate::targets::{list_of, number_behind, target_in, with_member};
+use crate::uses::type_declared;
+use found_names::FoundNames;
 use qual_base::{NameId, NoMemory, TypeId};
 use shape_stacks::{Braces, Stacks};
 use tape_ops::InitOp;
@@ -30,7 +31,7 @@ fn type_of_name(
         (states.declared_last (state_in types.now stacks.now).declarations) }
 {
     match stacks.declared_last() {
-        Some(token) => names.type_declared(types, &spelling.place(token)),
+        Some(token) => type_declared(names, types, &spelling.place(token)),
         None => None,
     }
 }
@@ -59,7 +60,7 @@ fn begin_list(stacks: &mut Stacks, names: &FoundNames, types: &TypeTable) -> Res
         (states.first_braces (state_in types.now stacks.old).braces)))
         (state_in types.now stacks.old)) }
 {
-    let target = names.target_in(types, &stacks.braces());
+    let target = target_in(names, types, &stacks.braces());
     stacks.enter(&list_of(&target))
 }
 
@@ -88,8 +89,8 @@ fn member(
 {
     let it = stacks.braces();
     if is_listed(&it) {
-        let behind = names.number_behind(types, name, &it)?;
-        let after = names.with_member(types, name, behind, &it);
+        let behind = number_behind(names, types, name, &it)?;
+        let after = with_member(names, types, name, behind, &it);
         stacks.leave_list();
         stacks.enter(&after)
     } else {

@@ -13,10 +13,10 @@ ghost use Rattle.unit_shapes.specs.Faults.{rule_of, some_fault_of, keep, IsFirst
 ghost use Rattle.unit_shapes.specs.Views.{names_in, AreImplicit};
 
 use crate::fault::{Fault, Rule, keep};
-use crate::found::FoundNames;
 use crate::op_faults::note_faults;
 use crate::steps::step;
 use crate::uses::ImplicitTypes;
+use found_names::FoundNames;
 use name_records as records;
 use qual_base::NoMemory;
 use shape_stacks::Stacks;

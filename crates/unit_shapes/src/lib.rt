@@ -4,7 +4,6 @@
 
 mod expressions;
 mod fault;
-mod found;
 mod initialisers;
 mod judge;
 mod members;
@@ -14,7 +13,7 @@ mod targets;
 mod uses;
 
 pub use fault::{Fault, Rule};
-pub use found::FoundNames;
+pub use found_names::FoundNames;
 pub use judge::{first_of_names, judge_tape};
 pub use steps::step;
 pub use uses::ImplicitTypes;

@@ -9,113 +9,111 @@ ghost use Rattle.shape_values.specs.Views.{some_type, some_value_type, value_typ
 ghost use Rattle.unit_names.specs.Shown.{names_of, known_of};
 ghost use Rattle.unit_shapes.specs.Views.{names_in};
 
-use crate::found::FoundNames;
+use found_names::FoundNames;
 use name_records::Known;
 use qual_base::{NameId, NoMemory, Numbered, StructId, TypeId};
 use shape_values::ValueType;
 use type_table::{Shape, TypeTable};
 
-impl FoundNames {
-    /// A member of what has a type. Constant time.
-    fn member_of(&self, types: &TypeTable, ty: TypeId, name: NameId) -> Option<Known>
-        ensures { option_map (known_of (type_of types.now)) result
-            ≡ rules.member_of (names_in types.now self.now).aggregates (type_of types.now ty) name }
-    {
-        match types.shape(ty) {
-            Shape::Struct(number) => self.member_at(*number, name),
-            Shape::Base | Shape::Void | Shape::Ref(_) | Shape::Fun { .. } => None,
-        }
+/// A member of what has a type. Constant time.
+fn member_of(names: &FoundNames, types: &TypeTable, ty: TypeId, name: NameId) -> Option<Known>
+    ensures { option_map (known_of (type_of types.now)) result
+        ≡ rules.member_of (names_in types.now names.now).aggregates (type_of types.now ty) name }
+{
+    match types.shape(ty) {
+        Shape::Struct(number) => names.member_at(*number, name),
+        Shape::Base | Shape::Void | Shape::Ref(_) | Shape::Fun { .. } => None,
     }
+}
 
-    /// A member of a value. Constant time.
-    fn member(&self, types: &TypeTable, value: &ValueType, name: NameId) -> Option<Known>
-        ensures { option_map (known_of (type_of types.now)) result
-            ≡ rules.member_of (names_in types.now self.now).aggregates
-            (value_type types.now value.now) name }
-    {
-        match value {
-            ValueType::Of(ty) => self.member_of(types, *ty, name),
-            ValueType::PointerTo(_) => None,
-        }
+/// A member of a value. Constant time.
+fn member(names: &FoundNames, types: &TypeTable, value: &ValueType, name: NameId) -> Option<Known>
+    ensures { option_map (known_of (type_of types.now)) result
+        ≡ rules.member_of (names_in types.now names.now).aggregates
+        (value_type types.now value.now) name }
+{
+    match value {
+        ValueType::Of(ty) => member_of(names, types, *ty, name),
+        ValueType::PointerTo(_) => None,
     }
+}
 
-    /// The type of a member, where that is known. Constant time.
-    pub(crate) fn member_type(
-        &self,
-        types: &TypeTable,
-        value: &Option<ValueType>,
-        name: NameId,
-    ) -> Option<TypeId>
-        ensures { some_type types.now result
-            ≡ rules.member_type (names_in types.now self.now).aggregates
-            (some_value_type types.now value.now) name }
-    {
-        match value {
-            Some(value) => match self.member(types, value, name) {
-                Some(known) => Some(known.ty),
-                None => None,
-            },
+/// The type of a member, where that is known. Constant time.
+pub(crate) fn member_type(
+    names: &FoundNames,
+    types: &TypeTable,
+    value: &Option<ValueType>,
+    name: NameId,
+) -> Option<TypeId>
+    ensures { some_type types.now result
+        ≡ rules.member_type (names_in types.now names.now).aggregates
+        (some_value_type types.now value.now) name }
+{
+    match value {
+        Some(value) => match member(names, types, value, name) {
+            Some(known) => Some(known.ty),
             None => None,
-        }
+        },
+        None => None,
     }
+}
 
-    /// The type of a member of what has a type, where both are known. Constant time.
-    pub(crate) fn member_of_type(
-        &self,
-        types: &TypeTable,
-        ty: &Option<TypeId>,
-        name: NameId,
-    ) -> Option<TypeId>
-        ensures { some_type types.now result
-            ≡ rules.member_type (names_in types.now self.now).aggregates
-            (some_type types.now ty.now) name }
-    {
-        match ty {
-            Some(ty) => match self.member_of(types, *ty, name) {
-                Some(known) => Some(known.ty),
-                None => None,
-            },
+/// The type of a member of what has a type, where both are known. Constant time.
+pub(crate) fn member_of_type(
+    names: &FoundNames,
+    types: &TypeTable,
+    ty: &Option<TypeId>,
+    name: NameId,
+) -> Option<TypeId>
+    ensures { some_type types.now result
+        ≡ rules.member_type (names_in types.now names.now).aggregates
+        (some_type types.now ty.now) name }
+{
+    match ty {
+        Some(ty) => match member_of(names, types, *ty, name) {
+            Some(known) => Some(known.ty),
             None => None,
-        }
+        },
+        None => None,
     }
+}
 
-    /// Whether a value is known, and has no such member. Constant time.
-    pub(crate) fn lacks_member(
-        &self,
-        types: &TypeTable,
-        value: &Option<ValueType>,
-        name: NameId,
-    ) -> bool
-        ensures { result ≡ rules.lacks_member (names_in types.now self.now).aggregates
-            (some_value_type types.now value.now) name }
-    {
-        match value {
-            Some(value) => self.member(types, value, name).is_none(),
-            None => false,
-        }
+/// Whether a value is known, and has no such member. Constant time.
+pub(crate) fn lacks_member(
+    names: &FoundNames,
+    types: &TypeTable,
+    value: &Option<ValueType>,
+    name: NameId,
+) -> bool
+    ensures { result ≡ rules.lacks_member (names_in types.now names.now).aggregates
+        (some_value_type types.now value.now) name }
+{
+    match value {
+        Some(value) => member(names, types, value, name).is_none(),
+        None => false,
     }
+}
 
-    /// The number of the own member behind a designated one. Constant time.
-    pub(crate) fn behind_member(
-        &self,
-        types: &TypeTable,
-        ty: &Option<TypeId>,
-        name: NameId,
-        next: usize,
-    ) -> Result<usize, NoMemory>
-        ensures { IfOk result (λ n. n
-            ≡ rules.behind_member (names_in types.now self.now).aggregates
-            (some_type types.now ty.now) name next) }
-    {
-        let Some(ty) = ty else {
-            return Ok(next);
-        };
-        match self.member_of(types, *ty, name) {
-            Some(known) => match known.own.checked_add(1) {
-                Some(behind) => Ok(behind),
-                None => Err(NoMemory),
-            },
-            None => Ok(next),
-        }
+/// The number of the own member behind a designated one. Constant time.
+pub(crate) fn behind_member(
+    names: &FoundNames,
+    types: &TypeTable,
+    ty: &Option<TypeId>,
+    name: NameId,
+    next: usize,
+) -> Result<usize, NoMemory>
+    ensures { IfOk result (λ n. n
+        ≡ rules.behind_member (names_in types.now names.now).aggregates
+        (some_type types.now ty.now) name next) }
+{
+    let Some(ty) = ty else {
+        return Ok(next);
+    };
+    match member_of(names, types, *ty, name) {
+        Some(known) => match known.own.checked_add(1) {
+            Some(behind) => Ok(behind),
+            None => Err(NoMemory),
+        },
+        None => Ok(next),
     }
 }

@@ -13,10 +13,11 @@ ghost use Rattle.unit_shapes.specs.Faults.{some_fault_of, keep};
 ghost use Rattle.unit_shapes.specs.Views.{names_in};
 
 use crate::fault::{Fault, Rule, note};
-use crate::found::FoundNames;
+use crate::members::lacks_member;
 use crate::targets::designated;
 use c_words::Punct;
 use expr_shapes as shapes;
+use found_names::FoundNames;
 use qual_base::{NameId, TokenId, TypeId};
 use shape_stacks::Stacks;
 use shape_values::{ValueType, is_no_pointer};
@@ -80,7 +81,7 @@ fn member_of_value(
         (member_faults (spelling_of spelling.now) (names_in types.now names.now)
         (some_value_type types.now value.now) token name) }
 {
-    let lacks = names.lacks_member(types, value, spelling.key(name));
+    let lacks = lacks_member(names, types, value, spelling.key(name));
     note(best, lacks, &spelling.place(token), Rule::NoMember);
 }
 

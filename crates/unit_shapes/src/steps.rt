@@ -9,10 +9,10 @@ ghost use Rattle.tape_ops.specs.declared.declarator.DeclrOp.TheVariants as declr
 ghost use Rattle.unit_shapes.specs.Views.{names_in, AreImplicit};
 
 use crate::expressions::{expression, form};
-use crate::found::FoundNames;
 use crate::initialisers::initialiser;
-use crate::uses::ImplicitTypes;
+use crate::uses::{ImplicitTypes, type_named};
 use expr_shapes as shapes;
+use found_names::FoundNames;
 use qual_base::{NoMemory, TokenId};
 use shape_stacks::Stacks;
 use tape_ops::{DeclrOp, Op, SpecOp, StmtOp};
@@ -53,7 +53,7 @@ fn type_name(
         ≡ steps.declr_step (spelling_of spelling.now) (names_in types.now names.now)
         (state_in types.now stacks.old) (declrs.TypeName first)) }
 {
-    let ty = names.type_named(types, &spelling.place(first));
+    let ty = type_named(names, types, &spelling.place(first));
     stacks.close();
     shapes::named(stacks, &ty)
 }

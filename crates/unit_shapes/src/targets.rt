@@ -1,6 +1,6 @@
 //! What items of initialisers in braces initialise (C99, 6.7.8).
 
-ghost use Rattle.std.specs.Prelude.{◌≡◌, ℕ, List, Option, IfOk, option_map, slice_get};
+ghost use Rattle.std.specs.Prelude.{◌≡◌, ℕ, List, IfOk, slice_get};
 ghost use Rattle.std.specs.Prelude.{if◌then◌else◌};
 ghost use Rattle.type_table.specs.declared.row.Row as row;
 ghost use Rattle.type_table.specs.Types.{CType};
@@ -10,15 +10,14 @@ ghost use Rattle.name_rules.specs.Checks.{target_of_item};
 ghost use Rattle.shape_values.specs.Views.{some_type};
 ghost use Rattle.shape_steps.specs.Steps as steps;
 ghost use Rattle.shape_stacks.specs.Views.{braces_in, some_named};
-ghost use Rattle.unit_names.specs.Shown.{names_of, own_of};
+ghost use Rattle.unit_names.specs.Shown.{names_of};
 ghost use Rattle.unit_shapes.specs.Targets.{target_of, number_behind};
 ghost use Rattle.unit_shapes.specs.Views.{names_in};
 
-use crate::found::FoundNames;
-use name_records::Own;
-use qual_base::{NameId, NoMemory, Numbered, StructId, TypeId};
+use crate::members::{behind_member, member_of_type};
+use found_names::FoundNames;
+use qual_base::{NameId, NoMemory, StructId, TypeId};
 use shape_stacks::Braces;
-use tape_ops::TagKind;
 use type_table::{Shape, TypeTable};
 
 /// What an item initialises: nothing, or what has a type, where that is known.
@@ -40,153 +39,121 @@ fn only_target(ty: TypeId, is_first: bool) -> Target
     }
 }
 
-impl FoundNames {
-    /// Whether a struct, union or enum is a union. Constant time.
-    fn is_union(&self, number: StructId) -> bool
-        ensures { (t : ℕ → CType) → result
-            ≡ rules.is_union_at (slice_get (names_of t self.now).aggregates number) }
-    {
-        match self.names().aggregates().get(number.number() as usize) {
-            Some(it) => match it.kind {
-                TagKind::Struct => false,
-                TagKind::Union => true,
-                TagKind::Enum => false,
-            },
-            None => false,
-        }
+/// What an item without designators initialises in a struct. Constant time.
+fn own_target(names: &FoundNames, number: StructId, next: usize) -> Target
+    ensures { (t : ℕ → CType) → target_of t result
+        ≡ rules.to_own (slice_get (rules.own_of (names_of t names.now).aggregates number)
+        (rules.own_number (names_of t names.now).aggregates number next)) }
+{
+    match names.next_own(number, next) {
+        Some(own) => Target::To(Some(own.ty)),
+        None => Target::Nothing,
     }
+}
 
-    /// The own member of a struct with a number. Constant time.
-    fn own(&self, number: StructId, own: usize) -> Option<Own>
-        ensures { (t : ℕ → CType) → option_map (own_of t) result
-            ≡ slice_get (rules.own_of (names_of t self.now).aggregates number) own }
-    {
-        match self.names().aggregates().get(number.number() as usize) {
-            Some(it) => match &it.body {
-                Some(body) => body.own().get(own).copied(),
-                None => None,
-            },
-            None => None,
-        }
+/// What an item without designators initialises. Constant time.
+fn next_target(
+    names: &FoundNames,
+    types: &TypeTable,
+    ty: &Option<TypeId>,
+    is_first: bool,
+    next: usize,
+) -> Target
+    ensures { target_of (type_of types.now) result
+        ≡ rules.next_target (names_in types.now names.now).aggregates
+        (some_type types.now ty.now) is_first next }
+{
+    let Some(ty) = ty else {
+        return Target::To(None);
+    };
+    match types.shape(*ty) {
+        Shape::Ref(inside) => Target::To(Some(*inside)),
+        Shape::Struct(number) => own_target(names, *number, next),
+        Shape::Base => only_target(*ty, is_first),
+        Shape::Void => only_target(*ty, is_first),
+        Shape::Fun { .. } => Target::Nothing,
     }
+}
 
-    /// What an item without designators initialises in a struct. Constant time.
-    fn own_target(&self, number: StructId, next: usize) -> Target
-        ensures { (t : ℕ → CType) → target_of t result
-            ≡ rules.to_own (slice_get (rules.own_of (names_of t self.now).aggregates number)
-            (rules.own_number (names_of t self.now).aggregates number next)) }
-    {
-        let next = if self.is_union(number) { 0 } else { next };
-        match self.own(number, next) {
-            Some(own) => Target::To(Some(own.ty)),
-            None => Target::Nothing,
-        }
+/// What the next item initialises. Constant time.
+pub(crate) fn target_in(names: &FoundNames, types: &TypeTable, it: &Braces) -> Target
+    ensures { target_of (type_of types.now) result
+        ≡ steps.target_in (names_in types.now names.now) (braces_in types.now it.now) }
+{
+    match it {
+        Braces::Whole(ty) => Target::To(*ty),
+        Braces::Untargeted => Target::Nothing,
+        Braces::Listed {
+            ty,
+            is_first,
+            next,
+            named,
+        } => match named {
+            Some(named) => named_target(types, ty, *is_first, named),
+            None => next_target(names, types, ty, *is_first, *next),
+        },
     }
+}
 
-    /// What an item without designators initialises. Constant time.
-    fn next_target(
-        &self,
-        types: &TypeTable,
-        ty: &Option<TypeId>,
-        is_first: bool,
-        next: usize,
-    ) -> Target
-        ensures { target_of (type_of types.now) result
-            ≡ rules.next_target (names_in types.now self.now).aggregates
-            (some_type types.now ty.now) is_first next }
-    {
-        let Some(ty) = ty else {
-            return Target::To(None);
-        };
-        match types.shape(*ty) {
-            Shape::Ref(inside) => Target::To(Some(*inside)),
-            Shape::Struct(number) => self.own_target(*number, next),
-            Shape::Base => only_target(*ty, is_first),
-            Shape::Void => only_target(*ty, is_first),
-            Shape::Fun { .. } => Target::Nothing,
-        }
+/// The number of the member behind a designated one, in a list. Constant time.
+pub(crate) fn number_behind(
+    names: &FoundNames,
+    types: &TypeTable,
+    name: NameId,
+    it: &Braces,
+) -> Result<usize, NoMemory>
+    ensures { IfOk result (λ n. n
+        ≡ number_behind (names_in types.now names.now).aggregates name
+        (braces_in types.now it.now)) }
+{
+    match it {
+        Braces::Whole(_) => Ok(0),
+        Braces::Untargeted => Ok(0),
+        Braces::Listed {
+            ty,
+            next,
+            named,
+            ..
+        } => match named {
+            Some(_) => Ok(*next),
+            None => behind_member(names, types, ty, name, *next),
+        },
     }
+}
 
-    /// What the next item initialises. Constant time.
-    pub(crate) fn target_in(&self, types: &TypeTable, it: &Braces) -> Target
-        ensures { target_of (type_of types.now) result
-            ≡ steps.target_in (names_in types.now self.now) (braces_in types.now it.now) }
-    {
-        match it {
-            Braces::Whole(ty) => Target::To(*ty),
-            Braces::Untargeted => Target::Nothing,
+/// A list behind a designator of a member, behind which comes the member of this number.
+/// Constant time.
+pub(crate) fn with_member(
+    names: &FoundNames,
+    types: &TypeTable,
+    name: NameId,
+    behind: usize,
+    it: &Braces,
+) -> Braces
+    requires { behind ≡ number_behind (names_in types.now names.now).aggregates name
+        (braces_in types.now it.now) }
+    ensures { braces_in types.now result
+        ≡ steps.with_member (names_in types.now names.now).aggregates name
+        (braces_in types.now it.now) }
+{
+    match it {
+        Braces::Whole(ty) => Braces::Whole(*ty),
+        Braces::Untargeted => Braces::Untargeted,
+        Braces::Listed {
+            ty,
+            is_first,
+            named,
+            ..
+        } => {
+            let now = match named {
+                Some(named) => member_of_type(names, types, named, name),
+                None => member_of_type(names, types, ty, name),
+            };
             Braces::Listed {
-                ty,
-                is_first,
-                next,
-                named,
-            } => match named {
-                Some(named) => named_target(types, ty, *is_first, named),
-                None => self.next_target(types, ty, *is_first, *next),
-            },
-        }
-    }
-
-    /// The number of the member behind a designated one, in a list. Constant time.
-    pub(crate) fn number_behind(
-        &self,
-        types: &TypeTable,
-        name: NameId,
-        it: &Braces,
-    ) -> Result<usize, NoMemory>
-        ensures { IfOk result (λ n. n
-            ≡ number_behind (names_in types.now self.now).aggregates name
-            (braces_in types.now it.now)) }
-    {
-        match it {
-            Braces::Whole(_) => Ok(0),
-            Braces::Untargeted => Ok(0),
-            Braces::Listed {
-                ty,
-                next,
-                named,
-                ..
-            } => match named {
-                Some(_) => Ok(*next),
-                None => self.behind_member(types, ty, name, *next),
-            },
-        }
-    }
-
-    /// A list behind a designator of a member, behind which comes the member of this number.
-    /// Constant time.
-    pub(crate) fn with_member(
-        &self,
-        types: &TypeTable,
-        name: NameId,
-        behind: usize,
-        it: &Braces,
-    ) -> Braces
-        requires { behind ≡ number_behind (names_in types.now self.now).aggregates name
-            (braces_in types.now it.now) }
-        ensures { braces_in types.now result
-            ≡ steps.with_member (names_in types.now self.now).aggregates name
-            (braces_in types.now it.now) }
-    {
-        match it {
-            Braces::Whole(ty) => Braces::Whole(*ty),
-            Braces::Untargeted => Braces::Untargeted,
-            Braces::Listed {
-                ty,
-                is_first,
-                named,
-                ..
-            } => {
-                let now = match named {
-                    Some(named) => self.member_of_type(types, named, name),
-                    None => self.member_of_type(types, ty, name),
-                };
-                Braces::Listed {
-                    ty: *ty,
-                    is_first: *is_first,
-                    next: behind,
-                    named: Some(now),
-                }
+                ty: *ty,
+                is_first: *is_first,
+                next: behind,
+                named: Some(now),
             }
         }
     }

@@ -10,8 +10,8 @@ ghost use Rattle.shape_values.specs.Views.{shape_in, some_type};
 ghost use Rattle.unit_names.specs.Shown.{use_of, role_of};
 ghost use Rattle.unit_shapes.specs.Views.{names_in, AreImplicit};
 
-use crate::found::FoundNames;
 use expr_shapes::Plain;
+use found_names::FoundNames;
 use name_records::{Declared, Role, Use};
 use name_scopes::Place;
 use name_types::{SoFar, Types};
@@ -45,58 +45,61 @@ fn declared_shape(implicit: &ImplicitTypes, types: &TypeTable, declared: &Declar
     }
 }
 
-impl FoundNames {
-    /// What the first declaration at a place is in an expression. Constant time.
-    fn shape_at(&self, implicit: &ImplicitTypes, types: &TypeTable, at: &Place) -> ExprShape
-        requires { AreImplicit types.now implicit.now }
-        ensures { shape_in types.now result
-            ≡ some_declared_shape (declared_at (names_in types.now self.now).declared at.now) }
-    {
-        match self.declared_at(at) {
-            Some(declared) => declared_shape(implicit, types, &declared),
-            None => ExprShape::Place(None),
-        }
+/// What the first declaration at a place is in an expression. Constant time.
+fn shape_at(
+    names: &FoundNames,
+    implicit: &ImplicitTypes,
+    types: &TypeTable,
+    at: &Place,
+) -> ExprShape
+    requires { AreImplicit types.now implicit.now }
+    ensures { shape_in types.now result
+        ≡ some_declared_shape (declared_at (names_in types.now names.now).declared at.now) }
+{
+    match names.declared_at(at) {
+        Some(declared) => declared_shape(implicit, types, &declared),
+        None => ExprShape::Place(None),
     }
+}
 
-    /// What the name at a place is in an expression. Constant time.
-    pub(crate) fn shape_of_use(
-        &self,
-        implicit: &ImplicitTypes,
-        types: &TypeTable,
-        at: &Place,
-    ) -> ExprShape
-        requires { AreImplicit types.now implicit.now }
-        ensures { shape_in types.now result
-            ≡ use_shape (names_in types.now self.now)
-            (use_at (names_in types.now self.now).uses at.now) }
-    {
-        match self.use_at(at) {
-            Use::Means(first) => self.shape_at(implicit, types, &first),
-            Use::Called => ExprShape::Place(Some(implicit.function)),
-            Use::Missing => ExprShape::Place(None),
-        }
+/// What the name at a place is in an expression. Constant time.
+pub(crate) fn shape_of_use(
+    names: &FoundNames,
+    implicit: &ImplicitTypes,
+    types: &TypeTable,
+    at: &Place,
+) -> ExprShape
+    requires { AreImplicit types.now implicit.now }
+    ensures { shape_in types.now result
+        ≡ use_shape (names_in types.now names.now)
+        (use_at (names_in types.now names.now).uses at.now) }
+{
+    match names.use_at(at) {
+        Use::Means(first) => shape_at(names, implicit, types, &first),
+        Use::Called => ExprShape::Place(Some(implicit.function)),
+        Use::Missing => ExprShape::Place(None),
     }
+}
 
-    /// The type of the first declaration at a place. Constant time.
-    pub(crate) fn type_declared(&self, types: &TypeTable, at: &Place) -> Option<TypeId>
-        ensures { some_type types.now result
-            ≡ type_declared (declared_at (names_in types.now self.now).declared at.now) }
-    {
-        let _ = types;
-        match self.declared_at(at) {
-            Some(declared) => Some(declared.ty),
-            None => None,
-        }
+/// The type of the first declaration at a place. Constant time.
+pub(crate) fn type_declared(names: &FoundNames, types: &TypeTable, at: &Place) -> Option<TypeId>
+    ensures { some_type types.now result
+        ≡ type_declared (declared_at (names_in types.now names.now).declared at.now) }
+{
+    let _ = types;
+    match names.declared_at(at) {
+        Some(declared) => Some(declared.ty),
+        None => None,
     }
+}
 
-    /// The type whose name begins at a place. Constant time.
-    pub(crate) fn type_named(&self, types: &TypeTable, at: &Place) -> Option<TypeId>
-        ensures { some_type types.now result
-            ≡ type_named_at (names_in types.now self.now).type_names at.now }
-    {
-        let _ = types;
-        self.type_at(at)
-    }
+/// The type whose name begins at a place. Constant time.
+pub(crate) fn type_named(names: &FoundNames, types: &TypeTable, at: &Place) -> Option<TypeId>
+    ensures { some_type types.now result
+        ≡ type_named_at (names_in types.now names.now).type_names at.now }
+{
+    let _ = types;
+    names.type_at(at)
 }
 
 impl ImplicitTypes {

@@ -4,10 +4,10 @@ use Rattle.std.specs.Prelude.{unwrap_or}
 use Rattle.name_rules.specs.Spellings.{Place}
 use Rattle.name_rules.specs.Scopes.{is_place}
 use Rattle.name_rules.specs.Declaring as declaring
-use Rattle.name_records.specs.Held.{PlaceMap, value_at}
+use Rattle.place_map.specs.declared.index.PlaceIndex.{PlaceIndex}
+use Rattle.place_map.specs.Values.{number_at, or_else, there}
 use Rattle.row_rules.specs.Worlds.{number_among}
 use Rattle.row_rules.specs.Sites as sites
-use Rattle.unit_shapes.specs.First.{or_else, there}
 use Rattle.unit_skeletons.specs.Numbers.{place_among, AreNumbered}
 
 pub same_bodies : (places : List Place) (p : Place) → declaring.has_place places p ≡ sites.has_place places p
@@ -58,9 +58,9 @@ place_next n (q ∷ places) at p = by_test (is_place q p) (place_next (suc n) pl
         let e : suc n + length places ≡ n + suc (length places) = omega arith in
         is ∙ ap (λ (k : ℕ). or_else (place_among (suc n) places p) (there at k p)) e
 
-pub numbered_next : (all new : List Place) (map after : PlaceMap ℕ) (at : Place) (k : ℕ) → AreNumbered all map
+pub numbered_next : (all new : List Place) (map after : PlaceIndex) (at : Place) (k : ℕ) → AreNumbered all map
     → new ≡ all ++ at ∷ [] → k ≡ length all → k < 4294967295
-    → ((p : Place) → value_at after p ≡ or_else (value_at map p) (there at k p)) → AreNumbered new after
+    → ((p : Place) → number_at after p ≡ or_else (number_at map p) (there at k p)) → AreNumbered new after
 numbered_next all new map after at k it is count few added = record {
   few = let e = ap (λ (l : List Place). length l) is in let a = length-append all (at ∷ []) in omega arith;
   numbers = λ p. added p

@@ -8,11 +8,11 @@ use Rattle.qual_types.specs.Rows.{Seen, nothing, seen_at, all_seen, skel_of, own
 use Rattle.qual_types.specs.Table.{Keeps}
 use Rattle.name_rules.specs.Spellings.{Place}
 use Rattle.name_rules.specs.Scopes.{is_place}
-use Rattle.name_records.specs.Held.{PlaceMap, value_at}
+use Rattle.place_map.specs.declared.map.PlaceMap.{PlaceMap}
+use Rattle.place_map.specs.Values.{value_at, or_else, there}
 use Rattle.row_rules.specs.Starting.{Start}
 use Rattle.row_rules.specs.Worlds.{Numbered, numbered_from, skeleton_among}
 use Rattle.row_rules.specs.Sites.{owner_by, owners_among}
-use Rattle.unit_shapes.specs.First.{or_else, there}
 use Rattle.unit_starts.specs.declared.start.Start as code
 use Rattle.unit_skeletons.specs.Found.{IsBelow, AreBelow, AreMarked, found_with, skel_or, number_or_none, IsNumbering}
 

@@ -8,7 +8,8 @@ use Rattle.qual_types.specs.Rows.{skel_of, owners_of}
 use Rattle.qual_types.specs.Table.{mark_of}
 use Rattle.position_laws.specs.Positions.{IsOneOf}
 use Rattle.name_rules.specs.Spellings.{Place}
-use Rattle.name_records.specs.Held.{PlaceMap, value_at}
+use Rattle.place_map.specs.declared.map.PlaceMap.{PlaceMap}
+use Rattle.place_map.specs.Values.{value_at}
 use Rattle.row_rules.specs.Starting.{Start}
 use Rattle.row_rules.specs.Worlds.{Numbered, numbered_from, skeleton_among}
 use Rattle.row_rules.specs.Sites.{variables_among, owners_among}

@@ -1,7 +1,6 @@
 //! Skeletons of units, numbered, and the functions that they belong to.
 #![tactic(auto)]
 
-mod first_map;
 mod functions;
 mod place_numbers;
 mod sites;

@@ -3,17 +3,17 @@
 ghost use Rattle.std.specs.Prelude.{◌≡◌, ◌++◌, ◌∷◌, [], OnOk, OnErr};
 ghost use Rattle.row_rules.specs.Worlds.{number_among};
 
-use crate::first_map::FirstMap;
 use name_scopes::Place;
+use place_map::PlaceIndex;
 use qual_base::{NoMemory, Numbered, TokenId, UnitNo};
 use std::alloc::Global;
 use std::marker::Model;
 
-/// Places, numbered in the order in which they were added. Clauses see their list. Memory is linear in it.
+/// Places, numbered in the order in which they were added. Clauses see their list. Memory is linear in it and in the tokens.
 #[derive(Drop)]
 pub struct PlaceNumbers {
     all: Vec<Place>,
-    numbers: FirstMap<u32>,
+    numbers: PlaceIndex,
 }
 
 impl Model for PlaceNumbers {
@@ -24,7 +24,7 @@ impl Model for PlaceNumbers {
 
     ghost view = { λ s. s.all.items };
 
-    ghost invariant = { λ s. AreNumbered s.all.items s.numbers.map };
+    ghost invariant = { λ s. AreNumbered s.all.items s.numbers };
 }
 
 impl PlaceNumbers {
@@ -34,7 +34,7 @@ impl PlaceNumbers {
     {
         PlaceNumbers {
             all: Vec::new(alloc),
-            numbers: FirstMap::new(alloc),
+            numbers: PlaceIndex::new(alloc),
         }
     }
 
@@ -51,7 +51,7 @@ impl PlaceNumbers {
             Ok(()) => {}
             Err(_) => return Err(NoMemory),
         }
-        match self.numbers.add(at, &(count as u32)) {
+        match self.numbers.add(at, count as u32) {
             Ok(()) => Ok(()),
             Err(NoMemory) => {
                 self.all.truncate(count);

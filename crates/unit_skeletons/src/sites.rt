@@ -1,23 +1,28 @@
 //! Call sites by numbers.
 
-ghost use Rattle.std.specs.Prelude.{◌≡◌, ◌++◌, ◌∷◌, [], map, OnOk, IfOk};
+ghost use Rattle.std.specs.Prelude.{◌≡◌, ◌++◌, ◌∷◌, [], None, length, map, OnOk, IfOk};
+ghost use Rattle.name_rules.specs.Spellings.{Place};
+ghost use Rattle.place_map.specs.Values.{value_at, or_else, there};
 ghost use Rattle.row_rules.specs.Sites.{site_of, sites_among, place_of, site_places};
 ghost use Rattle.unit_starts.specs.Views.{start_in};
 ghost use Rattle.unit_skeletons.specs.Found.{site_at};
+ghost use Rattle.unit_skeletons.specs.Numbers.{place_among};
 
 use crate::place_numbers::PlaceNumbers;
 use flow_graph::{FlowGraph, Site};
 use name_scopes::Place;
-use qual_base::{FuncId, NoMemory, Numbered, Owner};
+use place_map::PlaceMap;
+use qual_base::{FuncId, NoMemory, Numbered, Owner, SiteId};
 use std::alloc::Global;
 use type_table::TypeTable;
 use unit_starts::Start;
 
-/// A graph with the call sites of units, in the order in which they begin, and their places. Memory is linear in them.
+/// A graph with the call sites of units, in the order in which they begin, and the number of the first at each place. Memory is
+/// linear in them and in the tokens.
 #[derive(Drop)]
 pub struct CallSites {
     pub graph: FlowGraph,
-    pub places: PlaceNumbers,
+    pub places: PlaceMap<SiteId>,
 }
 
 impl CallSites {
@@ -26,11 +31,11 @@ impl CallSites {
         ensures sites { result.graph.sites ≡ [] }
         ensures constraints { result.graph.constraints ≡ [] }
         ensures owners { result.graph.owners ≡ [] }
-        ensures places { result.places ≡ [] }
+        ensures places { (p : Place) → value_at result.places p ≡ None }
     {
         CallSites {
             graph: FlowGraph::new(alloc),
-            places: PlaceNumbers::new(alloc),
+            places: PlaceMap::new(alloc),
         }
     }
 
@@ -41,9 +46,11 @@ impl CallSites {
         ensures constraints { OnOk result
             (self.new.graph.constraints ≡ self.old.graph.constraints) }
         ensures owners { OnOk result (self.new.graph.owners ≡ self.old.graph.owners) }
-        ensures places { OnOk result (self.new.places ≡ self.old.places ++ at.now ∷ []) }
+        ensures places { OnOk result ((p : Place) → value_at self.new.places p
+            ≡ or_else (value_at self.old.places p) (there at.now (length self.old.graph.sites) p)) }
     {
-        if self.graph.sites() == 4_294_967_295 {
+        let number = self.graph.sites();
+        if number == 4_294_967_295 {
             return Err(NoMemory);
         }
         let (unit, token) = *at;
@@ -53,7 +60,7 @@ impl CallSites {
             target,
             owner,
         })?;
-        self.places.push(at)
+        self.places.add(at, &SiteId::new(number))
     }
 
     /// What a skeleton adds: a call site where it is an instance of a function. Constant time but for growth.
@@ -68,8 +75,9 @@ impl CallSites {
         ensures constraints { OnOk result
             (self.new.graph.constraints ≡ self.old.graph.constraints) }
         ensures owners { OnOk result (self.new.graph.owners ≡ self.old.graph.owners) }
-        ensures places { OnOk result (self.new.places ≡ self.old.places
-            ++ place_of (start_in types.now start.now) start.now.calls) }
+        ensures places { OnOk result ((p : Place) → value_at self.new.places p
+            ≡ or_else (value_at self.old.places p) (place_among (length self.old.graph.sites)
+            (place_of (start_in types.now start.now) start.now.calls) p)) }
     {
         let _ = types;
         match &start.calls {
@@ -84,6 +92,7 @@ impl CallSites {
 }
 
 /// The call sites of units. Linear in their skeletons, but for growth.
+#[tactic(auto, using(crate::proofs::Siting::sites_next, crate::proofs::Siting::sites_end))]
 pub fn find_sites(
     alloc: Global,
     types: &TypeTable,
@@ -94,8 +103,8 @@ pub fn find_sites(
         ≡ sites_among functions.now (map (start_in types.now) starts.now)) }
     ensures constraints { IfOk result (λ it. it.graph.constraints ≡ []) }
     ensures owners { IfOk result (λ it. it.graph.owners ≡ []) }
-    ensures places { IfOk result (λ it. it.places
-        ≡ site_places (map (start_in types.now) starts.now)) }
+    ensures places { IfOk result (λ it. (p : Place) → value_at it.places p
+        ≡ place_among 0 (site_places (map (start_in types.now) starts.now)) p) }
 {
     let mut it = CallSites::new(alloc);
     for start in starts {

@@ -8,7 +8,7 @@ ghost use Rattle.type_table.specs.Rows.{type_of};
 ghost use Rattle.qual_types.specs.Skel.{within};
 ghost use Rattle.qual_types.specs.Rows.{skel_of, owners_of};
 ghost use Rattle.name_rules.specs.Spellings.{Place};
-ghost use Rattle.name_records.specs.Held.{value_at};
+ghost use Rattle.place_map.specs.Values.{value_at};
 ghost use Rattle.row_rules.specs.Starting as rules;
 ghost use Rattle.row_rules.specs.Worlds.{Numbered, numbered_from, skeleton_among};
 ghost use Rattle.position_laws.specs.Positions.{AreThose};
@@ -16,9 +16,9 @@ ghost use Rattle.row_rules.specs.Sites.{variables_among, owner_by, owners_among}
 ghost use Rattle.unit_starts.specs.Views.{start_in};
 ghost use Rattle.unit_skeletons.specs.Found.{AreBelow, AreMarked, found_with, number_or_none};
 
-use crate::first_map::FirstMap;
 use crate::place_numbers::PlaceNumbers;
 use name_scopes::Place;
+use place_map::PlaceMap;
 use qual_base::{NoMemory, Numbered, SkelId};
 use qual_types::{QualFault, VarTable};
 use std::alloc::Global;
@@ -29,22 +29,22 @@ use unit_starts::Start;
 #[derive(Drop)]
 pub struct Skeletons {
     pub(crate) vars: VarTable,
-    pub(crate) starts: FirstMap<SkelId>,
+    pub(crate) starts: PlaceMap<SkelId>,
 }
 
 impl Skeletons {
     /// No skeletons. Takes no memory.
     fn new(alloc: Global) -> Self
         ensures vars { result.vars ≡ [] }
-        ensures below { AreBelow result.vars result.starts.map }
+        ensures below { AreBelow result.vars result.starts }
         ensures marked { AreMarked result.vars [] }
         ensures found { (rest : List rules.Start) (p : Place) →
-            found_with result.vars result.starts.map (numbered_from 0 rest) p
+            found_with result.vars result.starts (numbered_from 0 rest) p
             ≡ skeleton_among (numbered_from 0 rest) p }
     {
         Skeletons {
             vars: VarTable::new(alloc),
-            starts: FirstMap::new(alloc),
+            starts: PlaceMap::new(alloc),
         }
     }
 
@@ -55,8 +55,8 @@ impl Skeletons {
         functions: &PlaceNumbers,
         start: &Start,
     ) -> Result<(), QualFault>
-        requires { AreBelow self.old.vars self.old.starts.map }
-        ensures below { OnOk result (AreBelow self.new.vars self.new.starts.map) }
+        requires { AreBelow self.old.vars self.old.starts }
+        ensures below { OnOk result (AreBelow self.new.vars self.new.starts) }
         ensures count { OnOk result (length self.new.vars
             ≡ length self.old.vars + size (start_in types.now start.now).type) }
         ensures owners { OnOk result (owners_of self.new.vars
@@ -64,9 +64,9 @@ impl Skeletons {
             ++ replicate (size (start_in types.now start.now).type)
             (owner_by functions.now start.now.owner)) }
         ensures found { OnOk result ((rest : List rules.Start) (p : Place) →
-            found_with self.new.vars self.new.starts.map
+            found_with self.new.vars self.new.starts
             (numbered_from (length self.new.vars) rest) p
-            ≡ found_with self.old.vars self.old.starts.map
+            ≡ found_with self.old.vars self.old.starts
             (numbered_from (length self.old.vars) (start_in types.now start.now ∷ rest)) p) }
         ensures marked { OnOk result ((before : List Numbered) →
             AreMarked self.old.vars before → AreMarked self.new.vars
@@ -92,9 +92,16 @@ impl Skeletons {
         &self.vars
     }
 
+    /// The first skeleton that begins at each place.
+    pub fn starts(&self) -> &PlaceMap<SkelId>
+        ensures { result.now ≡ self.now.starts }
+    {
+        &self.starts
+    }
+
     /// The first skeleton that begins at a place, or 2^32 - 1 where none does. Constant time.
     pub fn at(&self, at: &Place) -> SkelId
-        ensures { result ≡ number_or_none (value_at self.now.starts.map at.now) }
+        ensures { result ≡ number_or_none (value_at self.now.starts at.now) }
     {
         match self.starts.get(at) {
             Some(number) => number,
@@ -116,7 +123,7 @@ pub fn number_skeletons(
     ensures owners { IfOk result (λ it. owners_of it.vars
         ≡ owners_among functions.now (map (start_in types.now) starts.now)) }
     ensures found { IfOk result (λ it. (p : Place) →
-        skel_of it.vars (number_or_none (value_at it.starts.map p))
+        skel_of it.vars (number_or_none (value_at it.starts p))
         ≡ skeleton_among (numbered_from 0 (map (start_in types.now) starts.now)) p) }
     ensures marked { IfOk result (λ it.
         AreThose it.vars (map (start_in types.now) starts.now)) }

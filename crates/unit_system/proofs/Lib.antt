@@ -1,4 +1,3 @@
-pub mod Finding
 pub mod Owners
 pub mod Units
 pub mod Showing

@@ -25,7 +25,7 @@ use unit_types::{Program, UnitTape};
 #[derive(Clone, Copy)]
 pub(crate) struct Shared<'a> {
     pub(crate) program: &'a Program,
-    pub(crate) names: &'a FoundNames<'a>,
+    pub(crate) names: &'a FoundNames,
     pub(crate) vars: &'a VarTable,
     /// The skeleton that begins at a place.
     pub(crate) starts: &'a PlaceMap<SkelId>,

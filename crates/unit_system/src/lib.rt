@@ -4,7 +4,6 @@
 mod adding;
 mod fault;
 mod owning;
-mod places;
 mod system;
 
 pub use fault::GenerateFault;

@@ -3,9 +3,12 @@
 ghost use Rattle.std.specs.Prelude.{◌≡◌, ◌+◌, ◌≤◌, ◌++◌, [], length, map, replicate, IfOk, OnOk};
 ghost use Rattle.flow_graph.specs.System.{most_variables};
 ghost use Rattle.type_table.specs.Types.{size};
+ghost use Rattle.name_rules.specs.Spellings.{Place};
+ghost use Rattle.place_map.specs.Values.{value_at};
 ghost use Rattle.row_rules.specs.Sites.{sites_among, site_places, variables_among};
 ghost use Rattle.row_rules.specs.Sites.{owner_by, owners_among};
 ghost use Rattle.unit_starts.specs.Views.{start_in};
+ghost use Rattle.unit_skeletons.specs.Numbers.{place_among};
 
 use flow_graph::FlowGraph;
 use qual_base::{NoMemory, Numbered, Owner, VarId};
@@ -69,8 +72,8 @@ pub(crate) fn number_sites(
     ensures owners { IfOk result (λ it. it.graph.owners
         ≡ owners_among functions.now (map (start_in program.now.rows) starts.now)) }
     ensures constraints { IfOk result (λ it. it.graph.constraints ≡ []) }
-    ensures places { IfOk result (λ it. it.places
-        ≡ site_places (map (start_in program.now.rows) starts.now)) }
+    ensures places { IfOk result (λ it. (p : Place) → value_at it.places p
+        ≡ place_among 0 (site_places (map (start_in program.now.rows) starts.now)) p) }
 {
     let mut sites = find_sites(alloc, program.types(), functions, starts)?;
     own_all(&mut sites.graph, program.types(), functions, starts)?;

@@ -2,23 +2,24 @@
 
 ghost use Rattle.std.specs.Prelude.{◌≡◌, ◌<◌, ◌≤◌, [], length, map, IfOk, OnOk, IsErrOf};
 ghost use Rattle.flow_graph.specs.System.{most_constraints, most_variables};
+ghost use Rattle.name_rules.specs.Spellings.{Place};
+ghost use Rattle.place_map.specs.Values.{value_at};
 ghost use Rattle.row_rules.specs.Sites as rules;
 ghost use Rattle.unit_starts.specs.Views.{start_in};
+ghost use Rattle.unit_skeletons.specs.Numbers.{place_among};
 ghost use Rattle.unit_system.specs.Sharing.{meant_by};
 ghost use Rattle.unit_system.specs.Systems.{names_on, starts_on, system_on, AreNumbered};
 
 use crate::adding::{Shared, add_units};
 use crate::fault::{GenerateFault, of_constraints, of_variables};
 use crate::owning::number_sites;
-use crate::places::{site_map, start_map};
 use flow_graph::FlowGraph;
-use found_names::FoundNames;
 use index_words::Prelude;
 use lattice_core::Lattices;
 use place_map::PlaceMap;
-use qual_base::{Elem, LatticeNo, NoMemory};
+use qual_base::{Elem, LatticeNo, NoMemory, SiteId};
 use std::alloc::Global;
-use unit_skeletons::{CallSites, PlaceNumbers, Skeletons, functions_of, number_skeletons};
+use unit_skeletons::{CallSites, Skeletons, functions_of, number_skeletons};
 use unit_starts::{Start, Starts, add_starts};
 use unit_types::Program;
 
@@ -37,7 +38,7 @@ pub struct UnitSystem {
 struct Numbering {
     skeletons: Skeletons,
     graph: FlowGraph,
-    places: PlaceNumbers,
+    places: PlaceMap<SiteId>,
 }
 
 /// Numbers the skeletons and the call sites of units. Linear in the variables.
@@ -49,7 +50,8 @@ fn number(alloc: Global, program: &Program, starts: &[Start]) -> Result<Numberin
     ensures owners { IfOk result (λ it. it.graph.owners
         ≡ rules.owners_among (rules.functions_of (names_on program.now)) (starts_on program.now)) }
     ensures constraints { IfOk result (λ it. it.graph.constraints ≡ []) }
-    ensures places { IfOk result (λ it. it.places ≡ rules.site_places (starts_on program.now)) }
+    ensures places { IfOk result (λ it. (p : Place)
+        → value_at it.places p ≡ place_among 0 (rules.site_places (starts_on program.now)) p) }
     ensures few { OnOk result
         (rules.variables_among (starts_on program.now) ≤ most_variables) }
     ensures too_many { IsErrOf result GenerateFault.TooManyVariables
@@ -92,7 +94,8 @@ fn constrain(
     requires owners { numbering.graph.owners
         ≡ rules.owners_among (rules.functions_of (names_on program.now)) (starts_on program.now) }
     requires constraints { numbering.graph.constraints ≡ [] }
-    requires places { numbering.places ≡ rules.site_places (starts_on program.now) }
+    requires places { (p : Place) → value_at numbering.places p
+        ≡ place_among 0 (rules.site_places (starts_on program.now)) p }
     requires few { rules.variables_among (starts_on program.now) ≤ most_variables }
     ensures system { IfOk result (λ it. it.graph
         ≡ system_on (meant_by lattices.now marks.now prelude.now) program.now) }
@@ -110,21 +113,12 @@ fn constrain(
         mut graph,
         places,
     } = numbering;
-    let Ok(names) = FoundNames::new(alloc, program.names()) else {
-        return Err(GenerateFault::NoMemory);
-    };
-    let Ok(start_map) = start_map(alloc, &skeletons, starts.as_slice()) else {
-        return Err(GenerateFault::NoMemory);
-    };
-    let Ok(site_map) = site_map(alloc, &places, starts.as_slice()) else {
-        return Err(GenerateFault::NoMemory);
-    };
     let shared = Shared {
         program,
-        names: &names,
+        names: program.found_names(),
         vars: skeletons.vars(),
-        starts: &start_map,
-        sites: &site_map,
+        starts: skeletons.starts(),
+        sites: &places,
         lattices,
         marks,
         prelude,

@@ -1,13 +1,20 @@
-use Rattle.std.proofs.Common.{◌≡◌, ◌++◌, [], drop, map}
+use Rattle.std.proofs.Common.{◌≡◌, ◌++◌, [], drop, length, map}
+use Rattle.name_rules.specs.Spellings.{Place}
+use Rattle.place_map.specs.Values.{value_at, or_else}
 use Rattle.row_rules.specs.Sites.{sites_among, site_places}
 use Rattle.unit_starts.specs.Views.{start_in}
+use Rattle.unit_skeletons.specs.Numbers.{place_among}
 use Rattle.unit_skeletons.proofs.sites.find_sites.Given as goal
 
 abbrev pub invariant-loop-start : goal.invariant-loop-start
 invariant-loop-start l =
-    (l.it.graph.sites ++ sites_among l.functions (map (start_in l.types) (drop l.start-index l.starts))
-    ≡ sites_among l.functions (map (start_in l.types) l.starts))
-    × (l.it.graph.constraints ≡ [])
-    × (l.it.graph.owners ≡ [])
-    × (l.it.places ++ site_places (map (start_in l.types) (drop l.start-index l.starts))
-    ≡ site_places (map (start_in l.types) l.starts))
+    record {
+      sites : l.it.graph.sites ++ sites_among l.functions (map (start_in l.types) (drop l.start-index l.starts))
+          ≡ sites_among l.functions (map (start_in l.types) l.starts);
+      constraints : l.it.graph.constraints ≡ [];
+      owners : l.it.graph.owners ≡ [];
+      places : (p : Place)
+          → or_else (value_at l.it.places p)
+          (place_among (length l.it.graph.sites) (site_places (map (start_in l.types) (drop l.start-index l.starts))) p)
+          ≡ place_among 0 (site_places (map (start_in l.types) l.starts)) p;
+    }

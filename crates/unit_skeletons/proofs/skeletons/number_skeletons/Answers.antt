@@ -10,7 +10,7 @@ use Rattle.unit_skeletons.proofs.skeletons.number_skeletons.Goals as goal
 pub returns-clause-found : goal.returns-clause-found
 returns-clause-found c = λ p.
     let rows = c.loop-start.it.vars in
-    let found = c.loop-start.it.starts.map in
+    let found = c.loop-start.it.starts in
     let types = c.args.types.now in
     let starts = c.args.starts.now in
     found_all rows found p c.law.ensures.few
@@ -39,8 +39,8 @@ loop-start-preserved c =
     let i = c.loop-start.start-index in
     let one = one_left (start_in types) starts i c.start-item.result c.loop-start-test.true c.start-item.is in
     let more = c.in_ok-add.ensures in
-    numbering_on it.vars c.add.new.self.vars it.starts.map c.add.new.self.starts.map c.args.functions.now
+    numbering_on it.vars c.add.new.self.vars it.starts c.add.new.self.starts c.args.functions.now
     (start_in types c.start-item.result) (map (start_in types) (drop (i + 1) starts)) (map (start_in types) starts)
-    (subst (λ (rest : List rules.Start). IsNumbering it.vars it.starts.map c.args.functions.now rest (map (start_in types) starts))
+    (subst (λ (rest : List rules.Start). IsNumbering it.vars it.starts c.args.functions.now rest (map (start_in types) starts))
     one c.loop-start.invariant)
     more.below more.count more.owners more.found more.marked
