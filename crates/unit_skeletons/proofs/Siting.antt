@@ -1,5 +1,5 @@
 -- The numbers of call sites, as sites come.
-use Rattle.std.proofs.Common.{◌≡◌, ℕ, suc, ◌+◌, ◌<◌, ◌≤◌, arith, Bool, true, false, List, [], ◌∷◌, ◌++◌, length, length-append, append-nil, map, drop, slice_index_or, Option, Some, None, refl, sym, ◌∙◌, ap, if◌then◌else◌}
+use Rattle.std.proofs.Common.{◌≡◌, ℕ, suc, ◌+◌, ◌<◌, ◌≤◌, arith, Bool, true, false, List, ◌++◌, length, length-append, append-nil, map, drop, slice_index_or, Option, Some, None, refl, sym, ◌∙◌, ap, if◌then◌else◌}
 use Rattle.flow_graph.specs.declared.constraint.Site.{Site}
 use Rattle.name_rules.specs.Spellings.{Place}
 use Rattle.name_rules.specs.Scopes.{is_place}

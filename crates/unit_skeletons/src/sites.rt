@@ -92,7 +92,7 @@ impl CallSites {
 }
 
 /// The call sites of units. Linear in their skeletons, but for growth.
-#[tactic(auto, using(crate::proofs::Siting::sites_next, crate::proofs::Siting::sites_end))]
+#[tactic(auto, using(crate::proofs::Siting::sites_end))]
 pub fn find_sites(
     alloc: Global,
     types: &TypeTable,

@@ -1,5 +1,6 @@
 use Rattle.unit_starts.specs.Views.{start_in}
 use Rattle.unit_skeletons.proofs.Marking.{marked_on}
+use Rattle.unit_skeletons.proofs.Placing.{found_on}
 use Rattle.unit_skeletons.proofs.skeletons.Skeletons.add.Goals as goal
 
 pub returns-in-Ok-clause-marked : goal.returns-in-Ok-clause-marked
@@ -7,3 +8,9 @@ returns-in-Ok-clause-marked c =
     let it = c.in_ok-at.ensures in
     marked_on c.args.self.now.vars c.fresh.new.self (start_in c.args.types.now c.args.start.now) it.kept c.in_ok-at.at
     it.number it.skel it.mark it.inner
+
+pub returns-in-Ok-clause-found : goal.returns-in-Ok-clause-found
+returns-in-Ok-clause-found c =
+    let it = c.in_ok-at.ensures in
+    found_on c.args.self.now.vars c.fresh.new.self (start_in c.args.types.now c.args.start.now) it.kept c.in_ok-at.at
+    it.number it.skel it.count c.args.self.now.starts c.add.new.self c.requires c.in-Ok.ensures.added
