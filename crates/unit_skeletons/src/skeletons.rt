@@ -25,7 +25,7 @@ use std::alloc::Global;
 use type_table::TypeTable;
 use unit_starts::Start;
 
-/// Skeletons with their variables, and the first that begins at each place. Memory is linear in the variables.
+/// Skeletons with their variables, and the first that begins at each place. Memory is linear in the variables and in the tokens.
 #[derive(Drop)]
 pub struct Skeletons {
     pub(crate) vars: VarTable,

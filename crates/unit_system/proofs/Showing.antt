@@ -5,8 +5,6 @@ use Rattle.qual_types.specs.Rows.{skel_of}
 use Rattle.name_rules.specs.Spellings.{Place}
 use Rattle.place_map.specs.Values.{value_at}
 use Rattle.row_rules.specs.Sites.{site_places}
-use Rattle.row_rules.specs.Starting as rules
-use Rattle.row_rules.specs.Worlds.{number_among}
 use Rattle.row_world.specs.Shown.{or_nowhere}
 use Rattle.unit_skeletons.specs.declared.skeletons.Skeletons.{Skeletons}
 use Rattle.unit_skeletons.specs.Found.{number_or_none}
