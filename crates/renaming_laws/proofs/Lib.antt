@@ -1,0 +1,4 @@
+pub mod Pulling
+pub mod Turning
+pub mod Alike
+pub mod Seen
