@@ -1,5 +1,5 @@
 -- What does not depend on numbers.
-use Rattle.std.specs.Prelude.{ℕ, List, ◌↔◌}
+use Rattle.std.specs.Prelude.{◌≡◌, ℕ, List, length, ◌↔◌}
 use Rattle.lattice_core.specs.Order.{Order}
 use Rattle.flow_graph.specs.System.{System}
 use Rattle.flow_graph.specs.Unfolding.{IsAcceptedIn, IsAccepted, IsExceeded, Printed}
@@ -21,6 +21,11 @@ RenamedIsAlike = (ren : Renaming) (sys other : System) → IsRenamed ren sys oth
 -- Each is the other under its numbers.
 abbrev pub RenamedTurns : Type 0
 RenamedTurns = (ren : Renaming) (sys other : System) → IsRenamed ren sys other → IsRenamed (turned ren) other sys
+
+-- So they have as many constraints, and as many sites.
+abbrev pub RenamedHasAsMany : Type 0
+RenamedHasAsMany = (ren : Renaming) (sys other : System) → IsRenamed ren sys other →
+    (length other.constraints ≡ length sys.constraints) × (length other.sites ≡ length sys.sites)
 
 -- Two systems that differ in all of their numbers.
 abbrev pub SomeAreRenamed : Type 0

@@ -3,4 +3,4 @@
 
 mod laws;
 
-pub use laws::{renamed_is_alike, renamed_turns, some_are_renamed};
+pub use laws::{renamed_has_as_many, renamed_is_alike, renamed_turns, some_are_renamed};
