@@ -1,20 +1,23 @@
 -- A run of the program of the example: what was marked in the cell of `a` is written to that of `b`.
-use Rattle.std.proofs.Common.{◌≡◌, ℕ, zero, suc, ◌<◌, Bool, true, false, nat_eq, None, refl, inl, inr, subst, sym, ap, ◌∙◌, arith}
+use Rattle.std.proofs.Common.{◌≡◌, ℕ, zero, suc, ◌<◌, Bool, true, false, nat_eq, slice_get, Option, None, Some, refl, inl, inr, subst, sym, ap, ◌∙◌, arith}
 use Rattle.std.specs.Int.{bit_at}
 use Rattle.std.proofs.lemmas.Nat.Bits.{bit_at-zero, bit_at_above}
 use Rattle.std.proofs.lemmas.Option.{none-some}
 use Rattle.qual_base.specs.declared.places.Owner.{Owner}
 use Rattle.qual_base.specs.declared.places.Owner.TheVariants.{Nobody, Function}
 use Rattle.lattice_core.specs.Order.{leq, IsOrder}
-use Rattle.flow_graph.specs.declared.constraint.Link.TheVariants.{Le, Const, Bound}
-use Rattle.flow_graph.specs.System.{owner_of}
+use Rattle.flow_graph.specs.declared.constraint.Link.{Link}
+use Rattle.flow_graph.specs.declared.constraint.Link.TheVariants.{Le, Const, Bound, Enter, Leave}
+use Rattle.flow_graph.specs.declared.constraint.Constraint.{Constraint}
+use Rattle.flow_graph.specs.System.{owner_of, Stands}
+use Rattle.flow_graph.specs.Unfolding.{IsAcceptedIn}
 use Rattle.qual_types.specs.declared.look.Kind.TheVariants.{Base, Void}
 use Rattle.qual_types.specs.Skel.{flat, no_skels}
 use Rattle.run_laws.specs.Shapes.{Belongs}
-use Rattle.run_laws.specs.Programs.{Instr, shared, load, move, store, IsDeclared, Asks, IsAmong}
+use Rattle.run_laws.specs.Programs.{IsSystemOf, Instr, shared, load, move, store, IsDeclared, Asks, IsAmong}
 use Rattle.run_laws.specs.Runs.{num, ptr, plain, labelled, State, puts_reg, puts_cell, Run, begins, steps, marks_cell}
 use Rattle.run_laws.specs.Example.{order, constraint, sys, skel, code, program, world}
-use Rattle.run_laws.specs.Laws.{SomeRunIsViolated}
+use Rattle.run_laws.specs.Laws.{SomeRunIsViolated, SomeRunIsAccepted}
 use Rattle.run_laws.proofs.Keeping.{false_not}
 
 -- the order as a table
@@ -84,28 +87,6 @@ is_order = record {
   apart = λ a b h k. below_apart a b (told a b h) (told b a k);
 }
 
--- what the steps ask
-abbrev asked : Instr → Type 0
-asked instr = Asks sys 0 program (Function 0) instr
-
-asks : (owner : Owner) (instr : Instr) → IsAmong instr (code owner) → Asks sys 0 program owner instr
-asks Nobody instr among = absurd among
-asks (Function zero) instr (inl is) = subst (λ x. asked x) (sym is) (record { var = 0; inside = flat 1 Base; is = refl }, inr refl)
-asks (Function zero) instr (inr (inl is)) = subst (λ x. asked x) (sym is) (0, refl)
-asks (Function zero) instr (inr (inr (inl is))) = subst (λ x. asked x) (sym is)
-    (inr (record { there = (((1, record { constraint = constraint (Le 1 3); there = refl; link_is = refl; carried = refl }), (inr refl, inr refl)), tt); even = inl tt }))
-asks (Function zero) instr (inr (inr (inr (inl is)))) = subst (λ x. asked x) (sym is) (record { var = 2; inside = flat 3 Base; is = refl }, inr refl)
-asks (Function zero) instr (inr (inr (inr (inr (inl is))))) = subst (λ x. asked x) (sym is) (2, refl)
-asks (Function zero) instr (inr (inr (inr (inr (inr later))))) = absurd later
-asks (Function (suc g)) instr among = absurd among
-
-belongs : (owner : Owner) (r : ℕ) → Belongs (owner_of sys) owner (skel r)
-belongs owner zero = (inr refl, inr refl)
-belongs owner (suc zero) = inr refl
-belongs owner (suc (suc zero)) = (inr refl, inr refl)
-belongs owner (suc (suc (suc zero))) = inr refl
-belongs owner (suc (suc (suc (suc r)))) = inr refl
-
 declared : (g : ℕ) → IsDeclared program g
 declared g = record {
   at = record { var = 4; node = 5; params = no_skels; result = flat 6 Void; ellipsis = None; is = refl };
@@ -135,26 +116,53 @@ placed = puts_reg moved 0 2 (plain (ptr 1 0))
 abbrev stored : State
 stored = puts_cell placed 1 0 (placed.regs 0 3)
 
-is_run : Run sys 0 program world stored
-is_run =
-    let one : Run sys 0 program world named = steps blank named 0 (shared 0) (begins blank ((λ i r. refl), (λ o k. refl)))
-    (inl refl) (0, 0, record { var = 0; inside = flat 1 Base; is = refl }, refl, refl) in
-    let two : Run sys 0 program world marked = marks_cell named marked 0 0 0 0 0 1 (flat 1 Base) one (0, 0, refl, inl (refl, refl, refl))
-    (record { constraint = constraint (Const 0 1 1); there = refl; link_is = refl; carried = refl }) refl in
-    let three : Run sys 0 program world loaded = steps marked loaded 0 (load 1 0) two (inr (inl refl)) (0, 0, refl, tt, refl) in
-    let four : Run sys 0 program world moved = steps loaded moved 0 (move 3 1) three (inr (inr (inl refl))) (num 0, (0, refl), refl) in
-    let five : Run sys 0 program world placed = steps moved placed 0 (shared 2) four (inr (inr (inr (inl refl))))
-    (1, 0, record { var = 2; inside = flat 3 Base; is = refl }, refl, refl) in
-    steps placed stored 0 (store 2 3) five (inr (inr (inr (inr (inl refl))))) (1, 0, refl, refl)
+-- whatever the bound of `b`
+module _ (limit : ℕ) where
+  -- what the steps ask
+  abbrev asked : Instr → Type 0
+  asked instr = Asks (sys limit) 0 program (Function 0) instr
+
+  asks : (owner : Owner) (instr : Instr) → IsAmong instr (code owner) → Asks (sys limit) 0 program owner instr
+  asks Nobody instr among = absurd among
+  asks (Function zero) instr (inl is) = subst (λ x. asked x) (sym is) (record { var = 0; inside = flat 1 Base; is = refl }, inr refl)
+  asks (Function zero) instr (inr (inl is)) = subst (λ x. asked x) (sym is) (0, refl)
+  asks (Function zero) instr (inr (inr (inl is))) = subst (λ x. asked x) (sym is)
+      (inr (record { there = (((1, record { constraint = constraint (Le 1 3); there = refl; link_is = refl; carried = refl }), (inr refl, inr refl)), tt); even = inl tt }))
+  asks (Function zero) instr (inr (inr (inr (inl is)))) = subst (λ x. asked x) (sym is) (record { var = 2; inside = flat 3 Base; is = refl }, inr refl)
+  asks (Function zero) instr (inr (inr (inr (inr (inl is))))) = subst (λ x. asked x) (sym is) (2, refl)
+  asks (Function zero) instr (inr (inr (inr (inr (inr later))))) = absurd later
+  asks (Function (suc g)) instr among = absurd among
+
+  belongs : (owner : Owner) (r : ℕ) → Belongs (owner_of (sys limit)) owner (skel r)
+  belongs owner zero = (inr refl, inr refl)
+  belongs owner (suc zero) = inr refl
+  belongs owner (suc (suc zero)) = (inr refl, inr refl)
+  belongs owner (suc (suc (suc zero))) = inr refl
+  belongs owner (suc (suc (suc (suc r)))) = inr refl
+
+  is_system : IsSystemOf (sys limit) 0 program
+  is_system = record { asks = asks; belongs = belongs; declared = declared }
+
+  is_run : Run (sys limit) 0 program world stored
+  is_run =
+      let one : Run (sys limit) 0 program world named = steps blank named 0 (shared 0) (begins blank ((λ i r. refl), (λ o k. refl)))
+      (inl refl) (0, 0, record { var = 0; inside = flat 1 Base; is = refl }, refl, refl) in
+      let two : Run (sys limit) 0 program world marked = marks_cell named marked 0 0 0 0 0 1 (flat 1 Base) one (0, 0, refl, inl (refl, refl, refl))
+      (record { constraint = constraint (Const 0 1 1); there = refl; link_is = refl; carried = refl }) refl in
+      let three : Run (sys limit) 0 program world loaded = steps marked loaded 0 (load 1 0) two (inr (inl refl)) (0, 0, refl, tt, refl) in
+      let four : Run (sys limit) 0 program world moved = steps loaded moved 0 (move 3 1) three (inr (inr (inl refl))) (num 0, (0, refl), refl) in
+      let five : Run (sys limit) 0 program world placed = steps moved placed 0 (shared 2) four (inr (inr (inr (inl refl))))
+      (1, 0, record { var = 2; inside = flat 3 Base; is = refl }, refl, refl) in
+      steps placed stored 0 (store 2 3) five (inr (inr (inr (inr (inl refl))))) (1, 0, refl, refl)
 
 pub some_run_is_violated : SomeRunIsViolated
 some_run_is_violated = (
   is_order,
-  record { asks = asks; belongs = belongs; declared = declared },
+  is_system 0,
   (λ i. tt),
   (
     stored,
-    is_run,
+    is_run 0,
     inr (record {
       frame = 0;
       reg = 2;
@@ -169,3 +177,43 @@ some_run_is_violated = (
     }),
   ),
 )
+
+-- the element of a constant or a bound
+abbrev level : Link → ℕ
+level (Le u v) = 1
+level (Const l e v) = e
+level (Bound v l e) = e
+level (Enter s u v) = 1
+level (Leave s u v) = 1
+
+abbrev level_at : Option Constraint → ℕ
+level_at None = 1
+level_at (Some c) = level c.link
+
+levels : (n : ℕ) → level_at (slice_get (sys 1).constraints n) ≡ 1
+levels zero = refl
+levels (suc zero) = refl
+levels (suc (suc zero)) = refl
+levels (suc (suc (suc n))) = refl
+
+is_level : (n : ℕ) (link : Link) → Stands (sys 1) 0 n link → level link ≡ 1
+is_level n link st = sym (ap (λ o. level_at o) st.there ∙ ap (λ l. level l) st.link_is) ∙ levels n
+
+-- all is tainted
+accepted : IsAcceptedIn (sys 1) 0 order
+accepted depth = (
+  λ v sites. 1,
+  record {
+    rises = record {
+      elements = λ v sites. omega arith;
+      le = λ n u v sites st copy. refl;
+      const = λ n e v sites st copy. ap (λ x. leq order x 1) (is_level n (Const 0 e v) st);
+      enter = λ n s u v site sites st there copy room. refl;
+      leave = λ n s u v site sites st there copy room. refl;
+    };
+    bound = λ n e v sites st copy. ap (λ x. leq order 1 x) (is_level n (Bound v 0 e) st);
+  },
+)
+
+pub some_run_is_accepted : SomeRunIsAccepted
+some_run_is_accepted = (accepted, is_system 1, (λ i. tt), (stored, is_run 1, inl refl))

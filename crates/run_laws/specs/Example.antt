@@ -19,12 +19,17 @@ use Rattle.run_laws.specs.Runs.{Object, World}
 abbrev pub order : Order
 order = record { above = 3 ∷ 2 ∷ [] }
 
--- Variables 0 and 2 are of the places of a and b, 1 and 3 of what they hold, all of nobody.
 abbrev pub constraint : Link → Constraint
 constraint link = record { link = link; lattices = 1; span = record { unit = 0; from = 0; to = 0 } }
 
-abbrev pub sys : System
-sys = record { constraints = constraint (Const 0 1 1) ∷ constraint (Le 1 3) ∷ constraint (Bound 3 0 0) ∷ []; sites = []; owners = [] }
+-- The system, with an element as the bound of b, 0 above. Variables 0 and 2 are of the places of a and b, 1 and 3 of what
+-- they hold, all of nobody.
+abbrev pub sys : ℕ → System
+sys limit = record {
+  constraints = constraint (Const 0 1 1) ∷ constraint (Le 1 3) ∷ constraint (Bound 3 0 limit) ∷ [];
+  sites = [];
+  owners = [];
+}
 
 -- the registers of f: the places of a and b, what was read of a, what is written to b, and, unused, what f returns
 abbrev pub skel : ℕ → Skel

@@ -3,4 +3,4 @@
 
 mod laws;
 
-pub use laws::{runs_are_safe, some_run_is_violated};
+pub use laws::{runs_are_safe, some_run_is_accepted, some_run_is_violated};
