@@ -110,7 +110,7 @@ Reaches st x (ref u s) o k t = (a b : ℕ) × (x.raw ≡ ptr a b)
 abbrev pub IsBlank : State → Type 0
 IsBlank st = ((i r : ℕ) → st.regs i r ≡ plain (num 0)) × ((o k : ℕ) → st.cells o k ≡ plain (num 0))
 
--- The states of the runs in a lattice. A value may at any time take the label of a constant at whose position it is, in a
+-- The states of the runs in a lattice. A value may at any time take the label of a constant at whose variable it is, in a
 -- register or in a cell that a register leads to.
 pub data Run (sys : System) (lattice : ℕ) (p : Program) (w : World) : State → Type 0 where
   begins : (st : State) → IsBlank st → Run sys lattice p w st
@@ -131,7 +131,7 @@ IsOneOf e (x ∷ xs) = (e ≡ x) ⊎ IsOneOf e xs
 abbrev pub Exceeds : Order → Value → ℕ → Type 0
 Exceeds order x e = (l : ℕ) × IsOneOf l x.labels × (leq order l e ≡ false)
 
--- A value in a register is at the position of a bound, with a label that is not at or below it.
+-- A value in a register is at the variable of a bound, with a label that is not at or below it.
 pub record IsOverIn (sys : System) (lattice : ℕ) (order : Order) (p : Program) (w : World) (st : State) : Type 0 where
   pub frame : ℕ
   pub reg : ℕ

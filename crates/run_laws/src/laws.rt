@@ -13,7 +13,7 @@ pub fn some_run_is_violated()
     ensures { SomeRunIsViolated }
 {}
 
-/// A run of some accepted program brings a labelled value to a bound that is above it.
+/// A run of some accepted program brings a labelled value to a bound that it is at or below.
 pub fn some_run_is_accepted()
     ensures { SomeRunIsAccepted }
 {}
