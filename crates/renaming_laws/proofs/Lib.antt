@@ -1,0 +1,5 @@
+pub mod Pulling
+pub mod Turning
+pub mod Counting
+pub mod Alike
+pub mod Seen

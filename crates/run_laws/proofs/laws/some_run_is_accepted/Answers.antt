@@ -1,0 +1,5 @@
+use Rattle.run_laws.proofs.Seen.{some_run_is_accepted}
+use Rattle.run_laws.proofs.laws.some_run_is_accepted.Goals as goal
+
+pub returns : goal.returns
+returns c = some_run_is_accepted
