@@ -1,8 +1,8 @@
 //! Taking a whole file within a limit.
 
-ghost use Rattle.std.specs.Prelude.{◌≡◌, ◌<◌, ◌≤◌, length, IfOk, IsErrOf, IfSome, vec_len};
-ghost use Rattle.outside.specs.Counts.{GoesOn, Rose};
-ghost use Rattle.outside.specs.Outside.{Records, content_of};
+ghost use Rattle.std.specs.Prelude.{◌≡◌, ◌<◌, ◌≤◌, [], ◌∷◌, length, IfOk, IfSome, All, vec_len};
+ghost use Rattle.outside.specs.Readings.{Reading, ReadOn, Agrees};
+ghost use Rattle.outside.specs.Taking.{Takes};
 
 use crate::traits::Files;
 use std::alloc::{AllocError, Global};
@@ -46,18 +46,12 @@ pub fn take_all<F: Files>(
     limit: usize,
 ) -> Result<Vec<u8>, TakeFault>
     requires { limit < usize.MAX }
-    ensures whole { IfOk result
-        (λ v. IfSome (F.contents files.old) (λ all. v.items ≡ content_of all name.now)) }
-    ensures within { IfOk result (λ v. vec_len v ≤ limit) }
-    ensures fits { IfOk result
-        (λ _. IfSome (F.contents files.old) (λ all. length (content_of all name.now) ≤ limit)) }
-    ensures too_large { IsErrOf result TakeFault.TooLarge → IfSome (F.contents files.old)
-        (λ all. limit < length (content_of all name.now)) }
-    ensures read_fault { IsErrOf result TakeFault.ReadFault → Rose (F.faults files.old)
-        (F.faults files.new) }
-    ensures count { GoesOn (F.faults files.old) (F.faults files.new) }
-    ensures started { Records (F.started files.old) (F.started files.new) name.now }
+    // It reads that file once, and nothing else.
+    ensures read { (reading : Reading) × ReadOn (F.log files.old) (F.log files.new)
+        (F.failed files.old) (F.failed files.new) (reading ∷ [])
+        × (reading.name ≡ name.now) × Takes limit reading result }
     ensures contents { F.contents files.new ≡ F.contents files.old }
+    ensures agrees { IfSome (F.contents files.new) (λ all. All (Agrees all) (F.log files.new)) }
 {
     if files.start(name).is_err() {
         return Err(TakeFault::ReadFault);
