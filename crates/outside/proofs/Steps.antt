@@ -1,6 +1,7 @@
 -- One reading more, which goes on at the end of a log.
-use Rattle.std.proofs.Common.{◌≡◌, ℕ, zero, suc, ◌+◌, ◌<◌, List, [], ◌∷◌, ◌++◌, take, Ok, Err, refl, sym, ap, arith, ◌∙◌}
-use Rattle.outside.specs.Readings.{Reading, Going, Whole, Broken, ReadOn, at_last, broken_in, goes_on}
+use Rattle.std.proofs.Common.{◌≡◌, ℕ, zero, suc, ◌+◌, ◌<◌, List, [], ◌∷◌, ◌++◌, take, Ok, Err, refl, sym, ap, subst, arith, Option, Some, None, IfSome, All, ◌∙◌}
+use Rattle.std.proofs.lemmas.List.Elements.{All-nil, All-cons, All-pop}
+use Rattle.outside.specs.Readings.{Agrees, Reading, Going, Whole, Broken, ReadOn, Standing, at_last, broken_in, goes_on}
 
 -- the last of a log
 pub last_is : (f : Reading → Reading) (old : List Reading) (r : Reading) → at_last f (old ++ r ∷ []) ≡ old ++ f r ∷ []
@@ -37,3 +38,12 @@ module _ (E : Type 0) (buffer : List ℕ) (old mid new : List Reading) (name byt
       step ∙ ap (λ (rs : List Reading). at_last (goes_on {E = E} (Ok n) buffer) rs) was
       ∙ last_is (goes_on {E = E} (Ok n) buffer) old (record { name = name; bytes = bytes; end = Going })
       ∙ ap (λ (r : Reading). old ++ r ∷ []) (gave_none E n buffer name bytes none)
+
+-- a call that went through one reading
+pub reads_one : (old new : Standing) (r : Reading) → new.log ≡ old.log ++ r ∷ [] → new.failed ≡ old.failed + broken_in (r ∷ []) → new.contents ≡ old.contents
+    → IfSome new.contents (λ all. All (Agrees all) new.log) → ReadOn old new (r ∷ [])
+reads_one old new r behind failed same agrees = record { behind = behind; failed = failed; contents = same; agrees = of new.contents agrees }
+  where
+    of : (told : Option (List (List ℕ × List ℕ))) → IfSome told (λ all. All (Agrees all) new.log) → IfSome told (λ all. All (Agrees all) (r ∷ []))
+    of None is = tt
+    of (Some all) is = All-cons (Agrees all) r [] (All-pop (Agrees all) new.log old.log (Some r) behind is).1 (All-nil (Agrees all))

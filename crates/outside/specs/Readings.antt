@@ -1,6 +1,6 @@
 -- What was read of files: a log of readings, and how many calls failed.
-use Rattle.std.specs.Prelude.{◌≡◌, ℕ, zero, suc, ◌+◌, Bool, true, false, List, [], ◌∷◌, ◌++◌, take, drop, length, Ok, Err, if◌then◌else◌}
-use Rattle.std.specs.List.{list_any}
+use Rattle.std.specs.Prelude.{◌≡◌, ℕ, zero, suc, ◌+◌, ◌||◌, Bool, true, false, List, [], ◌∷◌, ◌++◌, take, drop, length, All, IfSome, Option, Ok, Err}
+use Rattle.std.specs.Prelude.{if◌then◌else◌}
 use Rattle.std.specs.declared.result.Result.{Result}
 use Rattle.std.specs.Str.{bytes_eq}
 
@@ -52,7 +52,8 @@ is_broken other = false
 
 -- whether a call for one of them failed, and for how many one did
 abbrev pub has_broken : List Reading → Bool
-has_broken readings = list_any (λ reading. is_broken reading.end) readings
+has_broken [] = false
+has_broken (reading ∷ readings) = is_broken reading.end || has_broken readings
 
 abbrev pub one_if : Bool → ℕ
 one_if true = 1
@@ -61,6 +62,17 @@ one_if false = 0
 abbrev pub broken_in : List Reading → ℕ
 broken_in [] = 0
 broken_in (reading ∷ readings) = one_if (is_broken reading.end) + broken_in readings
+
+-- the names of the files, in the order in which they were started
+abbrev pub names_read : List Reading → List (List ℕ)
+names_read [] = []
+names_read (reading ∷ readings) = reading.name ∷ names_read readings
+
+-- each before the last was read to its end
+abbrev pub AreWhole : List Reading → Type 0
+AreWhole [] = Unit {0}
+AreWhole (reading ∷ []) = Unit {0}
+AreWhole (reading ∷ next ∷ more) = (reading.end ≡ Whole) × AreWhole (next ∷ more)
 
 -- a file of this content may have given these bytes: all of them where its end was reached, else its first
 abbrev pub MayGive : End → List ℕ → List ℕ → Type 0
@@ -82,8 +94,19 @@ content_of (file ∷ files) name = if bytes_eq file.0 name then file.1 else cont
 abbrev pub Agrees : List (List ℕ × List ℕ) → Reading → Type 0
 Agrees files reading = MayGive reading.end (content_of files reading.name) reading.bytes
 
--- In a call that went through these, each reading that broke is of one call that failed: the log and the count of
--- failed calls before it and after it.
-pub record ReadOn (old new : List Reading) (before now : ℕ) (these : List Reading) : Type 0 where
-  pub behind : new ≡ old ++ these
-  pub failed : now ≡ before + broken_in these
+-- how files stand: their log, how many calls failed, and what they hold, where that is told
+pub record Standing : Type 0 where
+  pub log : List Reading
+  pub failed : ℕ
+  pub contents : Option (List (List ℕ × List ℕ))
+
+abbrev pub stands : List Reading → ℕ → Option (List (List ℕ × List ℕ)) → Standing
+stands log failed contents = record { log = log; failed = failed; contents = contents }
+
+-- A call went through these readings: each that broke is of one call that failed, and where the contents are told they stay, and
+-- may have given the readings.
+pub record ReadOn (old new : Standing) (these : List Reading) : Type 0 where
+  pub behind : new.log ≡ old.log ++ these
+  pub failed : new.failed ≡ old.failed + broken_in these
+  pub contents : new.contents ≡ old.contents
+  pub agrees : IfSome new.contents (λ all. All (Agrees all) these)

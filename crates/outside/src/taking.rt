@@ -1,7 +1,7 @@
 //! Taking a whole file within a limit.
 
-ghost use Rattle.std.specs.Prelude.{◌≡◌, ◌<◌, ◌≤◌, [], ◌∷◌, length, IfOk, IfSome, All, vec_len};
-ghost use Rattle.outside.specs.Readings.{Reading, ReadOn, Agrees};
+ghost use Rattle.std.specs.Prelude.{◌≡◌, ◌<◌, [], ◌∷◌, IfOk, vec_len};
+ghost use Rattle.outside.specs.Readings.{Reading, ReadOn, stands};
 ghost use Rattle.outside.specs.Taking.{Takes};
 
 use crate::traits::Files;
@@ -47,11 +47,10 @@ pub fn take_all<F: Files>(
 ) -> Result<Vec<u8>, TakeFault>
     requires { limit < usize.MAX }
     // It reads that file once, and nothing else.
-    ensures read { (reading : Reading) × ReadOn (F.log files.old) (F.log files.new)
-        (F.failed files.old) (F.failed files.new) (reading ∷ [])
+    ensures read { (reading : Reading)
+        × ReadOn (stands (F.log files.old) (F.failed files.old) (F.contents files.old))
+        (stands (F.log files.new) (F.failed files.new) (F.contents files.new)) (reading ∷ [])
         × (reading.name ≡ name.now) × Takes limit reading result }
-    ensures contents { F.contents files.new ≡ F.contents files.old }
-    ensures agrees { IfSome (F.contents files.new) (λ all. All (Agrees all) (F.log files.new)) }
 {
     if files.start(name).is_err() {
         return Err(TakeFault::ReadFault);
@@ -63,14 +62,16 @@ pub fn take_all<F: Files>(
     while taken.len() <= limit {
         let lent = buffer.len().min(limit + 1 - taken.len());
         let piece = &mut buffer[..lent];
-        let Ok(count) = files.next(piece) else {
-            return Err(TakeFault::ReadFault);
-        };
-        if count == 0 {
-            return Ok(taken);
-        }
-        if taken.extend_from_slice(&piece[..count]).is_err() {
-            return Err(TakeFault::NoMemory);
+        match files.next(piece) {
+            Ok(count) => {
+                if count == 0 {
+                    return Ok(taken);
+                }
+                if taken.extend_from_slice(&piece[..count]).is_err() {
+                    return Err(TakeFault::NoMemory);
+                }
+            }
+            Err(_) => return Err(TakeFault::ReadFault),
         }
     }
     Err(TakeFault::TooLarge)

@@ -1,45 +1,71 @@
 use Rattle.std.proofs.Common.{◌≡◌, ◌<◌, List, ℕ, [], ◌∷◌, ◌++◌, ◌∙◌, ap, sym, refl, arith, take, length}
 use Rattle.std.proofs.lemmas.Grind.{common_steps}
-use Rattle.outside.specs.Readings.{Going, Whole, Broken}
+use Rattle.outside.specs.Readings.{Going, Whole, Broken, stands}
 use Rattle.outside.specs.declared.traits.Failed.{Failed}
-use Rattle.outside.proofs.Steps.{broke, moved, ended_so}
+use Rattle.outside.proofs.Steps.{broke, moved, ended_so, reads_one}
 use Rattle.outside.proofs.taking.take_all.Goals as goal
 
-pub returns-in_default-next-clause-read : goal.returns-in_default-next-clause-read
-returns-in_default-next-clause-read g c = (
-  record { name = c.args.name.now; bytes = c.loop-buffer.taken.items; end = Broken },
-  record {
-    behind = broke Failed c.next.new.into (g.F.Files.log c.args.files.now) (g.F.Files.log c.loop-buffer.files) (g.F.Files.log c.next.new.self) c.args.name.now
-        c.loop-buffer.taken.items c.loop-buffer.invariant.log c.in_default-next.field-0 c.in_default-next.ensures.log;
-    failed = grind arith;
-  },
-  refl,
-  refl,
-)
+pub returns-in-Err : goal.returns-in-Err
+returns-in-Err g c =
+    let files = g.F.Files in
+    record {
+      read = (
+        record { name = c.args.name.now; bytes = c.loop-buffer.taken.items; end = Broken },
+        reads_one (stands (files.log c.args.files.now) (files.failed c.args.files.now) (files.contents c.args.files.now))
+            (stands (files.log c.next.new.self) (files.failed c.next.new.self) (files.contents c.next.new.self)) _
+            (broke Failed c.next.new.into (files.log c.args.files.now) (files.log c.loop-buffer.files) (files.log c.next.new.self) c.args.name.now
+            c.loop-buffer.taken.items c.loop-buffer.invariant.log c.in-Err.field-0 c.in-Err.ensures.log)
+            (grind arith) (grind arith) c.in-Err.ensures.agrees,
+        refl,
+        refl,
+      );
+    }
 
-pub returns-then-count-eq0-clause-read : goal.returns-then-count-eq0-clause-read
-returns-then-count-eq0-clause-read g c = (
-  record { name = c.args.name.now; bytes = c.loop-buffer.taken.items; end = Whole },
-  record {
-    behind = ended_so Failed c.next.new.into (g.F.Files.log c.args.files.now) (g.F.Files.log c.loop-buffer.files) (g.F.Files.log c.next.new.self) c.args.name.now
-        c.loop-buffer.taken.items c.loop-buffer.invariant.log c.in-Ok-next.count (grind arith) c.in-Ok-next.ensures.log;
-    failed = grind arith;
-  },
-  refl,
-  (refl, refl, grind (arith, common_steps)),
-)
+pub returns-then-count-eq0 : goal.returns-then-count-eq0
+returns-then-count-eq0 g c =
+    let files = g.F.Files in
+    record {
+      read = (
+        record { name = c.args.name.now; bytes = c.loop-buffer.taken.items; end = Whole },
+        reads_one (stands (files.log c.args.files.now) (files.failed c.args.files.now) (files.contents c.args.files.now))
+            (stands (files.log c.next.new.self) (files.failed c.next.new.self) (files.contents c.next.new.self)) _
+            (ended_so Failed c.next.new.into (files.log c.args.files.now) (files.log c.loop-buffer.files) (files.log c.next.new.self) c.args.name.now
+            c.loop-buffer.taken.items c.loop-buffer.invariant.log c.in-Ok-next.count (grind arith) c.in-Ok-next.ensures.log)
+            (grind arith) (grind arith) c.in-Ok-next.ensures.agrees,
+        refl,
+        (refl, refl, grind (arith, common_steps)),
+      );
+    }
 
-pub returns-then-is_err-2-clause-read : goal.returns-then-is_err-2-clause-read
-returns-then-is_err-2-clause-read g c = (
-  record { name = c.args.name.now; bytes = c.loop-buffer.taken.items ++ take c.in-Ok-next.count c.next.new.into; end = Going },
-  record {
-    behind = moved Failed c.next.new.into (g.F.Files.log c.args.files.now) (g.F.Files.log c.loop-buffer.files) (g.F.Files.log c.next.new.self) c.args.name.now
-        c.loop-buffer.taken.items c.loop-buffer.invariant.log c.in-Ok-next.count (grind arith) c.in-Ok-next.ensures.log;
-    failed = grind arith;
-  },
-  refl,
-  refl,
-)
+pub returns-then-is_err-2 : goal.returns-then-is_err-2
+returns-then-is_err-2 g c =
+    let files = g.F.Files in
+    record {
+      read = (
+        record { name = c.args.name.now; bytes = c.loop-buffer.taken.items ++ take c.in-Ok-next.count c.next.new.into; end = Going },
+        reads_one (stands (files.log c.args.files.now) (files.failed c.args.files.now) (files.contents c.args.files.now))
+            (stands (files.log c.next.new.self) (files.failed c.next.new.self) (files.contents c.next.new.self)) _
+            (moved Failed c.next.new.into (files.log c.args.files.now) (files.log c.loop-buffer.files) (files.log c.next.new.self) c.args.name.now
+            c.loop-buffer.taken.items c.loop-buffer.invariant.log c.in-Ok-next.count (grind arith) c.in-Ok-next.ensures.log)
+            (grind arith) (grind arith) c.in-Ok-next.ensures.agrees,
+        refl,
+        refl,
+      );
+    }
+
+pub returns : goal.returns
+returns g c =
+    let files = g.F.Files in
+    record {
+      read = (
+        record { name = c.args.name.now; bytes = c.loop-buffer.taken.items; end = Going },
+        reads_one (stands (files.log c.args.files.now) (files.failed c.args.files.now) (files.contents c.args.files.now))
+            (stands (files.log c.loop-buffer.files) (files.failed c.loop-buffer.files) (files.contents c.loop-buffer.files)) _
+            c.loop-buffer.invariant.log (grind arith) c.loop-buffer.invariant.contents c.loop-buffer.invariant.agrees,
+        refl,
+        (refl, grind (arith, common_steps)),
+      );
+    }
 
 pub loop-buffer-preserved : goal.loop-buffer-preserved
 loop-buffer-preserved g c =
