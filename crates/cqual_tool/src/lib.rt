@@ -16,5 +16,5 @@ mod syntax;
 mod taking;
 mod words;
 
-pub use running::run;
+pub use running::{run, run_in_memory};
 pub use status::Status;
