@@ -2,6 +2,7 @@
 #![tactic(auto)]
 
 mod answer;
+mod deciding;
 mod ending;
 mod faults;
 mod making;

@@ -5,7 +5,7 @@ use Rattle.cqual_words.specs.Asked.{task_of}
 use Rattle.cqual_tool.specs.declared.taking.Stop.TheVariants.{NoMemory}
 use Rattle.cqual_tool.specs.Words.{names_in, names_of}
 use Rattle.cqual_tool.proofs.Stages.{of_made, of_task}
-use Rattle.cqual_tool.proofs.running.answer_for.Goals as goal
+use Rattle.cqual_tool.proofs.deciding.answer_for.Goals as goal
 
 pub returns-in_err-made_answer-in-Generate-clause-reads : goal.returns-in_err-made_answer-in-Generate-clause-reads
 returns-in_err-made_answer-in-Generate-clause-reads g c =

@@ -4,7 +4,7 @@ use Rattle.cqual_words.specs.Asked.{task_of}
 use Rattle.cqual_tool.specs.Sending.{Sends}
 use Rattle.cqual_tool.proofs.Outcomes.{meant, unmeant}
 use Rattle.cqual_tool.proofs.Runs.{by_since, ran_no_memory, ran_not, ran_read_fault, ran_sent, ran_usage}
-use Rattle.cqual_tool.proofs.running.ran.Goals as goal
+use Rattle.cqual_tool.proofs.deciding.decide_and_write.Goals as goal
 
 pub returns-in-Ok : goal.returns-in-Ok
 returns-in-Ok g c =
