@@ -3,13 +3,13 @@ use Rattle.std.proofs.Common.{◌≡◌, ℕ, ◌+◌, ◌<◌, ◌||◌, Bool, 
 use Rattle.std.specs.declared.result.Result.{Result}
 use Rattle.std.proofs.lemmas.List.{length-append}
 use Rattle.std.proofs.lemmas.List.Elements.{All-nil, All-cons, All-head}
-use Rattle.outside.specs.Readings.{Agrees, AreWhole, Broken, End, Going, MayGive, Reading, ReadOn, ReadsAs, Standing, Whole, broken_in, has_broken, is_broken, one_if, since}
+use Rattle.outside.specs.Readings.{Agrees, AreWhole, Broken, End, Going, MayGive, Reading, ReadOn, ReadsAs, Standing, Whole, has_broken, is_broken, since}
 use Rattle.cqual_tool.specs.declared.answer.Answer.{Answer}
 use Rattle.cqual_tool.specs.declared.status.Status.{Status}
 use Rattle.cqual_tool.specs.declared.taking.Stop.{Stop}
 use Rattle.cqual_tool.specs.declared.taking.Stop.TheVariants.{ReadFault, NoMemory}
 use Rattle.cqual_tool.specs.Inputs.{Inputs}
-use Rattle.cqual_tool.specs.Answering.{Answered, AnsweredBy, Finds, IsSaid}
+use Rattle.cqual_tool.specs.Answering.{Answered, Finds, IsSaid}
 
 -- what came behind a log
 pub since_is : (old these : List Reading) → since old (old ++ these) ≡ these

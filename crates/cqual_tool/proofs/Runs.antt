@@ -1,7 +1,7 @@
 -- What one call of the tool does, by what was read, decided and sent.
-use Rattle.std.proofs.Common.{◌≡◌, ◌≢◌, ◌⊎◌, inl, inr, ℕ, ◌+◌, ◌<◌, ◌↔◌, ◌||◌, Bool, true, false, List, [], ◌∷◌, ◌++◌, Option, Some, None, Ok, Err, IfSome, All, refl, sym, ◌∙◌, ap, subst, arith, append-nil}
+use Rattle.std.proofs.Common.{◌≡◌, inl, inr, ℕ, ◌+◌, ◌<◌, ◌||◌, Bool, true, false, List, [], ◌∷◌, ◌++◌, Option, Some, None, Ok, Err, All, refl, sym, ◌∙◌, ap, subst, arith}
 use Rattle.std.proofs.lemmas.List.Elements.{All-head, All-tail}
-use Rattle.outside.specs.Readings.{Agrees, MayGive, Reading, ReadOn, ReadsAs, Standing, broken_in, content_of, has_broken, is_broken, names_read, one_if, since}
+use Rattle.outside.specs.Readings.{Agrees, MayGive, Reading, ReadsAs, Standing, broken_in, content_of, has_broken, is_broken, names_read, one_if, since}
 use Rattle.cqual_words.specs.Words.{Generate, Task, meaning_of}
 use Rattle.cqual_tool.specs.declared.answer.Answer.{Answer}
 use Rattle.cqual_tool.specs.declared.status.Status.{Status}
@@ -10,9 +10,9 @@ use Rattle.cqual_tool.specs.declared.taking.Stop.{Stop}
 use Rattle.cqual_tool.specs.declared.taking.Stop.TheVariants as stops
 use Rattle.cqual_tool.specs.Words.{FileNames, names_of}
 use Rattle.cqual_tool.specs.Texts.{usage_line}
-use Rattle.cqual_tool.specs.Inputs.{Inputs, asked, content_named, files_asked, files_named, files_of, inputs_asked, inputs_in, inputs_of, one_file}
+use Rattle.cqual_tool.specs.Inputs.{Inputs, asked, content_named, files_asked, files_named, inputs_asked, inputs_in, inputs_of, one_file}
 use Rattle.cqual_tool.specs.Outcome.{Answers, ForTask, IsAnswer, IsDecided, NoFile, NoMeaningYet, OfTask, StartsFor, TaskStarts, WithMeaning, WithoutMeaning}
-use Rattle.cqual_tool.specs.Sending.{AppendsFront, Sends}
+use Rattle.cqual_tool.specs.Sending.{Sends}
 use Rattle.cqual_tool.specs.Answering.{AnsweredBy, IsSaid, TaskGoes}
 use Rattle.cqual_tool.specs.Running.{Ran}
 use Rattle.cqual_tool.proofs.Readings.{none, nothing_read, since_is}

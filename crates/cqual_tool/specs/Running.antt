@@ -1,5 +1,5 @@
 -- What one call of the tool does.
-use Rattle.std.specs.Prelude.{◌≡◌, ◌≢◌, ◌⊎◌, ◌↔◌, ℕ, ◌+◌, true, false, List, [], ◌++◌, take, Option, Some, None}
+use Rattle.std.specs.Prelude.{◌≡◌, ◌≢◌, ◌⊎◌, ◌↔◌, ℕ, ◌+◌, true, false, List, [], ◌++◌, Some, None}
 use Rattle.outside.specs.Readings.{AreWhole, Reading, ReadOn, ReadsAs, Standing, has_broken}
 use Rattle.cqual_words.specs.Words.{Generate, meaning_of}
 use Rattle.cqual_tool.specs.declared.status.Status.{Status}

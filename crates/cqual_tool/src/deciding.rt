@@ -38,8 +38,10 @@ fn finish<O: Sink>(out: &mut O, status: Status, text: &[u8]) -> Status
 /// The answer for what is asked.
 fn answer_for<F: Files>(alloc: Global, asked: &Asked<'_>, files: &mut F) -> Result<Answer, Stop>
     requires { AsksMade asked.now }
-    ensures reads { TaskAnswered (stands (F.log files.old) (F.failed files.old) (F.contents files.old))
-        (stands (F.log files.new) (F.failed files.new) (F.contents files.new)) (task_of asked.now) result }
+    ensures reads { TaskAnswered
+        (stands (F.log files.old) (F.failed files.old) (F.contents files.old))
+        (stands (F.log files.new) (F.failed files.new) (F.contents files.new))
+        (task_of asked.now) result }
     ensures decided { IfOk result (λ answer. IsDecided answer.status) }
 {
     match asked {
@@ -59,7 +61,8 @@ pub fn decide_and_write<F: Files, O: Sink>(
     files: &mut F,
     out: &mut O,
 ) -> Status
-    ensures { Ran (map string_bytes words.now) (stands (F.log files.old) (F.failed files.old) (F.contents files.old))
+    ensures { Ran (map string_bytes words.now)
+        (stands (F.log files.old) (F.failed files.old) (F.contents files.old))
         (stands (F.log files.new) (F.failed files.new) (F.contents files.new))
         (O.written out.old) (O.written out.new) (O.failed out.old) (O.failed out.new) result
         (since (F.log files.old) (F.log files.new)) }

@@ -75,8 +75,10 @@ fn take_prelude<F: Files>(
 ) -> Result<Answer, Stop>
     requires words { MeansTheSame words.now (words_of lattices.now) }
     requires named { (files_in named.now).prelude ≡ Some file.now }
-    ensures reads { UnitsAnswered (stands (F.log files.old) (F.failed files.old) (F.contents files.old))
-        (stands (F.log files.new) (F.failed files.new) (F.contents files.new)) (files_in named.now) lattices.now result }
+    ensures reads { UnitsAnswered
+        (stands (F.log files.old) (F.failed files.old) (F.contents files.old))
+        (stands (F.log files.new) (F.failed files.new) (F.contents files.new))
+        (files_in named.now) lattices.now result }
     ensures decided { IfOk result (λ answer. IsDecided answer.status) }
 {
     match taken(alloc, files, file, SOURCE_LIMIT)? {
@@ -98,8 +100,10 @@ fn take_units<F: Files>(
     lattices: &Lattices,
     files: &mut F,
 ) -> Result<Answer, Stop>
-    ensures reads { UnitsAnswered (stands (F.log files.old) (F.failed files.old) (F.contents files.old))
-        (stands (F.log files.new) (F.failed files.new) (F.contents files.new)) (files_in named.now) lattices.now result }
+    ensures reads { UnitsAnswered
+        (stands (F.log files.old) (F.failed files.old) (F.contents files.old))
+        (stands (F.log files.new) (F.failed files.new) (F.contents files.new))
+        (files_in named.now) lattices.now result }
     ensures decided { IfOk result (λ answer. IsDecided answer.status) }
 {
     let words = lattices.words(alloc)?;
@@ -111,8 +115,10 @@ fn take_units<F: Files>(
 
 /// The answer for files that are named, in the order in which they are read.
 pub fn answer<F: Files>(alloc: Global, named: &Named<'_>, files: &mut F) -> Result<Answer, Stop>
-    ensures reads { FilesAnswered (stands (F.log files.old) (F.failed files.old) (F.contents files.old))
-        (stands (F.log files.new) (F.failed files.new) (F.contents files.new)) (files_in named.now) result }
+    ensures reads { FilesAnswered
+        (stands (F.log files.old) (F.failed files.old) (F.contents files.old))
+        (stands (F.log files.new) (F.failed files.new) (F.contents files.new))
+        (files_in named.now) result }
     ensures decided { IfOk result (λ answer. IsDecided answer.status) }
 {
     match taken(alloc, files, named.lattice, LATTICE_LIMIT)? {

@@ -1,6 +1,6 @@
 //! The tool as one call.
 
-ghost use Rattle.std.specs.Prelude.{◌≡◌, ◌≢◌, ◌⊎◌, ◌↔◌, ◌+◌, ◌++◌, ◌<◌, ◌≤◌, ℕ, List, All, IfSome, None, Some, map, true, false, string_bytes};
+ghost use Rattle.std.specs.Prelude.{◌≡◌, ◌≢◌, ◌⊎◌, ◌↔◌, ◌+◌, ◌++◌, ◌<◌, ◌≤◌, ℕ, List, All, IfSome, None, Some, map, true, string_bytes};
 ghost use Rattle.outside.specs.Readings.{Agrees, AreWhole, ReadsAs, broken_in, has_broken, since};
 ghost use Rattle.cqual_words.specs.Words.{Generate, meaning_of};
 ghost use Rattle.cqual_tool.specs.declared.status.Status.TheVariants as Statuses;
@@ -23,9 +23,11 @@ use std::alloc::Global;
 pub fn run<F: Files, O: Sink>(alloc: Global, words: &[String], files: &mut F, out: &mut O) -> Status
     // The readings stand behind those that were there. They are of the files that the words name, in their order, each before
     // the last read to its end; and each that broke is of one call that failed.
-    ensures behind { F.log files.new ≡ F.log files.old ++ since (F.log files.old) (F.log files.new) }
+    ensures behind { F.log files.new
+        ≡ F.log files.old ++ since (F.log files.old) (F.log files.new) }
     ensures there { (inputs : Inputs)
-        × ReadsAs (asked (map string_bytes words.now) inputs) (since (F.log files.old) (F.log files.new)) }
+        × ReadsAs (asked (map string_bytes words.now) inputs)
+        (since (F.log files.old) (F.log files.new)) }
     ensures in_turn { AreWhole (since (F.log files.old) (F.log files.new)) }
     ensures failed { F.failed files.new
         ≡ F.failed files.old + broken_in (since (F.log files.old) (F.log files.new)) }
@@ -34,12 +36,14 @@ pub fn run<F: Files, O: Sink>(alloc: Global, words: &[String], files: &mut F, ou
     // words and of the whole contents of the files: of all files that give these readings.
     ensures outcome { IsAnswer result → (text : List ℕ)
         × (O.written out.new ≡ O.written out.old ++ text)
-        × Answers (map string_bytes words.now) (since (F.log files.old) (F.log files.new)) result text }
+        × Answers (map string_bytes words.now)
+        (since (F.log files.old) (F.log files.new)) result text }
 
     // After a write that failed, a front of the text of some such answer was written.
     ensures front { result ≡ Statuses.WriteFault → (status : Statuses.the_data) × (text : List ℕ)
         × AppendsFront (O.written out.old) (O.written out.new) text
-        × Answers (map string_bytes words.now) (since (F.log files.old) (F.log files.new)) status text }
+        × Answers (map string_bytes words.now)
+        (since (F.log files.old) (F.log files.new)) status text }
     ensures write_fault { result ≡ Statuses.WriteFault → O.failed out.new ≡ O.failed out.old + 1 }
     ensures writes { result ≢ Statuses.WriteFault → O.failed out.new ≡ O.failed out.old }
 

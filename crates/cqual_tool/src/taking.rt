@@ -47,7 +47,8 @@ pub fn taken<F: Files>(
     limit: usize,
 ) -> Result<Option<Vec<u8>>, Stop>
     requires { limit < usize.MAX }
-    ensures read { (reading : Reading) × ReadOn (stands (F.log files.old) (F.failed files.old) (F.contents files.old))
+    ensures read { (reading : Reading)
+        × ReadOn (stands (F.log files.old) (F.failed files.old) (F.contents files.old))
         (stands (F.log files.new) (F.failed files.new) (F.contents files.new)) (reading ∷ [])
         × (reading.name ≡ name.now) × Finds limit reading result }
 {

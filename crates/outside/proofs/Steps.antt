@@ -1,5 +1,5 @@
 -- One reading more, which goes on at the end of a log.
-use Rattle.std.proofs.Common.{◌≡◌, ℕ, zero, suc, ◌+◌, ◌<◌, List, [], ◌∷◌, ◌++◌, take, Ok, Err, refl, sym, ap, subst, arith, Option, Some, None, IfSome, All, ◌∙◌}
+use Rattle.std.proofs.Common.{◌≡◌, ℕ, zero, suc, ◌+◌, ◌<◌, List, [], ◌∷◌, ◌++◌, take, Ok, Err, refl, ap, arith, Option, Some, None, IfSome, All, ◌∙◌}
 use Rattle.std.proofs.lemmas.List.Elements.{All-nil, All-cons, All-pop}
 use Rattle.outside.specs.Readings.{Agrees, Reading, Going, Whole, Broken, ReadOn, Standing, at_last, broken_in, goes_on}
 

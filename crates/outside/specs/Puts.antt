@@ -1,5 +1,5 @@
 -- What calls for bytes and for room came to.
-use Rattle.std.specs.Prelude.{◌≡◌, ℕ, List, [], ◌∷◌, ◌++◌, ◌+◌, take, Ok, Err}
+use Rattle.std.specs.Prelude.{ℕ, List, [], take, Ok, Err}
 use Rattle.std.specs.declared.result.Result.{Result}
 
 -- the bytes that a put took of a piece

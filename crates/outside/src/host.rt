@@ -1,6 +1,6 @@
 //! Real files and the real standard output. What the outside holds is not known here; what it gave and took is.
 
-ghost use Rattle.std.specs.Prelude.{◌≡◌, ◌<◌, ◌≤◌, ℕ, None, [], length, IfOk};
+ghost use Rattle.std.specs.Prelude.{◌≡◌, ◌<◌, ◌≤◌, None, [], length, IfOk};
 
 use crate::logs::{ReadLog, WriteLog};
 use crate::traits::{Failed, Files, Sink};

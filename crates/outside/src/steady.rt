@@ -1,8 +1,7 @@
 //! Files and a sink that never fail.
 
-ghost use Rattle.std.specs.Prelude.{◌≡◌, ◌∷◌, ◌++◌, ◌-◌, ◌^◌, min, Some, None, [], length, All};
+ghost use Rattle.std.specs.Prelude.{◌≡◌, ◌++◌, ◌-◌, ◌^◌, min, Some, None, [], length};
 ghost use Rattle.outside.specs.Memory.{files_of, shown};
-ghost use Rattle.outside.specs.Readings.{Agrees, at_last, begun, goes_on};
 
 use crate::logs::{ReadLog, WriteLog};
 use crate::memory::lookup::{moved_on, rest_of, start_of};
@@ -32,7 +31,8 @@ impl Model for SteadyFiles {
       rest = rest_at a.files.items a.at;
     } };
 
-    ghost invariant = { λ a. AreRead (files_of a.files.items) (rest_at a.files.items a.at) a.log.readings
+    ghost invariant = { λ a.
+        AreRead (files_of a.files.items) (rest_at a.files.items a.at) a.log.readings
         × (a.log.failed ≡ 0) };
 }
 

@@ -1,6 +1,6 @@
 //! Files in memory.
 
-ghost use Rattle.std.specs.Prelude.{◌≡◌, ℕ, ◌+◌, ◌<◌, ◌≤◌, ◌||◌, ◌++◌, ◌↔◌, Some, [], ◌∷◌, length, take, drop, min, not, is_err, All, IfOk, OnErr, if◌then◌else◌};
+ghost use Rattle.std.specs.Prelude.{◌≡◌, ◌+◌, ◌<◌, ◌||◌, ◌++◌, ◌↔◌, Some, [], ◌∷◌, length, take, min, not, is_err, All, IfOk, OnErr, if◌then◌else◌};
 ghost use Rattle.outside.specs.Memory.{files_of, fails_at, has_file, one_more, shown};
 ghost use Rattle.outside.specs.Readings.{Agrees, at_last, begun, content_of, goes_on};
 ghost use Rattle.outside.specs.Puts.{failures};
@@ -40,7 +40,8 @@ impl Model for MemFiles {
       rest = rest_at a.files.items a.at;
     } };
 
-    ghost invariant = { λ a. AreRead (files_of a.files.items) (rest_at a.files.items a.at) a.log.readings
+    ghost invariant = { λ a.
+        AreRead (files_of a.files.items) (rest_at a.files.items a.at) a.log.readings
         × (a.faults ≡ shown a.log.failed) };
 }
 

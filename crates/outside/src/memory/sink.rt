@@ -1,6 +1,6 @@
 //! A sink in memory.
 
-ghost use Rattle.std.specs.Prelude.{◌≡◌, ℕ, ◌+◌, ◌<◌, ◌≤◌, ◌-◌, ◌||◌, ◌&&◌, ◌++◌, [], length, take, min, is_err, nat_lt, nat_le, IfOk};
+ghost use Rattle.std.specs.Prelude.{◌≡◌, ◌+◌, ◌<◌, ◌≤◌, ◌-◌, ◌||◌, ◌&&◌, ◌++◌, [], length, min, is_err, nat_lt, nat_le, IfOk};
 ghost use Rattle.outside.specs.Memory.{fails_at, one_more, shown};
 ghost use Rattle.outside.specs.Puts.{failures, taken};
 

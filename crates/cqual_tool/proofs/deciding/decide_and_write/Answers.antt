@@ -1,5 +1,4 @@
 use Rattle.std.proofs.Common.{[], map, string_bytes, subst}
-use Rattle.outside.specs.Readings.{stands}
 use Rattle.cqual_words.specs.Asked.{task_of}
 use Rattle.cqual_tool.specs.Sending.{Sends}
 use Rattle.cqual_tool.proofs.Outcomes.{meant, unmeant}

@@ -1,10 +1,10 @@
-use Rattle.std.proofs.Common.{◌≡◌, ℕ, List, [], ◌∷◌, ◌++◌, Err, length, refl, sym, ◌∙◌, subst}
+use Rattle.std.proofs.Common.{◌≡◌, ℕ, List, [], ◌∷◌, ◌++◌, refl, sym, ◌∙◌, subst}
 use Rattle.std.proofs.lemmas.Result.{err_from_is_err_and}
 use Rattle.cqual_tool.specs.declared.status.Status.TheVariants.{Malformed}
 use Rattle.cqual_tool.specs.declared.taking.Stop.TheVariants.{NoMemory}
 use Rattle.cqual_tool.specs.Words.{names_in}
 use Rattle.cqual_tool.specs.Programs.{judging_of}
-use Rattle.cqual_tool.specs.Outcome.{IsCounted, IsEnd, IsRefused, OfSource, SourceTooLarge, SourceRefused, SourceRead, source_limit}
+use Rattle.cqual_tool.specs.Outcome.{IsCounted, IsRefused, OfSource, SourceTooLarge, SourceRefused, SourceRead, source_limit}
 use Rattle.cqual_tool.specs.Preparing.{IsPrepared, IsReady}
 use Rattle.cqual_tool.specs.declared.preparing.Prepared.TheVariants.{Refused}
 use Rattle.cqual_tool.proofs.Readings.{past_limit, whole_is}

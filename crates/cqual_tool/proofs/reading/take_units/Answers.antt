@@ -1,4 +1,4 @@
-use Rattle.std.proofs.Common.{[], Err, refl, ap}
+use Rattle.std.proofs.Common.{[], refl, ap}
 use Rattle.std.specs.Option.{option_map}
 use Rattle.std.proofs.lemmas.Result.{err_from_is_err_and}
 use Rattle.cqual_tool.specs.declared.taking.Stop.TheVariants.{NoMemory}

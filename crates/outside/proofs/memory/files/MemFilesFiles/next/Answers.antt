@@ -1,4 +1,4 @@
-use Rattle.std.proofs.Common.{◌≡◌, sym, subst, arith}
+use Rattle.std.proofs.Common.{sym, subst, arith}
 use Rattle.std.proofs.lemmas.Grind.{common_steps}
 use Rattle.outside.specs.declared.traits.Failed.{Failed}
 use Rattle.outside.specs.Memory.{AreRead, files_of, rest_at}
