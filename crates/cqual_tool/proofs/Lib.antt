@@ -2,5 +2,8 @@ pub mod Joining
 pub mod Judging
 pub mod Outcomes
 pub mod Pieces
+pub mod Readings
+pub mod Runs
+pub mod Stages
 pub mod Starting
 pub mod Summing

@@ -2,6 +2,7 @@ pub mod Statuses
 pub mod Syntax
 pub mod Shapes
 pub mod Words
+pub mod Inputs
 pub mod Sending
 pub mod Texts
 pub mod Faults
@@ -9,3 +10,5 @@ pub mod Preludes
 pub mod Programs
 pub mod Outcome
 pub mod Preparing
+pub mod Answering
+pub mod Running

@@ -1,6 +1,6 @@
--- What the tool answers and writes, for the words and the contents of the files.
-use Rattle.std.specs.Prelude.{◌≡◌, ◌≢◌, ℕ, zero, suc, ◌+◌, take, Bool, true, false, ◌<◌, ◌≤◌, List, [], ◌∷◌, ◌++◌, length, Some, None, codes, IfSome, Option}
-use Rattle.outside.specs.Outside.{content_of}
+-- What the tool answers and writes, for the words and the bytes of the files.
+use Rattle.std.specs.Prelude.{◌≡◌, ◌≢◌, ℕ, zero, suc, Bool, true, false, ◌<◌, ◌≤◌, List, [], ◌∷◌, ◌++◌, length, Some, None, codes, Option}
+use Rattle.outside.specs.Readings.{Reading, ReadsAs, names_read}
 use Rattle.qual_base.specs.Words.{MeansTheSame}
 use Rattle.lattice_core.specs.Names.{words_of}
 use Rattle.lattice_core.specs.View.{LatticeView, orders_of}
@@ -40,6 +40,7 @@ use Rattle.cqual_words.specs.Words.{Task, Generate, meaning_of}
 use Rattle.generated_source.specs.Source.{generated_text, lattice_text}
 use Rattle.generated_source.specs.Summary.{summary_text}
 use Rattle.cqual_tool.specs.Words.{FileNames, names_of}
+use Rattle.cqual_tool.specs.Inputs.{Inputs, asked}
 use Rattle.cqual_tool.specs.Texts.{usage_line, malformed_line}
 use Rattle.cqual_tool.specs.Faults.{lattice_line, lex_line}
 use Rattle.cqual_tool.specs.Syntax.{syntax_line}
@@ -56,10 +57,6 @@ source_limit = 16777216
 
 abbrev pub report_limit : ℕ
 report_limit = 268435456
-
--- the bytes of each file, by its name
-abbrev pub Contents : Type 0
-Contents = List ℕ → List ℕ
 
 -- the bytes are within the limit and read as these lattices
 pub record LatticesRead (bytes : List ℕ) (lattices : List LatticeView) : Type 0 where
@@ -88,10 +85,10 @@ pub record PreludeFails (lattices : List LatticeView) (bytes : List ℕ) (fault 
   pub reason : fault ≢ OutOfSpace
 
 -- the units before the source, and what their index words say: those of the prelude that is named, if one is
-pub data AreBefore (named : FileNames) (contents : Contents) (lattices : List LatticeView) : List UnitRead → List IndexMark → Type 0 where
-  NoPrelude : named.prelude ≡ None → AreBefore named contents lattices [] []
+pub data AreBefore (named : FileNames) (inputs : Inputs) (lattices : List LatticeView) : List UnitRead → List IndexMark → Type 0 where
+  NoPrelude : named.prelude ≡ None → AreBefore named inputs lattices [] []
   OnePrelude : (file : List ℕ) (unit : UnitRead) (marks : List IndexMark) → named.prelude ≡ Some file →
-      PreludeReads lattices (contents file) unit marks → AreBefore named contents lattices (unit ∷ []) marks
+      PreludeReads lattices inputs.prelude unit marks → AreBefore named inputs lattices (unit ∷ []) marks
 
 -- the bytes are within the limit, and spell these tokens where words mean what the names of the lattices do
 pub record SourceLexes (lattices : List LatticeView) (bytes : List ℕ) (lexed : Lexed) : Type 0 where
@@ -160,38 +157,38 @@ pub data IsChecked (it : Judging) (bytes : List ℕ) : Status → List ℕ → T
       IsChecked it bytes PathBad (checked_text (Bad line code))
 
 -- The status and the whole text for a program within the limits, by what is asked of it.
-pub data IsEnd (named : FileNames) (contents : Contents) (it : Judging) : Status → List ℕ → Type 0 where
-  Inferred : (status : Status) (text : List ℕ) → named.report ≡ None → IsReport named it status text → IsEnd named contents it status text
-  ReportTooLarge : (file : List ℕ) → named.report ≡ Some file → report_limit < length (contents file) →
-      IsEnd named contents it Malformed (malformed_line file (codes "F2"))
-  ReportChecked : (file : List ℕ) (status : Status) (text : List ℕ) → named.report ≡ Some file → length (contents file) ≤ report_limit →
-      IsChecked it (contents file) status text → IsEnd named contents it status text
+pub data IsEnd (named : FileNames) (inputs : Inputs) (it : Judging) : Status → List ℕ → Type 0 where
+  Inferred : (status : Status) (text : List ℕ) → named.report ≡ None → IsReport named it status text → IsEnd named inputs it status text
+  ReportTooLarge : (file : List ℕ) → named.report ≡ Some file → report_limit < length inputs.report →
+      IsEnd named inputs it Malformed (malformed_line file (codes "F2"))
+  ReportChecked : (file : List ℕ) (status : Status) (text : List ℕ) → named.report ≡ Some file → length inputs.report ≤ report_limit →
+      IsChecked it inputs.report status text → IsEnd named inputs it status text
 
 -- The status and the whole text for the source, behind lattices and units that were read.
-pub data OfSource (named : FileNames) (contents : Contents) (lattices : List LatticeView) (before : List UnitRead) (marks : List IndexMark) : Status → List ℕ → Type 0 where
-  SourceTooLarge : source_limit < length (contents named.source) →
-      OfSource named contents lattices before marks Malformed (malformed_line named.source (codes "F2"))
-  SourceRefused : (text : List ℕ) → IsRefused named lattices before marks (contents named.source) text →
-      OfSource named contents lattices before marks Malformed text
-  SourceRead : (it : UnitRead) (status : Status) (text : List ℕ) → IsCounted named lattices before marks (contents named.source) it →
-      IsEnd named contents (judging_of named lattices marks (before ++ it ∷ [])) status text →
-      OfSource named contents lattices before marks status text
+pub data OfSource (named : FileNames) (inputs : Inputs) (lattices : List LatticeView) (before : List UnitRead) (marks : List IndexMark) : Status → List ℕ → Type 0 where
+  SourceTooLarge : source_limit < length inputs.source →
+      OfSource named inputs lattices before marks Malformed (malformed_line named.source (codes "F2"))
+  SourceRefused : (text : List ℕ) → IsRefused named lattices before marks inputs.source text →
+      OfSource named inputs lattices before marks Malformed text
+  SourceRead : (it : UnitRead) (status : Status) (text : List ℕ) → IsCounted named lattices before marks inputs.source it →
+      IsEnd named inputs (judging_of named lattices marks (before ++ it ∷ [])) status text →
+      OfSource named inputs lattices before marks status text
 
 -- The status and the whole text behind lattices that were read: first for the prelude, where one is named.
-pub data OfUnits (named : FileNames) (contents : Contents) (lattices : List LatticeView) : Status → List ℕ → Type 0 where
-  PreludeTooLarge : (file : List ℕ) → named.prelude ≡ Some file → source_limit < length (contents file) →
-      OfUnits named contents lattices Malformed (malformed_line file (codes "F2"))
-  PreludeRefused : (file : List ℕ) (fault : PreludeFault) → named.prelude ≡ Some file → PreludeFails lattices (contents file) fault →
-      OfUnits named contents lattices Malformed (prelude_line file (contents file) fault)
-  PreludeRead : (before : List UnitRead) (marks : List IndexMark) (status : Status) (text : List ℕ) → AreBefore named contents lattices before marks →
-      OfSource named contents lattices before marks status text → OfUnits named contents lattices status text
+pub data OfUnits (named : FileNames) (inputs : Inputs) (lattices : List LatticeView) : Status → List ℕ → Type 0 where
+  PreludeTooLarge : (file : List ℕ) → named.prelude ≡ Some file → source_limit < length inputs.prelude →
+      OfUnits named inputs lattices Malformed (malformed_line file (codes "F2"))
+  PreludeRefused : (file : List ℕ) (fault : PreludeFault) → named.prelude ≡ Some file → PreludeFails lattices inputs.prelude fault →
+      OfUnits named inputs lattices Malformed (prelude_line file inputs.prelude fault)
+  PreludeRead : (before : List UnitRead) (marks : List IndexMark) (status : Status) (text : List ℕ) → AreBefore named inputs lattices before marks →
+      OfSource named inputs lattices before marks status text → OfUnits named inputs lattices status text
 
 -- The status and the whole text for files that are named, by the bytes of each.
-pub data OfFiles (named : FileNames) (contents : Contents) : Status → List ℕ → Type 0 where
-  LatticeTooLarge : lattice_limit < length (contents named.lattice) → OfFiles named contents Malformed (malformed_line named.lattice (codes "F2"))
-  LatticeRefused : (fault : LatticeFileFault) → LatticesFail (contents named.lattice) fault → OfFiles named contents Malformed (lattice_line named.lattice fault)
-  LatticeRead : (lattices : List LatticeView) (status : Status) (text : List ℕ) → LatticesRead (contents named.lattice) lattices →
-      OfUnits named contents lattices status text → OfFiles named contents status text
+pub data OfFiles (named : FileNames) (inputs : Inputs) : Status → List ℕ → Type 0 where
+  LatticeTooLarge : lattice_limit < length inputs.lattice → OfFiles named inputs Malformed (malformed_line named.lattice (codes "F2"))
+  LatticeRefused : (fault : LatticeFileFault) → LatticesFail inputs.lattice fault → OfFiles named inputs Malformed (lattice_line named.lattice fault)
+  LatticeRead : (lattices : List LatticeView) (status : Status) (text : List ℕ) → LatticesRead inputs.lattice lattices →
+      OfUnits named inputs lattices status text → OfFiles named inputs status text
 
 -- the names of the files that the tool makes itself
 abbrev pub made_names : FileNames
@@ -225,18 +222,22 @@ pub data OfMade (number : ℕ) : Status → List ℕ → Type 0 where
       IsCounted made_names lattices [] [] (generated_text number) it →
       IsSummed number (judging_of made_names lattices [] (it ∷ [])) status text → OfMade number status text
 
--- The status and the whole text for what is asked, by the bytes of each file.
-pub data OfTask (contents : Contents) (task : Task) : Status → List ℕ → Type 0 where
-  OfProgram : (named : FileNames) (status : Status) (text : List ℕ) → names_of task ≡ Some named → OfFiles named contents status text →
-      OfTask contents task status text
+-- The status and the whole text for what is asked, by the bytes of each part.
+pub data OfTask (inputs : Inputs) (task : Task) : Status → List ℕ → Type 0 where
+  OfProgram : (named : FileNames) (status : Status) (text : List ℕ) → names_of task ≡ Some named → OfFiles named inputs status text →
+      OfTask inputs task status text
   OfGenerated : (number : ℕ) (status : Status) (text : List ℕ) → task ≡ Generate number → OfMade number status text →
-      OfTask contents task status text
+      OfTask inputs task status text
 
--- The status and the whole text for the words and the files, of which each is a name and its bytes.
-pub data Outcome (words : List (List ℕ)) (files : List (List ℕ × List ℕ)) : Status → List ℕ → Type 0 where
-  WithoutMeaning : meaning_of words ≡ None → Outcome words files BadWords usage_line
+-- The status and the whole text for the words and the files, of which each part has these bytes.
+pub data Outcome (words : List (List ℕ)) (inputs : Inputs) : Status → List ℕ → Type 0 where
+  WithoutMeaning : meaning_of words ≡ None → Outcome words inputs BadWords usage_line
   WithMeaning : (task : Task) (status : Status) (text : List ℕ) → meaning_of words ≡ Some task →
-      OfTask (content_of files) task status text → Outcome words files status text
+      OfTask inputs task status text → Outcome words inputs status text
+
+-- It is the status and the whole text whatever the files hold beside what was read of them: for all files that give these readings.
+abbrev pub Answers : List (List ℕ) → List Reading → Status → List ℕ → Type 0
+Answers words these status text = (inputs : Inputs) → ReadsAs (asked words inputs) these → Outcome words inputs status text
 
 -- the answer is that of the words and the files: no read failed, no write did, and memory was found
 abbrev pub IsAnswer : Status → Type 0
@@ -262,57 +263,55 @@ IsDecided ReadFault = ⊥
 IsDecided WriteFault = ⊥
 IsDecided NoMemory = ⊥
 
--- names that are told afterwards were told before, and have grown by these at their end
-abbrev pub RecordsAll : Option (List (List ℕ)) → Option (List (List ℕ)) → List (List ℕ) → Type 0
-RecordsAll old None names = Unit {0}
-RecordsAll None (Some new) names = ⊥
-RecordsAll (Some old) (Some new) names = new ≡ old ++ names
-
 abbrev pub named_one : Option (List ℕ) → List (List ℕ)
 named_one None = []
 named_one (Some name) = name ∷ []
 
 -- what was read before the prelude, before the source, and before the report
 
-pub record LatticesAreRead (named : FileNames) (contents : Contents) : Type 0 where
+pub record LatticesAreRead (named : FileNames) (inputs : Inputs) : Type 0 where
   pub lattices : List LatticeView
-  pub read : LatticesRead (contents named.lattice) lattices
+  pub read : LatticesRead inputs.lattice lattices
 
-pub record UnitsAreRead (named : FileNames) (contents : Contents) : Type 0 where
+pub record UnitsAreRead (named : FileNames) (inputs : Inputs) : Type 0 where
   pub lattices : List LatticeView
-  pub read : LatticesRead (contents named.lattice) lattices
+  pub read : LatticesRead inputs.lattice lattices
   pub before : List UnitRead
   pub marks : List IndexMark
-  pub are : AreBefore named contents lattices before marks
+  pub are : AreBefore named inputs lattices before marks
 
-pub record ProgramIsRead (named : FileNames) (contents : Contents) : Type 0 where
+pub record ProgramIsRead (named : FileNames) (inputs : Inputs) : Type 0 where
   pub lattices : List LatticeView
-  pub read : LatticesRead (contents named.lattice) lattices
+  pub read : LatticesRead inputs.lattice lattices
   pub before : List UnitRead
   pub marks : List IndexMark
-  pub are : AreBefore named contents lattices before marks
+  pub are : AreBefore named inputs lattices before marks
   pub unit : UnitRead
-  pub counted : IsCounted named lattices before marks (contents named.source) unit
+  pub counted : IsCounted named lattices before marks inputs.source unit
 
--- The files that are started, in order: the lattice file, the prelude, the source and the report, each only where those before it have read.
-pub data Starts (named : FileNames) (files : Option (List (List ℕ × List ℕ))) : List (List ℕ) → Type 0 where
-  LatticeAlone : Starts named files (named.lattice ∷ [])
-  ThenPrelude : (file : List ℕ) → named.prelude ≡ Some file → IfSome files (λ all. LatticesAreRead named (content_of all)) →
-      Starts named files (named.lattice ∷ file ∷ [])
-  ThenSource : IfSome files (λ all. UnitsAreRead named (content_of all)) →
-      Starts named files (named.lattice ∷ named_one named.prelude ++ named.source ∷ [])
-  ThenReport : (file : List ℕ) → named.report ≡ Some file → IfSome files (λ all. ProgramIsRead named (content_of all)) →
-      Starts named files (named.lattice ∷ named_one named.prelude ++ named.source ∷ file ∷ [])
+-- The files that are started, in order, by their names: the lattice file, the prelude, the source and the report, each only where
+-- those before it have read. Given are the bytes of the parts: all that give the readings.
+pub data Starts (named : FileNames) (Given : Inputs → Type 0) : List (List ℕ) → Type 0 where
+  LatticeAlone : Starts named Given (named.lattice ∷ [])
+  ThenPrelude : (file : List ℕ) → named.prelude ≡ Some file → ((inputs : Inputs) → Given inputs → LatticesAreRead named inputs) →
+      Starts named Given (named.lattice ∷ file ∷ [])
+  ThenSource : ((inputs : Inputs) → Given inputs → UnitsAreRead named inputs) →
+      Starts named Given (named.lattice ∷ named_one named.prelude ++ named.source ∷ [])
+  ThenReport : (file : List ℕ) → named.report ≡ Some file → ((inputs : Inputs) → Given inputs → ProgramIsRead named inputs) →
+      Starts named Given (named.lattice ∷ named_one named.prelude ++ named.source ∷ file ∷ [])
 
 -- the files that a task starts: a source that the tool makes itself starts none
-pub data TaskStarts (task : Task) (files : Option (List (List ℕ × List ℕ))) : List (List ℕ) → Type 0 where
-  InOrder : (named : FileNames) (names : List (List ℕ)) → names_of task ≡ Some named → Starts named files names → TaskStarts task files names
-  MadeAlone : (number : ℕ) → task ≡ Generate number → TaskStarts task files []
+pub data TaskStarts (task : Task) (Given : Inputs → Type 0) : List (List ℕ) → Type 0 where
+  InOrder : (named : FileNames) (names : List (List ℕ)) → names_of task ≡ Some named → Starts named Given names → TaskStarts task Given names
+  MadeAlone : (number : ℕ) → task ≡ Generate number → TaskStarts task Given []
 
 -- The files that are started: none for words without a meaning, nor where memory is wanting before their meaning is found.
-pub data StartsFor (words : List (List ℕ)) (files : Option (List (List ℕ × List ℕ))) (status : Status)
-    : List (List ℕ) → Type 0 where
-  NoFile : meaning_of words ≡ None → StartsFor words files status []
-  NoMeaningYet : status ≡ NoMemory → StartsFor words files status []
-  ForTask : (task : Task) (names : List (List ℕ)) → meaning_of words ≡ Some task → TaskStarts task files names →
-      StartsFor words files status names
+pub data WordsStart (words : List (List ℕ)) (Given : Inputs → Type 0) (status : Status) : List (List ℕ) → Type 0 where
+  NoFile : meaning_of words ≡ None → WordsStart words Given status []
+  NoMeaningYet : status ≡ NoMemory → WordsStart words Given status []
+  ForTask : (task : Task) (names : List (List ℕ)) → meaning_of words ≡ Some task → TaskStarts task Given names →
+      WordsStart words Given status names
+
+-- these readings are of files that are started so
+abbrev pub StartsFor : List (List ℕ) → Status → List Reading → Type 0
+StartsFor words status these = WordsStart words (λ inputs. ReadsAs (asked words inputs) these) status (names_read these)

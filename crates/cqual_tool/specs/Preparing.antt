@@ -1,6 +1,5 @@
 -- What is made of a source: a line that refuses it, or a program with its constraints.
-use Rattle.std.specs.Prelude.{◌≡◌, ℕ, false, All, List, [], ◌∷◌, ◌++◌, Option, Some, IfSome}
-use Rattle.outside.specs.Outside.{content_of}
+use Rattle.std.specs.Prelude.{◌≡◌, ℕ, false, All, List, [], ◌∷◌, ◌++◌, Some}
 use Rattle.lattice_core.specs.View.{LatticeView, orders_of}
 use Rattle.c_lexer.specs.Tokens.{Lexed}
 use Rattle.unit_types.specs.declared.program.UnitTape.{UnitTape}
@@ -21,6 +20,7 @@ use Rattle.cqual_tool.specs.declared.preparing.Ready.{Ready}
 use Rattle.cqual_tool.specs.declared.preparing.Prepared.{Prepared}
 use Rattle.cqual_tool.specs.declared.preparing.Prepared.TheVariants.{Refused, Program}
 use Rattle.cqual_tool.specs.Words.{FileNames}
+use Rattle.cqual_tool.specs.Inputs.{Inputs}
 use Rattle.cqual_tool.specs.Outcome.{AreBefore, IsCounted, IsRefused, named_one}
 
 -- its items are well formed of its own tokens
@@ -65,29 +65,31 @@ pub data EndStarts (named : FileNames) : List (List ℕ) → Type 0 where
   OneReport : (file : List ℕ) → named.report ≡ Some file → EndStarts named (file ∷ [])
 
 -- from the source on
-pub data SourceStarts (named : FileNames) (files : Option (List (List ℕ × List ℕ))) (lattices : List LatticeView) (before : List UnitRead) (marks : List IndexMark) : List (List ℕ) → Type 0 where
-  SourceAlone : SourceStarts named files lattices before marks (named.source ∷ [])
+pub data SourceStarts (named : FileNames) (lattices : List LatticeView) (before : List UnitRead) (marks : List IndexMark) (Given : Inputs → Type 0)
+    : List (List ℕ) → Type 0 where
+  SourceAlone : SourceStarts named lattices before marks Given (named.source ∷ [])
   ReportBehind : (file : List ℕ) → named.report ≡ Some file →
-      IfSome files (λ all. (unit : UnitRead) × IsCounted named lattices before marks (content_of all named.source) unit) →
-      SourceStarts named files lattices before marks (named.source ∷ file ∷ [])
+      ((inputs : Inputs) → Given inputs → (unit : UnitRead) × IsCounted named lattices before marks inputs.source unit) →
+      SourceStarts named lattices before marks Given (named.source ∷ file ∷ [])
 
--- what was read before the source
-pub record BeforeIsRead (named : FileNames) (lattices : List LatticeView) (all : List (List ℕ × List ℕ)) : Type 0 where
+-- what was read before the source, and before the report
+pub record BeforeIsRead (named : FileNames) (lattices : List LatticeView) (inputs : Inputs) : Type 0 where
   pub before : List UnitRead
   pub marks : List IndexMark
-  pub are : AreBefore named (content_of all) lattices before marks
+  pub are : AreBefore named inputs lattices before marks
 
-pub record CountedIsRead (named : FileNames) (lattices : List LatticeView) (all : List (List ℕ × List ℕ)) : Type 0 where
+pub record CountedIsRead (named : FileNames) (lattices : List LatticeView) (inputs : Inputs) : Type 0 where
   pub before : List UnitRead
   pub marks : List IndexMark
-  pub are : AreBefore named (content_of all) lattices before marks
+  pub are : AreBefore named inputs lattices before marks
   pub unit : UnitRead
-  pub counted : IsCounted named lattices before marks (content_of all named.source) unit
+  pub counted : IsCounted named lattices before marks inputs.source unit
 
 -- behind the lattice file; none where memory is wanting before
-pub data UnitsStart (named : FileNames) (files : Option (List (List ℕ × List ℕ))) (lattices : List LatticeView) : List (List ℕ) → Type 0 where
-  NoUnit : UnitsStart named files lattices []
-  PreludeAlone : (file : List ℕ) → named.prelude ≡ Some file → UnitsStart named files lattices (file ∷ [])
-  SourceToo : IfSome files (BeforeIsRead named lattices) → UnitsStart named files lattices (named_one named.prelude ++ named.source ∷ [])
-  ReportToo : (file : List ℕ) → named.report ≡ Some file → IfSome files (CountedIsRead named lattices) →
-      UnitsStart named files lattices (named_one named.prelude ++ named.source ∷ file ∷ [])
+pub data UnitsStart (named : FileNames) (lattices : List LatticeView) (Given : Inputs → Type 0) : List (List ℕ) → Type 0 where
+  NoUnit : UnitsStart named lattices Given []
+  PreludeAlone : (file : List ℕ) → named.prelude ≡ Some file → UnitsStart named lattices Given (file ∷ [])
+  SourceToo : ((inputs : Inputs) → Given inputs → BeforeIsRead named lattices inputs) →
+      UnitsStart named lattices Given (named_one named.prelude ++ named.source ∷ [])
+  ReportToo : (file : List ℕ) → named.report ≡ Some file → ((inputs : Inputs) → Given inputs → CountedIsRead named lattices inputs) →
+      UnitsStart named lattices Given (named_one named.prelude ++ named.source ∷ file ∷ [])

@@ -1,13 +1,14 @@
 -- What a sink has after a text was sent.
-use Rattle.std.specs.Prelude.{◌≡◌, ◌⊎◌, ℕ, List, take, Option}
+use Rattle.std.specs.Prelude.{◌≡◌, ◌⊎◌, ℕ, ◌+◌, List, ◌++◌, take}
 use Rattle.cqual_tool.specs.declared.status.Status.{Status}
 use Rattle.cqual_tool.specs.declared.status.Status.TheVariants.{WriteFault}
-use Rattle.std.specs.Io.KnownBytes.{Appends}
 
 -- a front of the text went to the end of what was written
-abbrev pub AppendsFront : Option (List ℕ) → Option (List ℕ) → List ℕ → Type 0
-AppendsFront old new text = (n : ℕ) × Appends old new (take n text)
+abbrev pub AppendsFront : List ℕ → List ℕ → List ℕ → Type 0
+AppendsFront old new text = (n : ℕ) × (new ≡ old ++ take n text)
 
--- what was written of a text, by the status that is given for it: all, or a front where a write failed
-abbrev pub Sends : Option (List ℕ) → Option (List ℕ) → Status → List ℕ → Status → Type 0
-Sends old new status text given = ((given ≡ status) × Appends old new text) ⊎ ((given ≡ WriteFault) × AppendsFront old new text)
+-- What was written of a text, and how many puts failed before and after, by the status that is given for it: all, or a front
+-- where a put failed.
+abbrev pub Sends : List ℕ → List ℕ → ℕ → ℕ → Status → List ℕ → Status → Type 0
+Sends old new before now status text given =
+    ((given ≡ status) × (new ≡ old ++ text) × (now ≡ before)) ⊎ ((given ≡ WriteFault) × AppendsFront old new text × (now ≡ before + 1))

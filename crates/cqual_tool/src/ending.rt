@@ -1,8 +1,7 @@
 //! What is asked of a program whose constraints are there: its report, or what another report comes to.
 
-ghost use Rattle.std.specs.Prelude.{◌≡◌, ◌∷◌, ◌++◌, [], ◌<◌, ◌-◌, ◌^◌, ℕ, List, IfOk, IfSome, IsErrOf, length};
-ghost use Rattle.outside.specs.Counts.{GoesOn, Rose};
-ghost use Rattle.outside.specs.Outside.{content_of};
+ghost use Rattle.std.specs.Prelude.{◌≡◌, ◌∷◌, ◌++◌, [], ◌<◌, ◌-◌, ◌^◌, ℕ, List, IfOk, length};
+ghost use Rattle.outside.specs.Readings.{stands};
 ghost use Rattle.lattice_core.specs.View.{orders_of};
 ghost use Rattle.index_words.specs.Marks.{IndexMark};
 ghost use Rattle.c_types.specs.Sources.{UnitRead, lexed_of};
@@ -16,8 +15,9 @@ ghost use Rattle.cqual_tool.specs.Statuses.{status_of, checked_status};
 ghost use Rattle.cqual_tool.specs.Words.{names_in as files_in};
 ghost use Rattle.cqual_tool.specs.Programs.{Judging, judging_of};
 ghost use Rattle.cqual_tool.specs.Outcome as rules;
-ghost use Rattle.cqual_tool.specs.Outcome.{IsChecked, IsDecided, IsEnd, IsReport, RecordsAll};
-ghost use Rattle.cqual_tool.specs.Preparing.{EndStarts, IsReady};
+ghost use Rattle.cqual_tool.specs.Answering.{EndAnswered};
+ghost use Rattle.cqual_tool.specs.Outcome.{IsChecked, IsDecided, IsReport};
+ghost use Rattle.cqual_tool.specs.Preparing.{IsReady};
 
 use crate::answer::Answer;
 use crate::preparing::{Ready, texts};
@@ -148,17 +148,12 @@ pub fn end<F: Files>(
     requires named { AllNamed lattices.now ready.now.made.graph }
     requires owned { IsWellOwned ready.now.made.graph }
     requires elements { NamesElements ready.now.made.graph (orders_of lattices.now) }
-    ensures outcome { (before : List UnitRead) (marks : List IndexMark) (bytes : List ℕ) →
-        (is : IsReady (files_in named.now) lattices.now before marks bytes ready.now) →
-        IfOk result (λ answer. IfSome (F.contents files.old) (λ all. IsEnd (files_in named.now)
-        (content_of all) (judging_of (files_in named.now) lattices.now marks
-        (before ++ is.unit ∷ [])) answer.status answer.text.items)) }
+    ensures reads { (before : List UnitRead) (marks : List IndexMark) (bytes : List ℕ) →
+        (is : IsReady (files_in named.now) lattices.now before marks bytes ready.now) → EndAnswered
+        (stands (F.log files.old) (F.failed files.old) (F.contents files.old))
+        (stands (F.log files.new) (F.failed files.new) (F.contents files.new)) (files_in named.now)
+        (judging_of (files_in named.now) lattices.now marks (before ++ is.unit ∷ [])) result }
     ensures decided { IfOk result (λ answer. IsDecided answer.status) }
-    ensures read_fault { IsErrOf result Stop.ReadFault →
-        Rose (F.faults files.old) (F.faults files.new) }
-    ensures count { GoesOn (F.faults files.old) (F.faults files.new) }
-    ensures started { (names : List (List ℕ)) × RecordsAll (F.started files.old)
-        (F.started files.new) names × EndStarts (files_in named.now) names }
 {
     match named.report {
         None => Ok(inferred(alloc, named, lattices, ready)?),

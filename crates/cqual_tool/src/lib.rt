@@ -2,6 +2,7 @@
 #![tactic(auto)]
 
 mod answer;
+mod deciding;
 mod ending;
 mod faults;
 mod making;
@@ -16,5 +17,5 @@ mod syntax;
 mod taking;
 mod words;
 
-pub use running::run;
+pub use running::{run, run_in_memory};
 pub use status::Status;

@@ -1,15 +1,15 @@
 //! Taking the files in order, and what is answered of their bytes.
 
-ghost use Rattle.std.specs.Prelude.{◌≡◌, ◌∷◌, [], ℕ, List, Some, IfOk, IfSome, IsErrOf};
-ghost use Rattle.outside.specs.Counts.{GoesOn, Rose};
-ghost use Rattle.outside.specs.Outside.{content_of};
+ghost use Rattle.std.specs.Prelude.{◌≡◌, ◌∷◌, [], List, Some, IfOk};
+ghost use Rattle.outside.specs.Readings.{stands};
 ghost use Rattle.qual_base.specs.Words.{MeansTheSame};
 ghost use Rattle.lattice_core.specs.Names.{words_of};
 ghost use Rattle.c_types.specs.Sources.{UnitRead, unit_of};
 ghost use Rattle.c_types.specs.Units.{AreReduced};
+ghost use Rattle.cqual_tool.specs.Answering.{FilesAnswered, SourceAnswered, UnitsAnswered};
 ghost use Rattle.cqual_tool.specs.Words.{names_in as files_in};
-ghost use Rattle.cqual_tool.specs.Outcome.{IsDecided, OfFiles, OfSource, OfUnits, RecordsAll, Starts};
-ghost use Rattle.cqual_tool.specs.Preparing.{IsEarlier, SourceStarts, UnitsStart};
+ghost use Rattle.cqual_tool.specs.Outcome.{IsDecided};
+ghost use Rattle.cqual_tool.specs.Preparing.{IsEarlier};
 
 use crate::answer::Answer;
 use crate::ending::end;
@@ -49,18 +49,11 @@ fn take_source<F: Files>(
 ) -> Result<Answer, Stop>
     requires words { MeansTheSame words.now (words_of lattices.now) }
     requires before { (before : List UnitRead) × IsEarlier before earlier }
-    ensures outcome { (before : List UnitRead) → IsEarlier before earlier.entry →
-        IfOk result (λ answer. IfSome (F.contents files.old) (λ all.
-        OfSource (files_in named.now) (content_of all) lattices.now before
-        earlier.entry.prelude answer.status answer.text.items)) }
+    ensures reads { (before : List UnitRead) → IsEarlier before earlier.entry → SourceAnswered
+        (stands (F.log files.old) (F.failed files.old) (F.contents files.old))
+        (stands (F.log files.new) (F.failed files.new) (F.contents files.new)) (files_in named.now)
+        lattices.now before earlier.entry.prelude result }
     ensures decided { IfOk result (λ answer. IsDecided answer.status) }
-    ensures read_fault { IsErrOf result Stop.ReadFault →
-        Rose (F.faults files.old) (F.faults files.new) }
-    ensures count { GoesOn (F.faults files.old) (F.faults files.new) }
-    ensures started { (before : List UnitRead) → IsEarlier before earlier.entry →
-        (names : List (List ℕ)) × RecordsAll (F.started files.old) (F.started files.new) names
-        × SourceStarts (files_in named.now) (F.contents files.old) lattices.now before
-        earlier.entry.prelude names }
 {
     match taken(alloc, files, named.source, SOURCE_LIMIT)? {
         Some(bytes) => match prepare(alloc, named, lattices, words, earlier, &bytes)? {
@@ -82,16 +75,11 @@ fn take_prelude<F: Files>(
 ) -> Result<Answer, Stop>
     requires words { MeansTheSame words.now (words_of lattices.now) }
     requires named { (files_in named.now).prelude ≡ Some file.now }
-    ensures outcome { IfOk result (λ answer. IfSome (F.contents files.old) (λ all.
-        OfUnits (files_in named.now) (content_of all) lattices.now
-        answer.status answer.text.items)) }
+    ensures reads { UnitsAnswered
+        (stands (F.log files.old) (F.failed files.old) (F.contents files.old))
+        (stands (F.log files.new) (F.failed files.new) (F.contents files.new))
+        (files_in named.now) lattices.now result }
     ensures decided { IfOk result (λ answer. IsDecided answer.status) }
-    ensures read_fault { IsErrOf result Stop.ReadFault →
-        Rose (F.faults files.old) (F.faults files.new) }
-    ensures count { GoesOn (F.faults files.old) (F.faults files.new) }
-    ensures started { (names : List (List ℕ)) × RecordsAll (F.started files.old)
-        (F.started files.new) names
-        × UnitsStart (files_in named.now) (F.contents files.old) lattices.now names }
 {
     match taken(alloc, files, file, SOURCE_LIMIT)? {
         Some(bytes) => match read_prelude(alloc, &bytes, words) {
@@ -112,16 +100,11 @@ fn take_units<F: Files>(
     lattices: &Lattices,
     files: &mut F,
 ) -> Result<Answer, Stop>
-    ensures outcome { IfOk result (λ answer. IfSome (F.contents files.old) (λ all.
-        OfUnits (files_in named.now) (content_of all) lattices.now
-        answer.status answer.text.items)) }
+    ensures reads { UnitsAnswered
+        (stands (F.log files.old) (F.failed files.old) (F.contents files.old))
+        (stands (F.log files.new) (F.failed files.new) (F.contents files.new))
+        (files_in named.now) lattices.now result }
     ensures decided { IfOk result (λ answer. IsDecided answer.status) }
-    ensures read_fault { IsErrOf result Stop.ReadFault →
-        Rose (F.faults files.old) (F.faults files.new) }
-    ensures count { GoesOn (F.faults files.old) (F.faults files.new) }
-    ensures started { (names : List (List ℕ)) × RecordsAll (F.started files.old)
-        (F.started files.new) names
-        × UnitsStart (files_in named.now) (F.contents files.old) lattices.now names }
 {
     let words = lattices.words(alloc)?;
     match named.prelude {
@@ -132,15 +115,11 @@ fn take_units<F: Files>(
 
 /// The answer for files that are named, in the order in which they are read.
 pub fn answer<F: Files>(alloc: Global, named: &Named<'_>, files: &mut F) -> Result<Answer, Stop>
-    ensures outcome { IfOk result (λ answer. IfSome (F.contents files.old) (λ all.
-        OfFiles (files_in named.now) (content_of all) answer.status answer.text.items)) }
+    ensures reads { FilesAnswered
+        (stands (F.log files.old) (F.failed files.old) (F.contents files.old))
+        (stands (F.log files.new) (F.failed files.new) (F.contents files.new))
+        (files_in named.now) result }
     ensures decided { IfOk result (λ answer. IsDecided answer.status) }
-    ensures read_fault { IsErrOf result Stop.ReadFault →
-        Rose (F.faults files.old) (F.faults files.new) }
-    ensures count { GoesOn (F.faults files.old) (F.faults files.new) }
-    ensures started { (names : List (List ℕ)) × RecordsAll (F.started files.old)
-        (F.started files.new) names
-        × Starts (files_in named.now) (F.contents files.old) names }
 {
     match taken(alloc, files, named.lattice, LATTICE_LIMIT)? {
         Some(bytes) => match read_lattices(alloc, &bytes) {

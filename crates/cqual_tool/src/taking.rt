@@ -1,10 +1,9 @@
 //! Taking whole files.
 
-ghost use Rattle.std.specs.Prelude.{◌≡◌, ◌<◌, ◌≤◌, IfOk, IfSome, IsErrOf, MatchOption};
-ghost use Rattle.std.specs.Prelude.{length, codes};
-ghost use Rattle.outside.specs.Counts.{GoesOn, Rose};
-ghost use Rattle.outside.specs.Outside.{content_of, Records};
+ghost use Rattle.std.specs.Prelude.{◌≡◌, ◌<◌, [], ◌∷◌, IfOk, codes};
+ghost use Rattle.outside.specs.Readings.{Reading, ReadOn, stands};
 ghost use Rattle.cqual_tool.specs.declared.status.Status.TheVariants as Statuses;
+ghost use Rattle.cqual_tool.specs.Answering.{Finds};
 ghost use Rattle.cqual_tool.specs.Statuses.{Says};
 ghost use Rattle.cqual_tool.specs.Texts.{malformed_line};
 
@@ -48,15 +47,10 @@ pub fn taken<F: Files>(
     limit: usize,
 ) -> Result<Option<Vec<u8>>, Stop>
     requires { limit < usize.MAX }
-    ensures whole { IfOk result
-        (λ found. IfSome (F.contents files.old) (λ all. MatchOption found (limit
-        < length (content_of all name.now)) (λ bytes. bytes.items ≡ content_of all name.now))) }
-    ensures within { IfOk result (λ found. IfSome found (λ bytes. length bytes.items ≤ limit)) }
-    ensures read_fault { IsErrOf result Stop.ReadFault →
-        Rose (F.faults files.old) (F.faults files.new) }
-    ensures count { GoesOn (F.faults files.old) (F.faults files.new) }
-    ensures started { Records (F.started files.old) (F.started files.new) name.now }
-    ensures contents { F.contents files.new ≡ F.contents files.old }
+    ensures read { (reading : Reading)
+        × ReadOn (stands (F.log files.old) (F.failed files.old) (F.contents files.old))
+        (stands (F.log files.new) (F.failed files.new) (F.contents files.new)) (reading ∷ [])
+        × (reading.name ≡ name.now) × Finds limit reading result }
 {
     match take_all(alloc, files, name, limit) {
         Ok(bytes) => Ok(Some(bytes)),

@@ -1,3 +1,5 @@
-pub mod Counts
+pub mod Readings
+pub mod Puts
+pub mod Histories
+pub mod Taking
 pub mod Memory
-pub mod Outside

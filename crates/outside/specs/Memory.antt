@@ -1,31 +1,49 @@
 -- Files and sinks in memory.
-use Rattle.std.specs.Prelude.{ℕ, List, [], None, Some, map, drop, Bool, nat_eq, slice_get, string_bytes}
+use Rattle.std.specs.Prelude.{◌≡◌, ℕ, ◌+◌, ◌-◌, ◌^◌, min, List, [], ◌∷◌, ◌++◌, None, Some, map, drop, Bool, nat_eq, slice_get, string_bytes}
 use Rattle.std.specs.List.{list_any}
 use Rattle.std.specs.declared.option.Option.{Option}
 use Rattle.std.specs.declared.alloc.Global.{Global}
 use Rattle.std.specs.declared.vec.Vec.{Vec}
 use Rattle.std.specs.declared.string.String.{String}
 use Rattle.std.specs.Str.{bytes_eq}
+use Rattle.outside.specs.Readings.{Reading, End, Going, Whole, Broken, Agrees, content_of}
 
--- files in memory: each by name and bytes, the numbers of the calls that fail, how many calls and faults there were,
--- the names that were started where they are told, and what is left of the file that was started last
+-- the greatest number that a count within 64 bits shows, at which it stands still
+abbrev pub greatest_count : ℕ
+greatest_count = 2 ^ 64 - 1
+
+-- a number as such a count shows it, and the count of one more
+abbrev pub shown : ℕ → ℕ
+shown number = min number greatest_count
+
+abbrev pub one_more : ℕ → ℕ
+one_more count = shown (count + 1)
+
+-- files in memory: each by name and bytes, the numbers of the calls that fail, how many calls there were as a count
+-- shows it, how many failed, the readings in order, and what is left of the file that was started last
 pub record FilesState : Type 0 where
   pub files : List (List ℕ × List ℕ)
   pub fail : List ℕ
   pub calls : ℕ
-  pub faults : ℕ
-  pub started : Option (List (List ℕ))
+  pub failed : ℕ
+  pub log : List Reading
+  pub rest : List ℕ
+
+-- files in memory that never fail
+pub record SteadyState : Type 0 where
+  pub files : List (List ℕ × List ℕ)
+  pub log : List Reading
   pub rest : List ℕ
 
 -- a sink in memory: the bytes written, how many it has room for, the most that one put takes, the numbers of the puts
--- that fail, and how many puts and faults there were
+-- that fail, how many puts there were as a count shows it, and how many failed
 pub record SinkState : Type 0 where
   pub written : List ℕ
   pub room : ℕ
   pub most : ℕ
   pub fail : List ℕ
   pub calls : ℕ
-  pub faults : ℕ
+  pub failed : ℕ
 
 -- whether the call of that number is to fail
 abbrev pub fails_at : List ℕ → ℕ → Bool
@@ -52,7 +70,14 @@ abbrev pub rest_at : List (String Global × Vec ℕ Global) → Option (ℕ × �
 rest_at files None = []
 rest_at files (Some at) = bytes_from at.1 (slice_get files at.0)
 
--- the names, where they are told
-abbrev pub names_of : Option (Vec (String Global) Global) → Option (List (List ℕ))
-names_of None = None
-names_of (Some names) = Some (map string_bytes names.items)
+-- what is left of a file of this content that gave these bytes; of one that broke nothing is said
+abbrev pub IsLeft : End → List ℕ → List ℕ → List ℕ → Type 0
+IsLeft Going content bytes rest = content ≡ bytes ++ rest
+IsLeft Whole content bytes rest = (content ≡ bytes) × (rest ≡ [])
+IsLeft Broken content bytes rest = (more : List ℕ) × (content ≡ bytes ++ more)
+
+-- the files gave these readings, and this is left of the file of the last one
+abbrev pub AreRead : List (List ℕ × List ℕ) → List ℕ → List Reading → Type 0
+AreRead files rest [] = Unit {0}
+AreRead files rest (reading ∷ []) = IsLeft reading.end (content_of files reading.name) reading.bytes rest
+AreRead files rest (reading ∷ next ∷ more) = Agrees files reading × AreRead files rest (next ∷ more)

@@ -1,90 +1,94 @@
-//! Real files and the real standard output. What the outside does is not known here, so no bytes are told.
+//! Real files and the real standard output. What the outside holds is not known here; what it gave and took is.
 
-ghost use Rattle.std.specs.Prelude.{◌≡◌, ◌<◌, ◌≤◌, ℕ, None, length, IfOk};
+ghost use Rattle.std.specs.Prelude.{◌≡◌, ◌<◌, ◌≤◌, None, [], length, IfOk};
 
+use crate::logs::{ReadLog, WriteLog};
 use crate::traits::{Failed, Files, Sink};
 use std::io::{Read, Write};
 use std::marker::Model;
 use std::{fs, rt};
 
-/// The files of the host, of which one at a time is open. Clauses see how many faults there were.
+/// The files of the host, of which one at a time is open. Clauses see what was read, and how many calls failed.
 #[derive(Drop)]
 pub struct HostFiles<'a, R: rt::Files> {
     host: &'a R,
     open: Option<R::File>,
-    faults: u64,
+    log: ReadLog,
 }
 
 impl<'a, R: rt::Files> Model for HostFiles<'a, R> {
-    ghost use Rattle.std.specs.Prelude.{ℕ};
+    ghost use Rattle.outside.specs.Histories.{Reads};
 
-    ghost Value = { ℕ };
+    ghost Value = { Reads };
 
-    ghost view = { λ a. a.faults };
+    ghost view = { λ a. a.log };
 }
 
 impl<'a, R: rt::Files> HostFiles<'a, R> {
     /// The files of a host, none of them open.
     pub fn new(host: &'a R) -> Self
-        ensures { result ≡ 0 }
+        ensures readings { result.readings ≡ [] }
+        ensures failed { result.failed ≡ 0 }
     {
         HostFiles {
             host,
             open: None,
-            faults: 0,
+            log: ReadLog::new(),
         }
     }
 }
 
+/// Reads bytes of a file that is open; there are none of no file.
+fn read_open<F: Read>(open: &mut Option<F>, into: &mut [u8]) -> Result<usize, Failed>
+    ensures within { IfOk result (λ n. n ≤ length into.new) }
+{
+    match open {
+        Some(file) => file.read(into).map_err(|_| Failed),
+        None => Ok(0),
+    }
+}
+
 impl<R: rt::Files> Files for HostFiles<'_, R> {
+    ghost log = { λ s. s.readings };
+
+    ghost failed = { λ s. s.failed };
+
     ghost contents = { λ _. None };
-
-    ghost rest = { λ _. None };
-
-    ghost started = { λ _. None };
-
-    ghost faults = { λ s. s };
 
     fn start(&mut self, name: &str) -> Result<(), Failed> {
         match fs::open(self.host, name) {
             Ok(file) => {
                 self.open = Some(file);
+                self.log.start(name, Ok(()));
                 Ok(())
             }
             Err(_) => {
-                self.faults = self.faults.saturating_add(1);
+                self.log.start(name, Err(Failed));
                 Err(Failed)
             }
         }
     }
 
     fn next(&mut self, into: &mut [u8]) -> Result<usize, Failed> {
-        let Some(file) = &mut self.open else {
-            return Ok(0);
-        };
-        match file.read(into) {
-            Ok(count) => Ok(count),
-            Err(_) => {
-                self.faults = self.faults.saturating_add(1);
-                Err(Failed)
-            }
-        }
+        let result = read_open(&mut self.open, into);
+        self.log.next(into, result);
+        result
     }
 }
 
-/// The standard output of the host. Clauses see how many faults there were.
+/// The standard output of the host. Clauses see what it took, and how many puts failed.
 #[derive(Drop)]
 pub struct HostSink<W: Write> {
     out: W,
-    faults: u64,
+    log: WriteLog,
 }
 
 impl<W: Write> Model for HostSink<W> {
-    ghost use Rattle.std.specs.Prelude.{ℕ};
+    ghost use Rattle.outside.specs.Histories.{Writes};
 
-    ghost Value = { ℕ };
+    ghost Value = { Writes };
 
-    ghost view = { λ a. a.faults };
+    ghost view = { λ a. a.log };
 }
 
 /// Writes some bytes and flushes them; none of a piece that is not empty is a failure too.
@@ -103,22 +107,24 @@ fn write_through<W: Write>(out: &mut W, piece: &[u8]) -> Result<usize, Failed>
 impl<W: Write> HostSink<W> {
     /// A sink over the standard output of a host.
     pub fn new(out: W) -> Self
-        ensures { result ≡ 0 }
+        ensures bytes { result.bytes ≡ [] }
+        ensures failed { result.failed ≡ 0 }
     {
-        HostSink { out, faults: 0 }
+        HostSink {
+            out,
+            log: WriteLog::new(),
+        }
     }
 }
 
 impl<W: Write> Sink for HostSink<W> {
-    ghost written = { λ _. None };
+    ghost written = { λ s. s.bytes };
 
-    ghost faults = { λ s. s };
+    ghost failed = { λ s. s.failed };
 
     fn put(&mut self, piece: &[u8]) -> Result<usize, Failed> {
-        let put = write_through(&mut self.out, piece);
-        if put.is_err() {
-            self.faults = self.faults.saturating_add(1);
-        }
-        put
+        let result = write_through(&mut self.out, piece);
+        self.log.put(piece, result);
+        result
     }
 }

@@ -6,6 +6,7 @@
 #![tactic(auto)]
 
 mod host;
+mod logs;
 mod memory;
 mod steady;
 mod taking;

@@ -1,51 +1,64 @@
 //! Files and a sink that never fail.
 
-ghost use Rattle.std.specs.Prelude.{◌≡◌, ℕ, ◌+◌, ◌-◌, ◌^◌, min, Some, None, [], length, IfOk};
-ghost use Rattle.outside.specs.Memory.{files_of};
+ghost use Rattle.std.specs.Prelude.{◌≡◌, ◌++◌, ◌-◌, ◌^◌, min, Some, None, [], length};
+ghost use Rattle.outside.specs.Memory.{files_of, shown};
 
-use crate::memory::lookup::{find, moved_on, rest_of};
+use crate::logs::{ReadLog, WriteLog};
+use crate::memory::lookup::{moved_on, rest_of, start_of};
 use crate::traits::{Failed, Files, Sink};
 use std::marker::Model;
 
 /// Files in memory that never fail; a name that no file has is an empty file. Clauses see the files, by name and
-/// bytes, and what is left of the one that was started last.
+/// bytes, the readings, and what is left of the file that was started last.
 ///
-/// It does not tell the names that were started. A call costs time linear in the files and the bytes that it moves.
+/// A call costs time linear in the files and the bytes that it moves.
 #[derive(Drop)]
 pub struct SteadyFiles {
     files: Vec<(String, Vec<u8>)>,
     at: Option<(usize, usize)>,
+    log: ReadLog,
 }
 
 impl Model for SteadyFiles {
-    ghost use Rattle.std.specs.Prelude.{ℕ, List};
-    ghost use Rattle.outside.specs.Memory.{files_of, rest_at};
+    ghost use Rattle.std.specs.Prelude.{◌≡◌};
+    ghost use Rattle.outside.specs.Memory.{AreRead, SteadyState, files_of, rest_at};
 
-    ghost Value = { List (List ℕ × List ℕ) × List ℕ };
+    ghost Value = { SteadyState };
 
-    ghost view = { λ a. (files_of a.files.items, rest_at a.files.items a.at) };
+    ghost view = { λ a. record {
+      files = files_of a.files.items;
+      log = a.log.readings;
+      rest = rest_at a.files.items a.at;
+    } };
+
+    ghost invariant = { λ a.
+        AreRead (files_of a.files.items) (rest_at a.files.items a.at) a.log.readings
+        × (a.log.failed ≡ 0) };
 }
 
 impl SteadyFiles {
     /// Files by name and bytes, none of them started.
     pub fn new(files: Vec<(String, Vec<u8>)>) -> SteadyFiles
-        ensures { result ≡ (files_of files.items, []) }
+        ensures { result ≡ record { files = files_of files.items; log = []; rest = [] } }
     {
-        SteadyFiles { files, at: None }
+        SteadyFiles {
+            files,
+            at: None,
+            log: ReadLog::new(),
+        }
     }
 }
 
 impl Files for SteadyFiles {
-    ghost contents = { λ s. Some s.0 };
+    ghost log = { λ s. s.log };
 
-    ghost rest = { λ s. Some s.1 };
+    ghost failed = { λ _. 0 };
 
-    ghost started = { λ _. None };
-
-    ghost faults = { λ _. 0 };
+    ghost contents = { λ s. Some s.files };
 
     fn start(&mut self, name: &str) -> Result<(), Failed> {
-        self.at = find(&self.files, name).map(|file| (file, 0));
+        self.at = start_of(&self.files, name);
+        self.log.start(name, Ok(()));
         Ok(())
     }
 
@@ -54,51 +67,59 @@ impl Files for SteadyFiles {
         let count = rest.len().min(into.len());
         into[..count].copy_from_slice(&rest[..count]);
         self.at = moved_on(&self.files, self.at, count);
+        self.log.next(into, Ok(count));
         Ok(count)
     }
 }
 
-/// A sink that never fails: it takes every piece whole, and keeps only how many bytes came, up to 2^64 - 1. Clauses
-/// see that number.
+/// A sink that never fails: it takes every piece whole, and keeps only how many bytes came. Clauses see the bytes.
 #[derive(Drop)]
 pub struct SteadySink {
     counted: u64,
+    log: WriteLog,
 }
 
 impl Model for SteadySink {
-    ghost use Rattle.std.specs.Prelude.{ℕ};
+    ghost use Rattle.std.specs.Prelude.{◌≡◌, ℕ, List, length};
+    ghost use Rattle.outside.specs.Memory.{shown};
 
-    ghost Value = { ℕ };
+    ghost Value = { List ℕ };
 
-    ghost view = { λ a. a.counted };
+    ghost view = { λ a. a.log.bytes };
+
+    ghost invariant = { λ a. (a.counted ≡ shown (length a.log.bytes)) × (a.log.failed ≡ 0) };
 }
 
 impl SteadySink {
     /// A sink to which no byte came.
     pub fn new() -> SteadySink
-        ensures { result ≡ 0 }
+        ensures { result ≡ [] }
     {
-        SteadySink { counted: 0 }
+        SteadySink {
+            counted: 0,
+            log: WriteLog::new(),
+        }
     }
 
-    /// How many bytes came.
+    /// How many bytes came, up to 2^64 - 1.
     pub fn counted(&self) -> u64
-        ensures { result ≡ self.now }
+        ensures { result ≡ shown (length self.now) }
     {
         self.counted
     }
 }
 
 impl Sink for SteadySink {
-    ghost written = { λ _. None };
+    ghost written = { λ s. s };
 
-    ghost faults = { λ _. 0 };
+    ghost failed = { λ _. 0 };
 
     fn put(&mut self, piece: &[u8]) -> Result<usize, Failed>
         ensures whole { result ≡ Ok (length piece.now) }
-        ensures counted { self.new ≡ min (self.old + length piece.now) (2 ^ 64 - 1) }
+        ensures written { self.new ≡ self.old ++ piece.now }
     {
         self.counted = self.counted.saturating_add(piece.len() as u64);
+        self.log.put(piece, Ok(piece.len()));
         Ok(piece.len())
     }
 }

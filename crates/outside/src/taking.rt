@@ -1,8 +1,8 @@
 //! Taking a whole file within a limit.
 
-ghost use Rattle.std.specs.Prelude.{◌≡◌, ◌<◌, ◌≤◌, length, IfOk, IsErrOf, IfSome, vec_len};
-ghost use Rattle.outside.specs.Counts.{GoesOn, Rose};
-ghost use Rattle.outside.specs.Outside.{Records, content_of};
+ghost use Rattle.std.specs.Prelude.{◌≡◌, ◌<◌, [], ◌∷◌, IfOk, vec_len};
+ghost use Rattle.outside.specs.Readings.{Reading, ReadOn, stands};
+ghost use Rattle.outside.specs.Taking.{Takes};
 
 use crate::traits::Files;
 use std::alloc::{AllocError, Global};
@@ -46,18 +46,11 @@ pub fn take_all<F: Files>(
     limit: usize,
 ) -> Result<Vec<u8>, TakeFault>
     requires { limit < usize.MAX }
-    ensures whole { IfOk result
-        (λ v. IfSome (F.contents files.old) (λ all. v.items ≡ content_of all name.now)) }
-    ensures within { IfOk result (λ v. vec_len v ≤ limit) }
-    ensures fits { IfOk result
-        (λ _. IfSome (F.contents files.old) (λ all. length (content_of all name.now) ≤ limit)) }
-    ensures too_large { IsErrOf result TakeFault.TooLarge → IfSome (F.contents files.old)
-        (λ all. limit < length (content_of all name.now)) }
-    ensures read_fault { IsErrOf result TakeFault.ReadFault → Rose (F.faults files.old)
-        (F.faults files.new) }
-    ensures count { GoesOn (F.faults files.old) (F.faults files.new) }
-    ensures started { Records (F.started files.old) (F.started files.new) name.now }
-    ensures contents { F.contents files.new ≡ F.contents files.old }
+    // It reads that file once, and nothing else.
+    ensures read { (reading : Reading)
+        × ReadOn (stands (F.log files.old) (F.failed files.old) (F.contents files.old))
+        (stands (F.log files.new) (F.failed files.new) (F.contents files.new)) (reading ∷ [])
+        × (reading.name ≡ name.now) × Takes limit reading result }
 {
     if files.start(name).is_err() {
         return Err(TakeFault::ReadFault);
@@ -69,14 +62,16 @@ pub fn take_all<F: Files>(
     while taken.len() <= limit {
         let lent = buffer.len().min(limit + 1 - taken.len());
         let piece = &mut buffer[..lent];
-        let Ok(count) = files.next(piece) else {
-            return Err(TakeFault::ReadFault);
-        };
-        if count == 0 {
-            return Ok(taken);
-        }
-        if taken.extend_from_slice(&piece[..count]).is_err() {
-            return Err(TakeFault::NoMemory);
+        match files.next(piece) {
+            Ok(count) => {
+                if count == 0 {
+                    return Ok(taken);
+                }
+                if taken.extend_from_slice(&piece[..count]).is_err() {
+                    return Err(TakeFault::NoMemory);
+                }
+            }
+            Err(_) => return Err(TakeFault::ReadFault),
         }
     }
     Err(TakeFault::TooLarge)

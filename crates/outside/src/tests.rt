@@ -34,30 +34,23 @@ fn a_file_is_taken_whole_or_its_cause_is_answered(rt: HostRuntime) -> Result<(),
     for (length, limit, call, want) in rows {
         let files = file_of(rt.alloc(), "a", length)?;
         let fail = vec![in rt.alloc(); call]?;
-        let mut files = MemFiles::new(rt.alloc(), files, fail);
+        let mut files = MemFiles::new(files, fail);
         let taken = take_all(rt.alloc(), &mut files, "a", limit as usize);
         assert_eq!(rt;
             taken.map(|bytes| bytes.len()),
             want,
             "{length} {limit} {call}"
         );
-        assert_eq!(rt; files.started().map(|names| names.len()), Some(1));
     }
     Ok(())
 }
 
 #[test]
-fn a_name_of_no_file_fails_and_is_told(rt: HostRuntime) -> Result<(), Fail> {
-    let mut files = MemFiles::new(
-        rt.alloc(),
-        file_of(rt.alloc(), "a", 1)?,
-        Vec::new(rt.alloc()),
-    );
+fn a_name_of_no_file_fails_and_is_counted(rt: HostRuntime) -> Result<(), Fail> {
+    let mut files = MemFiles::new(file_of(rt.alloc(), "a", 1)?, Vec::new(rt.alloc()));
     let taken = take_all(rt.alloc(), &mut files, "b", 9);
     assert_eq!(rt; taken, Err(TakeFault::ReadFault));
     assert_eq!(rt; files.faults(), 1);
-    let started = files.started().and_then(|names| names.first());
-    assert_eq!(rt; started.map(|name| name.as_str()), Some("b"));
 
     let mut steady = SteadyFiles::new(file_of(rt.alloc(), "a", 1)?);
     let taken = take_all(rt.alloc(), &mut steady, "b", 9);

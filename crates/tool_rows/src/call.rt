@@ -1,6 +1,6 @@
 //! One call of the tool.
 
-use cqual_tool::run;
+use cqual_tool::run_in_memory;
 use outside::{MemFiles, MemSink};
 use std::alloc::{AllocError, Global};
 
@@ -86,12 +86,12 @@ pub fn put_answer(
     let mut all = Vec::new(alloc);
     put_files(alloc, &mut all, &call.files)?;
     put_files(alloc, &mut all, &common.files)?;
-    let mut files = MemFiles::new(alloc, all, vec![in alloc; call.read]?);
+    let mut files = MemFiles::new(all, vec![in alloc; call.read]?);
     let most = usize::try_from(call.most).unwrap_or(1).max(1);
     let Ok(mut sink) = MemSink::new(alloc, ROOM, most, vec![in alloc; call.write]?) else {
         return Err(AllocError);
     };
-    let status = run(alloc, &words, &mut files, &mut sink);
+    let status = run_in_memory(alloc, &words, &mut files, &mut sink);
     let line = format!(in alloc; "exit {}\n", status.exit())?;
     out.extend_from_slice(line.as_bytes())?;
     out.extend_from_slice(sink.bytes())?;

@@ -1,14 +1,13 @@
 //! Files in memory.
 
-ghost use Rattle.std.specs.Prelude.{◌≡◌, ℕ, ◌<◌, ◌≤◌, ◌||◌, ◌++◌, ◌↔◌, Some, [], length, take, drop, map, min, not, is_err, IfOk, OnOk, OnErr, if◌then◌else◌, string_bytes};
-ghost use Rattle.std.specs.Option.{option_map};
-ghost use Rattle.outside.specs.Counts.{GoesOn, one_more};
-ghost use Rattle.outside.specs.Memory.{files_of, fails_at, has_file};
-ghost use Rattle.outside.specs.Outside.{content_of, Records};
+ghost use Rattle.std.specs.Prelude.{◌≡◌, ◌+◌, ◌<◌, ◌||◌, ◌++◌, ◌↔◌, Some, [], ◌∷◌, length, take, min, not, is_err, All, IfOk, OnErr, if◌then◌else◌};
+ghost use Rattle.outside.specs.Memory.{files_of, fails_at, has_file, one_more, shown};
+ghost use Rattle.outside.specs.Readings.{Agrees, at_last, begun, content_of, goes_on};
+ghost use Rattle.outside.specs.Puts.{failures};
 
-use crate::memory::lookup::{find, moved_on, rest_of, with_name};
+use crate::logs::ReadLog;
+use crate::memory::lookup::{moved_on, rest_of, start_of};
 use crate::traits::{Failed, Files};
-use std::alloc::Global;
 use std::marker::Model;
 
 /// Files in memory.
@@ -22,12 +21,13 @@ pub struct MemFiles {
     fail: Vec<u64>,
     calls: u64,
     faults: u64,
-    started: Option<Vec<String>>,
     at: Option<(usize, usize)>,
+    log: ReadLog,
 }
 
 impl Model for MemFiles {
-    ghost use Rattle.outside.specs.Memory.{FilesState, files_of, names_of, rest_at};
+    ghost use Rattle.std.specs.Prelude.{◌≡◌};
+    ghost use Rattle.outside.specs.Memory.{AreRead, FilesState, files_of, rest_at, shown};
 
     ghost Value = { FilesState };
 
@@ -35,24 +35,25 @@ impl Model for MemFiles {
       files = files_of a.files.items;
       fail = a.fail.items;
       calls = a.calls;
-      faults = a.faults;
-      started = names_of a.started;
+      failed = a.log.failed;
+      log = a.log.readings;
       rest = rest_at a.files.items a.at;
     } };
+
+    ghost invariant = { λ a.
+        AreRead (files_of a.files.items) (rest_at a.files.items a.at) a.log.readings
+        × (a.faults ≡ shown a.log.failed) };
 }
 
 impl MemFiles {
     /// Files by name and bytes, and the numbers of the calls that are to fail. It takes no memory.
-    ///
-    /// The names that were started are kept with this allocator. Where there is no memory for one, the call goes on,
-    /// and from then on the names are not told.
-    pub fn new(alloc: Global, files: Vec<(String, Vec<u8>)>, fail: Vec<u64>) -> MemFiles
+    pub fn new(files: Vec<(String, Vec<u8>)>, fail: Vec<u64>) -> MemFiles
         ensures { result ≡ record {
           files = files_of files.items;
           fail = fail.items;
           calls = 0;
-          faults = 0;
-          started = Some [];
+          failed = 0;
+          log = [];
           rest = [];
         } }
     {
@@ -61,60 +62,47 @@ impl MemFiles {
             fail,
             calls: 0,
             faults: 0,
-            started: Some(Vec::new(alloc)),
             at: None,
+            log: ReadLog::new(),
         }
     }
 
-    /// How many calls failed.
+    /// How many calls failed, up to 2^64 - 1.
     pub fn faults(&self) -> u64
-        ensures { result ≡ self.now.faults }
+        ensures { result ≡ shown self.now.failed }
     {
         self.faults
-    }
-
-    /// The names that were started, in order, where they are told.
-    pub fn started(&self) -> Option<&[String]>
-        ensures { option_map (λ names. map string_bytes names.now) result ≡ self.now.started }
-    {
-        match &self.started {
-            Some(names) => Some(names.as_slice()),
-            None => None,
-        }
     }
 }
 
 impl Files for MemFiles {
+    ghost log = { λ s. s.log };
+
+    ghost failed = { λ s. s.failed };
+
     ghost contents = { λ s. Some s.files };
-
-    ghost rest = { λ s. Some s.rest };
-
-    ghost started = { λ s. s.started };
-
-    ghost faults = { λ s. s.faults };
 
     fn start(&mut self, name: &str) -> Result<(), Failed>
         ensures fails { is_err result ≡ (fails_at self.old.fail (one_more self.old.calls) || not
             (has_file self.old.files name.now)) }
         ensures rest { self.new.rest ≡
             (if is_err result then self.old.rest else content_of self.old.files name.now) }
-        ensures started { Records self.old.started self.new.started name.now }
+        ensures log { self.new.log ≡ self.old.log ++ begun name.now result ∷ [] }
         ensures calls { self.new.calls ≡ one_more self.old.calls }
-        ensures count { GoesOn self.old.faults self.new.faults }
-        ensures faults { self.new.faults ≡
-            (if is_err result then one_more self.old.faults else self.old.faults) }
+        ensures failed { self.new.failed ≡ self.old.failed + failures result }
         ensures files { self.new.files ≡ self.old.files }
         ensures fail { self.new.fail ≡ self.old.fail }
+        ensures agrees { All (Agrees self.new.files) self.new.log }
     {
         self.calls = self.calls.saturating_add(1);
-        let names = self.started.take();
-        self.started = with_name(names, name);
-        let found = find(&self.files, name);
+        let found = start_of(&self.files, name);
         if found.is_none() || self.fail.contains(&self.calls) {
             self.faults = self.faults.saturating_add(1);
+            self.log.start(name, Err(Failed));
             return Err(Failed);
         }
-        self.at = found.map(|file| (file, 0));
+        self.at = found;
+        self.log.start(name, Ok(()));
         Ok(())
     }
 
@@ -125,23 +113,24 @@ impl Files for MemFiles {
         ensures moves { IfOk result (λ n. self.old.rest ≡ take n into.new ++ self.new.rest) }
         ensures end { IfOk result (λ n. (n ≡ 0) ↔ (self.old.rest ≡ [])) }
         ensures err { OnErr result (self.new.rest ≡ self.old.rest) }
-        ensures started { self.new.started ≡ self.old.started }
+        ensures log { self.new.log ≡ at_last (goes_on result into.new) self.old.log }
         ensures calls { self.new.calls ≡ one_more self.old.calls }
-        ensures count { GoesOn self.old.faults self.new.faults }
-        ensures faults { self.new.faults ≡
-            (if is_err result then one_more self.old.faults else self.old.faults) }
+        ensures failed { self.new.failed ≡ self.old.failed + failures result }
         ensures files { self.new.files ≡ self.old.files }
         ensures fail { self.new.fail ≡ self.old.fail }
+        ensures agrees { All (Agrees self.new.files) self.new.log }
     {
         self.calls = self.calls.saturating_add(1);
         if self.fail.contains(&self.calls) {
             self.faults = self.faults.saturating_add(1);
+            self.log.next(into, Err(Failed));
             return Err(Failed);
         }
         let rest = rest_of(&self.files, self.at);
         let count = rest.len().min(into.len());
         into[..count].copy_from_slice(&rest[..count]);
         self.at = moved_on(&self.files, self.at, count);
+        self.log.next(into, Ok(count));
         Ok(count)
     }
 }

@@ -1,11 +1,11 @@
 //! Finding files by name, and what is left of one.
 
 ghost use Rattle.std.specs.Prelude.{◌≡◌, ◌+◌, ◌^◌, ◌<◌, ◌≤◌, Some, [], length, drop, MatchOption, is_some};
-ghost use Rattle.outside.specs.Memory.{files_of, rest_at, names_of, has_file};
-ghost use Rattle.outside.specs.Outside.{content_of, Records};
+ghost use Rattle.outside.specs.Memory.{files_of, rest_at, has_file};
+ghost use Rattle.outside.specs.Readings.{content_of};
 
 /// The number of the first file of that name.
-pub fn find(files: &[(String, Vec<u8>)], name: &str) -> Option<usize>
+fn find(files: &[(String, Vec<u8>)], name: &str) -> Option<usize>
     ensures has { is_some result ≡ has_file (files_of files.now) name.now }
     ensures content { MatchOption result (content_of (files_of files.now) name.now ≡ [])
         (λ n. rest_at files.now (Some (n, 0)) ≡ content_of (files_of files.now) name.now) }
@@ -16,6 +16,14 @@ pub fn find(files: &[(String, Vec<u8>)], name: &str) -> Option<usize>
         }
     }
     None
+}
+
+/// The start of the first file of that name.
+pub fn start_of(files: &[(String, Vec<u8>)], name: &str) -> Option<(usize, usize)>
+    ensures has { is_some result ≡ has_file (files_of files.now) name.now }
+    ensures content { rest_at files.now result ≡ content_of (files_of files.now) name.now }
+{
+    find(files, name).map(|file| (file, 0))
 }
 
 /// What is left of a file from a place on.
@@ -45,16 +53,4 @@ pub fn moved_on(
         Some(found) if from <= found.1.len() => Some((file, from + count)),
         _ => at,
     }
-}
-
-/// The names with one more, or none where there is no memory for it.
-pub fn with_name(names: Option<Vec<String>>, name: &str) -> Option<Vec<String>>
-    ensures { Records (names_of names) (names_of result) name.now }
-{
-    let mut names = names?;
-    let alloc = *names.allocator();
-    let mut copy = String::new(alloc);
-    copy.push_str(name).ok()?;
-    names.push(copy).ok()?;
-    Some(names)
 }

@@ -1,9 +1,10 @@
 //! A sink in memory.
 
-ghost use Rattle.std.specs.Prelude.{◌≡◌, ℕ, ◌<◌, ◌≤◌, ◌-◌, ◌||◌, ◌&&◌, ◌++◌, Some, [], length, take, min, is_err, nat_lt, nat_le, IfOk, OnErr, if◌then◌else◌};
-ghost use Rattle.outside.specs.Counts.{GoesOn, one_more};
-ghost use Rattle.outside.specs.Memory.{fails_at};
+ghost use Rattle.std.specs.Prelude.{◌≡◌, ◌+◌, ◌<◌, ◌≤◌, ◌-◌, ◌||◌, ◌&&◌, ◌++◌, [], length, min, is_err, nat_lt, nat_le, IfOk};
+ghost use Rattle.outside.specs.Memory.{fails_at, one_more, shown};
+ghost use Rattle.outside.specs.Puts.{failures, taken};
 
+use crate::logs::WriteLog;
 use crate::traits::{Failed, Sink};
 use qual_base::NoMemory;
 use std::alloc::Global;
@@ -22,11 +23,12 @@ pub struct MemSink {
     fail: Vec<u64>,
     calls: u64,
     faults: u64,
+    log: WriteLog,
 }
 
 impl Model for MemSink {
-    ghost use Rattle.std.specs.Prelude.{◌≤◌, vec_len, vec_capacity};
-    ghost use Rattle.outside.specs.Memory.{SinkState};
+    ghost use Rattle.std.specs.Prelude.{◌≡◌, ◌≤◌, vec_len, vec_capacity};
+    ghost use Rattle.outside.specs.Memory.{SinkState, shown};
 
     ghost Value = { SinkState };
 
@@ -36,11 +38,11 @@ impl Model for MemSink {
       most = a.most;
       fail = a.fail.items;
       calls = a.calls;
-      faults = a.faults;
+      failed = a.log.failed;
     } };
 
     ghost invariant = { λ a. (1 ≤ a.most) × (a.room ≤ vec_capacity a.bytes)
-        × (vec_len a.bytes ≤ a.room) };
+        × (vec_len a.bytes ≤ a.room) × (a.faults ≡ shown a.log.failed) };
 }
 
 impl MemSink {
@@ -55,7 +57,7 @@ impl MemSink {
               most = most;
               fail = fail.items;
               calls = 0;
-              faults = 0;
+              failed = 0;
             }) }
     {
         match Vec::with_capacity(alloc, room) {
@@ -66,6 +68,7 @@ impl MemSink {
                 fail,
                 calls: 0,
                 faults: 0,
+                log: WriteLog::new(),
             }),
             Err(_) => Err(NoMemory),
         }
@@ -78,18 +81,18 @@ impl MemSink {
         self.bytes.as_slice()
     }
 
-    /// How many puts failed.
+    /// How many puts failed, up to 2^64 - 1.
     pub fn faults(&self) -> u64
-        ensures { result ≡ self.now.faults }
+        ensures { result ≡ shown self.now.failed }
     {
         self.faults
     }
 }
 
 impl Sink for MemSink {
-    ghost written = { λ s. Some s.written };
+    ghost written = { λ s. s.written };
 
-    ghost faults = { λ s. s.faults };
+    ghost failed = { λ s. s.failed };
 
     fn put(&mut self, piece: &[u8]) -> Result<usize, Failed>
         ensures fails { is_err result ≡ (fails_at self.old.fail (one_more self.old.calls) ||
@@ -98,13 +101,9 @@ impl Sink for MemSink {
             (λ n. n ≡ min (length piece.now)
             (min self.old.most (self.old.room - length self.old.written))) }
         ensures some { IfOk result (λ n. 0 < length piece.now → 0 < n) }
-        ensures written { IfOk result
-            (λ n. self.new.written ≡ self.old.written ++ take n piece.now) }
-        ensures err { OnErr result (self.new.written ≡ self.old.written) }
+        ensures written { self.new.written ≡ self.old.written ++ taken result piece.now }
         ensures calls { self.new.calls ≡ one_more self.old.calls }
-        ensures count { GoesOn self.old.faults self.new.faults }
-        ensures faults { self.new.faults ≡
-            (if is_err result then one_more self.old.faults else self.old.faults) }
+        ensures failed { self.new.failed ≡ self.old.failed + failures result }
         ensures room { self.new.room ≡ self.old.room }
         ensures most { self.new.most ≡ self.old.most }
         ensures fail { self.new.fail ≡ self.old.fail }
@@ -113,11 +112,15 @@ impl Sink for MemSink {
         let is_full = !piece.is_empty() && self.bytes.len() >= self.room;
         if is_full || self.fail.contains(&self.calls) {
             self.faults = self.faults.saturating_add(1);
+            self.log.put(piece, Err(Failed));
             return Err(Failed);
         }
         let count = piece.len().min(self.most).min(self.room - self.bytes.len());
         match self.bytes.extend_from_slice(&piece[..count]) {
-            Ok(()) => Ok(count),
+            Ok(()) => {
+                self.log.put(piece, Ok(count));
+                Ok(count)
+            }
             Err(_) => unreachable!(),
         }
     }

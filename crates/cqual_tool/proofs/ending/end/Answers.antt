@@ -1,70 +1,83 @@
-use Rattle.std.proofs.Common.{ℕ, List, [], ◌∷◌, ◌++◌, length, refl, ap, sym, subst}
+use Rattle.std.proofs.Common.{◌≡◌, ◌≤◌, ℕ, List, [], ◌∷◌, ◌++◌, length, Err, refl, ap, sym, ◌∙◌, subst}
 use Rattle.std.specs.Option.{option_map}
-use Rattle.outside.specs.Outside.{content_of}
+use Rattle.std.proofs.lemmas.Result.{err_from_is_err_and}
+use Rattle.cqual_tool.specs.declared.taking.Stop.TheVariants.{NoMemory}
 use Rattle.cqual_tool.specs.declared.status.Status.TheVariants.{Malformed}
 use Rattle.cqual_tool.specs.Words.{names_in}
 use Rattle.cqual_tool.specs.Programs.{judging_of}
 use Rattle.cqual_tool.specs.Outcome.{IsChecked, IsEnd, Inferred, ReportTooLarge, ReportChecked, report_limit}
-use Rattle.cqual_tool.specs.Preparing.{NoReport, OneReport}
-use Rattle.cqual_tool.proofs.Outcomes.{at_equal, when_told, always_told, none_found, some_found, short, taken_is, records_none, records_one}
+use Rattle.cqual_tool.proofs.Readings.{past_limit, whole_is}
+use Rattle.cqual_tool.proofs.Outcomes.{at_equal}
+use Rattle.cqual_tool.proofs.Stages.{found_none, found_some, going_stands, no_report, report_answers, report_lacks, report_stops, whole_stands}
 use Rattle.cqual_tool.proofs.ending.end.Goals as goal
 
-pub returns-in_err-inferred-in-None-clause-started : goal.returns-in_err-inferred-in-None-clause-started
-returns-in_err-inferred-in-None-clause-started g c = ([], records_none _, NoReport)
+pub returns-in_err-inferred-in-None-clause-reads : goal.returns-in_err-inferred-in-None-clause-reads
+returns-in_err-inferred-in-None-clause-reads g c = λ before marks bytes is.
+    let gives = err_from_is_err_and c.from_residual.result c.from_residual.ensures.1 in
+    rw (gives.1, gives.2) (no_report _ (names_in c.args.named.now) _ (Err NoMemory) refl)
 
-pub returns-in_ok-inferred-in-None-clause-started : goal.returns-in_ok-inferred-in-None-clause-started
-returns-in_ok-inferred-in-None-clause-started g c = ([], records_none _, NoReport)
-
-pub returns-in_ok-inferred-in-None-clause-outcome : goal.returns-in_ok-inferred-in-None-clause-outcome
-returns-in_ok-inferred-in-None-clause-outcome g c = λ before marks bytes is.
+pub returns-in_ok-inferred-in-None-clause-reads : goal.returns-in_ok-inferred-in-None-clause-reads
+returns-in_ok-inferred-in-None-clause-reads g c = λ before marks bytes is.
     let none = ap (option_map (λ name. name.now)) c.in-None.is in
-    always_told (g.F.Files.contents c.args.files.now) (λ all.
-    Inferred _ _ none (c.in_ok-inferred-in-None.ensures.report (before ++ is.unit ∷ []) marks is.units is.made))
+    no_report _ (names_in c.args.named.now) _ _
+    (refl, λ inputs reads. Inferred _ _ none (c.in_ok-inferred-in-None.ensures.report (before ++ is.unit ∷ []) marks is.units is.made))
 
-pub returns-in_err-text-in-Some-clause-started : goal.returns-in_err-text-in-Some-clause-started
-returns-in_err-text-in-Some-clause-started g c =
-    (c.in-Some.file.now ∷ [], records_one _ _ _ c.taken.ensures.started, OneReport _ (ap (option_map (λ name. name.now)) c.in-Some.is))
+pub returns-in_err-text-in-Some-clause-reads : goal.returns-in_err-text-in-Some-clause-reads
+returns-in_err-text-in-Some-clause-reads g c = λ before marks bytes is.
+    let some = ap (option_map (λ name. name.now)) c.in-Some.is in
+    let read = c.in_err-text-in-Some.ensures.read in
+    let gives = err_from_is_err_and c.from_residual-in_err-text-in-Some.result c.from_residual-in_err-text-in-Some.ensures.1 in
+    rw (gives.1, gives.2)
+    (report_stops _ _ read.0 read.1 (names_in c.args.named.now) c.in-Some.file.now read.2 some _ report_limit _ read.3)
 
-pub returns-in_err-checked-in-Some-2-clause-started : goal.returns-in_err-checked-in-Some-2-clause-started
-returns-in_err-checked-in-Some-2-clause-started g c =
-    (c.in-Some.file.now ∷ [], records_one _ _ _ c.taken.ensures.started, OneReport _ (ap (option_map (λ name. name.now)) c.in-Some.is))
+pub returns-in_err-checked-in-Some-2-clause-reads : goal.returns-in_err-checked-in-Some-2-clause-reads
+returns-in_err-checked-in-Some-2-clause-reads g c = λ before marks bytes is.
+    let some = ap (option_map (λ name. name.now)) c.in-Some.is in
+    let read = c.in_ok-text-in-Some.ensures.read in
+    let found = found_some report_limit read.0 c.in_ok-text-in-Some.field-0 c.in-Some-2.text c.in-Some-2.is read.3 in
+    let gives = err_from_is_err_and c.from_residual-in_err-checked-in-Some-2.result c.from_residual-in_err-checked-in-Some-2.ensures.1 in
+    rw (gives.1, gives.2)
+    (report_lacks _ _ read.0 read.1 (names_in c.args.named.now) c.in-Some.file.now read.2 some _ NoMemory refl (whole_stands read.0 found.0))
 
-pub returns-in_err-too_large-in-None-2-clause-started : goal.returns-in_err-too_large-in-None-2-clause-started
-returns-in_err-too_large-in-None-2-clause-started g c =
-    (c.in-Some.file.now ∷ [], records_one _ _ _ c.taken.ensures.started, OneReport _ (ap (option_map (λ name. name.now)) c.in-Some.is))
+pub returns-in_err-too_large-in-None-2-clause-reads : goal.returns-in_err-too_large-in-None-2-clause-reads
+returns-in_err-too_large-in-None-2-clause-reads g c = λ before marks bytes is.
+    let some = ap (option_map (λ name. name.now)) c.in-Some.is in
+    let read = c.in_ok-text-in-Some.ensures.read in
+    let found = found_none report_limit read.0 c.in_ok-text-in-Some.field-0 c.in-None-2.is read.3 in
+    let gives = err_from_is_err_and c.from_residual-in_err-too_large-in-None-2.result c.from_residual-in_err-too_large-in-None-2.ensures.1 in
+    rw (gives.1, gives.2)
+    (report_lacks _ _ read.0 read.1 (names_in c.args.named.now) c.in-Some.file.now read.2 some _ NoMemory refl (going_stands read.0 found.0))
 
-pub returns-in_ok-checked-in-Some-2-clause-started : goal.returns-in_ok-checked-in-Some-2-clause-started
-returns-in_ok-checked-in-Some-2-clause-started g c =
-    (c.in-Some.file.now ∷ [], records_one _ _ _ c.taken.ensures.started, OneReport _ (ap (option_map (λ name. name.now)) c.in-Some.is))
-
-pub returns-in_ok-too_large-in-None-2-clause-started : goal.returns-in_ok-too_large-in-None-2-clause-started
-returns-in_ok-too_large-in-None-2-clause-started g c =
-    (c.in-Some.file.now ∷ [], records_one _ _ _ c.taken.ensures.started, OneReport _ (ap (option_map (λ name. name.now)) c.in-Some.is))
-
-pub returns-in_ok-checked-in-Some-2-clause-outcome : goal.returns-in_ok-checked-in-Some-2-clause-outcome
-returns-in_ok-checked-in-Some-2-clause-outcome g c = λ before marks bytes is.
+pub returns-in_ok-checked-in-Some-2-clause-reads : goal.returns-in_ok-checked-in-Some-2-clause-reads
+returns-in_ok-checked-in-Some-2-clause-reads g c = λ before marks bytes is.
     let named = names_in c.args.named.now in
     let some = ap (option_map (λ name. name.now)) c.in-Some.is in
     let file = c.in-Some.file.now in
     let it = judging_of named c.args.lattices.now marks (before ++ is.unit ∷ []) in
     let answer = c.in_ok-checked-in-Some-2.field-0 in
     let Checked : List ℕ → Type 0 = λ report. IsChecked it report answer.status answer.text.items in
-    when_told (g.F.Files.contents c.args.files.now) c.in_ok-text-in-Some.ensures.whole (λ all found.
-    let content = content_of all file in
-    let taken = c.in_ok-text-in-Some.field-0 in
-    let there = some_found (length content) content report_limit taken c.in-Some-2.text found c.in-Some-2.is in
-    let within = c.in_ok-text-in-Some.ensures.within in
-    let lent = c.deref.ensures.value in
-    ReportChecked file _ _ some (short report_limit taken c.in-Some-2.text c.deref.result.now content c.in-Some-2.is within lent there)
-    (subst Checked (taken_is report_limit taken c.in-Some-2.text c.deref.result.now content c.in-Some-2.is within lent there)
-    (c.in_ok-checked-in-Some-2.ensures.checked it refl (sym is.made.system))))
+    let read = c.in_ok-text-in-Some.ensures.read in
+    let r = read.0 in
+    let found = found_some report_limit r c.in_ok-text-in-Some.field-0 c.in-Some-2.text c.in-Some-2.is read.3 in
+    let same : c.deref.result.now ≡ r.bytes = c.deref.ensures.value ∙ sym found.1 in
+    let says = subst Checked same (c.in_ok-checked-in-Some-2.ensures.checked it refl (sym is.made.system)) in
+    report_answers _ _ r read.1 named file read.2 some it answer (whole_stands r found.0)
+    (λ inputs gives.
+    let content = sym (whole_is r inputs.report found.0 gives) in
+    let Short : List ℕ → Type 0 = λ b. length b ≤ report_limit in
+    ReportChecked file _ _ some (subst Short content found.2) (subst Checked content says))
 
-pub returns-in_ok-too_large-in-None-2-clause-outcome : goal.returns-in_ok-too_large-in-None-2-clause-outcome
-returns-in_ok-too_large-in-None-2-clause-outcome g c = λ before marks bytes is.
+pub returns-in_ok-too_large-in-None-2-clause-reads : goal.returns-in_ok-too_large-in-None-2-clause-reads
+returns-in_ok-too_large-in-None-2-clause-reads g c = λ before marks bytes is.
     let named = names_in c.args.named.now in
     let some = ap (option_map (λ name. name.now)) c.in-Some.is in
     let file = c.in-Some.file.now in
-    when_told (g.F.Files.contents c.args.files.now) c.in_ok-text-in-Some.ensures.whole (λ all found.
-    at_equal (IsEnd named (content_of all) (judging_of named c.args.lattices.now marks (before ++ is.unit ∷ []))) _ Malformed _ _
-    c.in_ok-too_large-in-None-2.ensures.0 c.in_ok-too_large-in-None-2.ensures.1
-    (ReportTooLarge file some (none_found (length (content_of all file)) (content_of all file) report_limit c.in_ok-text-in-Some.field-0 found c.in-None-2.is)))
+    let it = judging_of named c.args.lattices.now marks (before ++ is.unit ∷ []) in
+    let answer = c.in_ok-too_large-in-None-2.field-0 in
+    let read = c.in_ok-text-in-Some.ensures.read in
+    let r = read.0 in
+    let found = found_none report_limit r c.in_ok-text-in-Some.field-0 c.in-None-2.is read.3 in
+    report_answers _ _ r read.1 named file read.2 some it answer (going_stands r found.0)
+    (λ inputs gives.
+    at_equal (IsEnd named inputs it) _ Malformed _ _ c.in_ok-too_large-in-None-2.ensures.0 c.in_ok-too_large-in-None-2.ensures.1
+    (ReportTooLarge file some (past_limit report_limit r inputs.report found gives)))

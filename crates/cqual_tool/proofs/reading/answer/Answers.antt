@@ -1,82 +1,75 @@
-use Rattle.std.proofs.Common.{ℕ, List, [], ◌∷◌, IfSome, length, subst}
-use Rattle.std.specs.declared.option.Option.{Option}
-use Rattle.std.proofs.lemmas.Result.{IfOk-weaker}
-use Rattle.outside.specs.Outside.{content_of}
+use Rattle.std.proofs.Common.{◌≡◌, ◌≤◌, ℕ, List, length, refl, sym, ◌∙◌, subst}
+use Rattle.std.proofs.lemmas.Result.{err_from_is_err_and}
+use Rattle.lattice_file.specs.Faults.{Reads, IsFileFault}
+use Rattle.cqual_tool.specs.declared.status.Status.TheVariants.{Malformed}
+use Rattle.cqual_tool.specs.declared.taking.Stop.TheVariants.{NoMemory}
 use Rattle.cqual_tool.specs.Words.{names_in}
-use Rattle.cqual_tool.specs.Outcome.{OfUnits, LatticeRead, LatticeAlone, lattice_limit}
-use Rattle.cqual_tool.specs.Preparing.{UnitsStart}
-use Rattle.cqual_tool.proofs.Outcomes.{none_found, some_found, when_told, both_told, records_one, lattice_too_large, lattice_refused, lattices_read, lattices_fail, short, taken_is}
-use Rattle.cqual_tool.proofs.Starting.{records_then, all_start}
+use Rattle.cqual_tool.specs.Outcome.{LatticesFail, LatticesRead, OfFiles, LatticeRead, LatticeRefused, LatticeTooLarge, lattice_limit}
+use Rattle.cqual_tool.proofs.Outcomes.{at_equal}
+use Rattle.cqual_tool.proofs.Readings.{past_limit, whole_is}
+use Rattle.cqual_tool.proofs.Stages.{found_none, found_some, going_stands, lattice_answers, lattice_goes, lattice_lacks, lattice_stops, whole_stands}
 use Rattle.cqual_tool.proofs.reading.answer.Goals as goal
 
-pub returns-in_err-bytes-clause-started : goal.returns-in_err-bytes-clause-started
-returns-in_err-bytes-clause-started g c = (c.args.named.now.lattice.now ∷ [], records_one _ _ _ c.taken.ensures.started, LatticeAlone)
+pub returns-in_err-bytes-clause-reads : goal.returns-in_err-bytes-clause-reads
+returns-in_err-bytes-clause-reads g c =
+    let read = c.in_err-bytes.ensures.read in
+    let gives = err_from_is_err_and c.from_residual.result c.from_residual.ensures.1 in
+    rw (gives.1, gives.2) (lattice_stops _ _ read.0 read.1 (names_in c.args.named.now) read.2 lattice_limit _ read.3)
 
-pub returns-in-Ok-clause-outcome : goal.returns-in-Ok-clause-outcome
-returns-in-Ok-clause-outcome g c =
+pub returns-in_err-lattice_refused-in-Err-clause-reads : goal.returns-in_err-lattice_refused-in-Err-clause-reads
+returns-in_err-lattice_refused-in-Err-clause-reads g c =
+    let read = c.in_ok-bytes.ensures.read in
+    let found = found_some lattice_limit read.0 c.in_ok-bytes.field-0 c.in-Some.bytes c.in-Some.is read.3 in
+    let gives = err_from_is_err_and c.from_residual-in_err-lattice_refused-in-Err.result c.from_residual-in_err-lattice_refused-in-Err.ensures.1 in
+    rw (gives.1, gives.2) (lattice_lacks _ _ read.0 read.1 (names_in c.args.named.now) read.2 NoMemory refl (whole_stands read.0 found.0))
+
+pub returns-in_err-too_large-in-None-clause-reads : goal.returns-in_err-too_large-in-None-clause-reads
+returns-in_err-too_large-in-None-clause-reads g c =
+    let read = c.in_ok-bytes.ensures.read in
+    let found = found_none lattice_limit read.0 c.in_ok-bytes.field-0 c.in-None.is read.3 in
+    let gives = err_from_is_err_and c.from_residual-in_err-too_large-in-None.result c.from_residual-in_err-too_large-in-None.ensures.1 in
+    rw (gives.1, gives.2) (lattice_lacks _ _ read.0 read.1 (names_in c.args.named.now) read.2 NoMemory refl (going_stands read.0 found.0))
+
+pub returns-clause-reads : goal.returns-clause-reads
+returns-clause-reads g c =
     let named = names_in c.args.named.now in
-    let told = g.F.Files.contents c.args.files.now in
-    IfOk-weaker c.take_units.result _ _
-    (λ answer of.
-    let Of : Option (List (List ℕ × List ℕ)) → Type 0 = λ all.
-    IfSome all (λ files. OfUnits named (content_of files) c.in-Ok.lattices answer.status answer.text.items) in
-    both_told told c.in_ok-bytes.ensures.whole (subst Of c.in_ok-bytes.ensures.contents of) (λ all found ofs.
-    let content = content_of all named.lattice in
-    let taken = c.in_ok-bytes.field-0 in
-    let within = c.in_ok-bytes.ensures.within in
-    let there = some_found (length content) content lattice_limit taken c.in-Some.bytes found c.in-Some.is in
-    let same = taken_is lattice_limit taken c.in-Some.bytes c.deref.result.now content c.in-Some.is within c.deref.ensures.value there in
-    LatticeRead c.in-Ok.lattices _ _
-    (lattices_read c.deref.result.now content same (short lattice_limit taken c.in-Some.bytes c.deref.result.now content c.in-Some.is within c.deref.ensures.value there) c.in-Ok.lattices c.in-Ok.ensures.read)
-    ofs))
-    c.take_units.ensures.outcome
+    let read = c.in_ok-bytes.ensures.read in
+    let found = found_none lattice_limit read.0 c.in_ok-bytes.field-0 c.in-None.is read.3 in
+    lattice_answers _ _ read.0 read.1 named read.2 c.in_ok-too_large-in-None.field-0 (going_stands read.0 found.0)
+    (λ inputs gives.
+    at_equal (OfFiles named inputs) _ Malformed _ _ c.in_ok-too_large-in-None.ensures.0 c.in_ok-too_large-in-None.ensures.1
+    (LatticeTooLarge (past_limit lattice_limit read.0 inputs.lattice found gives)))
 
-pub returns-in-Ok-clause-started : goal.returns-in-Ok-clause-started
-returns-in-Ok-clause-started g c =
+pub returns-in-Some-clause-reads : goal.returns-in-Some-clause-reads
+returns-in-Some-clause-reads g c =
     let named = names_in c.args.named.now in
-    let told = g.F.Files.contents c.args.files.now in
-    let starts = c.take_units.ensures.started in
-    let Start : Option (List (List ℕ × List ℕ)) → Type 0 = λ all. UnitsStart named all c.in-Ok.lattices starts.0 in (
-      named.lattice ∷ starts.0,
-      records_then _ _ _ _ _ c.in_ok-bytes.ensures.started starts.1,
-      all_start named told c.in-Ok.lattices starts.0
-          (when_told told c.in_ok-bytes.ensures.whole (λ all found.
-          let content = content_of all named.lattice in
-          let taken = c.in_ok-bytes.field-0 in
-          let within = c.in_ok-bytes.ensures.within in
-          let there = some_found (length content) content lattice_limit taken c.in-Some.bytes found c.in-Some.is in
-          let same = taken_is lattice_limit taken c.in-Some.bytes c.deref.result.now content c.in-Some.is within c.deref.ensures.value there in
-          lattices_read c.deref.result.now content same (short lattice_limit taken c.in-Some.bytes c.deref.result.now content c.in-Some.is within c.deref.ensures.value there) c.in-Ok.lattices c.in-Ok.ensures.read))
-          (subst Start c.in_ok-bytes.ensures.contents starts.2),
-    )
+    let fault = c.in-Err.fault in
+    let said = c.in_ok-lattice_refused-in-Err.ensures in
+    let read = c.in_ok-bytes.ensures.read in
+    let found = found_some lattice_limit read.0 c.in_ok-bytes.field-0 c.in-Some.bytes c.in-Some.is read.3 in
+    let same : c.deref.result.now ≡ read.0.bytes = c.deref.ensures.value ∙ sym found.1 in
+    lattice_answers _ _ read.0 read.1 named read.2 c.in_ok-lattice_refused-in-Err.field-0 (whole_stands read.0 found.0)
+    (λ inputs gives.
+    let content = sym (whole_is read.0 inputs.lattice found.0 gives) in
+    let Short : List ℕ → Type 0 = λ b. length b ≤ lattice_limit in
+    let fails : LatticesFail inputs.lattice fault = record {
+      within = subst Short content found.2;
+      refused = subst (λ (bytes : List ℕ). IsFileFault bytes fault) (same ∙ content) c.in-Err.ensures.refused;
+      reason = said.reason;
+    } in
+    at_equal (OfFiles named inputs) _ Malformed _ _ said.line.0 said.line.1 (LatticeRefused fault fails))
 
-pub returns-in_err-lattice_refused-in-Err-clause-started : goal.returns-in_err-lattice_refused-in-Err-clause-started
-returns-in_err-lattice_refused-in-Err-clause-started g c = (c.args.named.now.lattice.now ∷ [], records_one _ _ _ c.in_ok-bytes.ensures.started, LatticeAlone)
-
-pub returns-in-Some-clause-outcome : goal.returns-in-Some-clause-outcome
-returns-in-Some-clause-outcome g c =
+pub returns-in-Ok-clause-reads : goal.returns-in-Ok-clause-reads
+returns-in-Ok-clause-reads g c =
     let named = names_in c.args.named.now in
-    when_told (g.F.Files.contents c.args.files.now) c.in_ok-bytes.ensures.whole (λ all found.
-    let content = content_of all named.lattice in
-    let taken = c.in_ok-bytes.field-0 in
-    let within = c.in_ok-bytes.ensures.within in
-    let there = some_found (length content) content lattice_limit taken c.in-Some.bytes found c.in-Some.is in
-    let same = taken_is lattice_limit taken c.in-Some.bytes c.deref.result.now content c.in-Some.is within c.deref.ensures.value there in
-    lattice_refused named all _ _ c.in-Err.fault c.in_ok-lattice_refused-in-Err.ensures.line.0 c.in_ok-lattice_refused-in-Err.ensures.line.1
-    (lattices_fail c.deref.result.now content same (short lattice_limit taken c.in-Some.bytes c.deref.result.now content c.in-Some.is within c.deref.ensures.value there) c.in-Err.fault c.in-Err.ensures.refused c.in_ok-lattice_refused-in-Err.ensures.reason))
-
-pub returns-in-Some-clause-started : goal.returns-in-Some-clause-started
-returns-in-Some-clause-started g c = (c.args.named.now.lattice.now ∷ [], records_one _ _ _ c.in_ok-bytes.ensures.started, LatticeAlone)
-
-pub returns-in_err-too_large-in-None-clause-started : goal.returns-in_err-too_large-in-None-clause-started
-returns-in_err-too_large-in-None-clause-started g c = (c.args.named.now.lattice.now ∷ [], records_one _ _ _ c.in_ok-bytes.ensures.started, LatticeAlone)
-
-pub returns-clause-outcome : goal.returns-clause-outcome
-returns-clause-outcome g c =
-    let named = names_in c.args.named.now in
-    when_told (g.F.Files.contents c.args.files.now) c.in_ok-bytes.ensures.whole (λ all found.
-    lattice_too_large named all _ _ c.in_ok-too_large-in-None.ensures.0 c.in_ok-too_large-in-None.ensures.1
-    (none_found _ (content_of all named.lattice) lattice_limit c.in_ok-bytes.field-0 found c.in-None.is))
-
-pub returns-clause-started : goal.returns-clause-started
-returns-clause-started g c = (c.args.named.now.lattice.now ∷ [], records_one _ _ _ c.in_ok-bytes.ensures.started, LatticeAlone)
+    let lattices = c.in-Ok.lattices in
+    let read = c.in_ok-bytes.ensures.read in
+    let found = found_some lattice_limit read.0 c.in_ok-bytes.field-0 c.in-Some.bytes c.in-Some.is read.3 in
+    let same : c.deref.result.now ≡ read.0.bytes = c.deref.ensures.value ∙ sym found.1 in
+    let reads : LatticesRead read.0.bytes lattices = record {
+      within = found.2;
+      read = subst (λ (bytes : List ℕ). Reads bytes lattices) same c.in-Ok.ensures.read;
+    } in
+    lattice_goes _ _ read.0 read.1 named read.2 _ lattices found.0 reads
+    (λ inputs status text here of. LatticeRead lattices status text (subst (λ (bytes : List ℕ). LatticesRead bytes lattices) (sym here) reads) of)
+    c.take_units.result c.take_units.ensures.reads

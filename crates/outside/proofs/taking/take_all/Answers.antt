@@ -1,29 +1,82 @@
-use Rattle.std.proofs.Common.{◌≡◌, ℕ, List, ◌++◌, arith, take, Some, None, IfSome, append_assoc}
-use Rattle.std.specs.declared.option.Option.{Option}
-use Rattle.std.specs.Io.KnownBytes.{prepend_known, Consumes}
+use Rattle.std.proofs.Common.{◌≡◌, List, ℕ, [], ◌∷◌, ◌++◌, ◌∙◌, ap, sym, refl, arith, take}
 use Rattle.std.proofs.lemmas.Grind.{common_steps}
-use Rattle.outside.specs.Outside.{content_of}
+use Rattle.outside.specs.Readings.{Going, Whole, Broken, stands}
+use Rattle.outside.specs.declared.traits.Failed.{Failed}
+use Rattle.outside.proofs.Steps.{broke, moved, ended_so, reads_one}
 use Rattle.outside.proofs.taking.take_all.Goals as goal
 
--- what was taken and what is left stay the whole content
-taken_more : (contents : Option (List (List ℕ × List ℕ))) (name taken moved : List ℕ) (before after : Option (List ℕ)) →
-    Consumes before after moved →
-    IfSome contents (λ all. prepend_known taken before ≡ Some (content_of all name)) →
-    IfSome contents (λ all. prepend_known (taken ++ moved) after ≡ Some (content_of all name))
-taken_more None name taken moved before after went held = tt
-taken_more (Some all) name taken moved None after went held = cc
-taken_more (Some all) name taken moved (Some before) None went held = absurd went
-taken_more (Some all) name taken moved (Some before) (Some after) went held = rw append_assoc (rw went at held)
+pub returns-in-Err : goal.returns-in-Err
+returns-in-Err g c =
+    let files = g.F.Files in
+    record {
+      read = (
+        record { name = c.args.name.now; bytes = c.loop-buffer.taken.items; end = Broken },
+        reads_one (stands (files.log c.args.files.now) (files.failed c.args.files.now) (files.contents c.args.files.now))
+            (stands (files.log c.next.new.self) (files.failed c.next.new.self) (files.contents c.next.new.self)) _
+            (broke Failed c.next.new.into (files.log c.args.files.now) (files.log c.loop-buffer.files) (files.log c.next.new.self) c.args.name.now
+            c.loop-buffer.taken.items c.loop-buffer.invariant.log c.in-Err.field-0 c.in-Err.ensures.log)
+            (grind arith) (grind arith) c.in-Err.ensures.agrees,
+        refl,
+        refl,
+      );
+    }
+
+pub returns-then-count-eq0 : goal.returns-then-count-eq0
+returns-then-count-eq0 g c =
+    let files = g.F.Files in
+    record {
+      read = (
+        record { name = c.args.name.now; bytes = c.loop-buffer.taken.items; end = Whole },
+        reads_one (stands (files.log c.args.files.now) (files.failed c.args.files.now) (files.contents c.args.files.now))
+            (stands (files.log c.next.new.self) (files.failed c.next.new.self) (files.contents c.next.new.self)) _
+            (ended_so Failed c.next.new.into (files.log c.args.files.now) (files.log c.loop-buffer.files) (files.log c.next.new.self) c.args.name.now
+            c.loop-buffer.taken.items c.loop-buffer.invariant.log c.in-Ok-next.count (grind arith) c.in-Ok-next.ensures.log)
+            (grind arith) (grind arith) c.in-Ok-next.ensures.agrees,
+        refl,
+        (refl, refl, grind (arith, common_steps)),
+      );
+    }
+
+pub returns-then-is_err-2 : goal.returns-then-is_err-2
+returns-then-is_err-2 g c =
+    let files = g.F.Files in
+    record {
+      read = (
+        record { name = c.args.name.now; bytes = c.loop-buffer.taken.items ++ take c.in-Ok-next.count c.next.new.into; end = Going },
+        reads_one (stands (files.log c.args.files.now) (files.failed c.args.files.now) (files.contents c.args.files.now))
+            (stands (files.log c.next.new.self) (files.failed c.next.new.self) (files.contents c.next.new.self)) _
+            (moved Failed c.next.new.into (files.log c.args.files.now) (files.log c.loop-buffer.files) (files.log c.next.new.self) c.args.name.now
+            c.loop-buffer.taken.items c.loop-buffer.invariant.log c.in-Ok-next.count (grind arith) c.in-Ok-next.ensures.log)
+            (grind arith) (grind arith) c.in-Ok-next.ensures.agrees,
+        refl,
+        refl,
+      );
+    }
+
+pub returns : goal.returns
+returns g c =
+    let files = g.F.Files in
+    record {
+      read = (
+        record { name = c.args.name.now; bytes = c.loop-buffer.taken.items; end = Going },
+        reads_one (stands (files.log c.args.files.now) (files.failed c.args.files.now) (files.contents c.args.files.now))
+            (stands (files.log c.loop-buffer.files) (files.failed c.loop-buffer.files) (files.contents c.loop-buffer.files)) _
+            c.loop-buffer.invariant.log (grind arith) c.loop-buffer.invariant.contents c.loop-buffer.invariant.agrees,
+        refl,
+        (refl, grind (arith, common_steps)),
+      );
+    }
 
 pub loop-buffer-preserved : goal.loop-buffer-preserved
 loop-buffer-preserved g c =
     let new : c.extend_from_slice.new.self.items ≡ c.loop-buffer.taken.items ++ take c.in-Ok-next.count c.next.new.into = grind (arith, common_steps) in
     record {
       contents = grind arith;
-      started = grind arith;
-      count = grind arith;
+      log = moved Failed c.next.new.into (g.F.Files.log c.args.files.now) (g.F.Files.log c.loop-buffer.files) (g.F.Files.log c.next.new.self) c.args.name.now
+          c.loop-buffer.taken.items c.loop-buffer.invariant.log c.in-Ok-next.count (grind arith) c.in-Ok-next.ensures.log
+          ∙ ap (λ (bytes : List ℕ). g.F.Files.log c.args.files.now ++ record { name = c.args.name.now; bytes = bytes; end = Going } ∷ []) (sym new);
+      failed = grind arith;
+      agrees = c.in-Ok-next.ensures.agrees;
       buffer = grind (arith, common_steps);
       within = grind (arith, common_steps);
-      holds = rw new (taken_more (g.F.Files.contents c.args.files.now) c.args.name.now c.loop-buffer.taken.items (take c.in-Ok-next.count c.next.new.into)
-          (g.F.Files.rest c.loop-buffer.files) (g.F.Files.rest c.next.new.self) c.in-Ok-next.ensures.moves c.loop-buffer.invariant.holds);
     }

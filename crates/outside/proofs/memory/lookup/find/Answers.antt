@@ -3,7 +3,7 @@ use Rattle.std.specs.declared.alloc.Global.{Global}
 use Rattle.std.specs.declared.vec.Vec.{Vec}
 use Rattle.std.specs.declared.string.String.{String}
 use Rattle.outside.specs.Memory.{files_of, bytes_from}
-use Rattle.outside.specs.Outside.{content_of}
+use Rattle.outside.specs.Readings.{content_of}
 use Rattle.outside.proofs.memory.lookup.find.Goals as goal
 
 -- the file at a place holds what its name has from that place on

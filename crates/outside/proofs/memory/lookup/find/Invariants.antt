@@ -1,6 +1,6 @@
 use Rattle.std.proofs.Common.{◌≡◌, drop}
 use Rattle.outside.specs.Memory.{files_of, has_file}
-use Rattle.outside.specs.Outside.{content_of}
+use Rattle.outside.specs.Readings.{content_of}
 use Rattle.outside.proofs.memory.lookup.find.Given as goal
 
 abbrev pub invariant-loop-i : goal.invariant-loop-i

@@ -1,0 +1,28 @@
+use Rattle.std.proofs.Common.{Some, Err, ap, refl, sym, ◌∙◌}
+use Rattle.std.proofs.lemmas.Result.{err_from_is_err_and}
+use Rattle.cqual_words.specs.declared.asked.Asked.{Asked}
+use Rattle.cqual_words.specs.Asked.{task_of}
+use Rattle.cqual_tool.specs.declared.taking.Stop.TheVariants.{NoMemory}
+use Rattle.cqual_tool.specs.Words.{names_in, names_of}
+use Rattle.cqual_tool.proofs.Stages.{of_made, of_task}
+use Rattle.cqual_tool.proofs.deciding.answer_for.Goals as goal
+
+pub returns-in_err-made_answer-in-Generate-clause-reads : goal.returns-in_err-made_answer-in-Generate-clause-reads
+returns-in_err-made_answer-in-Generate-clause-reads g c =
+    let gives = err_from_is_err_and c.from_residual.result c.from_residual.ensures.1 in
+    rw (gives.1, gives.2) (of_made _ (task_of c.args.asked.now) _ (ap task_of c.in-Generate.is) (Err NoMemory) refl)
+
+pub returns-in-Infer-clause-reads : goal.returns-in-Infer-clause-reads
+returns-in-Infer-clause-reads g c =
+    let some = ap (λ (a : Asked). names_of (task_of a)) c.in-Infer.is ∙ ap Some (sym c.of_files.ensures) in
+    of_task _ _ (task_of c.args.asked.now) (names_in c.of_files.result) some c.answer.result c.answer.ensures.reads
+
+pub returns-in-Annotate-clause-reads : goal.returns-in-Annotate-clause-reads
+returns-in-Annotate-clause-reads g c =
+    let some = ap (λ (a : Asked). names_of (task_of a)) c.in-Annotate.is ∙ ap Some (sym c.of_files-in-Annotate.ensures) in
+    of_task _ _ (task_of c.args.asked.now) (names_in c.of_files-in-Annotate.result) some c.answer-in-Annotate.result c.answer-in-Annotate.ensures.reads
+
+pub returns-in-Check-clause-reads : goal.returns-in-Check-clause-reads
+returns-in-Check-clause-reads g c =
+    let some = ap (λ (a : Asked). names_of (task_of a)) c.in-Check.is ∙ ap Some (sym c.of_files-in-Check.ensures) in
+    of_task _ _ (task_of c.args.asked.now) (names_in c.of_files-in-Check.result) some c.answer-in-Check.result c.answer-in-Check.ensures.reads

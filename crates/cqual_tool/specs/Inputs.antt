@@ -1,0 +1,65 @@
+-- The files of one call by what they are for. They go by part and not by name: a file that is read twice may give two contents
+-- on a disk that changes, as where the prelude is the source.
+use Rattle.std.specs.Prelude.{ℕ, List, [], ◌∷◌, ◌++◌, Option, Some, None}
+use Rattle.outside.specs.Readings.{content_of}
+use Rattle.cqual_words.specs.Words.{Task, meaning_of}
+use Rattle.cqual_tool.specs.Words.{FileNames, names_of}
+
+-- the bytes of each part
+pub record Inputs : Type 0 where
+  pub lattice : List ℕ
+  pub prelude : List ℕ
+  pub source : List ℕ
+  pub report : List ℕ
+
+-- a file, as its name and its bytes, where it is named
+abbrev pub one_file : Option (List ℕ) → List ℕ → List (List ℕ × List ℕ)
+one_file None bytes = []
+one_file (Some name) bytes = (name, bytes) ∷ []
+
+-- The files that are named, in the order in which they are read: the report, those from the source on, those from the prelude on,
+-- and all.
+abbrev pub from_report : FileNames → Inputs → List (List ℕ × List ℕ)
+from_report named inputs = one_file named.report inputs.report
+
+abbrev pub from_source : FileNames → Inputs → List (List ℕ × List ℕ)
+from_source named inputs = (named.source, inputs.source) ∷ from_report named inputs
+
+abbrev pub from_prelude : FileNames → Inputs → List (List ℕ × List ℕ)
+from_prelude named inputs = one_file named.prelude inputs.prelude ++ from_source named inputs
+
+abbrev pub files_of : FileNames → Inputs → List (List ℕ × List ℕ)
+files_of named inputs = (named.lattice, inputs.lattice) ∷ from_prelude named inputs
+
+-- the files of what is named, of a task, and of words: none where the tool makes the source itself or the words mean nothing
+abbrev pub files_named : Option FileNames → Inputs → List (List ℕ × List ℕ)
+files_named None inputs = []
+files_named (Some named) inputs = files_of named inputs
+
+abbrev pub files_asked : Option Task → Inputs → List (List ℕ × List ℕ)
+files_asked None inputs = []
+files_asked (Some task) inputs = files_named (names_of task) inputs
+
+abbrev pub asked : List (List ℕ) → Inputs → List (List ℕ × List ℕ)
+asked words inputs = files_asked (meaning_of words) inputs
+
+-- what files that are told hold for the names, for a task, and for words
+abbrev pub content_named : List (List ℕ × List ℕ) → Option (List ℕ) → List ℕ
+content_named files None = []
+content_named files (Some name) = content_of files name
+
+abbrev pub inputs_of : List (List ℕ × List ℕ) → Option FileNames → Inputs
+inputs_of files None = record { lattice = []; prelude = []; source = []; report = [] }
+inputs_of files (Some named) = record {
+  lattice = content_of files named.lattice;
+  prelude = content_named files named.prelude;
+  source = content_of files named.source;
+  report = content_named files named.report;
+}
+
+abbrev pub inputs_asked : List (List ℕ × List ℕ) → Option Task → Inputs
+inputs_asked files None = inputs_of files None
+inputs_asked files (Some task) = inputs_of files (names_of task)
+
+abbrev pub inputs_in : List (List ℕ × List ℕ) → List (List ℕ) → Inputs
+inputs_in files words = inputs_asked files (meaning_of words)
