@@ -1,0 +1,10 @@
+mod Lattices
+mod Tokens
+mod Indices
+mod Units
+mod Preludes
+mod Programs
+mod Judging
+mod Checking
+mod Sources
+mod Outcomes

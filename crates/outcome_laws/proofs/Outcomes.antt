@@ -1,0 +1,248 @@
+-- The outcome is one.
+use Rattle.std.proofs.Common.{◌≡◌, ℕ, ◌<◌, true, false, List, [], ◌∷◌, ◌++◌, length, Some, None, refl, sym, ◌∙◌, ap, subst, arith, zero, suc}
+use Rattle.lattice_core.specs.Order.{IsLattice}
+use Rattle.lattice_core.specs.View.{LatticeView, AreLattices, orders_of}
+use Rattle.lattice_core.specs.Names.{words_of}
+use Rattle.lattice_file.specs.Blocks.{BlockView, AreAllBuilt}
+use Rattle.c_reading.specs.UnitLaws.{OneUnitAtMost}
+use Rattle.c_types.specs.Sources.{UnitRead}
+use Rattle.index_words.specs.Marks.{IndexMark}
+use Rattle.report_checks.specs.declared.judging.Checked.TheVariants.{Hold, Bad}
+use Rattle.report_checks.specs.Texts.{checked_text}
+use Rattle.generated_source.specs.Source.{generated_text, lattice_text}
+use Rattle.generated_source.specs.Summary.{summary_text}
+use Rattle.cqual_words.specs.Words.{Task, Generate}
+use Rattle.cq_prelude.specs.declared.fault.PreludeFault.{PreludeFault}
+use Rattle.cqual_tool.specs.declared.status.Status.{Status}
+use Rattle.cqual_tool.specs.declared.status.Status.TheVariants.{Malformed}
+use Rattle.cqual_tool.specs.Words.{FileNames, names_of}
+use Rattle.cqual_tool.specs.Inputs.{Inputs}
+use Rattle.cqual_tool.specs.Programs.{Judging, judging_of}
+use Rattle.cqual_tool.specs.Outcome.{source_limit, annotated_unit, made_names, sum_status, LatticesRead, PreludeFails, AreBefore, NoPrelude, OnePrelude, IsRefused, IsCounted, IsReport, IsRight, IsWrong, IsChecked, Holding, Failing, IsEnd, Inferred, ReportTooLarge, ReportChecked, OfSource, SourceTooLarge, SourceRefused, SourceRead, OfUnits, PreludeTooLarge, PreludeRefused, PreludeRead, OfFiles, LatticeTooLarge, LatticeRefused, LatticeRead, IsSummed, SummedUp, OfMade, MadeLatticesRefused, MadeTooLarge, MadeRefused, MadeRead, OfTask, OfProgram, OfGenerated, WithoutMeaning, WithMeaning}
+use Rattle.outcome_laws.specs.Outcomes.{HasOneText, OneOutcome}
+use Rattle.outcome_laws.proofs.Lattices.{one_reading_of_lattices}
+use Rattle.outcome_laws.proofs.Judging.{one_judgement, one_error_count}
+use Rattle.outcome_laws.proofs.Checking.{one_check}
+use Rattle.outcome_laws.proofs.Preludes.{one_prelude}
+use Rattle.outcome_laws.proofs.Programs.{SameIndices, judged_same}
+use Rattle.outcome_laws.proofs.Sources.{source_once, never_refused}
+
+abbrev Same : Status → Status → List ℕ → List ℕ → Type 0
+Same s t x y = (s ≡ t) × (HasOneText s → x ≡ y)
+
+-- where a text is free
+malformed : (x y : List ℕ) → Same Malformed Malformed x y
+malformed x y = (refl, λ text. absurd text)
+
+-- the report of what is inferred, and of a report that is checked
+
+module _ (named : FileNames) (it : Judging) (are : AreLattices it.scene.lattices) where
+  report_once : (s t : Status) (x y : List ℕ) → IsReport named it s x → IsReport named it t y → Same s t x y
+  report_once _ _ _ _ (IsRight x h) (IsRight y k) =
+      (refl, λ text. (one_judgement it.scene it.system (annotated_unit named.annotated) are true x h).one_text refl y k)
+  report_once _ _ _ _ (IsRight x h) (IsWrong y k) =
+      let e = (one_judgement it.scene it.system (annotated_unit named.annotated) are true x h).only false y k in absurd cc
+  report_once _ _ _ _ (IsWrong x h) (IsRight y k) =
+      let e = (one_judgement it.scene it.system (annotated_unit named.annotated) are false x h).only true y k in absurd cc
+  report_once _ _ _ _ (IsWrong x h) (IsWrong y k) = (refl, λ text. absurd text)
+
+check_once : (it : Judging) (bytes : List ℕ) (s t : Status) (x y : List ℕ) → IsChecked it bytes s x → IsChecked it bytes t y → Same s t x y
+check_once it bytes _ _ _ _ (Holding h never) (Holding k no_more) = (refl, λ text. refl)
+check_once it bytes _ _ _ _ (Holding h never) (Failing line code k) =
+    let e : Hold ≡ Bad line code = one_check it.system (orders_of it.scene.lattices) bytes Hold (Bad line code) h k in absurd cc
+check_once it bytes _ _ _ _ (Failing line code h) (Holding k never) =
+    let e : Bad line code ≡ Hold = one_check it.system (orders_of it.scene.lattices) bytes (Bad line code) Hold h k in absurd cc
+check_once it bytes _ _ _ _ (Failing line code h) (Failing other tag k) =
+    (refl, λ text. ap checked_text (one_check it.system (orders_of it.scene.lattices) bytes (Bad line code) (Bad other tag) h k))
+
+module _ (named : FileNames) (inputs : Inputs) (it : Judging) (are : AreLattices it.scene.lattices) where
+  end_once : (s t : Status) (x y : List ℕ) → IsEnd named inputs it s x → IsEnd named inputs it t y → Same s t x y
+  end_once _ _ _ _ (Inferred s x none h) (Inferred t y none_too k) = report_once named it are s t x y h k
+  end_once _ _ _ _ (Inferred s x none h) (ReportTooLarge file some over) = absurd cc
+  end_once _ _ _ _ (Inferred s x none h) (ReportChecked file t y some within k) = absurd cc
+  end_once _ _ _ _ (ReportTooLarge file some over) (Inferred t y none k) = absurd cc
+  end_once _ _ _ _ (ReportTooLarge file some over) (ReportTooLarge other too above) = malformed _ _
+  end_once _ _ _ _ (ReportTooLarge file some over) (ReportChecked other t y too within k) = absurd (omega (arith, over, within))
+  end_once _ _ _ _ (ReportChecked file s x some within h) (Inferred t y none k) = absurd cc
+  end_once _ _ _ _ (ReportChecked file s x some within h) (ReportTooLarge other too over) = absurd (omega (arith, over, within))
+  end_once _ _ _ _ (ReportChecked file s x some within h) (ReportChecked other t y too fits k) = check_once it inputs.report s t x y h k
+
+-- the source
+
+module _ (one_unit : OneUnitAtMost) (named : FileNames) (inputs : Inputs) (lattices : List LatticeView) (are : AreLattices lattices) where
+  too_large : (before : List UnitRead) (marks : List IndexMark) (it : UnitRead) → source_limit < length inputs.source →
+      IsCounted named lattices before marks inputs.source it → ⊥
+  too_large before marks it over h = let within = h.reads.parses.lexes.within in omega (arith, over, within)
+
+  ends_once : (marks said : List IndexMark) (units others : List UnitRead) → SameIndices marks said → units ≡ others → (s t : Status) (x y : List ℕ) →
+      IsEnd named inputs (judging_of named lattices marks units) s x → IsEnd named inputs (judging_of named lattices said others) t y → Same s t x y
+  ends_once marks said units others same e s t x y h k =
+      end_once named inputs (judging_of named lattices marks units) are s t x y h
+      (subst (λ (j : Judging). IsEnd named inputs j t y) (sym (judged_same named lattices marks said units others same e)) k)
+
+  module _ (before : List UnitRead) where
+    source_one : (marks said : List IndexMark) → SameIndices marks said → (s t : Status) (x y : List ℕ) →
+        OfSource named inputs lattices before marks s x → OfSource named inputs lattices before said t y → Same s t x y
+    source_one marks said same _ _ _ _ (SourceTooLarge over) (SourceTooLarge above) = malformed _ _
+    source_one marks said same _ _ _ _ (SourceTooLarge over) (SourceRefused y k) = malformed _ _
+    source_one marks said same _ _ _ _ (SourceTooLarge over) (SourceRead it t y counted k) = absurd (too_large before said it over counted)
+    source_one marks said same _ _ _ _ (SourceRefused x h) (SourceTooLarge over) = malformed _ _
+    source_one marks said same _ _ _ _ (SourceRefused x h) (SourceRefused y k) = malformed _ _
+    source_one marks said same _ _ _ _ (SourceRefused x h) (SourceRead it t y counted k) =
+        absurd (never_refused lattices inputs.source one_unit named before said marks (λ p. sym (same p)) it counted x h)
+    source_one marks said same _ _ _ _ (SourceRead it s x counted h) (SourceTooLarge over) = absurd (too_large before marks it over counted)
+    source_one marks said same _ _ _ _ (SourceRead it s x counted h) (SourceRefused y k) =
+        absurd (never_refused lattices inputs.source one_unit named before marks said same it counted y k)
+    source_one marks said same _ _ _ _ (SourceRead it s x counted h) (SourceRead other t y too k) =
+        ends_once marks said (before ++ it ∷ []) (before ++ other ∷ []) same
+        (ap (λ (u : UnitRead). before ++ u ∷ []) (source_once lattices inputs.source one_unit it other counted.reads.parses too.reads.parses))
+        s t x y h k
+
+  -- the prelude
+
+  before_once : (one other : List UnitRead) (marks said : List IndexMark) → AreBefore named inputs lattices one marks →
+      AreBefore named inputs lattices other said → (one ≡ other) × SameIndices marks said
+  before_once _ _ _ _ (NoPrelude none) (NoPrelude none_too) = (refl, λ p. refl)
+  before_once _ _ _ _ (NoPrelude none) (OnePrelude file unit said some k) = absurd cc
+  before_once _ _ _ _ (OnePrelude file unit marks some h) (NoPrelude none) = absurd cc
+  before_once _ _ _ _ (OnePrelude file unit marks some h) (OnePrelude name other said too k) =
+      let is = one_prelude one_unit h.words (words_of lattices) inputs.prelude unit marks h.mean h.is in
+      (ap (λ (u : UnitRead). u ∷ []) (is.only k.words other said k.mean k.is), is.numbers k.words other said k.mean k.is)
+
+  before_fits : (before : List UnitRead) (marks : List IndexMark) (file : List ℕ) → named.prelude ≡ Some file → source_limit < length inputs.prelude →
+      AreBefore named inputs lattices before marks → ⊥
+  before_fits _ _ file some over (NoPrelude none) = absurd cc
+  before_fits _ _ file some over (OnePrelude name unit marks too h) = let within = h.within in omega (arith, over, within)
+
+  before_reads : (before : List UnitRead) (marks : List IndexMark) (file : List ℕ) (fault : PreludeFault) → named.prelude ≡ Some file →
+      PreludeFails lattices inputs.prelude fault → AreBefore named inputs lattices before marks → ⊥
+  before_reads _ _ file fault some fails (NoPrelude none) = absurd cc
+  before_reads _ _ file fault some fails (OnePrelude name unit marks too h) =
+      (one_prelude one_unit h.words (words_of lattices) inputs.prelude unit marks h.mean h.is).sound fails.words fault fails.mean fails.reason
+      fails.refused
+
+  units_one : (s t : Status) (x y : List ℕ) → OfUnits named inputs lattices s x → OfUnits named inputs lattices t y → Same s t x y
+  units_one _ _ _ _ (PreludeTooLarge file some over) (PreludeTooLarge name too above) = malformed _ _
+  units_one _ _ _ _ (PreludeTooLarge file some over) (PreludeRefused name fault too fails) = malformed _ _
+  units_one _ _ _ _ (PreludeTooLarge file some over) (PreludeRead before marks t y reads k) = absurd (before_fits before marks file some over reads)
+  units_one _ _ _ _ (PreludeRefused file fault some fails) (PreludeTooLarge name too over) = malformed _ _
+  units_one _ _ _ _ (PreludeRefused file fault some fails) (PreludeRefused name other too also) = malformed _ _
+  units_one _ _ _ _ (PreludeRefused file fault some fails) (PreludeRead before marks t y reads k) =
+      absurd (before_reads before marks file fault some fails reads)
+  units_one _ _ _ _ (PreludeRead before marks s x reads h) (PreludeTooLarge name too over) = absurd (before_fits before marks name too over reads)
+  units_one _ _ _ _ (PreludeRead before marks s x reads h) (PreludeRefused name fault too fails) =
+      absurd (before_reads before marks name fault too fails reads)
+  units_one _ _ _ _ (PreludeRead before marks s x reads h) (PreludeRead ahead said t y also k) =
+      let same = before_once before ahead marks said reads also in
+      source_one before marks said same.1 s t x y h
+      (subst (λ (units : List UnitRead). OfSource named inputs lattices units said t y) (sym same.0) k)
+
+-- the lattices
+
+built_lattices : (blocks : List BlockView) (lattices : List LatticeView) → AreAllBuilt blocks lattices → AreLattices lattices
+built_lattices [] [] h n view there = absurd cc
+built_lattices [] (l ∷ ls) h n view there = absurd h
+built_lattices (b ∷ bs) [] h n view there = absurd h
+built_lattices (b ∷ bs) (l ∷ ls) h zero view there =
+    let is : l ≡ view = cc in subst (λ (v : LatticeView). IsLattice v.order) is h.0.built.bounded
+built_lattices (b ∷ bs) (l ∷ ls) h (suc n) view there = built_lattices bs ls h.1 n view there
+
+read_lattices : (bytes : List ℕ) (lattices : List LatticeView) → LatticesRead bytes lattices → AreLattices lattices
+read_lattices bytes lattices h = built_lattices h.read.blocks lattices h.read.built
+
+module _ (one_unit : OneUnitAtMost) where
+  files_one : (named : FileNames) (inputs : Inputs) (s t : Status) (x y : List ℕ) → OfFiles named inputs s x → OfFiles named inputs t y → Same s t x y
+  files_one named inputs _ _ _ _ (LatticeTooLarge over) (LatticeTooLarge above) = malformed _ _
+  files_one named inputs _ _ _ _ (LatticeTooLarge over) (LatticeRefused fault fails) = malformed _ _
+  files_one named inputs _ _ _ _ (LatticeTooLarge over) (LatticeRead lattices t y read k) = let within = read.within in absurd (omega (arith, over, within))
+  files_one named inputs _ _ _ _ (LatticeRefused fault fails) (LatticeTooLarge over) = malformed _ _
+  files_one named inputs _ _ _ _ (LatticeRefused fault fails) (LatticeRefused other also) = malformed _ _
+  files_one named inputs _ _ _ _ (LatticeRefused fault fails) (LatticeRead lattices t y read k) =
+      absurd ((one_reading_of_lattices inputs.lattice lattices read.read).sound fault fails.reason fails.refused)
+  files_one named inputs _ _ _ _ (LatticeRead lattices s x read h) (LatticeTooLarge over) = let within = read.within in absurd (omega (arith, over, within))
+  files_one named inputs _ _ _ _ (LatticeRead lattices s x read h) (LatticeRefused fault fails) =
+      absurd ((one_reading_of_lattices inputs.lattice lattices read.read).sound fault fails.reason fails.refused)
+  files_one named inputs _ _ _ _ (LatticeRead lattices s x read h) (LatticeRead others t y also k) =
+      let same : lattices ≡ others = (one_reading_of_lattices inputs.lattice lattices read.read).only others also.read in
+      units_one one_unit named inputs lattices (read_lattices inputs.lattice lattices read) s t x y h
+      (subst (λ (ls : List LatticeView). OfUnits named inputs ls t y) (sym same) k)
+
+  -- a source that the tool makes itself
+
+  sum_once : (number : ℕ) (it : Judging) (s t : Status) (x y : List ℕ) → IsSummed number it s x → IsSummed number it t y → Same s t x y
+  sum_once number it _ _ _ _ (SummedUp errors h right wrong) (SummedUp others k good bad) =
+      let same : errors ≡ others = one_error_count it.scene it.system (length it.system.constraints) errors others h k in (
+        ap sum_status same,
+        λ text. ap (λ (n : ℕ). summary_text number (record {
+          variables = length it.scene.positions;
+          constraints = length it.system.constraints;
+          sites = length it.system.sites;
+          errors = n;
+        })) same,
+      )
+
+  module _ (number : ℕ) where
+    made_fits : (lattices : List LatticeView) (it : UnitRead) → source_limit < length (generated_text number) →
+        IsCounted made_names lattices [] [] (generated_text number) it → ⊥
+    made_fits lattices it over h = let within = h.reads.parses.lexes.within in omega (arith, over, within)
+
+    made_reads : (lattices others : List LatticeView) (it : UnitRead) (text : List ℕ) → LatticesRead lattice_text lattices →
+        LatticesRead lattice_text others → IsCounted made_names lattices [] [] (generated_text number) it →
+        IsRefused made_names others [] [] (generated_text number) text → ⊥
+    made_reads lattices others it text read also h refused =
+        never_refused lattices (generated_text number) one_unit made_names [] [] [] (λ p. refl) it h text
+        (subst (λ (ls : List LatticeView). IsRefused made_names ls [] [] (generated_text number) text)
+        (sym ((one_reading_of_lattices lattice_text lattices read.read).only others also.read)) refused)
+
+    made_one : (s t : Status) (x y : List ℕ) → OfMade number s x → OfMade number t y → Same s t x y
+    made_one _ _ _ _ (MadeLatticesRefused fault fails) (MadeLatticesRefused other also) = malformed _ _
+    made_one _ _ _ _ (MadeLatticesRefused fault fails) (MadeTooLarge over) = malformed _ _
+    made_one _ _ _ _ (MadeLatticesRefused fault fails) (MadeRefused lattices y read k) = malformed _ _
+    made_one _ _ _ _ (MadeLatticesRefused fault fails) (MadeRead lattices it t y read counted k) =
+        absurd ((one_reading_of_lattices lattice_text lattices read.read).sound fault fails.reason fails.refused)
+    made_one _ _ _ _ (MadeTooLarge over) (MadeLatticesRefused fault fails) = malformed _ _
+    made_one _ _ _ _ (MadeTooLarge over) (MadeTooLarge above) = malformed _ _
+    made_one _ _ _ _ (MadeTooLarge over) (MadeRefused lattices y read k) = malformed _ _
+    made_one _ _ _ _ (MadeTooLarge over) (MadeRead lattices it t y read counted k) = absurd (made_fits lattices it over counted)
+    made_one _ _ _ _ (MadeRefused lattices x read h) (MadeLatticesRefused fault fails) = malformed _ _
+    made_one _ _ _ _ (MadeRefused lattices x read h) (MadeTooLarge over) = malformed _ _
+    made_one _ _ _ _ (MadeRefused lattices x read h) (MadeRefused others y also k) = malformed _ _
+    made_one _ _ _ _ (MadeRefused lattices x read h) (MadeRead others it t y also counted k) =
+        absurd (made_reads others lattices it x also read counted h)
+    made_one _ _ _ _ (MadeRead lattices it s x read counted h) (MadeLatticesRefused fault fails) =
+        absurd ((one_reading_of_lattices lattice_text lattices read.read).sound fault fails.reason fails.refused)
+    made_one _ _ _ _ (MadeRead lattices it s x read counted h) (MadeTooLarge over) = absurd (made_fits lattices it over counted)
+    made_one _ _ _ _ (MadeRead lattices it s x read counted h) (MadeRefused others y also k) =
+        absurd (made_reads lattices others it y read also counted k)
+    made_one _ _ _ _ (MadeRead lattices it s x read counted h) (MadeRead others other t y also too k) =
+        let same : lattices ≡ others = (one_reading_of_lattices lattice_text lattices read.read).only others also.read in
+        let counts : IsCounted made_names lattices [] [] (generated_text number) other =
+        subst (λ (ls : List LatticeView). IsCounted made_names ls [] [] (generated_text number) other) (sym same) too in
+        let unit : it ≡ other = source_once lattices (generated_text number) one_unit it other counted.reads.parses counts.reads.parses in
+        sum_once number (judging_of made_names lattices [] (it ∷ [])) s t x y h
+        (subst (λ (j : Judging). IsSummed number j t y) (λ i. judging_of made_names (sym same i) [] (sym unit i ∷ [])) k)
+
+  -- what is asked
+
+  task_one : (inputs : Inputs) (task : Task) (s t : Status) (x y : List ℕ) → OfTask inputs task s x → OfTask inputs task t y → Same s t x y
+  task_one inputs task _ _ _ _ (OfProgram named s x names h) (OfProgram other t y also k) =
+      let both : Some named ≡ Some other = sym names ∙ also in
+      let same : named ≡ other = cc in
+      files_one named inputs s t x y h (subst (λ (n : FileNames). OfFiles n inputs t y) (sym same) k)
+  task_one inputs task _ _ _ _ (OfProgram named s x names h) (OfGenerated number t y is k) =
+      let none : None ≡ Some named = sym (ap names_of is) ∙ names in absurd cc
+  task_one inputs task _ _ _ _ (OfGenerated number s x is h) (OfProgram named t y names k) =
+      let none : None ≡ Some named = sym (ap names_of is) ∙ names in absurd cc
+  task_one inputs task _ _ _ _ (OfGenerated number s x is h) (OfGenerated other t y also k) =
+      let both : Generate number ≡ Generate other = sym is ∙ also in
+      let same : number ≡ other = cc in
+      made_one number s t x y h (subst (λ (n : ℕ). OfMade n t y) (sym same) k)
+
+pub one_outcome : OneUnitAtMost → OneOutcome
+one_outcome one_unit words inputs _ _ _ _ (WithoutMeaning none) (WithoutMeaning none_too) = (refl, λ text. refl)
+one_outcome one_unit words inputs _ _ _ _ (WithoutMeaning none) (WithMeaning task t y means k) = absurd cc
+one_outcome one_unit words inputs _ _ _ _ (WithMeaning task s x means h) (WithoutMeaning none) = absurd cc
+one_outcome one_unit words inputs _ _ _ _ (WithMeaning task s x means h) (WithMeaning other t y also k) =
+    let both : Some task ≡ Some other = sym means ∙ also in
+    let same : task ≡ other = cc in
+    task_one one_unit inputs task s t x y h (subst (λ (it : Task). OfTask inputs it t y) (sym same) k)

@@ -1,0 +1,5 @@
+use Rattle.outcome_laws.proofs.Outcomes.{one_outcome}
+use Rattle.outcome_laws.proofs.laws.one_outcome.Goals as goal
+
+pub returns : goal.returns
+returns c = one_outcome c.one_unit_at_most.ensures

@@ -1,0 +1,5 @@
+pub mod Readings
+pub mod Indices
+pub mod Preludes
+pub mod Judgements
+pub mod Outcomes

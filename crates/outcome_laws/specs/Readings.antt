@@ -1,0 +1,35 @@
+-- What bytes read as is one, and no fault of theirs stands beside it.
+use Rattle.std.specs.Prelude.{◌≡◌, ◌≢◌, ℕ, List}
+use Rattle.qual_base.specs.Words.{MeansTheSame}
+use Rattle.lattice_core.specs.View.{LatticeView}
+use Rattle.lattice_file.specs.Faults.{Reads, IsFileFault}
+use Rattle.lattice_file.specs.declared.reading.LatticeFileFault.{LatticeFileFault}
+use Rattle.lattice_file.specs.declared.reading.LatticeFileFault.TheVariants.{NoMemory as OutOfMemory}
+use Rattle.c_lexer.specs.Reading.{Meanings}
+use Rattle.c_lexer.specs.Tokens.{Lexed, IsMarkedBy}
+use Rattle.c_lexer.specs.Refusals.{IsRefusal}
+use Rattle.c_lexer.specs.declared.lexing.LexFault.{LexFault}
+use Rattle.c_lexer.specs.declared.lexing.LexFault.TheVariants.{NoMemory as NoRoom}
+
+-- The lattices that bytes read as are one list, and bytes that read as lattices have no fault.
+pub record LatticesAreOne (bytes : List ℕ) (lattices : List LatticeView) : Type 0 where
+  pub only : (others : List LatticeView) → Reads bytes others → lattices ≡ others
+  pub sound : (fault : LatticeFileFault) → fault ≢ OutOfMemory → IsFileFault bytes fault → ⊥
+
+abbrev pub OneReadingOfLattices : Type 0
+OneReadingOfLattices = (bytes : List ℕ) (lattices : List LatticeView) → Reads bytes lattices → LatticesAreOne bytes lattices
+
+-- the bytes of a unit spell these tokens, where words mean what these meanings say
+pub record Lexes (unit : ℕ) (meanings : Meanings) (bytes : List ℕ) (lexed : Lexed) : Type 0 where
+  pub unit_is : lexed.unit ≡ unit
+  pub bytes_are : lexed.bytes ≡ bytes
+  pub marks : IsMarkedBy meanings lexed
+
+-- The tokens that the bytes of a unit spell are one list, with one meaning of each word, and bytes that spell tokens stop nowhere.
+pub record TokensAreOne (unit : ℕ) (meanings : Meanings) (bytes : List ℕ) (lexed : Lexed) : Type 0 where
+  pub only : (other : Lexed) → Lexes unit meanings bytes other → lexed ≡ other
+  pub sound : (words : Meanings) (fault : LexFault) → MeansTheSame words meanings → fault ≢ NoRoom → IsRefusal unit words bytes fault → ⊥
+
+abbrev pub OneListOfTokens : Type 0
+OneListOfTokens = (unit : ℕ) (meanings : Meanings) (bytes : List ℕ) (lexed : Lexed) → Lexes unit meanings bytes lexed →
+    TokensAreOne unit meanings bytes lexed
