@@ -14,7 +14,7 @@ use Rattle.constraint_gen.specs.Programs.{program_in}
 use Rattle.constraint_gen.proofs.Sources.{both_ok, within_ok, starts_are, counted, system_found, made}
 use Rattle.constraint_gen.proofs.generating.system.Goals as goal
 
-module _ (c : goal.After-drop-marks) (all : List UnitRead) (is : IsProgramOf all c.args.units.now c.args.program.now) where
+module _ (c : goal.After-drop-marks-2) (all : List UnitRead) (is : IsProgramOf all c.args.units.now c.args.program.now) where
   -- the variables are as many as their positions
   count : variables_among (starts_on c.args.program.now) ≡ length (positions_of (starts_of (sources_in all)))
   count =
