@@ -61,10 +61,6 @@ fn main(rt: HostRuntime) -> ExitCode {
     let Ok(source) = take_all(alloc, &mut files, source_name, LIMIT) else {
         return ExitCode::from(1);
     };
-    // (`take_all` took no more; `list` wants it said of the numbers)
-    if lattice.len() > LIMIT || source.len() > LIMIT {
-        return ExitCode::from(1);
-    }
     let Ok(text) = list(alloc, &lattice, source_name, &source) else {
         return ExitCode::from(2);
     };
