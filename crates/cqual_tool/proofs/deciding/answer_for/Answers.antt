@@ -1,9 +1,10 @@
-use Rattle.std.proofs.Common.{Some, Err, ap, refl, sym, ◌∙◌}
+use Rattle.std.proofs.Common.{Some, Ok, Err, ap, refl, sym, ◌∙◌}
 use Rattle.std.proofs.lemmas.Result.{err_from_is_err_and}
 use Rattle.cqual_words.specs.declared.asked.Asked.{Asked}
 use Rattle.cqual_words.specs.Asked.{task_of}
 use Rattle.cqual_tool.specs.declared.taking.Stop.TheVariants.{NoMemory}
 use Rattle.cqual_tool.specs.Words.{names_in, names_of}
+use Rattle.cqual_tool.specs.Outcome.{OfGenerated}
 use Rattle.cqual_tool.proofs.Stages.{of_made, of_task}
 use Rattle.cqual_tool.proofs.deciding.answer_for.Goals as goal
 
@@ -26,3 +27,9 @@ pub returns-in-Check-clause-reads : goal.returns-in-Check-clause-reads
 returns-in-Check-clause-reads g c =
     let some = ap (λ (a : Asked). names_of (task_of a)) c.in-Check.is ∙ ap Some (sym c.of_files-in-Check.ensures) in
     of_task _ _ (task_of c.args.asked.now) (names_in c.of_files-in-Check.result) some c.answer-in-Check.result c.answer-in-Check.ensures.reads
+
+pub returns-in_ok-made_answer-in-Generate-clause-reads : goal.returns-in_ok-made_answer-in-Generate-clause-reads
+returns-in_ok-made_answer-in-Generate-clause-reads g c =
+    let is = ap task_of c.in-Generate.is in
+    of_made _ (task_of c.args.asked.now) _ is (Ok c.in_ok-made_answer-in-Generate.field-0)
+    (refl, λ inputs reads. OfGenerated _ _ _ is c.in_ok-made_answer-in-Generate.ensures.outcome)
