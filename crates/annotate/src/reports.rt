@@ -245,8 +245,9 @@ fn put_errors(
     Ok(())
 }
 
-/// The rejected report, of which this is the first exceeded bound. It takes a search for each element of a lattice that exceeds some bound; beside that its time is
-/// linear in the constraints, at most 64 steps for each, in its text, and in the places of its lines.
+/// The rejected report of a system of which this is the first exceeded bound. It takes a search for each element of a lattice that
+/// exceeds some bound; beside that its time is linear in the constraints, at most 64 steps for each, in its text, and in the places
+/// of its lines.
 pub fn rejected(
     alloc: Global,
     scene: &Scene<'_>,

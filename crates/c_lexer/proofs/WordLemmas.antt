@@ -4,7 +4,8 @@ use Rattle.std.specs.Prelude.{bytes_eq}
 use Rattle.std.proofs.lemmas.Slice.Eq.{bytes_eq-Decides}
 use Rattle.std.proofs.lemmas.Bool.Decides.{eqb_tells}
 use Rattle.c_lexer.specs.declared.kinds.Word.{Word}
-use Rattle.c_lexer.specs.Words.{kind_in, joined, have_length, by_length}
+use Rattle.c_lexer.specs.Lengths.{joined, have_length, by_length}
+use Rattle.c_lexer.specs.Words.{kind_in}
 
 both_one : (a b : Bool) → a && b ≡ true → a ≡ true
 both_one true b is = refl

@@ -1,4 +1,5 @@
 pub mod Gaps
+pub mod Lengths
 pub mod Marks
 pub mod Names
 pub mod Numbering

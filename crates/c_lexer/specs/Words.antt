@@ -1,5 +1,5 @@
 -- The words and the signs of C, each with the kind of token that it is.
-use Rattle.std.specs.Prelude.{ℕ, suc, length, nat_eq, Bool, true, ◌&&◌, List, [], ◌∷◌, ◌++◌, Option, Some, None, bytes_eq, codes, find, option_map, if◌then◌else◌}
+use Rattle.std.specs.Prelude.{ℕ, List, [], ◌∷◌, Option, Some, None, bytes_eq, codes, find, option_map, if◌then◌else◌}
 use Rattle.c_lexer.specs.declared.kinds.Word.{Word}
 use Rattle.c_lexer.specs.declared.kinds.Word.TheVariants.{Keyword as AsKeyword, Text as AsText}
 use Rattle.c_words.specs.declared.kinds.Keyword.TheVariants.{Auto, Break, Case, Char, Const, Continue, Default, Do, Double, Else, Enum, Extern, Float, For, Goto, If, Inline, Int, Long, Register, Restrict, Return, Short, Signed, Sizeof, Static, Struct, Switch, Typedef, Union, Unsigned, Void, Volatile, While, Bool as BoolWord, Complex, Imaginary, Asm, Attribute, Alignof, Thread, Extension, Noreturn, StaticAssert, BaseWord, Int128, VaArg, VaStart, VaCopy, Offsetof, Reserved}
@@ -106,21 +106,6 @@ words =
 abbrev pub kind_in : List (List ℕ × Word) → List ℕ → Option Word
 kind_in [] word = None
 kind_in (entry ∷ entries) word = if bytes_eq word entry.0 then Some entry.1 else kind_in entries word
-
--- tables, one behind the other
-abbrev pub joined : List (List (List ℕ × Word)) → List (List ℕ × Word)
-joined [] = []
-joined (table ∷ tables) = table ++ joined tables
-
--- whether all words of a table have a length
-abbrev pub have_length : ℕ → List (List ℕ × Word) → Bool
-have_length n [] = true
-have_length n (entry ∷ entries) = nat_eq (length entry.0) n && have_length n entries
-
--- whether tables have the words of each length, from one on
-abbrev pub by_length : ℕ → List (List (List ℕ × Word)) → Bool
-by_length n [] = true
-by_length n (table ∷ tables) = have_length n table && by_length (suc n) tables
 
 -- what a word is that is no name
 unfoldable pub word_kind : List ℕ → Option Word

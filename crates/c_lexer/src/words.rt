@@ -1,7 +1,8 @@
 //! The words that are no names.
 
 ghost use Rattle.std.specs.Prelude.{◌≡◌, map, true};
-ghost use Rattle.c_lexer.specs.Words.{words, kind_in, joined, by_length, word_kind};
+ghost use Rattle.c_lexer.specs.Lengths.{joined, by_length};
+ghost use Rattle.c_lexer.specs.Words.{words, kind_in, word_kind};
 
 use crate::kinds::Word;
 use c_words::Keyword;
@@ -174,7 +175,7 @@ fn find_by_length(tables: &[&[(&[u8], Word)]], word: &[u8]) -> Option<Word>
     find_word(tables[word.len()], word)
 }
 
-/// What a word is that is no name. It is compared with at most 17 words.
+/// What a word is that is no name. It is compared with at most 20 words.
 #[tactic(auto, unfolding(crate::specs::Words::words, crate::specs::Words::word_kind))]
 pub(crate) fn kind_of_word(word: &[u8]) -> Option<Word>
     ensures { result ≡ word_kind word.now }
