@@ -12,7 +12,7 @@ use Rattle.annotate.specs.declared.scene.Scene.{Scene as Lent}
 use Rattle.annotate.specs.declared.solving.Solved.{Solved}
 use Rattle.annotate.specs.Texts.{Scene}
 use Rattle.annotate.specs.Scenes.{Shows}
-use Rattle.annotate.specs.Solutions.{NoneBefore, IsFirstOver, AreKept, CountsOver, earlier}
+use Rattle.annotate.specs.Solutions.{IsFirstOver, AreKept, earlier}
 use Rattle.annotate.specs.Reports.{IsOver, Errors, NoConstraint, NextError, NotExceeded, ErrorCount, NoneBelow, OneHolds}
 use Rattle.annotate.proofs.LatticeLemmas.{order_there}
 use Rattle.annotate.proofs.SolutionLemmas.{KeptBelow, kept_next}

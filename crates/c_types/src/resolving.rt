@@ -19,8 +19,7 @@ use unit_types::{Program, ShapeFault, UnitTape, resolve_units};
 /// The names and types of units from their tapes, or the first fault of the sources whose tapes these are: that of the earliest
 /// source, there at the earliest token, of several there that of the lowest rule.
 ///
-/// Time is linear in the tapes, but for growth, for looking names up in the scopes that are open, and for the words and
-/// parameters of the types that are made. Memory is linear in the tapes. Sources of 2^32 and more tokens together are more than
+/// Time is linear in the tapes, but for growth and for the words and parameters of the types that are made. Memory is linear in the tapes. Sources of 2^32 and more tokens together are more than
 /// there is memory for.
 pub fn resolve_tapes(alloc: Global, tapes: Vec<UnitTape>) -> Result<Program, ShapeFault>
     ensures none { IfOk result
@@ -43,9 +42,8 @@ pub fn resolve_tapes(alloc: Global, tapes: Vec<UnitTape>) -> Result<Program, Sha
 /// source, there at the earliest token, of several there that of the lowest rule. Each unit is well
 /// formed of some tokens, as every unit that was parsed is.
 ///
-/// Time is linear in the units and their tokens, but for growth, for looking names up in the scopes
-/// that are open, and for the words and parameters of the types that are made. Memory is linear in
-/// the units and their tokens. Sources of 2^32 and more tokens together are more than there is
+/// Time is linear in the units and their tokens, but for growth and for the words and parameters of
+/// the types that are made. Memory is linear in the units and their tokens. Sources of 2^32 and more tokens together are more than there is
 /// memory for.
 pub fn resolve(alloc: Global, sources: &[Source]) -> Result<Program, ShapeFault>
     requires formed { All IsSound (sources_of sources.now) }

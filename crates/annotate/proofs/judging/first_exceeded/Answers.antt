@@ -1,9 +1,5 @@
-use Rattle.std.proofs.Common.{◌≡◌, ◌<◌, ℕ, ◌+◌, List, Option, Some, None, IfSome, IfNone, slice_get, length, sym, ◌∙◌, ap, subst, arith}
-use Rattle.std.proofs.lemmas.Option.{slice_get_within}
-use Rattle.lattice_core.specs.Order.{Order}
-use Rattle.lattice_core.specs.View.{LatticeView, orders_of}
-use Rattle.flow_graph.specs.Unfolding.{IsExceeded, NamesElementsIn}
-use Rattle.annotate.proofs.LatticeLemmas.{order_there}
+use Rattle.std.proofs.Common.{ℕ, slice_get, sym, ◌∙◌, ap, subst, arith}
+use Rattle.flow_graph.specs.Unfolding.{NamesElementsIn}
 use Rattle.annotate.proofs.Firsts.{none_first, next_first, own_of, first_of_all, kept_of_all}
 use Rattle.annotate.proofs.judging.first_exceeded.Goals as goal
 

@@ -1,4 +1,4 @@
-use Rattle.std.proofs.Common.{◌≡◌, ℕ, ◌+◌, arith, sym, ◌∙◌, map, length}
+use Rattle.std.proofs.Common.{arith, sym, ◌∙◌, length}
 use Rattle.c_lexer.proofs.WordLemmas.{of_length, past_all}
 use Rattle.c_lexer.proofs.words.find_by_length.Goals as goal
 
