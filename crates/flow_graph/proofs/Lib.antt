@@ -1,7 +1,7 @@
 mod Highest
 mod Bounds
 mod Keeping
-mod Owners
+mod Owning
 mod Checks
 mod Sorting
 mod Listing

@@ -4,12 +4,12 @@ use Rattle.flow_graph.specs.declared.graph.FlowGraph.TheInside.{Inside}
 use Rattle.flow_graph.specs.System.{System, AllWithin, highest, most_constraints}
 
 abbrev pub system_of : Inside → System
-system_of g = record { constraints = g.constraints.items; sites = g.sites.items; owners = g.owners.items }
+system_of g = record { constraints = g.constraints.items; sites = g.sites.items; owners = g.owners }
 
 pub record IsHeld (g : Inside) : Type 0 where
   pub most : length g.constraints.items ≤ most_constraints
   pub few_sites : length g.sites.items < 2 ^ 32
-  pub few_owners : length g.owners.items ≤ 2 ^ 24
+  pub few_owners : length g.owners ≤ 2 ^ 24
   pub highest_is : g.highest ≡ highest g.constraints.items
   pub low : g.highest ≤ 2 ^ 24
   pub within : AllWithin (system_of g)

@@ -1,4 +1,5 @@
 pub mod System
+pub mod Owners
 pub mod Held
 pub mod CallStrings
 pub mod Unfolding

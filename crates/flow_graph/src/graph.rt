@@ -1,12 +1,12 @@
 //! The list of constraints, the call sites, and who owns each variable.
 
-ghost use Rattle.std.specs.Prelude.{◌≡◌, ◌<◌, ◌≤◌, ◌-◌, ◌^◌, ℕ, [], ◌∷◌, ◌++◌, Some, max, length};
-ghost use Rattle.std.specs.Prelude.{slice_get, slice_index_or, IfOk, OnErr, OnOk, IsErrOf, ◌↔◌};
-ghost use Rattle.qual_base.specs.declared.places.Owner.TheVariants.{Nobody};
+ghost use Rattle.std.specs.Prelude.{◌≡◌, ◌<◌, ◌≤◌, ◌-◌, ◌^◌, [], ◌∷◌, ◌++◌, Some, length};
+ghost use Rattle.std.specs.Prelude.{slice_get, IfOk, OnErr, OnOk, IsErrOf, ◌↔◌};
 ghost use Rattle.flow_graph.specs.System.{owner_of, vars_of, AllBelow, AllWithin, IsWithin};
 ghost use Rattle.flow_graph.specs.System.{SetsOwner};
 
 use crate::constraint::{Constraint, Link, Site};
+use crate::owners::Owners;
 use qual_base::{EdgeId, NoMemory, Numbered, Owner, SiteId, VarId};
 use std::alloc::Global;
 use std::marker::Model;
@@ -29,7 +29,7 @@ pub const MOST_CONSTRAINTS: u32 = 67_108_864;
 pub struct FlowGraph {
     constraints: Vec<Constraint>,
     sites: Vec<Site>,
-    owners: Vec<Owner>,
+    owners: Owners,
     highest: u32,
 }
 
@@ -56,9 +56,17 @@ impl FlowGraph {
         FlowGraph {
             constraints: Vec::new(alloc),
             sites: Vec::new(alloc),
-            owners: Vec::new(alloc),
+            owners: Owners::new(alloc),
             highest: 0,
         }
+    }
+
+    /// Makes room for so many constraints more, where there is memory for them; where there is none, each takes its own as it
+    /// comes. Constant time, and no page of the room is touched.
+    pub fn reserve(&mut self, constraints: u32)
+        ensures { self.new ≡ self.old }
+    {
+        let _ = self.constraints.reserve(constraints as usize);
     }
 
     /// Adds a call site. Constant time but for growth.
@@ -70,7 +78,9 @@ impl FlowGraph {
         ensures err { OnErr result (self.new ≡ self.old) }
     {
         let at = self.sites.len() as u32;
-        match self.sites.push(site) {
+        // The borrow checker has to see the type of the owner.
+        let owner = site.owner;
+        match self.sites.push(Site { owner, ..site }) {
             Ok(()) => {}
             Err(_) => return Err(NoMemory),
         }
@@ -78,16 +88,13 @@ impl FlowGraph {
     }
 
     /// Sets the owner of a variable. Constant time but for growth: the table of owners has as many places as the highest
-    /// variable whose owner was set.
+    /// variable whose owner was set, of four bytes each. A function's number is below 2^32 - 1, or there is no memory for it.
     pub fn set_owner(&mut self, at: VarId, owner: Owner) -> Result<(), NoMemory>
         requires { at < 2 ^ 24 }
         ensures ok { OnOk result (SetsOwner self.old self.new at owner) }
         ensures err { OnErr result (self.new ≡ self.old) }
     {
-        let at = at.number() as usize;
-        make_room(&mut self.owners, at + 1)?;
-        self.owners[at] = owner;
-        Ok(())
+        self.owners.set(at.number() as usize, owner)
     }
 
     /// Adds a constraint. Constant time but for growth.
@@ -156,10 +163,7 @@ impl FlowGraph {
     pub fn owner(&self, at: VarId) -> Owner
         ensures { result ≡ owner_of self.now at }
     {
-        match self.owners.get(at.number() as usize) {
-            Some(owner) => *owner,
-            None => Owner::Nobody,
-        }
+        self.owners.get(at.number() as usize)
     }
 
     /// One more than the highest variable number in a constraint or in a `set_owner`, and 0 where there is none.
@@ -169,22 +173,6 @@ impl FlowGraph {
         ensures limit { result ≤ 2 ^ 24 }
     {
         self.highest.max(self.owners.len() as u32)
-    }
-}
-
-/// Gives at least so many variables a place in the table of owners. The new ones belong to nobody.
-fn make_room(owners: &mut Vec<Owner>, count: usize) -> Result<(), NoMemory>
-    ensures room { OnOk result (length owners.new.items ≡ max (length owners.old.items) count) }
-    ensures same { (v : ℕ) →
-        slice_index_or owners.new.items v Nobody ≡ slice_index_or owners.old.items v Nobody }
-    ensures err { OnErr result (owners.new.items ≡ owners.old.items) }
-{
-    if count <= owners.len() {
-        return Ok(());
-    }
-    match owners.resize(count, Owner::Nobody) {
-        Ok(()) => Ok(()),
-        Err(_) => Err(NoMemory),
     }
 }
 

@@ -6,6 +6,7 @@ mod adjacency;
 mod conditions;
 mod constraint;
 mod graph;
+mod owners;
 mod phase;
 mod place;
 mod proof;
