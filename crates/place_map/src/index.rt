@@ -8,8 +8,9 @@ use crate::row::Row;
 use qual_base::{NoMemory, Numbered, TokenId, UnitNo};
 use std::alloc::Global;
 
-/// A number at each of some places. Memory is four bytes a token of each unit that has any, up to the last one that has, and
-/// constant for each unit up to the last one.
+/// A number at each of many places, as for declarations and uses of names. Memory is four bytes a token of each unit that has any, up
+/// to the last one that has, and constant for each unit up to the last one: the same however many places have one. For what is at
+/// less than one token of ten `PlaceMap` takes less.
 ///
 /// Clauses see it by the number at a place, `number_at`.
 #[derive(Drop)]
