@@ -8,8 +8,8 @@ use qual_base::{NoMemory, TokenId, UnitNo};
 use std::alloc::Global;
 use std::collections::HashMap;
 
-/// A value at each of few places, as for call sites. Memory is linear in their number alone: 27 to 54 bytes a value of four bytes.
-/// Where more than one token of ten has something, `PlaceIndex` takes less.
+/// A value at each of few places, as for call sites. Memory is linear in their number alone, 27 to 54 bytes a value of four bytes.
+/// Where over one token of eight has something, `PlaceIndex` takes less, and finds it faster.
 ///
 /// Clauses see it by the value at a place, `value_at`.
 #[derive(Drop)]
