@@ -1,5 +1,5 @@
 -- The first of several members is added, and others after it.
-use Rattle.std.proofs.Common.{◌≡◌, ℕ, zero, suc, ◌+◌, ◌<◌, ◌≤◌, arith, true, false, List, [], ◌∷◌, Option, Some, is_some, length, drop, slice_index_or, refl, sym, ◌∙◌, ap, if◌then◌else◌}
+use Rattle.std.proofs.Common.{◌≡◌, ℕ, zero, suc, ◌+◌, ◌<◌, ◌≤◌, arith, true, false, List, [], ◌∷◌, Some, is_some, length, drop, slice_index_or, refl, sym, ◌∙◌, ap, if◌then◌else◌}
 use Rattle.name_rules.specs.Spellings.{Place}
 use Rattle.name_rules.specs.Scopes.{is_place}
 use Rattle.place_map.specs.Values.{or_else, there}
@@ -8,36 +8,26 @@ use Rattle.place_map.specs.Values.{number_at}
 use Rattle.place_map.specs.Firsts.{first_from, AreFirst}
 use Rattle.place_map.proofs.Adding as adding
 use Rattle.place_map.proofs.Firsts as firsts
-use Rattle.name_records.specs.Held.{PlaceMap}
 use Rattle.name_records.specs.declared.body.Known.{Known}
-use Rattle.found_names.specs.First.{first_in}
-use Rattle.found_names.specs.Members.{member_there}
+use Rattle.found_names.specs.Members.{MemberTable, member_there}
 
 -- a name that has a member keeps it
-pub stays : (table : PlaceMap Known) (at : Place) (v : Known) → is_some (member_there table at) ≡ true → (p : Place)
+pub stays : (table : MemberTable) (at : Place) (v : Known) → is_some (member_there table at) ≡ true → (p : Place)
     → member_there table p ≡ or_else (member_there table p) (there at v p)
 stays table at v known p = adding.stays (member_there table) at v known p
 
 -- another gets one
-pub comes : (table : PlaceMap Known) (at : Place) (v : Known) (after : PlaceMap Known)
+pub comes : (table : MemberTable) (at : Place) (v : Known) (after : MemberTable)
     → is_some (member_there table at) ≡ false
     → ((p : Place) → member_there after p ≡ (if is_place at p then Some v else member_there table p)) → (p : Place)
     → member_there after p ≡ or_else (member_there table p) (there at v p)
 comes table at v after unknown set p = adding.comes (member_there table) at v (member_there after) unknown set p
 
--- the next of a list is added
-pub adds_on : {A V : Type 0} (entry : A → Place × V) (xs : List A) (i : ℕ) (x : A) (before after : Place → Option V)
-    → x ≡ slice_index_or xs i x → i < length xs
-    → ((p : Place) → after p ≡ or_else (before p) (there (entry x).0 (entry x).1 p)) → (p : Place)
-    → or_else (after p) (first_in entry (drop (i + 1) xs) p) ≡ or_else (before p) (first_in entry (drop i xs) p)
-adds_on entry [] i x before after is lt added p = absurd (omega arith)
-adds_on entry (y ∷ xs) zero x before after is lt added p =
-    ap (λ o. or_else o (first_in entry xs p)) (added p)
-    ∙ adding.or_assoc (before p) (there (entry x).0 (entry x).1 p) (first_in entry xs p)
-    ∙ ap (λ z. or_else (before p) (or_else (there (entry z).0 (entry z).1 p) (first_in entry xs p))) is
-adds_on entry (y ∷ xs) (suc i) x before after is lt added p =
-    let e : suc i + 1 ≡ suc (i + 1) = omega arith in
-    rw e (adds_on entry xs i x before after is (omega arith) added p)
+none_left : {A : Type 0} (xs : List A) (i : ℕ) → length xs ≤ i → drop i xs ≡ []
+none_left [] zero le = refl
+none_left [] (suc i) le = refl
+none_left (x ∷ xs) zero le = absurd (omega arith)
+none_left (x ∷ xs) (suc i) le = none_left xs i (omega arith)
 
 -- the next of a list has its number added
 pub numbers_on : {A : Type 0} (place : A → Place) (xs : List A) (i n : ℕ) (x : A) (before after : PlaceIndex)
@@ -55,9 +45,3 @@ all_numbered place xs i n index le is = record {
   same = λ p. sym (adding.or_none (number_at index p))
       ∙ ap (λ ys. or_else (number_at index p) (first_from place n ys p)) (sym (none_left xs i le)) ∙ is p;
 }
-  where
-    none_left : {A : Type 0} (xs : List A) (i : ℕ) → length xs ≤ i → drop i xs ≡ []
-    none_left [] zero le = refl
-    none_left [] (suc i) le = refl
-    none_left (x ∷ xs) zero le = absurd (omega arith)
-    none_left (x ∷ xs) (suc i) le = none_left xs i (omega arith)

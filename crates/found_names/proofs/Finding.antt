@@ -1,5 +1,5 @@
 -- What is found by the number of the first is what the rules find.
-use Rattle.std.proofs.Common.{◌≡◌, ℕ, Bool, true, false, List, [], ◌∷◌, map, Option, Some, option_map, refl, sym, ◌∙◌, ap, if◌then◌else◌}
+use Rattle.std.proofs.Common.{◌≡◌, ℕ, Bool, true, false, List, [], ◌∷◌, map, Option, Some, None, option_map, refl, sym, ◌∙◌, ap, if◌then◌else◌}
 use Rattle.type_table.specs.Types.{CType}
 use Rattle.name_rules.specs.Spellings.{Place}
 use Rattle.name_rules.specs.Scopes as rules
@@ -7,12 +7,12 @@ use Rattle.name_rules.specs.Uses.{use_at, type_named_at}
 use Rattle.name_records.specs.declared.records.NameUse.{NameUse}
 use Rattle.name_records.specs.declared.records.TypeNamed.{TypeNamed}
 use Rattle.place_map.specs.declared.index.PlaceIndex.{PlaceIndex}
-use Rattle.place_map.specs.Values.{number_at}
+use Rattle.place_map.specs.Values.{number_at, or_else}
 use Rattle.place_map.specs.Firsts.{first_from, first_item, item_of, AreFirst}
 use Rattle.place_map.proofs.Firsts.{item_is, first_map}
 use Rattle.unit_names.specs.Shown.{use_of, name_use_of, type_named_of}
-use Rattle.found_names.specs.First.{use_place, type_place, use_or_missing, type_of_some}
-use Rattle.found_names.specs.Held.{place_of_use, place_of_type}
+use Rattle.found_names.specs.First.{use_place, use_or_missing, first_in, type_entry}
+use Rattle.found_names.specs.Held.{place_of_use}
 
 use_first : (us : List NameUse) (at : Place) → use_or_missing (first_item use_place us at) ≡ use_at (map name_use_of us) at
 use_first [] at = refl
@@ -43,34 +43,14 @@ uses_first us rs index shown first = record {
       ∙ ap (λ (l : List rules.NameUse). first_from place_of_use 0 l p) shown;
 }
 
-module _ (t : ℕ → CType) where
-  type_first : (ts : List TypeNamed) (at : Place)
-      → option_map t (type_of_some (first_item type_place ts at)) ≡ type_named_at (map (type_named_of t) ts) at
-  type_first [] at = refl
-  type_first (n ∷ ts) at = by_test (rules.is_place n.at at) (type_first ts at)
-    where
-      by_test : (b : Bool)
-          → option_map t (type_of_some (first_item type_place ts at)) ≡ type_named_at (map (type_named_of t) ts) at
-          → option_map t (type_of_some (if b then Some n else first_item type_place ts at))
-          ≡ (if b then Some (t n.ty) else type_named_at (map (type_named_of t) ts) at)
-      by_test true is = refl
-      by_test false is = is
-
-  -- the type's name whose number is found
-  pub type_found : (ts : List TypeNamed) (rs : List rules.TypeNamed) (index : PlaceIndex) (at : Place) (o : Option ℕ)
-      → map (type_named_of t) ts ≡ rs → AreFirst place_of_type rs index → o ≡ number_at index at
-      → option_map t (type_of_some (item_of ts o)) ≡ type_named_at rs at
-  type_found ts rs index at o shown first is =
-      ap (λ (k : Option ℕ). option_map t (type_of_some (item_of ts k)))
-      (is ∙ first.same at ∙ ap (λ (l : List rules.TypeNamed). first_from place_of_type 0 l at) (sym shown)
-      ∙ first_map place_of_type (type_named_of t) 0 ts at)
-      ∙ ap (λ (o : Option TypeNamed). option_map t (type_of_some o)) (item_is type_place ts at) ∙ type_first ts at
-      ∙ ap (λ (l : List rules.TypeNamed). type_named_at l at) shown
-
-  -- an index of types' names is one of what they show
-  pub types_first : (ts : List TypeNamed) (rs : List rules.TypeNamed) (index : PlaceIndex)
-      → map (type_named_of t) ts ≡ rs → AreFirst type_place ts index → AreFirst place_of_type rs index
-  types_first ts rs index shown first = record {
-    same = λ p. first.same p ∙ sym (first_map place_of_type (type_named_of t) 0 ts p)
-        ∙ ap (λ (l : List rules.TypeNamed). first_from place_of_type 0 l p) shown;
-  }
+-- a type's name that is found is the one that the rules find
+pub type_first : (t : ℕ → CType) (ts : List TypeNamed) (at : Place)
+    → option_map t (first_in type_entry ts at) ≡ type_named_at (map (type_named_of t) ts) at
+type_first t [] at = refl
+type_first t (n ∷ ts) at = by_test (rules.is_place n.at at) (type_first t ts at)
+  where
+    by_test : (b : Bool) → option_map t (first_in type_entry ts at) ≡ type_named_at (map (type_named_of t) ts) at
+        → option_map t (or_else (if b then Some n.ty else None) (first_in type_entry ts at))
+        ≡ (if b then Some (t n.ty) else type_named_at (map (type_named_of t) ts) at)
+    by_test true is = refl
+    by_test false is = is

@@ -1,9 +1,8 @@
 -- Members that are found are those that the rules find.
-use Rattle.std.proofs.Common.{◌≡◌, ℕ, zero, suc, ◌+◌, ◌<◌, arith, length, drop, slice_index_or, nat_eq, Bool, true, false, ◌&&◌, List, [], ◌∷◌, map, Option, Some, None, option_map, inl, inr, refl, ◌∙◌, ap, if◌then◌else◌}
+use Rattle.std.proofs.Common.{◌≡◌, ℕ, zero, suc, ◌+◌, ◌<◌, arith, nat_eq, Bool, true, false, ◌&&◌, List, [], ◌∷◌, map, Option, Some, None, option_map, inl, inr, refl, ◌∙◌, ap, if◌then◌else◌}
 use Rattle.std.proofs.lemmas.Bool.{eq-eqb}
 use Rattle.std.proofs.lemmas.Bool.Decides.{eqb_tells}
 use Rattle.type_table.specs.Types.{CType}
-use Rattle.name_rules.specs.Spellings.{Place}
 use Rattle.name_rules.specs.Scopes as rules
 use Rattle.name_rules.specs.Values.{known_named, member_in}
 use Rattle.name_records.specs.declared.body.Known.{Known}
@@ -11,7 +10,7 @@ use Rattle.name_records.specs.declared.aggregates.Aggregate.{Aggregate}
 use Rattle.name_records.specs.Bodies.{OneBody}
 use Rattle.unit_names.specs.Shown.{known_of, body_of, aggregate_of}
 use Rattle.place_map.specs.Values.{or_else}
-use Rattle.place_map.proofs.Adding.{or_none, or_assoc}
+use Rattle.place_map.proofs.Adding.{or_none}
 use Rattle.found_names.specs.First.{first_in, known_entry, known_in, first_member}
 
 not_same : (m n : ℕ) → (m ≡ n → ⊥) → nat_eq m n ≡ false
@@ -32,24 +31,6 @@ past m n (it ∷ all) name lt =
     ap (λ o. or_else o (first_member (suc m) all (n, name)))
     (elsewhere m n (known_in it.body) name (not_same m n (λ same. omega arith)))
     ∙ past (suc m) n all name (omega arith)
-
--- the next of some structs is added
-pub members_on : (all : List Aggregate) (i number : ℕ) (it : Aggregate) (before after : Place → Option Known)
-    → it ≡ slice_index_or all i it → i < length all
-    → ((p : Place) → after p ≡ or_else (before p) (first_in (known_entry number) (known_in it.body) p)) → (p : Place)
-    → or_else (after p) (first_member (number + 1) (drop (i + 1) all) p)
-    ≡ or_else (before p) (first_member number (drop i all) p)
-members_on [] i number it before after is lt added p = absurd (omega arith)
-members_on (a ∷ all) zero number it before after is lt added p =
-    let e : number + 1 ≡ suc number = omega arith in
-    rw e
-    (ap (λ o. or_else o (first_member (suc number) all p)) (added p)
-    ∙ or_assoc (before p) (first_in (known_entry number) (known_in it.body) p) (first_member (suc number) all p)
-    ∙ ap (λ (a : Aggregate). or_else (before p)
-    (or_else (first_in (known_entry number) (known_in a.body) p) (first_member (suc number) all p))) is)
-members_on (a ∷ all) (suc i) number it before after is lt added p =
-    let e : suc i + 1 ≡ suc (i + 1) = omega arith in
-    rw e (members_on all i number it before after is (omega arith) added p)
 
 module _ (t : ℕ → CType) where
   known_found : (m : ℕ) (known : List Known) (name : ℕ)

@@ -13,21 +13,18 @@ use Rattle.unit_names.specs.Shown.{use_of}
 abbrev pub use_place : NameUse → Place
 use_place it = it.at
 
-abbrev pub type_place : TypeNamed → Place
-type_place it = it.at
-
 abbrev pub use_or_missing : Option NameUse → rules.Use
 use_or_missing None = rules.missing
 use_or_missing (Some it) = use_of it.use_of
-
-abbrev pub type_of_some : Option TypeNamed → Option ℕ
-type_of_some None = None
-type_of_some (Some it) = Some it.ty
 
 -- the value of the first entry at a place
 abbrev pub first_in : {A V : Type 0} → (A → Place × V) → List A → Place → Option V
 first_in entry [] p = None
 first_in entry (x ∷ xs) p = or_else (there (entry x).0 (entry x).1 p) (first_in entry xs p)
+
+-- a type's name
+abbrev pub type_entry : TypeNamed → Place × ℕ
+type_entry it = (it.at, it.ty)
 
 -- a member, by the number of its struct and its name
 abbrev pub known_entry : ℕ → Known → Place × Known

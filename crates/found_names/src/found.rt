@@ -2,17 +2,19 @@
 
 ghost use Rattle.std.specs.Prelude.{◌≡◌, ℕ, IfOk, option_map};
 ghost use Rattle.type_table.specs.Types.{CType};
+ghost use Rattle.name_rules.specs.Spellings.{Place};
 ghost use Rattle.name_rules.specs.Scopes.{declared_at, body_of};
 ghost use Rattle.name_rules.specs.Uses.{use_at, type_named_at};
 ghost use Rattle.name_rules.specs.Values.{member_in};
 ghost use Rattle.place_map.specs.Firsts.{item_of, AreFirst};
+ghost use Rattle.place_map.specs.Values.{value_at};
 ghost use Rattle.unit_names.specs.Shown.{names_of, use_of, declared_of, known_of};
-ghost use Rattle.found_names.specs.First.{use_place, type_place, use_or_missing, type_of_some};
+ghost use Rattle.found_names.specs.First.{use_place, use_or_missing, first_in, type_entry};
 
 use crate::member_map::{MemberMap, all_members};
 use name_records::{Declared, Known, NameUse, TypeNamed, Use};
 use name_scopes::Place;
-use place_map::PlaceIndex;
+use place_map::{PlaceIndex, PlaceMap};
 use qual_base::{NameId, NoMemory, StructId, TypeId};
 use std::alloc::Global;
 use std::marker::Model;
@@ -35,46 +37,28 @@ fn first_uses(alloc: Global, uses: &[NameUse]) -> Result<PlaceIndex, NoMemory>
     Ok(found)
 }
 
-/// The number of the first type's name at each place. Linear in them, but for growth.
-#[tactic(auto, using(crate::proofs::Adding::numbers_on, crate::proofs::Adding::all_numbered))]
-fn first_types(alloc: Global, types: &[TypeNamed]) -> Result<PlaceIndex, NoMemory>
-    ensures { IfOk result (AreFirst type_place types.now) }
+/// The first type's name at each place. Linear in them, but for growth.
+fn first_types(alloc: Global, types: &[TypeNamed]) -> Result<PlaceMap<TypeId>, NoMemory>
+    ensures { IfOk result
+        (λ found. (p : Place) → value_at found p ≡ first_in type_entry types.now p) }
 {
-    let mut found = PlaceIndex::new(alloc);
-    let mut number = 0u32;
+    let mut found = PlaceMap::new(alloc);
     for it in types {
-        found.add(&it.at, number)?;
-        number = match number.checked_add(1) {
-            Some(next) => next,
-            None => return Err(NoMemory),
-        };
+        found.add(&it.at, &it.ty)?;
     }
     Ok(found)
 }
 
 /// What the use of a number stands for. Constant time.
-fn use_by(uses: &[NameUse], number: &Option<u32>) -> Use
-    ensures { use_of result ≡ use_or_missing (item_of uses.now number.now) }
+fn use_by(uses: &[NameUse], number: Option<u32>) -> Use
+    ensures { use_of result ≡ use_or_missing (item_of uses.now number) }
 {
     match number {
-        Some(number) => match uses.get(*number as usize) {
+        Some(number) => match uses.get(number as usize) {
             Some(it) => it.use_of,
             None => Use::Missing,
         },
         None => Use::Missing,
-    }
-}
-
-/// The type of a type's name by its number. Constant time.
-fn type_by(types: &[TypeNamed], number: &Option<u32>) -> Option<TypeId>
-    ensures { result ≡ type_of_some (item_of types.now number.now) }
-{
-    match number {
-        Some(number) => match types.get(*number as usize) {
-            Some(it) => Some(it.ty),
-            None => None,
-        },
-        None => None,
     }
 }
 
@@ -84,8 +68,8 @@ pub struct FoundNames {
     names: Names,
     /// The number of the first use at each place.
     uses: PlaceIndex,
-    /// The number of the first type's name at each place.
-    types: PlaceIndex,
+    /// The first type's name at each place.
+    types: PlaceMap<TypeId>,
     members: MemberMap,
 }
 
@@ -127,7 +111,7 @@ impl FoundNames {
     pub fn use_at(&self, at: &Place) -> Use
         ensures { (t : ℕ → CType) → use_of result ≡ use_at (names_of t self.now).uses at.now }
     {
-        use_by(self.names.uses(), &self.uses.get(at))
+        use_by(self.names.uses(), self.uses.get(at))
     }
 
     /// The type whose name begins at a place. Constant time.
@@ -135,7 +119,7 @@ impl FoundNames {
         ensures { (t : ℕ → CType) → option_map t result
             ≡ type_named_at (names_of t self.now).type_names at.now }
     {
-        type_by(self.names.type_names(), &self.types.get(at))
+        self.types.get(at)
     }
 
     /// The first declaration at a place. Constant time.

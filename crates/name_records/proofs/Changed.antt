@@ -1,5 +1,5 @@
 -- One item of a list is changed.
-use Rattle.std.proofs.Common.{arith, ◌≡◌, ℕ, inl, inr, true, false, zero, suc, ◌<◌, ◌≤◌, refl, sym, ◌∙◌, ap}
+use Rattle.std.proofs.Common.{arith, ◌≡◌, ℕ, inl, inr, true, false, zero, suc, ◌<◌, ◌≤◌, refl, ◌∙◌, ap}
 use Rattle.std.proofs.Common.{List, [], ◌∷◌, length, slice_index_or, slice_set}
 use Rattle.std.proofs.lemmas.Bool.{cases_lt}
 use Rattle.name_rules.specs.Scopes.{changed_at}

@@ -1,8 +1,11 @@
 -- Declarations by places.
-use Rattle.std.specs.Prelude.{ℕ, List, [], ◌∷◌, Option, Some, None, if◌then◌else◌}
+use Rattle.std.specs.Prelude.{List, [], ◌∷◌, Option, Some, None, if◌then◌else◌}
 use Rattle.name_rules.specs.Spellings.{Place}
 use Rattle.name_rules.specs.Scopes.{is_place}
 use Rattle.name_records.specs.declared.declarations.Declared.{Declared}
+
+abbrev pub declared_place : Declared → Place
+declared_place d = d.at
 
 abbrev pub first_declared : List Declared → Place → Option Declared
 first_declared [] at = None

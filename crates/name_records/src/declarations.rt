@@ -2,9 +2,10 @@
 
 ghost use Rattle.std.specs.Prelude.{◌≡◌, ◌∷◌, ◌++◌, [], OnOk, OnErr};
 ghost use Rattle.name_records.specs.Records.{first_declared};
+ghost use Rattle.place_map.specs.Firsts.{item_of};
 
-use crate::place_map::PlaceMap;
 use name_scopes::Place;
+use place_map::PlaceIndex;
 use qual_base::{NoMemory, StructId, TypeId};
 use std::alloc::Global;
 use std::marker::Model;
@@ -32,23 +33,35 @@ pub struct Declared {
     pub owner: Option<Place>,
 }
 
-/// Declarations in the order of the text. Clauses see their list. Memory is linear in it.
+/// Declarations in the order of the text. Clauses see their list. Memory is linear in it and in the tokens.
 #[derive(Drop)]
 pub struct Declarations {
     all: Vec<Declared>,
-    first: PlaceMap<Declared>,
+    /// The number of the first at each place.
+    first: PlaceIndex,
 }
 
 impl Model for Declarations {
     ghost use Rattle.std.specs.Prelude.{List};
     ghost use Rattle.name_records.specs.declared.declarations.Declared.{Declared};
-    ghost use Rattle.name_records.specs.Held.{AreFirst};
+    ghost use Rattle.name_records.specs.Records.{declared_place};
+    ghost use Rattle.place_map.specs.Firsts.{AreFirst};
 
     ghost Value = { List Declared };
 
     ghost view = { λ s. s.all.items };
 
-    ghost invariant = { λ s. AreFirst s.all.items s.first.map };
+    ghost invariant = { λ s. AreFirst declared_place s.all.items s.first };
+}
+
+/// The declaration of a number. Constant time.
+fn declared_by(all: &[Declared], number: Option<u32>) -> Option<Declared>
+    ensures { result ≡ item_of all.now number }
+{
+    match number {
+        Some(number) => all.get(number as usize).copied(),
+        None => None,
+    }
 }
 
 impl Declarations {
@@ -58,7 +71,7 @@ impl Declarations {
     {
         Declarations {
             all: Vec::new(alloc),
-            first: PlaceMap::new(alloc),
+            first: PlaceIndex::new(alloc),
         }
     }
 
@@ -70,28 +83,28 @@ impl Declarations {
     }
 
     /// The first declaration at a place. Takes no memory, and constant time.
+    #[tactic(auto, using(crate::proofs::Firsts::declared_found))]
     pub fn first_at(&self, at: &Place) -> Option<Declared>
         ensures { result ≡ first_declared self.now at.now }
     {
-        self.first.get(at)
+        declared_by(self.all.as_slice(), self.first.get(at))
     }
 
-    /// Adds a declaration. For want of memory they stay as they were. Constant time but for growth.
+    /// Adds a declaration. For want of memory, and where there are 2^32 - 1, they stay as they were. Constant time but for growth.
+    #[tactic(auto, using(crate::proofs::Firsts::one_more))]
     pub fn push(&mut self, declared: Declared) -> Result<(), NoMemory>
         ensures pushed { OnOk result (self.new ≡ self.old ++ declared ∷ []) }
         ensures err { OnErr result (self.new ≡ self.old) }
     {
         let count = self.all.len();
-        let known = self.first.has(&declared.at);
+        if count >= 4_294_967_295 {
+            return Err(NoMemory);
+        }
         match self.all.push(declared) {
             Ok(()) => {}
             Err(_) => return Err(NoMemory),
         }
-        if known {
-            return Ok(());
-        }
-        let newest = &self.all[count];
-        match self.first.set(&newest.at, newest) {
+        match self.first.add(&declared.at, count as u32) {
             Ok(()) => Ok(()),
             Err(NoMemory) => {
                 self.all.truncate(count);

@@ -4,7 +4,6 @@
 mod aggregates;
 mod body;
 mod declarations;
-mod place_map;
 mod places;
 mod records;
 

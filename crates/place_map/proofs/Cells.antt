@@ -1,5 +1,5 @@
 -- Rows that grow, and numbers that are written in them.
-use Rattle.std.proofs.Common.{◌≡◌, ℕ, zero, suc, ◌<◌, ◌≤◌, ◌-◌, arith, Bool, true, false, nat_eq, List, [], ◌∷◌, ◌++◌, length, replicate, slice_get, slice_set, take, Option, Some, None, inl, inr, refl, sym, ◌∙◌, ap, if◌then◌else◌}
+use Rattle.std.proofs.Common.{◌≡◌, ℕ, zero, suc, ◌<◌, ◌≤◌, arith, Bool, true, false, nat_eq, List, [], ◌∷◌, ◌++◌, length, replicate, slice_get, slice_set, take, Some, inl, inr, refl, sym, ◌∙◌, ap, if◌then◌else◌}
 use Rattle.std.proofs.lemmas.Bool.Decides.{eqb_tells}
 use Rattle.name_rules.specs.Spellings.{Place}
 use Rattle.place_map.specs.Values.{or_zero, cell_in, or_empty, cell_at}

@@ -1,9 +1,9 @@
 -- The number and the value at each place.
-use Rattle.std.specs.Prelude.{◌≡◌, ◌<◌, ℕ, zero, suc, true, List, [], length, slice_get, Option, Some, None, if◌then◌else◌}
+use Rattle.std.specs.Prelude.{◌≡◌, ℕ, zero, suc, List, [], slice_get, Option, Some, None, if◌then◌else◌}
+use Rattle.std.specs.HashMap.{get}
 use Rattle.name_rules.specs.Spellings.{Place}
 use Rattle.name_rules.specs.Scopes.{is_place}
 use Rattle.place_map.specs.declared.index.PlaceIndex.{PlaceIndex}
-use Rattle.place_map.specs.declared.map.Placed.{Placed}
 use Rattle.place_map.specs.declared.map.PlaceMap.{PlaceMap}
 
 abbrev pub or_zero : Option ℕ → ℕ
@@ -30,18 +30,9 @@ number_of (suc n) = Some n
 abbrev pub number_at : PlaceIndex → Place → Option ℕ
 number_at index p = number_of (cell_at index.units.items p)
 
--- a value, where it is at this place
-abbrev pub value_here : {V : Type 0} → Place → Option (Placed V) → Option V
-value_here p None = None
-value_here p (Some it) = if is_place it.at p then Some it.value else None
-
--- the value of a number, where it is at this place
-abbrev pub value_of : {V : Type 0} → List (Placed V) → Place → Option ℕ → Option V
-value_of values p None = None
-value_of values p (Some n) = value_here p (slice_get values n)
-
+-- the value that a map has at a place
 abbrev pub value_at : {V : Type 0} → PlaceMap V → Place → Option V
-value_at s p = value_of s.values.items p (number_at s.numbers p)
+value_at s p = get is_place s.map p
 
 -- a place has this number, and the others have theirs
 abbrev pub IsNumbered : PlaceIndex → PlaceIndex → Place → ℕ → Type 0
@@ -65,10 +56,3 @@ or_else (Some v) other = Some v
 -- a value that is at this place
 abbrev pub there : {V : Type 0} → Place → V → Place → Option V
 there at v p = if is_place at p then Some v else None
-
--- the value of a number is at a place, and is the one that is found there
-pub record IsThere {V : Type 0} (s : PlaceMap V) (at : Place) (n : ℕ) : Type 0 where
-  pub number : number_at s.numbers at ≡ Some n
-  pub placed : Placed V
-  pub there : slice_get s.values.items n ≡ Some placed
-  pub same : is_place placed.at at ≡ true

@@ -8,8 +8,9 @@ use crate::row::Row;
 use qual_base::{NoMemory, Numbered, TokenId, UnitNo};
 use std::alloc::Global;
 
-/// A number at each of some places. Memory is four bytes a token of each unit that has any, up to the last one that has, and
-/// constant for each unit up to the last one.
+/// A number at each of many places, as for uses of names. Memory is four bytes a token of each unit that has any, up to the last
+/// one that has, and constant for each unit up to the last one: as much for few places as for many. For what is at less than one
+/// token of eight `PlaceMap` takes less memory, but each look-up is a hash.
 ///
 /// Clauses see it by the number at a place, `number_at`.
 #[derive(Drop)]

@@ -1,6 +1,6 @@
 use Rattle.std.proofs.Common.{arith, ◌≤◌, ◌<◌, length, refl, ap, ◌∙◌}
 use Rattle.name_rules.specs.Scopes.{changed_at}
-use Rattle.name_records.specs.Aggregates.{with_body, known_at}
+use Rattle.name_records.specs.Aggregates.{with_body}
 use Rattle.name_records.specs.Bodies.{with_member}
 use Rattle.name_records.proofs.Changed.{changed, unchanged, past}
 use Rattle.name_records.proofs.aggregates.Aggregates.push_member.Goals as goal
