@@ -1,5 +1,8 @@
 //! The rules of a certificate.
 
+ghost use Rattle.std.specs.Prelude.{◌≡◌, ◌+◌, MatchOption};
+ghost use Rattle.certificate_laws.specs.Certificates.{number_of};
+
 /// A rule of a certificate, of one lattice.
 ///
 /// A certificate has pairs of variables, and two sets of elements for each variable: the first of what may leave by any
@@ -24,4 +27,23 @@ pub enum CertRule {
     A8,
     /// Each element of the second set is at or below a bound of its variable.
     A9,
+}
+
+impl CertRule {
+    /// The rule behind this one.
+    pub fn next(self) -> Option<CertRule>
+        ensures { MatchOption result (number_of self ≡ 9) (λ next. number_of next ≡ number_of self + 1) }
+    {
+        match self {
+            CertRule::A1 => Some(CertRule::A2),
+            CertRule::A2 => Some(CertRule::A3),
+            CertRule::A3 => Some(CertRule::A4),
+            CertRule::A4 => Some(CertRule::A5),
+            CertRule::A5 => Some(CertRule::A6),
+            CertRule::A6 => Some(CertRule::A7),
+            CertRule::A7 => Some(CertRule::A8),
+            CertRule::A8 => Some(CertRule::A9),
+            CertRule::A9 => None,
+        }
+    }
 }
