@@ -16,25 +16,25 @@ use Rattle.flow_laws.proofs.Owners.{seen_is, seen_twice, seen_within, copy_on, f
 
 module _ (sys : System) (lattice : ℕ) (order : Order) (owned : IsWellOwned sys) (ordered : IsOrder order) where
   -- a call leads on from each copy of the variable outside, and a return leads back into each
-  enters : (depth : ℕ) (map : Assignment) (n s u v : ℕ) (sites : List ℕ) → Rises sys lattice order depth map → Stands sys lattice n (Enter s u v) → IsCopy sys depth (owner_of sys u) sites →
+  pub enters : (depth : ℕ) (map : Assignment) (n s u v : ℕ) (sites : List ℕ) → Rises sys lattice order depth map → Stands sys lattice n (Enter s u v) → IsCopy sys depth (owner_of sys u) sites →
       length (s ∷ sites) ≤ depth → leq order (at sys map u sites) (at sys map v (s ∷ sites)) ≡ true
   enters depth map n s u v sites rises st copy fits =
       let call = entering sys lattice owned n s u v st in
       rises.enter n s u v call.it sites st call.there (subst (λ o. IsCopy sys depth o sites) call.outer_is copy) fits
 
-  leaves : (depth : ℕ) (map : Assignment) (n s u v : ℕ) (sites : List ℕ) → Rises sys lattice order depth map → Stands sys lattice n (Leave s u v) → IsCopy sys depth (owner_of sys v) sites →
+  pub leaves : (depth : ℕ) (map : Assignment) (n s u v : ℕ) (sites : List ℕ) → Rises sys lattice order depth map → Stands sys lattice n (Leave s u v) → IsCopy sys depth (owner_of sys v) sites →
       length (s ∷ sites) ≤ depth → leq order (at sys map u (s ∷ sites)) (at sys map v sites) ≡ true
   leaves depth map n s u v sites rises st copy fits =
       let call = leaving sys lattice owned n s u v st in
       rises.leave n s u v call.it sites st call.there (subst (λ o. IsCopy sys depth o sites) call.outer_is copy) fits
 
   -- what a path inside a function raises in each copy, at each depth that leaves room for its groups
-  abbrev Raises : ℕ → ℕ → ℕ → Type 0
+  abbrev pub Raises : ℕ → ℕ → ℕ → Type 0
   Raises u v room = (depth : ℕ) (map : Assignment) (sites : List ℕ) → Rises sys lattice order depth map → IsCopy sys depth (owner_of sys u) sites → length sites + room ≤ depth →
       leq order (at sys map u sites) (at sys map v sites) ≡ true
 
   -- a group raises what stands outside it
-  group_raises : (n m s u a b v room : ℕ) → Stands sys lattice n (Enter s u a) → Raises a b room → Stands sys lattice m (Leave s b v) → Raises u v (room + 1)
+  pub group_raises : (n m s u a b v room : ℕ) → Stands sys lattice n (Enter s u a) → Raises a b room → Stands sys lattice m (Leave s b v) → Raises u v (room + 1)
   group_raises n m s u a b v room st inside st2 depth map sites rises copy fits =
       let deeper : IsCopy sys depth (owner_of sys a) (s ∷ sites) = copy_on sys depth (owner_of sys u) (owner_of sys a) s sites copy (entering sys lattice owned n s u a st) (omega arith) in
       let home : IsCopy sys depth (owner_of sys v) sites = subst (λ o. IsCopy sys depth o sites) (same_outer sys lattice owned n m s u a b v st st2) copy in
@@ -44,7 +44,7 @@ module _ (sys : System) (lattice : ℕ) (order : Order) (owned : IsWellOwned sys
       ordered.through (at sys map u sites) (at sys map b (s ∷ sites)) (at sys map v sites) to_end (leaves depth map m s b v sites rises st2 home (omega arith))
 
   mutual
-    raises : (f u v : ℕ) (p : Matches sys lattice f u v) → Raises u v (depth_inside sys lattice f u v p)
+    pub raises : (f u v : ℕ) (p : Matches sys lattice f u v) → Raises u v (depth_inside sys lattice f u v p)
     raises f u v (stay _ _ is) depth map sites rises copy fits = ordered.same (at sys map u sites) (rises.elements u (seen_from (owner_of sys u) sites))
     raises f u v (longer _ _ x _ m p) depth map sites rises copy fits =
         let same : owner_of sys u ≡ owner_of sys x = start_owner sys lattice f u x m ∙ sym (end_owner sys lattice f u x m) in
@@ -59,7 +59,7 @@ module _ (sys : System) (lattice : ℕ) (order : Order) (owned : IsWellOwned sys
         group_raises n m s x a b v (depth_inside sys lattice g a b q) st (raises g a b q) st2 depth map sites rises copy fits
 
   -- a path that has no open call raises each copy of its end, at each depth that leaves room
-  abbrev ForcesAll : ℕ → ℕ → ℕ → Type 0
+  abbrev pub ForcesAll : ℕ → ℕ → ℕ → Type 0
   ForcesAll e v room = (depth : ℕ) (map : Assignment) (sites : List ℕ) → Rises sys lattice order depth map → IsCopy sys depth (owner_of sys v) sites → length sites + room ≤ depth →
       leq order e (at sys map v sites) ≡ true
 
@@ -73,7 +73,7 @@ module _ (sys : System) (lattice : ℕ) (order : Order) (owned : IsWellOwned sys
   Forced e v c = (sites : List ℕ) × (length sites ≤ open_calls sys lattice e v c) × (length sites ≤ depth_calling sys lattice e v c) × ForcesOne e v (depth_calling sys lattice e v c) sites
 
   mutual
-    forces : (e v : ℕ) (p : Returning sys lattice e v) → ForcesAll e v (depth_returning sys lattice e v p)
+    pub forces : (e v : ℕ) (p : Returning sys lattice e v) → ForcesAll e v (depth_returning sys lattice e v p)
     forces e v (start _ n st) depth map sites rises copy fits = rises.const n e v sites st copy
     forces e v (flows u _ n p st) depth map sites rises copy fits =
         let from = flow_to sys depth (owner_of sys u) (owner_of sys v) sites (same_function sys lattice owned n u v st) copy in

@@ -15,7 +15,7 @@ module _ (sys : System) (lattice : ℕ) where
   joined f u x v p (stay _ _ is) = p
   joined f u x v p (longer _ _ y _ m last) = longer f u y v (joined f u x y p m) last
 
-  one_part : (f u v : ℕ) → owner_of sys u ≡ Function f → Part sys lattice f u v → Matches sys lattice f u v
+  pub one_part : (f u v : ℕ) → owner_of sys u ≡ Function f → Part sys lattice f u v → Matches sys lattice f u v
   one_part f u v is part = longer f u u v (stay f u is) part
 
   -- a path inside a function goes on from what leads to its first variable

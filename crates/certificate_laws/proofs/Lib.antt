@@ -1,0 +1,4 @@
+pub mod Ways
+pub mod Carrying
+pub mod CertAccepting
+pub mod Writing

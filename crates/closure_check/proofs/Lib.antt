@@ -1,0 +1,4 @@
+pub mod Sorted
+pub mod BitSets
+pub mod Turns
+pub mod Asked

@@ -1,0 +1,37 @@
+//! What the rules are asked of.
+
+ghost use Rattle.std.specs.Prelude.{◌↔◌, IsTrue};
+ghost use Rattle.certificate_laws.specs.Certificates.{Within};
+ghost use Rattle.closure_check.specs.Checking.{claimed};
+
+use crate::part::Part;
+use crate::sets::{is_subset, set_at};
+use flow_graph::{Adjacency, FlowGraph};
+use lattice_core::Lattice;
+use qual_base::{LatticeNo, VarId};
+
+/// A certificate of a lattice, and the constraints of which it is said to be one, with where they begin.
+#[derive(Clone, Copy)]
+pub struct Claim<'a> {
+    pub graph: &'a FlowGraph,
+    pub adjacency: &'a Adjacency,
+    pub lattice: &'a Lattice,
+    pub at: LatticeNo,
+    pub part: &'a Part,
+}
+
+/// Whether the first set of a variable is within that of another.
+pub fn is_first_within(given: &Claim, one: VarId, other: VarId) -> bool
+    ensures { IsTrue result ↔ Within ((claimed given.now).first one) ((claimed given.now).first other) }
+{
+    let sets = given.part.first.as_slice();
+    is_subset(set_at(sets, one), set_at(sets, other))
+}
+
+/// Whether the second set of a variable is within that of another.
+pub fn is_second_within(given: &Claim, one: VarId, other: VarId) -> bool
+    ensures { IsTrue result ↔ Within ((claimed given.now).second one) ((claimed given.now).second other) }
+{
+    let sets = given.part.second.as_slice();
+    is_subset(set_at(sets, one), set_at(sets, other))
+}

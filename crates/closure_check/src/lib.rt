@@ -1,0 +1,14 @@
+//! The checker of certificates: whether a certificate of a lattice obeys the rules over the constraints of a graph. It
+//! makes no closure and no solution, and stands on no crate that does.
+#![tactic(auto)]
+
+mod checks;
+mod claim;
+mod links;
+mod pairs;
+mod part;
+mod rounds;
+mod sets;
+
+pub use checks::check_part;
+pub use part::Part;
