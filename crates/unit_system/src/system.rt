@@ -31,8 +31,8 @@ pub struct Numbering {
     pub places: PlaceMap<SiteId>,
 }
 
-/// What has numbers in units, and where their skeletons begin, which takes more memory than the numbers do: it is of no use where
-/// constraints are made.
+/// Units by numbers, and where their skeletons begin, 40 bytes a skeleton: it is of no use where constraints are made, and may be let go
+/// before.
 #[derive(Drop)]
 pub struct NumberedUnits {
     /// Where the skeletons begin, in the order of their numbers.
