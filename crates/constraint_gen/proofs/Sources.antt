@@ -1,6 +1,5 @@
 -- What is found on the tapes of sources is what the rules say of them.
-use Rattle.std.specs.Prelude.{IfOk, OnOk, Result, Ok, Err}
-use Rattle.std.proofs.Common.{◌≡◌, ◌≤◌, ℕ, List, [], ◌∷◌, ◌++◌, Option, refl, sym, ◌∙◌, ap, length, map, subst}
+use Rattle.std.proofs.Common.{◌≡◌, ℕ, List, [], ◌∷◌, ◌++◌, Option, refl, sym, ◌∙◌, ap, length, map, subst}
 use Rattle.std.proofs.Math.Path.{fun_ext}
 use Rattle.lattice_core.specs.View.{LatticeView}
 use Rattle.flow_graph.specs.declared.constraint.Constraint.{Constraint}
@@ -27,23 +26,12 @@ use Rattle.index_words.specs.Marks.{IndexMark, index_in}
 use Rattle.unit_types.specs.Resolved.{Resolved, tapes_of}
 use Rattle.c_types.specs.Sources.{UnitRead, lexed_of, sources_in}
 use Rattle.source_marks.specs.Marks.{mark_among}
-use Rattle.unit_system.specs.declared.system.UnitSystem.{UnitSystem}
 use Rattle.unit_system.specs.Sharing.{meant_by}
 use Rattle.unit_system.specs.Systems.{AreNumbered, Meant, names_on, starts_on, starts_among, rows_among, system_by, system_on}
+use Rattle.constraint_gen.specs.declared.generating.Generated.{Generated}
 use Rattle.constraint_gen.specs.Listing.{is_listed, listed_at}
 use Rattle.constraint_gen.specs.Programs.{listed_in, program_in}
-use Rattle.constraint_gen.specs.Generating.{IsMade, IsProgramOf}
-
--- two things of what was made, where something was
-pub both_ok : {X E : Type 0} (r : Result X E) (P Q : X → Type 0) → IfOk r P → IfOk r Q → IfOk r (λ x. P x × Q x)
-both_ok (Ok x) P Q p q = (p, q)
-both_ok (Err e) P Q p q = tt
-
--- a number that is within a limit, where something was made
-pub within_ok : {X E : Type 0} (r : Result X E) (found : X → ℕ) (count most : ℕ) → IfOk r (λ x. found x ≡ count) → OnOk r (count ≤ most) →
-    IfOk r (λ x. found x ≤ most)
-within_ok (Ok x) found count most same few = subst (λ (n : ℕ). n ≤ most) (sym same) few
-within_ok (Err e) found count most same few = tt
+use Rattle.constraint_gen.specs.Generating.{IsGenerated, IsProgramOf}
 
 -- along tapes, source by source
 
@@ -108,22 +96,28 @@ module _ (it : Resolved) (all : List UnitRead) (units : List Lexed) (is : IsProg
       system_on meant it) (fun_ext marked_all)
       ∙ system_is it (sources_in all) is.named is.taped lattices (mark_among (lexed_of all)) (index_in prelude) starts rows
 
-  -- all that is said of what was made
-  pub made : StartsOfProgramAreFound → ConstraintsAreFound → PositionsAreCounted → PositionsStand → (g : UnitSystem)
-      → g.graph ≡ system_on (meant_by lattices marks prelude) it → AreNumbered (starts_on it) g.skeletons
-      → IsMade (program_in lattices prelude all) g
-  made starts rows count stand g system numbered =
-      let are = subst (λ found. AreNumbered found g.skeletons) (starts_are it (sources_in all) is.named is.taped starts) numbered in record {
-        system = system ∙ system_found starts rows;
-        count = are.count ∙ sym (count (starts_of (sources_in all)));
-        stand = λ q v stands. stand g.skeletons.vars (starts_of (sources_in all)) are.marked q v stands;
-        skeletons = are;
-      }
-
 -- what is listed, by the tokens, the names and the skeletons that were found
-pub listed_by : (all : List UnitRead) (p : Program) (units : List Lexed) (s : Names) (starts : List Start) → units ≡ lexed_of all
+listed_by : (all : List UnitRead) (p : Program) (units : List Lexed) (s : Names) (starts : List Start) → units ≡ lexed_of all
     → s ≡ names_of p.sources → starts ≡ starts_of p.sources → listed_at (is_listed units s) 0 (positions_of starts) ≡ listed_in all p
 listed_by all p units s starts lexed named begun =
     ap (λ (ls : List Lexed). listed_at (is_listed ls s) 0 (positions_of starts)) lexed
     ∙ ap (λ (ns : Names). listed_at (is_listed (lexed_of all) ns) 0 (positions_of starts)) named
     ∙ ap (λ (ss : List Start). listed_at (is_listed (lexed_of all) (names_of p.sources)) 0 (positions_of ss)) begun
+
+-- all that is said of what was generated
+module _ (it : Resolved) (all : List UnitRead) (units : List Lexed) (is : IsProgramOf all units it) (lattices : List LatticeView)
+    (prelude : List IndexMark) where
+  pub generated : StartsOfProgramAreFound → PositionsAreCounted → PositionsStand → (g : Generated)
+      → g.graph ≡ system_of (program_in lattices prelude all) → AreNumbered (starts_on it) g.skeletons
+      → g.listed.items ≡ listed_at (is_listed units (names_on it)) 0 (positions_of (starts_on it))
+      → IsGenerated all (program_in lattices prelude all) g
+  generated starts count stand g system numbered listed =
+      let begun = starts_are it (sources_in all) is.named is.taped starts in
+      let are = subst (λ found. AreNumbered found g.skeletons) begun numbered in record {
+        system = system;
+        count = are.count ∙ sym (count (starts_of (sources_in all)));
+        stand = λ q v stands. stand g.skeletons.vars (starts_of (sources_in all)) are.marked q v stands;
+        skeletons = are;
+        listed = listed
+            ∙ listed_by all (program_in lattices prelude all) units (names_on it) (starts_on it) is.lexed is.named begun;
+      }

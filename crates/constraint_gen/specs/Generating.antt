@@ -11,7 +11,6 @@ use Rattle.unit_types.specs.Resolved.{Resolved, tapes_of}
 use Rattle.c_types.specs.Sources.{UnitRead, lexed_of, sources_in}
 use Rattle.constraint_rules.specs.Systems.{Program, starts_of, system_of}
 use Rattle.unit_system.specs.Systems.{AreNumbered}
-use Rattle.unit_system.specs.declared.system.UnitSystem.{UnitSystem}
 use Rattle.constraint_gen.specs.declared.generating.Generated.{Generated}
 use Rattle.constraint_gen.specs.Programs.{positions_in, listed_in}
 
@@ -32,10 +31,3 @@ pub record IsGenerated (units : List UnitRead) (p : Program) (it : Generated) : 
   pub stand : (q : PositionView) (v : ℕ) → Stands it.skeletons.vars q v → slice_get (positions_in p) v ≡ Some q
   pub skeletons : AreNumbered (starts_of p.sources) it.skeletons
   pub listed : it.listed.items ≡ listed_in units p
-
--- the same but for the variables that are listed
-pub record IsMade (p : Program) (it : UnitSystem) : Type 0 where
-  pub system : it.graph ≡ system_of p
-  pub count : length it.skeletons.vars ≡ length (positions_in p)
-  pub stand : (q : PositionView) (v : ℕ) → Stands it.skeletons.vars q v → slice_get (positions_in p) v ≡ Some q
-  pub skeletons : AreNumbered (starts_of p.sources) it.skeletons

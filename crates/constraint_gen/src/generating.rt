@@ -1,15 +1,19 @@
 //! The system of a prelude and sources.
 
-ghost use Rattle.std.specs.Prelude.{◌≡◌, ◌<◌, ◌≤◌, List, length, map, IfOk, OnOk, IsErrOf};
+ghost use Rattle.std.specs.Prelude.{◌≡◌, ◌<◌, ◌≤◌, List, length, IfOk, OnOk, IsErrOf};
 ghost use Rattle.flow_graph.specs.System.{IsWellOwned, most_constraints, most_variables};
 ghost use Rattle.flow_graph.specs.Unfolding.{NamesElements};
 ghost use Rattle.lattice_core.specs.View.{orders_of};
 ghost use Rattle.row_rules.specs.Sites.{variables_among};
-ghost use Rattle.unit_starts.specs.Views.{start_in};
-ghost use Rattle.c_types.specs.Sources.{UnitRead, sources_in};
-ghost use Rattle.constraint_rules.specs.Systems.{AreNamed, starts_of, system_of};
+ghost use Rattle.position_laws.specs.Positions.{positions_of};
+ghost use Rattle.unit_shapes.specs.Views.{names_in};
+ghost use Rattle.unit_system.specs.Systems.{starts_on};
+ghost use Rattle.unit_system.specs.Numberings.{IsNumberingOf};
+ghost use Rattle.c_types.specs.Sources.{UnitRead};
+ghost use Rattle.constraint_rules.specs.Systems.{AreNamed, system_of};
 ghost use Rattle.constraint_gen.specs.Programs.{positions_in, program_in};
-ghost use Rattle.constraint_gen.specs.Generating.{IsGenerated, IsMade, IsProgramOf};
+ghost use Rattle.constraint_gen.specs.Generating.{IsGenerated, IsProgramOf};
+ghost use Rattle.constraint_gen.specs.Listing.{is_listed, listed_at};
 
 use crate::listing::listed;
 use crate::marking::marks;
@@ -26,7 +30,9 @@ use row_laws::constraints_are_found;
 use start_laws::starts_of_program_are_found;
 use std::alloc::Global;
 use unit_skeletons::Skeletons;
-use unit_system::{GenerateFault, UnitSystem, unit_system};
+use unit_system::{
+    GenerateFault, NumberedUnits, Numbering, UnitSystem, constrain_units, number_units,
+};
 
 /// The skeletons of a program, its constraints with its call sites and the owners of its variables, and which variables a report
 /// lists: those of names where a source declares them, ascending. Memory is linear in the variables, the call sites and the
@@ -38,48 +44,64 @@ pub struct Generated {
     pub listed: Vec<VarId>,
 }
 
-/// The system of constraints of units.
-fn system(
+/// What has numbers in units, and the variables that a report lists.
+#[derive(Drop)]
+struct Listed {
+    numbering: Numbering,
+    listed: Vec<VarId>,
+}
+
+/// Numbers units and lists variables; where the skeletons begin is let go.
+fn number(alloc: Global, units: &[Tokens], program: &Program) -> Result<Listed, GenerateFault>
+    ensures numbers { IfOk result (λ it. IsNumberingOf program.now it.numbering) }
+    ensures listed { IfOk result (λ it. it.listed.items ≡ listed_at (is_listed
+        units.now (names_in program.now.rows program.now.names))
+        0 (positions_of (starts_on program.now))) }
+    ensures few { OnOk result (variables_among (starts_on program.now) ≤ most_variables) }
+    ensures too_many { IsErrOf result GenerateFault.TooManyVariables
+        → most_variables < variables_among (starts_on program.now) }
+    ensures apart { IsErrOf result GenerateFault.TooManyConstraints → ⊥ }
+{
+    let NumberedUnits { starts, numbering } = match number_units(alloc, program) {
+        Ok(it) => it,
+        Err(fault) => return Err(fault),
+    };
+    match listed(alloc, units, program, starts.as_slice()) {
+        Ok(listed) => Ok(Listed { numbering, listed }),
+        Err(_) => Err(GenerateFault::NoMemory),
+    }
+}
+
+/// The system of constraints of units that have their numbers.
+fn constrain(
     alloc: Global,
     units: &[Tokens],
     program: &Program,
     prelude: &Prelude,
     lattices: &Lattices,
+    numbering: Numbering,
 ) -> Result<UnitSystem, GenerateFault>
-    ensures made { IfOk result (λ it. (all : List UnitRead) →
+    requires { IsNumberingOf program.now numbering }
+    ensures system { IfOk result (λ it. (all : List UnitRead) →
         IsProgramOf all units.now program.now →
-        IsMade (program_in lattices.now prelude.now all) it) }
-    ensures starts { IfOk result (λ it. (all : List UnitRead) →
-        IsProgramOf all units.now program.now →
-        map (start_in program.now.rows) it.starts ≡ starts_of (sources_in all)) }
-    ensures few_variables { OnOk result ((all : List UnitRead) →
-        IsProgramOf all units.now program.now →
-        length (positions_in (program_in lattices.now prelude.now all)) ≤ most_variables) }
-    ensures few { IfOk result (λ it.
-        variables_among (map (start_in program.now.rows) it.starts) ≤ most_variables) }
-    ensures few_constraints { OnOk result ((all : List UnitRead) →
+        it.graph ≡ system_of (program_in lattices.now prelude.now all)) }
+    ensures skeletons { IfOk result (λ it. it.skeletons ≡ numbering.skeletons) }
+    ensures few { OnOk result ((all : List UnitRead) →
         IsProgramOf all units.now program.now →
         length (system_of (program_in lattices.now prelude.now all)).constraints
         ≤ most_constraints) }
-    ensures too_many_variables { IsErrOf result GenerateFault.TooManyVariables →
-        (all : List UnitRead) → IsProgramOf all units.now program.now →
-        most_variables < length (positions_in (program_in lattices.now prelude.now all)) }
-    ensures fit_variables { IsErrOf result GenerateFault.TooManyConstraints →
-        (all : List UnitRead) → IsProgramOf all units.now program.now →
-        length (positions_in (program_in lattices.now prelude.now all)) ≤ most_variables }
-    ensures too_many_constraints { IsErrOf result GenerateFault.TooManyConstraints →
+    ensures too_many { IsErrOf result GenerateFault.TooManyConstraints →
         (all : List UnitRead) → IsProgramOf all units.now program.now →
         most_constraints < length
         (system_of (program_in lattices.now prelude.now all)).constraints }
+    ensures apart { IsErrOf result GenerateFault.TooManyVariables → ⊥ }
 {
     starts_of_program_are_found();
     constraints_are_found();
-    positions_are_counted();
-    positions_stand();
     let Ok(marks) = marks(alloc, units) else {
         return Err(GenerateFault::NoMemory);
     };
-    unit_system(alloc, program, prelude, lattices, &marks)
+    constrain_units(alloc, program, prelude, lattices, &marks, numbering)
 }
 
 /// The system of constraints of units in their order, whose names and types are known: their qualifier variables, their call
@@ -128,24 +150,22 @@ pub fn generate(
         most_constraints < length
         (system_of (program_in lattices.now prelude.now all)).constraints }
 {
+    starts_of_program_are_found();
     positions_are_counted();
+    positions_stand();
     systems_are_owned();
     elements_are_named();
     lattices.law();
-    let UnitSystem {
-        starts,
-        skeletons,
-        graph,
-    } = match system(alloc, units, program, prelude, lattices) {
+    let Listed { numbering, listed } = match number(alloc, units, program) {
         Ok(it) => it,
         Err(fault) => return Err(fault),
     };
-    match listed(alloc, units, program, starts.as_slice()) {
-        Ok(listed) => Ok(Generated {
+    match constrain(alloc, units, program, prelude, lattices, numbering) {
+        Ok(UnitSystem { skeletons, graph }) => Ok(Generated {
             skeletons,
             graph,
             listed,
         }),
-        Err(_) => Err(GenerateFault::NoMemory),
+        Err(fault) => Err(fault),
     }
 }

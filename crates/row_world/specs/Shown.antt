@@ -10,7 +10,7 @@ use Rattle.qual_types.specs.Rows.{skel_of}
 use Rattle.name_rules.specs.Spellings.{Place}
 use Rattle.unit_spelling.specs.Spelled.{spelling_of}
 use Rattle.unit_names.specs.Shown.{names_of}
-use Rattle.place_map.specs.Values.{value_at}
+use Rattle.place_map.specs.Values.{number_at, value_at}
 use Rattle.index_words.specs.Marks.{index_in}
 use Rattle.row_rules.specs.Worlds.{World, skeleton, site_number}
 use Rattle.row_rules.specs.Vals.{Val}
@@ -44,7 +44,7 @@ val known it = val_in known.vars.now it
 pub record Shows (known : Known) (w : World) : Type 0 where
   pub spelling : w.spelling ≡ spelling_of known.spelling.now
   pub names : w.names ≡ names_of (type_of known.types.now) known.names.now
-  pub skeletons : (p : Place) → skel_of known.vars.now (or_nowhere (value_at known.starts.now p)) ≡ skeleton w p
+  pub skeletons : (p : Place) → skel_of known.vars.now (or_nowhere (number_at known.starts.now p)) ≡ skeleton w p
   pub sites : (p : Place) (n : ℕ) → value_at known.sites.now p ≡ Some n → n ≡ site_number w p
   pub lattices : w.lattices ≡ known.lattices.now
   pub marks : (p : Place) → value_at known.marks.now p ≡ w.mark p

@@ -10,7 +10,7 @@ use found_names::FoundNames;
 use index_words::Prelude;
 use lattice_core::Lattices;
 use name_scopes::Place;
-use place_map::PlaceMap;
+use place_map::{PlaceIndex, PlaceMap};
 use qual_base::{Elem, LatticeNo, Numbered, SiteId, SkelId, Span, TokenId};
 use qual_types::VarTable;
 use type_table::TypeTable;
@@ -25,8 +25,8 @@ pub struct Known<'a> {
     pub names: &'a FoundNames,
     pub spelling: &'a Spelling,
     pub vars: &'a VarTable,
-    /// The skeleton that begins at a place.
-    pub starts: &'a PlaceMap<SkelId>,
+    /// The number of the skeleton that begins at a place.
+    pub starts: &'a PlaceIndex,
     /// The call site at a place.
     pub sites: &'a PlaceMap<SiteId>,
     pub lattices: &'a Lattices,
@@ -60,7 +60,7 @@ impl<'a> Known<'a> {
         ensures { (w : World) → Shows self.now w → skel self.now result ≡ skeleton w at.now }
     {
         match self.starts.get(at) {
-            Some(start) => start,
+            Some(number) => SkelId::new(number),
             None => SkelId::new(u32::MAX),
         }
     }

@@ -1,18 +1,16 @@
 -- Skeletons that are found by their places.
-use Rattle.std.proofs.Common.{◌≡◌, ℕ, zero, suc, ◌+◌, ◌<◌, ◌≤◌, arith, Bool, true, false, List, [], ◌∷◌, ◌++◌, length, drop, map, slice_index_or, replicate, Option, Some, None, refl, sym, ◌∙◌, ap, subst, append_assoc, if◌then◌else◌}
-use Rattle.qual_base.specs.declared.places.Owner.{Owner}
+use Rattle.std.proofs.Common.{◌≡◌, ℕ, zero, suc, ◌+◌, ◌<◌, ◌≤◌, arith, Bool, true, false, List, [], ◌∷◌, ◌++◌, length, drop, map, slice_index_or, Option, Some, None, refl, sym, ◌∙◌, ap, subst, append_assoc, if◌then◌else◌}
 use Rattle.type_table.specs.Types.{CType, base, void, struct, pointer, function, size}
 use Rattle.qual_types.specs.declared.row.Row.{Row}
 use Rattle.qual_types.specs.Skel.{numbered}
-use Rattle.qual_types.specs.Rows.{Seen, nothing, seen_at, all_seen, skel_of, owners_of}
+use Rattle.qual_types.specs.Rows.{Seen, nothing, seen_at, all_seen, skel_of}
 use Rattle.qual_types.specs.Table.{Keeps}
 use Rattle.name_rules.specs.Spellings.{Place}
 use Rattle.name_rules.specs.Scopes.{is_place}
-use Rattle.place_map.specs.declared.map.PlaceMap.{PlaceMap}
-use Rattle.place_map.specs.Values.{value_at, or_else, there}
+use Rattle.place_map.specs.declared.index.PlaceIndex.{PlaceIndex}
+use Rattle.place_map.specs.Values.{number_at, or_else, there}
 use Rattle.row_rules.specs.Starting.{Start}
 use Rattle.row_rules.specs.Worlds.{Numbered, numbered_from, skeleton_among}
-use Rattle.row_rules.specs.Sites.{owner_by, owners_among}
 use Rattle.unit_starts.specs.declared.start.Start as code
 use Rattle.unit_skeletons.specs.Found.{IsBelow, AreBelow, AreMarked, found_with, skel_or, number_or_none, IsNumbering}
 
@@ -30,9 +28,9 @@ past_table rows n le =
     ap (λ (it : Seen). it.tree)
     (past_seen (all_seen 0 rows) n (let e = count_seen 0 rows in omega arith))
 
-pub found_all : (rows : List Row) (map : PlaceMap ℕ) (p : Place) → length rows ≤ 16777216
-    → skel_of rows (number_or_none (value_at map p)) ≡ found_with rows map [] p
-found_all rows map p few = by_value (value_at map p)
+pub found_all : (rows : List Row) (index : PlaceIndex) (p : Place) → length rows ≤ 16777216
+    → skel_of rows (number_or_none (number_at index p)) ≡ found_with rows index [] p
+found_all rows index p few = by_value (number_at index p)
   where
     by_value : (o : Option ℕ) → skel_of rows (number_or_none o) ≡ skel_or rows o nothing.tree
     by_value None = past_table rows 4294967295 (omega arith)
@@ -48,13 +46,13 @@ some_size (function ws ps r e) = omega arith
 -- one more skeleton
 module _ (rows new : List Row) (x : Start) (kept : Keeps rows new) (at : ℕ) (same : at ≡ length rows)
     (skel : skel_of new at ≡ numbered x.type (length rows)) (count : length new ≡ length rows + size x.type)
-    (map after : PlaceMap ℕ) (below : AreBelow rows map)
-    (added : (p : Place) → value_at after p ≡ or_else (value_at map p) (there x.at at p)) where
+    (index after : PlaceIndex) (below : AreBelow rows index)
+    (added : (p : Place) → number_at after p ≡ or_else (number_at index p) (there x.at at p)) where
   pub found_on : (rest : List Start) (p : Place) → found_with new after (numbered_from (length new) rest) p
-      ≡ found_with rows map (numbered_from (length rows) (x ∷ rest)) p
+      ≡ found_with rows index (numbered_from (length rows) (x ∷ rest)) p
   found_on rest p =
       ap (λ (o : Option ℕ). skel_or new o (skeleton_among (numbered_from (length new) rest) p)) (added p)
-      ∙ by_value (value_at map p) (below p)
+      ∙ by_value (number_at index p) (below p)
     where
       by_test : (b : Bool)
           → skel_or new (if b then Some at else None) (skeleton_among (numbered_from (length new) rest) p)
@@ -70,7 +68,7 @@ module _ (rows new : List Row) (x : Start) (kept : Keeps rows new) (at : ℕ) (s
 
   pub below_on : AreBelow new after
   below_on p =
-      subst (λ (o : Option ℕ). IsBelow (length new) o) (sym (added p)) (by_value (value_at map p) (below p))
+      subst (λ (o : Option ℕ). IsBelow (length new) o) (sym (added p)) (by_value (number_at index p) (below p))
     where
       by_test : (b : Bool) → IsBelow (length new) (if b then Some at else None)
       by_test true = let s = some_size x.type in omega arith
@@ -81,18 +79,15 @@ module _ (rows new : List Row) (x : Start) (kept : Keeps rows new) (at : ℕ) (s
       by_value None is = by_test (is_place x.at p)
 
 -- and the others behind it
-pub numbering_on : (rows new : List Row) (map after : PlaceMap ℕ) (fs : List Place) (x : Start) (rest all : List Start)
-    → IsNumbering rows map fs (x ∷ rest) all → AreBelow new after → length new ≡ length rows + size x.type
-    → owners_of new ≡ owners_of rows ++ replicate (size x.type) (owner_by fs x.owner)
+pub numbering_on : (rows new : List Row) (index after : PlaceIndex) (x : Start) (rest all : List Start)
+    → IsNumbering rows index (x ∷ rest) all → AreBelow new after → length new ≡ length rows + size x.type
     → ((r : List Start) (p : Place) → found_with new after (numbered_from (length new) r) p
-    ≡ found_with rows map (numbered_from (length rows) (x ∷ r)) p)
+    ≡ found_with rows index (numbered_from (length rows) (x ∷ r)) p)
     → ((before : List Numbered) → AreMarked rows before → AreMarked new (before ++ numbered_from (length rows) (x ∷ [])))
-    → IsNumbering new after fs rest all
-numbering_on rows new map after fs x rest all it below count owners found marked = record {
+    → IsNumbering new after rest all
+numbering_on rows new index after x rest all it below count found marked = record {
   below = below;
   count = let c = it.count in omega arith;
-  owners = ap (λ (os : List Owner). os ++ owners_among fs rest) owners
-      ∙ append_assoc (owners_of rows) (replicate (size x.type) (owner_by fs x.owner)) (owners_among fs rest) ∙ it.owners;
   found = λ p. found rest p ∙ it.found p;
   before = it.before ++ numbered_from (length rows) (x ∷ []);
   split = it.split ∙ (ap (λ (n : ℕ). it.before ++ (record { start = x; first = length rows } ∷ numbered_from n rest)) (sym count)

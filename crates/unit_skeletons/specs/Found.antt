@@ -4,23 +4,23 @@ use Rattle.qual_base.specs.declared.places.Owner.{Owner}
 use Rattle.flow_graph.specs.declared.constraint.Site.{Site}
 use Rattle.qual_types.specs.declared.row.Row.{Row}
 use Rattle.qual_types.specs.Skel.{Skel}
-use Rattle.qual_types.specs.Rows.{skel_of, owners_of}
+use Rattle.qual_types.specs.Rows.{skel_of}
 use Rattle.qual_types.specs.Table.{mark_of}
 use Rattle.position_laws.specs.Positions.{IsOneOf}
 use Rattle.name_rules.specs.Spellings.{Place}
-use Rattle.place_map.specs.declared.map.PlaceMap.{PlaceMap}
-use Rattle.place_map.specs.Values.{value_at}
+use Rattle.place_map.specs.declared.index.PlaceIndex.{PlaceIndex}
+use Rattle.place_map.specs.Values.{number_at}
 use Rattle.row_rules.specs.Starting.{Start}
 use Rattle.row_rules.specs.Worlds.{Numbered, numbered_from, skeleton_among}
-use Rattle.row_rules.specs.Sites.{variables_among, owners_among}
+use Rattle.row_rules.specs.Sites.{variables_among}
 
 abbrev pub IsBelow : ℕ → Option ℕ → Type 0
 IsBelow count None = Unit {0}
 IsBelow count (Some n) = n < count
 
 -- the numbers that are found are of the table
-abbrev pub AreBelow : List Row → PlaceMap ℕ → Type 0
-AreBelow rows map = (p : Place) → IsBelow (length rows) (value_at map p)
+abbrev pub AreBelow : List Row → PlaceIndex → Type 0
+AreBelow rows index = (p : Place) → IsBelow (length rows) (number_at index p)
 
 -- the skeleton of a number that was found, or this where none was
 abbrev pub skel_or : List Row → Option ℕ → Skel → Skel
@@ -28,8 +28,8 @@ skel_or rows None other = other
 skel_or rows (Some n) other = skel_of rows n
 
 -- the skeleton of a place, among those that were found and these
-abbrev pub found_with : List Row → PlaceMap ℕ → List Numbered → Place → Skel
-found_with rows map others p = skel_or rows (value_at map p) (skeleton_among others p)
+abbrev pub found_with : List Row → PlaceIndex → List Numbered → Place → Skel
+found_with rows index others p = skel_or rows (number_at index p) (skeleton_among others p)
 
 -- a number of no skeleton, where none was found
 abbrev pub number_or_none : Option ℕ → ℕ
@@ -41,11 +41,10 @@ abbrev pub AreMarked : List Row → List Numbered → Type 0
 AreMarked rows all = (n : ℕ) (mark : ℕ × ℕ) → mark_of rows n ≡ Some mark → IsOneOf rows all n mark
 
 -- of all skeletons these are not numbered yet
-pub record IsNumbering (rows : List Row) (map : PlaceMap ℕ) (functions : List Place) (rest all : List Start) : Type 0 where
-  pub below : AreBelow rows map
+pub record IsNumbering (rows : List Row) (index : PlaceIndex) (rest all : List Start) : Type 0 where
+  pub below : AreBelow rows index
   pub count : length rows + variables_among rest ≡ variables_among all
-  pub owners : owners_of rows ++ owners_among functions rest ≡ owners_among functions all
-  pub found : (p : Place) → found_with rows map (numbered_from (length rows) rest) p
+  pub found : (p : Place) → found_with rows index (numbered_from (length rows) rest) p
       ≡ skeleton_among (numbered_from 0 all) p
   pub before : List Numbered
   pub split : numbered_from 0 all ≡ before ++ numbered_from (length rows) rest

@@ -1,35 +1,35 @@
 //! Skeletons by numbers.
 
-ghost use Rattle.std.specs.Prelude.{◌≡◌, ◌+◌, ◌<◌, ◌≤◌, ◌++◌, ◌∷◌, ℕ, List, [], length, map, replicate};
+ghost use Rattle.std.specs.Prelude.{◌≡◌, ◌+◌, ◌<◌, ◌≤◌, ◌++◌, ◌∷◌, ℕ, List, [], length, map};
 ghost use Rattle.std.specs.Prelude.{OnOk, IfOk, IsErrOf};
 ghost use Rattle.flow_graph.specs.System.{most_variables};
 ghost use Rattle.type_table.specs.Types.{size};
 ghost use Rattle.type_table.specs.Rows.{type_of};
 ghost use Rattle.qual_types.specs.Skel.{within};
-ghost use Rattle.qual_types.specs.Rows.{skel_of, owners_of};
+ghost use Rattle.qual_types.specs.Rows.{skel_of};
 ghost use Rattle.name_rules.specs.Spellings.{Place};
-ghost use Rattle.place_map.specs.Values.{value_at};
+ghost use Rattle.place_map.specs.Values.{number_at};
 ghost use Rattle.row_rules.specs.Starting as rules;
 ghost use Rattle.row_rules.specs.Worlds.{Numbered, numbered_from, skeleton_among};
 ghost use Rattle.position_laws.specs.Positions.{AreThose};
-ghost use Rattle.row_rules.specs.Sites.{variables_among, owner_by, owners_among};
+ghost use Rattle.row_rules.specs.Sites.{variables_among};
 ghost use Rattle.unit_starts.specs.Views.{start_in};
 ghost use Rattle.unit_skeletons.specs.Found.{AreBelow, AreMarked, found_with, number_or_none};
 
 use crate::place_numbers::PlaceNumbers;
-use name_scopes::Place;
-use place_map::PlaceMap;
-use qual_base::{NoMemory, Numbered, SkelId};
+use place_map::PlaceIndex;
+use qual_base::{NoMemory, Numbered};
 use qual_types::{QualFault, VarTable};
 use std::alloc::Global;
 use type_table::TypeTable;
 use unit_starts::Start;
 
-/// Skeletons with their variables, and the first that begins at each place. Memory is linear in the variables and in the tokens.
+/// Skeletons with their variables, and the number of the first that begins at each place. Memory is linear in the variables and in
+/// the tokens.
 #[derive(Drop)]
 pub struct Skeletons {
     pub(crate) vars: VarTable,
-    pub(crate) starts: PlaceMap<SkelId>,
+    pub(crate) starts: PlaceIndex,
 }
 
 impl Skeletons {
@@ -44,7 +44,7 @@ impl Skeletons {
     {
         Skeletons {
             vars: VarTable::new(alloc),
-            starts: PlaceMap::new(alloc),
+            starts: PlaceIndex::new(alloc),
         }
     }
 
@@ -59,10 +59,6 @@ impl Skeletons {
         ensures below { OnOk result (AreBelow self.new.vars self.new.starts) }
         ensures count { OnOk result (length self.new.vars
             ≡ length self.old.vars + size (start_in types.now start.now).type) }
-        ensures owners { OnOk result (owners_of self.new.vars
-            ≡ owners_of self.old.vars
-            ++ replicate (size (start_in types.now start.now).type)
-            (owner_by functions.now start.now.owner)) }
         ensures found { OnOk result ((rest : List rules.Start) (p : Place) →
             found_with self.new.vars self.new.starts
             (numbered_from (length self.new.vars) rest) p
@@ -79,7 +75,7 @@ impl Skeletons {
         let at = self
             .vars
             .fresh(types, start.ty, start.outer, unit, token, owner)?;
-        match self.starts.add(&start.at, &at) {
+        match self.starts.add(&start.at, at.number()) {
             Ok(()) => Ok(()),
             Err(NoMemory) => Err(QualFault::NoMemory),
         }
@@ -92,21 +88,11 @@ impl Skeletons {
         &self.vars
     }
 
-    /// The first skeleton that begins at each place.
-    pub fn starts(&self) -> &PlaceMap<SkelId>
+    /// The number of the first skeleton that begins at each place.
+    pub fn starts(&self) -> &PlaceIndex
         ensures { result.now ≡ self.now.starts }
     {
         &self.starts
-    }
-
-    /// The first skeleton that begins at a place, or 2^32 - 1 where none does. Constant time.
-    pub fn at(&self, at: &Place) -> SkelId
-        ensures { result ≡ number_or_none (value_at self.now.starts at.now) }
-    {
-        match self.starts.get(at) {
-            Some(number) => number,
-            None => SkelId::new(4_294_967_295),
-        }
     }
 }
 
@@ -120,10 +106,8 @@ pub fn number_skeletons(
 ) -> Result<Skeletons, QualFault>
     ensures count { IfOk result (λ it. length it.vars
         ≡ variables_among (map (start_in types.now) starts.now)) }
-    ensures owners { IfOk result (λ it. owners_of it.vars
-        ≡ owners_among functions.now (map (start_in types.now) starts.now)) }
     ensures found { IfOk result (λ it. (p : Place) →
-        skel_of it.vars (number_or_none (value_at it.starts p))
+        skel_of it.vars (number_or_none (number_at it.starts p))
         ≡ skeleton_among (numbered_from 0 (map (start_in types.now) starts.now)) p) }
     ensures marked { IfOk result (λ it.
         AreThose it.vars (map (start_in types.now) starts.now)) }

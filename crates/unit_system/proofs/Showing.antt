@@ -3,7 +3,7 @@ use Rattle.std.proofs.Common.{◌≡◌, ℕ, List, Option, Some, None, refl, sy
 use Rattle.qual_types.specs.declared.row.Row.{Row}
 use Rattle.qual_types.specs.Rows.{skel_of}
 use Rattle.name_rules.specs.Spellings.{Place}
-use Rattle.place_map.specs.Values.{value_at}
+use Rattle.place_map.specs.Values.{number_at, value_at}
 use Rattle.row_rules.specs.Sites.{site_places}
 use Rattle.row_world.specs.Shown.{or_nowhere}
 use Rattle.unit_skeletons.specs.declared.skeletons.Skeletons.{Skeletons}
@@ -25,9 +25,9 @@ pub shared : (it : Shared) (skeletons : Skeletons) → it.names.now ≡ it.progr
 shared it skeletons names vars starts are sites = record {
   names = names;
   skeletons = λ p.
-      ap (λ (rows : List Row). skel_of rows (or_nowhere (value_at it.starts.now p))) vars
+      ap (λ (rows : List Row). skel_of rows (or_nowhere (number_at it.starts.now p))) vars
       ∙ ap (skel_of skeletons.vars)
-      (ap (λ found. or_nowhere (value_at found p)) starts ∙ no_number (value_at skeletons.starts p))
+      (ap (λ found. or_nowhere (number_at found p)) starts ∙ no_number (number_at skeletons.starts p))
       ∙ are.found p;
   sites = λ p n is. some_number (site_places (starts_on it.program.now)) p n (sym (sites p) ∙ is);
 }

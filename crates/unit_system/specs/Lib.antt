@@ -1,3 +1,4 @@
 pub mod Places
 pub mod Systems
 pub mod Sharing
+pub mod Numberings

@@ -6,7 +6,7 @@ use Rattle.qual_types.specs.Rows.{skel_of}
 use Rattle.name_rules.specs.Spellings.{Place, Spelling}
 use Rattle.name_steps.specs.Units.{Tape}
 use Rattle.place_map.specs.declared.map.PlaceMap.{PlaceMap}
-use Rattle.place_map.specs.Values.{value_at}
+use Rattle.place_map.specs.Values.{number_at, value_at}
 use Rattle.index_words.specs.Marks.{IndexMark, index_in}
 use Rattle.row_rules.specs.Sites.{site_places}
 use Rattle.row_rules.specs.Worlds.{World, numbered_from, skeleton_among, number_among}
@@ -40,6 +40,6 @@ rows_on it =
 pub record IsShared (it : Shared) : Type 0 where
   pub names : it.names.now ≡ it.program.now.names
   pub skeletons : (p : Place)
-      → skel_of it.vars.now (or_nowhere (value_at it.starts.now p)) ≡ skeleton_among (numbered_from 0 (starts_on it.program.now)) p
+      → skel_of it.vars.now (or_nowhere (number_at it.starts.now p)) ≡ skeleton_among (numbered_from 0 (starts_on it.program.now)) p
   pub sites : (p : Place) (n : ℕ) → value_at it.sites.now p ≡ Some n
       → n ≡ number_among 0 (site_places (starts_on it.program.now)) p

@@ -16,7 +16,7 @@ use Rattle.row_steps.specs.Starting.{unit_starts}
 use Rattle.unit_shapes.specs.Views.{names_in}
 use Rattle.unit_types.specs.Resolved.{Resolved, tapes_of}
 use Rattle.unit_skeletons.specs.declared.skeletons.Skeletons.{Skeletons}
-use Rattle.unit_system.specs.Places.{number_at}
+use Rattle.unit_system.specs.Places.{skeleton_at}
 
 abbrev pub names_on : Resolved → Names
 names_on it = names_in it.rows it.names
@@ -66,5 +66,5 @@ system_on meant it = system_by meant (names_on it) (starts_on it) (tapes_of it.u
 -- skeletons by their numbers, one behind the other: each is one of those that begin so, the first at each place found by it
 pub record AreNumbered (all : List Start) (it : Skeletons) : Type 0 where
   pub count : length it.vars ≡ variables_among all
-  pub found : (p : Place) → skel_of it.vars (number_at it p) ≡ skeleton_among (numbered_from 0 all) p
+  pub found : (p : Place) → skel_of it.vars (skeleton_at it p) ≡ skeleton_among (numbered_from 0 all) p
   pub marked : AreThose it.vars all

@@ -12,8 +12,8 @@ use flow_graph::{FlowGraph, GraphFault};
 use found_names::FoundNames;
 use index_words::Prelude;
 use lattice_core::Lattices;
-use place_map::PlaceMap;
-use qual_base::{Elem, LatticeNo, SiteId, SkelId};
+use place_map::{PlaceIndex, PlaceMap};
+use qual_base::{Elem, LatticeNo, SiteId};
 use qual_types::VarTable;
 use row_world::Known;
 use std::alloc::Global;
@@ -27,8 +27,8 @@ pub(crate) struct Shared<'a> {
     pub(crate) program: &'a Program,
     pub(crate) names: &'a FoundNames,
     pub(crate) vars: &'a VarTable,
-    /// The skeleton that begins at a place.
-    pub(crate) starts: &'a PlaceMap<SkelId>,
+    /// The number of the skeleton that begins at a place.
+    pub(crate) starts: &'a PlaceIndex,
     /// The call site at a place.
     pub(crate) sites: &'a PlaceMap<SiteId>,
     pub(crate) lattices: &'a Lattices,

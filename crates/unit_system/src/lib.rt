@@ -7,4 +7,4 @@ mod owning;
 mod system;
 
 pub use fault::GenerateFault;
-pub use system::{UnitSystem, unit_system};
+pub use system::{NumberedUnits, Numbering, UnitSystem, constrain_units, number_units};

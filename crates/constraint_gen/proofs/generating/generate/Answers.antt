@@ -1,40 +1,49 @@
-use Rattle.std.proofs.Common.{List, map, sym, ap, subst, ◌∙◌}
+use Rattle.std.proofs.Common.{◌<◌, ◌≤◌, ℕ, sym, subst}
 use Rattle.lattice_core.specs.View.{orders_of}
-use Rattle.flow_graph.specs.System.{System, IsWellOwned}
+use Rattle.flow_graph.specs.System.{System, IsWellOwned, most_variables}
 use Rattle.flow_graph.specs.Unfolding.{NamesElements}
-use Rattle.unit_starts.specs.Views.{start_in}
-use Rattle.c_types.specs.Sources.{UnitRead}
-use Rattle.constraint_rules.specs.Systems.{AreNamed, Program}
+use Rattle.unit_skeletons.specs.declared.skeletons.Skeletons.{Skeletons}
+use Rattle.c_types.specs.Sources.{sources_in}
+use Rattle.constraint_rules.specs.Systems.{AreNamed}
+use Rattle.unit_system.specs.Systems.{AreNumbered, starts_on}
 use Rattle.constraint_gen.specs.Programs.{program_in}
-use Rattle.constraint_gen.proofs.Sources.{listed_by}
+use Rattle.constraint_gen.proofs.Sources.{counted, generated}
 use Rattle.constraint_gen.proofs.generating.generate.Goals as goal
 
-abbrev program : goal.After-drop-starts-inside → List UnitRead → Program
-program c all = program_in c.args.lattices.now c.args.prelude.now all
+pub returns-in-Ok-constrain-clause-made : goal.returns-in-Ok-constrain-clause-made
+returns-in-Ok-constrain-clause-made c = λ all is.
+    generated c.args.program.now all c.args.units.now is c.args.lattices.now c.args.prelude.now
+    c.starts_of_program_are_found.ensures c.positions_are_counted.ensures c.positions_stand.ensures _
+    (c.in-Ok-constrain.ensures.system all is)
+    (subst (λ (s : Skeletons). AreNumbered (starts_on c.args.program.now) s) (sym c.in-Ok-constrain.ensures.skeletons)
+    c.in-Ok.ensures.numbers.skeletons)
+    c.in-Ok.ensures.listed
 
-pub returns-in-Ok-listed-clause-owned : goal.returns-in-Ok-listed-clause-owned
-returns-in-Ok-listed-clause-owned c = λ all is.
-    subst IsWellOwned (sym (c.in-Ok.ensures.made all is).system)
-    (c.systems_are_owned.ensures (program c all) is.read is.differ)
+pub returns-in-Ok-constrain-clause-owned : goal.returns-in-Ok-constrain-clause-owned
+returns-in-Ok-constrain-clause-owned c = λ all is.
+    subst IsWellOwned (sym (c.in-Ok-constrain.ensures.system all is))
+    (c.systems_are_owned.ensures (program_in c.args.lattices.now c.args.prelude.now all) is.read is.differ)
 
-pub returns-in-Ok-listed-clause-named : goal.returns-in-Ok-listed-clause-named
-returns-in-Ok-listed-clause-named c = λ all is.
-    subst (λ (sys : System). AreNamed c.args.lattices.now sys) (sym (c.in-Ok.ensures.made all is).system)
-    (c.elements_are_named.ensures.named (program c all) c.law.ensures.sized)
+pub returns-in-Ok-constrain-clause-named : goal.returns-in-Ok-constrain-clause-named
+returns-in-Ok-constrain-clause-named c = λ all is.
+    subst (λ (sys : System). AreNamed c.args.lattices.now sys) (sym (c.in-Ok-constrain.ensures.system all is))
+    (c.elements_are_named.ensures.named (program_in c.args.lattices.now c.args.prelude.now all) c.law.ensures.sized)
 
-pub returns-in-Ok-listed-clause-elements : goal.returns-in-Ok-listed-clause-elements
-returns-in-Ok-listed-clause-elements c = λ all is.
-    subst (λ (sys : System). NamesElements sys (orders_of c.args.lattices.now)) (sym (c.in-Ok.ensures.made all is).system)
-    (c.elements_are_named.ensures.lattices (program c all) c.law.ensures.sized)
+pub returns-in-Ok-constrain-clause-elements : goal.returns-in-Ok-constrain-clause-elements
+returns-in-Ok-constrain-clause-elements c = λ all is.
+    subst (λ (sys : System). NamesElements sys (orders_of c.args.lattices.now)) (sym (c.in-Ok-constrain.ensures.system all is))
+    (c.elements_are_named.ensures.lattices (program_in c.args.lattices.now c.args.prelude.now all) c.law.ensures.sized)
 
-pub returns-in-Ok-listed-clause-made : goal.returns-in-Ok-listed-clause-made
-returns-in-Ok-listed-clause-made c = λ all is.
-    let made = c.in-Ok.ensures.made all is in
-    record {
-      system = made.system;
-      count = made.count;
-      stand = made.stand;
-      skeletons = made.skeletons;
-      listed = c.in-Ok-listed.ensures ∙ listed_by all (program c all) _ _ _ is.lexed is.named
-          (ap (map (start_in c.args.program.now.rows)) c.as_slice.ensures ∙ c.in-Ok.ensures.starts all is);
-    }
+pub returns-in-Ok-constrain-clause-few_variables : goal.returns-in-Ok-constrain-clause-few_variables
+returns-in-Ok-constrain-clause-few_variables c = λ all is.
+    subst (λ (n : ℕ). n ≤ most_variables)
+    (counted c.args.program.now (sources_in all) is.named is.taped c.starts_of_program_are_found.ensures
+    c.positions_are_counted.ensures)
+    c.in-Ok.ensures.few
+
+pub returns-in-Err-constrain-clause-fit_variables : goal.returns-in-Err-constrain-clause-fit_variables
+returns-in-Err-constrain-clause-fit_variables c = λ many all is.
+    subst (λ (n : ℕ). n ≤ most_variables)
+    (counted c.args.program.now (sources_in all) is.named is.taped c.starts_of_program_are_found.ensures
+    c.positions_are_counted.ensures)
+    c.in-Ok.ensures.few

@@ -39,8 +39,8 @@ loop-start-preserved c =
     let i = c.loop-start.start-index in
     let one = one_left (start_in types) starts i c.start-item.result c.loop-start-test.true c.start-item.is in
     let more = c.in_ok-add.ensures in
-    numbering_on it.vars c.add.new.self.vars it.starts c.add.new.self.starts c.args.functions.now
+    numbering_on it.vars c.add.new.self.vars it.starts c.add.new.self.starts
     (start_in types c.start-item.result) (map (start_in types) (drop (i + 1) starts)) (map (start_in types) starts)
-    (subst (λ (rest : List rules.Start). IsNumbering it.vars it.starts c.args.functions.now rest (map (start_in types) starts))
+    (subst (λ (rest : List rules.Start). IsNumbering it.vars it.starts rest (map (start_in types) starts))
     one c.loop-start.invariant)
-    more.below more.count more.owners more.found more.marked
+    more.below more.count more.found more.marked

@@ -5,5 +5,5 @@ use Rattle.unit_skeletons.proofs.skeletons.number_skeletons.Given as goal
 
 abbrev pub invariant-loop-start : goal.invariant-loop-start
 invariant-loop-start l =
-    IsNumbering l.it.vars l.it.starts l.functions (map (start_in l.types) (drop l.start-index l.starts))
+    IsNumbering l.it.vars l.it.starts (map (start_in l.types) (drop l.start-index l.starts))
     (map (start_in l.types) l.starts)

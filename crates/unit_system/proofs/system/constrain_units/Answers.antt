@@ -1,5 +1,5 @@
 use Rattle.unit_system.proofs.Showing.{shared}
-use Rattle.unit_system.proofs.system.constrain.Goals as goal
+use Rattle.unit_system.proofs.system.constrain_units.Goals as goal
 
 pub add_units-requires : goal.add_units-requires
 add_units-requires c =
