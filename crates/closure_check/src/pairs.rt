@@ -52,7 +52,7 @@ pub fn end_at(pairs: &[(VarId, VarId)], place: usize, from: VarId) -> Option<Var
 }
 
 /// Whether a pair comes before that of two variables.
-fn is_below(one: (VarId, VarId), from: VarId, to: VarId) -> bool
+pub fn is_below(one: (VarId, VarId), from: VarId, to: VarId) -> bool
     ensures { result ≡ is_below one from to }
 {
     one.0.number() < from.number() || one.0 == from && one.1.number() < to.number()
