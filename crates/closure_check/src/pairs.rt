@@ -1,6 +1,7 @@
 //! Pairs of variables that ascend: where one stands, and which begin at a variable.
 
-ghost use Rattle.std.specs.Prelude.{◌≡◌, ◌<◌, ◌≤◌, ℕ, true, false, length, slice_get, Some, MatchOption};
+ghost use Rattle.std.specs.Prelude.{◌≡◌, ◌<◌, ◌≤◌, ℕ, true, false, Some, length, slice_get};
+ghost use Rattle.std.specs.Prelude.{MatchOption};
 ghost use Rattle.closure_check.specs.Parts.{AreAscending, is_among, is_below, is_that};
 
 use qual_base::{Numbered, VarId};

@@ -1,8 +1,8 @@
 //! A certificate of one lattice.
 
-ghost use Rattle.std.specs.Prelude.{◌≡◌, ◌<◌, ◌≤◌, ℕ, ◌↔◌, true, IsTrue, length, slice_get, Some};
+ghost use Rattle.std.specs.Prelude.{◌≡◌, ◌<◌, ℕ, ◌↔◌, true, IsTrue};
 ghost use Rattle.lattice_core.specs.Order.{size};
-ghost use Rattle.closure_check.specs.Parts.{AreAscending, AreBelow, AreSets, has, is_below, IsPart};
+ghost use Rattle.closure_check.specs.Parts.{AreAscending, AreBelow, AreSets, IsPart, has};
 
 use crate::pairs::is_below;
 use crate::sets::is_subset;
