@@ -1,6 +1,7 @@
 //! What certificates show.
 
-ghost use Rattle.certificate_laws.specs.Laws.{CertifiedIsAccepted, AcceptedIsCertified, CertifiedHasWritten};
+ghost use Rattle.certificate_laws.specs.Laws.{AcceptedIsCertified, CertifiedHasWritten};
+ghost use Rattle.certificate_laws.specs.Laws.{CertifiedIsAccepted};
 
 /// A system of which a certificate obeys the rules is accepted, whether or not it is well owned.
 pub fn certified_is_accepted()

@@ -32,7 +32,8 @@ pub enum CertRule {
 impl CertRule {
     /// The rule behind this one.
     pub fn next(self) -> Option<CertRule>
-        ensures { MatchOption result (number_of self ≡ 9) (λ next. number_of next ≡ number_of self + 1) }
+        ensures { MatchOption result (number_of self ≡ 9)
+            (λ next. number_of next ≡ number_of self + 1) }
     {
         match self {
             CertRule::A1 => Some(CertRule::A2),

@@ -1,9 +1,10 @@
 -- Sets of elements as bits of a number.
-use Rattle.std.proofs.Common.{◌≡◌, ℕ, suc, ◌<◌, ◌≤◌, ◌^◌, Bool, true, false, nat_eq, nat_lt, min, List, length, refl, sym, ◌∙◌, ap, arith, inl, inr, bit_and}
+use Rattle.std.proofs.Common.{◌≡◌, ℕ, suc, ◌<◌, ◌≤◌, ◌^◌, ◌-◌, ◌/◌, ◌↔◌, Bool, true, false, nat_eq, nat_lt, min, List, length, refl, sym, ◌∙◌, ap, arith, inl, inr, bit_and}
 use Rattle.std.specs.Int.{bit_at}
+use Rattle.std.proofs.lemmas.Bool.{cases_lt}
 use Rattle.std.proofs.lemmas.Bool.Decides.{eqb_tells, leb_tells}
 use Rattle.std.proofs.lemmas.List.{get_or_past}
-use Rattle.std.proofs.lemmas.Nat.Bits.{bit_at-lt, bit_at-zero, bit_at_above, bit_at_and, same_from_bits}
+use Rattle.std.proofs.lemmas.Nat.Bits.{bit_at-lt, bit_at-zero, bit_at_above, bit_at_and, bit_at_ones, bit_at_ones_above, ones_shr, same_from_bits}
 use Rattle.lattice_core.proofs.Bits.{and_both}
 use Rattle.closure_check.specs.Parts.{has, is_in}
 use Rattle.closure_check.specs.Checking.{IsSubset}
@@ -47,3 +48,15 @@ not_below a b h = elim (leb_tells (suc a) b) [ inl is ↦ absurd (omega (arith, 
 -- past the last variable the sets are empty
 pub none_past : (sets : List ℕ) (v e : ℕ) → length sets ≤ v → is_in sets v e ≡ false
 none_past sets v e past = ap (λ (set : ℕ). has set e) (get_or_past sets v 0 past) ∙ ap (λ (bit : ℕ). nat_eq bit 1) (bit_at-zero e)
+
+-- the set of all elements of a number below 64
+pub all_elements : (size set : ℕ) → size ≤ 64 → set ≡ (2 ^ 64 - 1) / 2 ^ (64 - size) → (e : ℕ) → (has set e ≡ true) ↔ (e < size)
+all_elements size set few is e =
+    let some : 64 - (64 - size) ≡ size = omega (arith, few) in
+    let ones : set ≡ 2 ^ size - 1 = is ∙ ones_shr 64 (64 - size) (omega arith) ∙ ap (λ (n : ℕ). 2 ^ n - 1) some in (
+      λ h. elim (cases_lt e size) [
+        | inl low ↦ low
+        | inr high ↦ absurd (omega (arith, bit_of set e h, ap (λ (n : ℕ). bit_at n e) ones ∙ bit_at_ones_above size e high))
+      ],
+      λ low. of_bit set e (ap (λ (n : ℕ). bit_at n e) ones ∙ bit_at_ones size e low),
+    )

@@ -30,6 +30,13 @@ pub record IsFit (given : Claim) : Type 0 where
 abbrev pub claimed : Claim → Certificate
 claimed given = certificate_of given.part.now
 
+-- the first set of a variable is within that of another; and the second
+abbrev pub IsFirstWithin : Claim → ℕ → ℕ → Type 0
+IsFirstWithin given u v = Within ((claimed given).first u) ((claimed given).first v)
+
+abbrev pub IsSecondWithin : Claim → ℕ → ℕ → Type 0
+IsSecondWithin given u v = Within ((claimed given).second u) ((claimed given).second v)
+
 -- the certificate obeys a rule
 abbrev pub IsObeyed : Claim → CertRule → Type 0
 IsObeyed given rule = ObeysRule given.graph.now given.at given.lattice.now.order (claimed given) rule
@@ -40,7 +47,7 @@ IsLink given n link = Stands given.graph.now given.at n link
 
 -- what goes on by a call and a return, goes on to a variable
 abbrev pub GoesOn : Claim → Going → ℕ → Type 0
-GoesOn given (First u) v = Within ((claimed given).first u) ((claimed given).first v)
+GoesOn given (First u) v = IsFirstWithin given u v
 GoesOn given (Pair z) v = (claimed given).paired z v ≡ true
 
 -- it does by one constraint, as a return of a site from a variable
@@ -57,14 +64,12 @@ IsBounded given v b = (e : ℕ) → (claimed given).second v e ≡ true → leq 
 
 -- what a rule asks of a link
 abbrev pub Asks : Claim → CertRule → Link → Type 0
-Asks given rule (Le u v) = rule ≡ A3 → Within ((claimed given).first u) ((claimed given).first v)
-    × Within ((claimed given).second u) ((claimed given).second v)
+Asks given rule (Le u v) = rule ≡ A3 → IsFirstWithin given u v × IsSecondWithin given u v
 Asks given rule (Const l e v) = rule ≡ A1 → (claimed given).first v e ≡ true
 Asks given rule (Bound v l b) = rule ≡ A9 → IsBounded given v b
-Asks given rule (Enter s u x) = (rule ≡ A5 → Within ((claimed given).second u) ((claimed given).second x)
-    × ((claimed given).paired x x ≡ true))
+Asks given rule (Enter s u x) = (rule ≡ A5 → IsSecondWithin given u x × ((claimed given).paired x x ≡ true))
     × (rule ≡ A7 → GoesRound given (First u) s x)
-Asks given rule (Leave s u v) = rule ≡ A4 → Within ((claimed given).first u) ((claimed given).first v)
+Asks given rule (Leave s u v) = rule ≡ A4 → IsFirstWithin given u v
 
 -- of a constraint
 abbrev pub AsksAt : Claim → CertRule → ℕ → Type 0
@@ -86,7 +91,7 @@ AsksEdges given rule z u = (n : ℕ) → AsksEdge given rule z u n
 
 -- of a pair
 abbrev pub AsksPair : Claim → CertRule → ℕ → ℕ → Type 0
-AsksPair given rule z u = (rule ≡ A8 → Within ((claimed given).second z) ((claimed given).second u)) × (rule ≢ A8 → AsksEdges given rule z u)
+AsksPair given rule z u = (rule ≡ A8 → IsSecondWithin given z u) × (rule ≢ A8 → AsksEdges given rule z u)
 
 -- of all constraints, and of all pairs
 abbrev pub AsksLinks : Claim → CertRule → Type 0

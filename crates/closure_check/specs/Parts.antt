@@ -39,11 +39,19 @@ certificate_of part = record {
   second = λ v e. is_in part.second.items v e;
 }
 
--- The sets are those of all variables of the system and have elements of the lattice alone; the pairs ascend and are of its variables.
+-- as many sets, with elements of a lattice alone
+pub record AreSets (order : Order) (count : ℕ) (sets : List ℕ) : Type 0 where
+  pub size_is : length sets ≡ count
+  pub elements : (v e : ℕ) → is_in sets v e ≡ true → e < size order
+
+-- all pairs are of variables below a number
+abbrev pub AreBelow : ℕ → List (ℕ × ℕ) → Type 0
+AreBelow vars pairs = (k : ℕ) (p : ℕ × ℕ) → slice_get pairs k ≡ Some p → (p.0 < vars) × (p.1 < vars)
+
+-- The sets are those of all variables of the system and have elements of the lattice alone; the pairs ascend and are of its
+-- variables.
 pub record IsPart (sys : System) (order : Order) (part : Part) : Type 0 where
-  pub firsts : length part.first.items ≡ vars_of sys
-  pub seconds : length part.second.items ≡ vars_of sys
-  pub first_elements : (v e : ℕ) → is_in part.first.items v e ≡ true → e < size order
-  pub second_elements : (v e : ℕ) → is_in part.second.items v e ≡ true → e < size order
+  pub firsts : AreSets order (vars_of sys) part.first.items
+  pub seconds : AreSets order (vars_of sys) part.second.items
   pub ascending : AreAscending part.pairs.items
-  pub variables : (k : ℕ) (p : ℕ × ℕ) → slice_get part.pairs.items k ≡ Some p → (p.0 < vars_of sys) × (p.1 < vars_of sys)
+  pub below : AreBelow (vars_of sys) part.pairs.items

@@ -8,8 +8,8 @@ ghost use Rattle.flow_graph.specs.Index.{IsIndexOf, IsKeyed};
 ghost use Rattle.flow_graph.specs.Unfolding.{IsAcceptedIn, NamesElementsIn};
 ghost use Rattle.certificate_laws.specs.Certificates.{IsLowestFailing, Obeys};
 ghost use Rattle.closure_check.specs.Parts.{certificate_of, IsPart};
-ghost use Rattle.closure_check.specs.Checking.{AsksEdge, AsksEdges, AsksPair, AsksPairs, AsksVar, AsksVars};
-ghost use Rattle.closure_check.specs.Checking.{IsFirstFailing, IsFit, IsObeyed};
+ghost use Rattle.closure_check.specs.Checking.{AsksEdge, AsksEdges, AsksPair, AsksPairs};
+ghost use Rattle.closure_check.specs.Checking.{AsksVar, AsksVars, IsFirstFailing, IsFit, IsObeyed};
 
 use crate::claim::{Claim, is_second_within};
 use crate::links::all_links;

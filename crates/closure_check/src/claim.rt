@@ -1,8 +1,7 @@
 //! What the rules are asked of.
 
 ghost use Rattle.std.specs.Prelude.{◌↔◌, IsTrue};
-ghost use Rattle.certificate_laws.specs.Certificates.{Within};
-ghost use Rattle.closure_check.specs.Checking.{claimed};
+ghost use Rattle.closure_check.specs.Checking.{IsFirstWithin, IsSecondWithin};
 
 use crate::part::Part;
 use crate::sets::{is_subset, set_at};
@@ -22,7 +21,7 @@ pub struct Claim<'a> {
 
 /// Whether the first set of a variable is within that of another.
 pub fn is_first_within(given: &Claim, one: VarId, other: VarId) -> bool
-    ensures { IsTrue result ↔ Within ((claimed given.now).first one) ((claimed given.now).first other) }
+    ensures { IsTrue result ↔ IsFirstWithin given.now one other }
 {
     let sets = given.part.first.as_slice();
     is_subset(set_at(sets, one), set_at(sets, other))
@@ -30,7 +29,7 @@ pub fn is_first_within(given: &Claim, one: VarId, other: VarId) -> bool
 
 /// Whether the second set of a variable is within that of another.
 pub fn is_second_within(given: &Claim, one: VarId, other: VarId) -> bool
-    ensures { IsTrue result ↔ Within ((claimed given.now).second one) ((claimed given.now).second other) }
+    ensures { IsTrue result ↔ IsSecondWithin given.now one other }
 {
     let sets = given.part.second.as_slice();
     is_subset(set_at(sets, one), set_at(sets, other))

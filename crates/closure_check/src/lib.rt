@@ -11,4 +11,4 @@ mod rounds;
 mod sets;
 
 pub use checks::check_part;
-pub use part::Part;
+pub use part::{Part, is_part};

@@ -1,8 +1,8 @@
 //! The rules that ask something of each constraint.
 
 ghost use Rattle.std.specs.Prelude.{◌≡◌, ◌<◌, ◌↔◌, true, IsTrue, length};
-ghost use Rattle.certificate_laws.specs.Certificates.{Within};
-ghost use Rattle.closure_check.specs.Checking.{claimed, Asks, AsksAt, AsksLinks, IsBounded, IsFit};
+ghost use Rattle.closure_check.specs.Checking.{claimed, Asks, AsksAt, AsksLinks};
+ghost use Rattle.closure_check.specs.Checking.{IsBounded, IsFirstWithin, IsFit, IsSecondWithin};
 
 use crate::claim::{Claim, is_first_within, is_second_within};
 use crate::pairs::has_pair;
@@ -58,8 +58,8 @@ fn is_met(given: &Claim, rule: CertRule, link: Link) -> bool
 
 /// Whether both sets of a variable are within those of another.
 fn flows_on(given: &Claim, from: VarId, to: VarId) -> bool
-    ensures { IsTrue result ↔ (Within ((claimed given.now).first from) ((claimed given.now).first to)
-        × Within ((claimed given.now).second from) ((claimed given.now).second to)) }
+    ensures { IsTrue result
+        ↔ (IsFirstWithin given.now from to × IsSecondWithin given.now from to) }
 {
     is_first_within(given, from, to) && is_second_within(given, from, to)
 }
@@ -67,7 +67,7 @@ fn flows_on(given: &Claim, from: VarId, to: VarId) -> bool
 /// Whether the second set of a variable is within that of another, which is a pair with itself.
 fn calls_on(given: &Claim, from: VarId, inner: VarId) -> bool
     requires { IsFit given.now }
-    ensures { IsTrue result ↔ (Within ((claimed given.now).second from) ((claimed given.now).second inner)
+    ensures { IsTrue result ↔ (IsSecondWithin given.now from inner
         × ((claimed given.now).paired inner inner ≡ true)) }
 {
     is_second_within(given, from, inner) && has_pair(given.part.pairs.as_slice(), inner, inner)

@@ -1,6 +1,7 @@
 //! Pairs of variables that ascend: where one stands, and which begin at a variable.
 
-ghost use Rattle.std.specs.Prelude.{◌≡◌, ◌<◌, ◌≤◌, ℕ, true, false, length, slice_get, Some, MatchOption};
+ghost use Rattle.std.specs.Prelude.{◌≡◌, ◌<◌, ◌≤◌, ℕ, true, false, Some, length, slice_get};
+ghost use Rattle.std.specs.Prelude.{MatchOption};
 ghost use Rattle.closure_check.specs.Parts.{AreAscending, is_among, is_below, is_that};
 
 use qual_base::{Numbered, VarId};
@@ -52,7 +53,7 @@ pub fn end_at(pairs: &[(VarId, VarId)], place: usize, from: VarId) -> Option<Var
 }
 
 /// Whether a pair comes before that of two variables.
-fn is_below(one: (VarId, VarId), from: VarId, to: VarId) -> bool
+pub fn is_below(one: (VarId, VarId), from: VarId, to: VarId) -> bool
     ensures { result ≡ is_below one from to }
 {
     one.0.number() < from.number() || one.0 == from && one.1.number() < to.number()

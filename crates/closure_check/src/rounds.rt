@@ -1,13 +1,12 @@
 //! What goes on by a call, a pair inside and a return.
 
-ghost use Rattle.std.specs.Prelude.{◌≡◌, ℕ, ◌↔◌, IsTrue};
+ghost use Rattle.std.specs.Prelude.{ℕ, ◌↔◌, IsTrue};
 ghost use Rattle.flow_graph.specs.PathRules.{link_begins};
 ghost use Rattle.flow_graph.specs.Index.{IsKeyed};
 ghost use Rattle.closure_check.specs.Checking.{GoesOn, GoesOut, GoesRound, IsFit};
 
 use crate::claim::{Claim, is_first_within};
 use crate::pairs::{end_at, has_pair, place_of};
-use flow_graph::Link;
 use qual_base::{EdgeId, Numbered, SiteId, VarId};
 
 /// What goes on behind a call: the first set of the variable before it, or the pair of a variable with that variable.

@@ -14,8 +14,8 @@ returns c = (
     | inr high ↦
         let part = c.requires.part in
         let vars = c.vars-n-end.ensures.value in (
-          λ e is. let wrong : true ≡ false = sym is ∙ none_past c.args.given.now.part.now.first.items v e (omega (arith, high, part.firsts, vars, c.loop-n-test.false)) in absurd cc,
-          λ nobody e is. let wrong : true ≡ false = sym is ∙ none_past c.args.given.now.part.now.second.items v e (omega (arith, high, part.seconds, vars, c.loop-n-test.false)) in absurd cc,
+          λ e is. let wrong : true ≡ false = sym is ∙ none_past c.args.given.now.part.now.first.items v e (omega (arith, high, part.firsts.size_is, vars, c.loop-n-test.false)) in absurd cc,
+          λ nobody e is. let wrong : true ≡ false = sym is ∙ none_past c.args.given.now.part.now.second.items v e (omega (arith, high, part.seconds.size_is, vars, c.loop-n-test.false)) in absurd cc,
         )
   ],
   λ all. refl,
