@@ -10,6 +10,7 @@ ghost use Rattle.flow_graph.specs.Paths.{Lead};
 ghost use Rattle.flow_laws.specs.Deciding.{TestsSolve};
 ghost use Rattle.flow_laws.specs.Laws.{SolutionStands};
 ghost use Rattle.match_summary.specs.Summary.{Summarises};
+ghost use Rattle.lattice_solver.specs.Phases.{set_of};
 ghost use Rattle.lattice_solver.specs.Solution.{AllUnder, Exceeds, Fits, HasElement};
 ghost use Rattle.lattice_solver.specs.Solution.{IsFirstExceeded, IsFirstOver, IsKept, IsOver};
 ghost use Rattle.lattice_solver.specs.Solution.{IsSolved, IsUnder, reached_at};
@@ -123,6 +124,14 @@ impl Solver {
         ensures { result ≡ reached_at self.now at }
     {
         ElemSet::new(self.work.set(Phase::First, at) | self.work.set(Phase::Second, at))
+    }
+
+    /// The elements of the constants that lead to a variable with no call open since the last variable of nobody; empty for a
+    /// variable past all. Constant time.
+    pub fn first(&self, at: VarId) -> ElemSet
+        ensures { result ≡ set_of self.now.phases First at }
+    {
+        ElemSet::new(self.work.set(Phase::First, at))
     }
 
     /// The least element at or above each that reaches a variable, in at most 128 steps.

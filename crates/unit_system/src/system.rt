@@ -147,6 +147,8 @@ pub fn constrain_units(
         mut graph,
         places,
     } = numbering;
+    // Most programs have fewer constraints than variables.
+    graph.reserve(skeletons.vars().count());
     let shared = Shared {
         program,
         names: program.found_names(),
