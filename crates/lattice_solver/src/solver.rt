@@ -4,6 +4,7 @@ ghost use Rattle.std.specs.Prelude.{◌≡◌, ◌<◌, ◌↔◌, ℕ, IsSome, 
 ghost use Rattle.std.specs.Prelude.{MatchOption, length};
 ghost use Rattle.std.specs.Int.{bit_at};
 ghost use Rattle.lattice_core.specs.Order.{size, IsJoinOf, IsLattice};
+ghost use Rattle.flow_graph.specs.declared.phase.Phase.TheVariants.{First};
 ghost use Rattle.flow_graph.specs.System.{IsWellOwned};
 ghost use Rattle.flow_graph.specs.Unfolding.{IsExceeded, NamesElementsIn};
 ghost use Rattle.flow_graph.specs.Paths.{Lead};
