@@ -1,34 +1,32 @@
-use Rattle.std.proofs.Common.{◌≡◌, ◌<◌, ◌≤◌, List, length, subst, ◌∙◌}
+use Rattle.std.proofs.Common.{◌<◌, ◌≤◌, List, length, subst, ◌∙◌}
 use Rattle.std.proofs.lemmas.Result.{IfOk-weaker, on_ok_weaker}
 use Rattle.flow_graph.specs.System.{System, most_constraints}
 use Rattle.c_types.specs.Sources.{UnitRead}
-use Rattle.constraint_rules.specs.Systems.{system_of}
 use Rattle.unit_system.specs.declared.system.UnitSystem.{UnitSystem}
-use Rattle.unit_system.specs.Sharing.{meant_by}
-use Rattle.unit_system.specs.Systems.{system_on}
 use Rattle.constraint_gen.specs.Generating.{IsProgramOf}
-use Rattle.constraint_gen.specs.Programs.{program_in}
 use Rattle.constraint_gen.proofs.Sources.{system_found}
 use Rattle.constraint_gen.proofs.generating.constrain.Goals as goal
 
--- the system is that of the program
-found : (c : goal.After-drop-marks-2) (all : List UnitRead) → IsProgramOf all c.args.units.now c.args.program.now
-    → system_on (meant_by c.args.lattices.now c.in-Ok.marks c.args.prelude.now) c.args.program.now
-    ≡ system_of (program_in c.args.lattices.now c.args.prelude.now all)
-found c all is =
-    system_found c.args.program.now all c.args.units.now is c.args.lattices.now c.in-Ok.marks c.args.prelude.now c.in-Ok.ensures
-    c.starts_of_program_are_found.ensures c.constraints_are_found.ensures
-
 pub returns-clause-system : goal.returns-clause-system
 returns-clause-system c =
-    IfOk-weaker c.constrain_units.result _ _ (λ (it : UnitSystem) same all is. same ∙ found c all is) c.constrain_units.ensures.system
+    let found = λ (all : List UnitRead) (is : IsProgramOf all c.args.units.now c.args.program.now).
+        system_found c.args.program.now all c.args.units.now is c.args.lattices.now c.args.prelude.now c.in-Ok.marks c.in-Ok.ensures
+        c.starts_of_program_are_found.ensures c.constraints_are_found.ensures in
+    IfOk-weaker c.constrain_units.result _ _ (λ (it : UnitSystem) same all is. same ∙ found all is) c.constrain_units.ensures.system
 
 pub returns-clause-few : goal.returns-clause-few
 returns-clause-few c =
+    let found = λ (all : List UnitRead) (is : IsProgramOf all c.args.units.now c.args.program.now).
+        system_found c.args.program.now all c.args.units.now is c.args.lattices.now c.args.prelude.now c.in-Ok.marks c.in-Ok.ensures
+        c.starts_of_program_are_found.ensures c.constraints_are_found.ensures in
     on_ok_weaker c.constrain_units.result
-    (λ few all is. subst (λ (s : System). length s.constraints ≤ most_constraints) (found c all is) few)
+    (λ few all is. subst (λ (s : System). length s.constraints ≤ most_constraints) (found all is) few)
     c.constrain_units.ensures.few
 
 pub returns-clause-too_many : goal.returns-clause-too_many
-returns-clause-too_many c = λ many all is.
-    subst (λ (s : System). most_constraints < length s.constraints) (found c all is) (c.constrain_units.ensures.too_many many)
+returns-clause-too_many c =
+    let found = λ (all : List UnitRead) (is : IsProgramOf all c.args.units.now c.args.program.now).
+        system_found c.args.program.now all c.args.units.now is c.args.lattices.now c.args.prelude.now c.in-Ok.marks c.in-Ok.ensures
+        c.starts_of_program_are_found.ensures c.constraints_are_found.ensures in
+    λ many all is.
+    subst (λ (s : System). most_constraints < length s.constraints) (found all is) (c.constrain_units.ensures.too_many many)
