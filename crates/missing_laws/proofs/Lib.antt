@@ -1,0 +1,12 @@
+mod Readings
+mod Found
+mod Values
+mod Types
+mod Typing
+mod Marks
+mod Rows
+mod Declaring
+mod Parts
+mod Demands
+mod Items
+mod Having

@@ -1,0 +1,4 @@
+pub mod Everywhere
+pub mod Finding
+pub mod Known
+pub mod Laws
