@@ -10,3 +10,10 @@ mod Parts
 mod Demands
 mod Items
 mod Having
+mod Growth
+mod Growing
+mod Meant
+mod Uses
+mod Settling
+mod Places
+mod Programs

@@ -29,8 +29,7 @@ use Rattle.constraint_rules.specs.Starts.{expr_starts, some_declr_starts, declr_
 use Rattle.constraint_rules.specs.Values.{val}
 use Rattle.constraint_rules.specs.Demands.{desig_skel, desigs_skel, item_skel, next_behind}
 use Rattle.missing_laws.specs.Everywhere.{ExprHas}
-use Rattle.missing_laws.specs.Finding.{AreFound, Avoids, FirstsAreMet, IsSettled, MembersBegin, NameBegins, TokenBegins, UseBegins, loud}
-use Rattle.missing_laws.specs.Known.{HasType}
+use Rattle.missing_laws.specs.Finding.{AreFound, Avoids, HasType, FirstIsMet, IsSettled, MembersBegin, NameBegins, TokenBegins, UseBegins, loud}
 use Rattle.missing_laws.proofs.Readings.{ref_where}
 use Rattle.missing_laws.proofs.Found.{Further, world, front}
 use Rattle.missing_laws.proofs.Types.{Is, valued}
@@ -81,7 +80,11 @@ pub name_found : (w : World) (a : Around) (h g : Having) (d : Declr) (it : Named
     AreFound w (declr_starts a h g d) → AreFound w (had_name h a it.token)
 name_found = named_found
 
-module _ (w : World) (members : MembersBegin w) (firsts : FirstsAreMet w) (k l : Further) (ka : Avoids w k.0)
+pub some_name_found : (w : World) (a : Around) (h : Having) (d : SomeDeclr) (it : Named) → some_declared_name d ≡ Some it →
+    AreFound w (some_declr_starts a h d) → AreFound w (had_name h a it.token)
+some_name_found = some_named_found
+
+module _ (w : World) (members : MembersBegin w) (k l : Further) (ka : Avoids w k.0)
     (la : Avoids w l.0) (same_own : k.2 ≡ l.2) (f : Option Place) where
   abbrev pub wk : World
   wk = world w k
@@ -95,18 +98,21 @@ module _ (w : World) (members : MembersBegin w) (firsts : FirstsAreMet w) (k l :
   abbrev pub U : ℕ → Type 0
   U token = TokenBegins w token
 
+  abbrev pub V : ℕ → Type 0
+  V token = FirstIsMet w token
+
   abbrev pub sh : Expr → Shape
   sh e = shape_of w.spelling w.names e
 
   abbrev pub S : Expr → Type 0
-  S e = ExprHas (IsSettled w) U e
+  S e = ExprHas (IsSettled w) U V e
 
   abbrev pub T : Expr → Type 0
-  T e = ExprHas (HasType w.spelling w.names) U e
+  T e = ExprHas (HasType w) U V e
 
   -- values
 
-  pub top : (e : Expr) → T e → HasType w.spelling w.names e
+  pub top : (e : Expr) → T e → HasType w e
   top (operation e op token e2) h = h.0
   top (cast opening ws d closing e) h = h.0
   top (prefix token p e) h = h.0
@@ -133,7 +139,7 @@ module _ (w : World) (members : MembersBegin w) (firsts : FirstsAreMet w) (k l :
   pub v_is : (e : Expr) → S e → T e → AreFound w (expr_starts a e) → val wk e ≡ val wl e
   v_is e s t h =
       let type = top e t in
-      let one = agrees w U f members e s h type.0 type.1 in one.1 k ∙ sym (one.1 l)
+      let one = agrees w U V f members e s h type.0 type.1 in one.1 k ∙ sym (one.1 l)
 
   pub x_is : (e : Expr) → S e → T e → AreFound w (expr_starts a e) → value (val wk e) ≡ value (val wl e)
   x_is e s t h = ap value (v_is e s t h)
@@ -142,11 +148,11 @@ module _ (w : World) (members : MembersBegin w) (firsts : FirstsAreMet w) (k l :
       is_ref (value (val wl e)) ≡ is_some_pointer (shapes.value (sh e))
   ref_is e s t h =
       let type = valued (sh e) (top e t) in
-      let one = reads w U f members e (agrees w U f members e s h) type.0 type.1 in
+      let one = reads w U V f members e (agrees w U V f members e s h) type.0 type.1 in
       ap is_ref (one.1 l) ∙ (ref_where type.0 one.0 ∙ ap is_some_pointer (sym type.1))
 
   pub own_is_same : (token : ℕ) (t : CType) → AreFound w (fresh a token t) → own wk token ≡ own wl token
-  own_is_same token t h = found_same w members firsts k l ka la (at w token) t h.0.0
+  own_is_same token t h = found_same w members k l ka la (at w token) t h.0.0
 
   pub some_own_is : (token : ℕ) (o : Option CType) → Is o → AreFound w (some_fresh a token o) → own wk token ≡ own wl token
   some_own_is token None is h = absurd cc
@@ -162,7 +168,7 @@ module _ (w : World) (members : MembersBegin w) (firsts : FirstsAreMet w) (k l :
   there false starts h e = absurd cc
 
   pub formed_is : (where_ : Span) (s t : Skel) → s ≡ t → formed wk where_ s ≡ formed wl where_ t
-  formed_is where_ s t e = formed_same w members firsts k l ka la where_ s t e
+  formed_is where_ s t e = formed_same w members k l ka la where_ s t e
 
   -- rows
 
@@ -236,9 +242,9 @@ module _ (w : World) (members : MembersBegin w) (firsts : FirstsAreMet w) (k l :
   pub instance_is : (token : ℕ) (d : Declared) (role : Role) → NameBegins w d role →
       AreFound w (use_by_role a token d role) → instance wk token d.at role ≡ instance wl token d.at role
   instance_is token d function_role is h =
-      let e = found_same w members firsts k l ka la (at w token) (pointer [] d.type) h.0.0 in
+      let e = found_same w members k l ka la (at w token) (pointer [] d.type) h.0.0 in
       joined _ _ _ _ (here_is token e) (crossed_is token d.at h.0.1
-      (found_same w members firsts k l ka la d.at (pointer [] d.type) is) e)
+      (found_same w members k l ka la d.at (pointer [] d.type) is) e)
   instance_is token d typedef_role is h = refl
   instance_is token d object_role is h = refl
   instance_is token d (parameter_role i) is h = refl
@@ -259,7 +265,7 @@ module _ (w : World) (members : MembersBegin w) (firsts : FirstsAreMet w) (k l :
   -- what initialisers initialise
 
   pub desig_is : (s : Skel) (d : Desig) → desig_skel wk s d ≡ desig_skel wl s d
-  desig_is s (member_desig token name) = ap contents (member_same w members firsts k l ka la s name.name)
+  desig_is s (member_desig token name) = ap contents (member_same w members k l ka la s name.name)
   desig_is s (index_desig opening e closing) = refl
 
   pub desigs_is : (s : Skel) (ds : Desigs) → desigs_skel wk s ds ≡ desigs_skel wl s ds
@@ -269,7 +275,7 @@ module _ (w : World) (members : MembersBegin w) (firsts : FirstsAreMet w) (k l :
   pub item_is : (s : Skel) (first : Bool) (next : ℕ) (ds : Desigs) →
       item_skel wk s first next ds ≡ item_skel wl s first next ds
   item_is (ref v s) first next ds = refl
-  item_is (flat v (kinds.Struct n)) first next no_desigs = next_same w members firsts k l ka la n next
+  item_is (flat v (kinds.Struct n)) first next no_desigs = next_same w members k l ka la n next
   item_is (flat v (kinds.Struct n)) first next (more_desigs d ds) =
       ap (λ (x : Skel). Some x) (desigs_is (flat v (kinds.Struct n)) (more_desigs d ds))
   item_is (flat v kinds.Base) first next ds = refl
@@ -304,4 +310,4 @@ module _ (w : World) (members : MembersBegin w) (firsts : FirstsAreMet w) (k l :
           initialised_at wk o ≡ initialised_at wl o
       by None e = refl
       by (Some d) e = first_is d (declared_at w.names.declared d.first)
-          (name_same w members firsts k l ka la false f it.token d e (g it refl))
+          (name_same w members k l ka la false f it.token d e (g it refl))

@@ -20,7 +20,7 @@ use Rattle.row_rules.specs.Indexing.{indexing}
 use Rattle.row_rules.specs.Starting.{is_some_function, Around, name_start, declared_start, some_declared_start}
 use Rattle.row_rules.specs.Vals.{contents, is_nothing, known_skeleton, member_of, member_skel, own}
 use Rattle.row_rules.specs.Worlds.{World, Numbered, at, in_all, skeleton, skeleton_among, word_span}
-use Rattle.missing_laws.specs.Finding.{AreFound, Avoids, Begins, FirstsAreMet, IsMet, MembersBegin, has_skeleton}
+use Rattle.missing_laws.specs.Finding.{AreFound, Avoids, Begins, FirstIsMet, IsMet, MembersBegin, has_skeleton}
 use Rattle.missing_laws.proofs.Found.{Further, world, begins}
 use Rattle.missing_laws.proofs.Marks.{ap2, joined, annotating_is, indexing_is}
 
@@ -50,7 +50,7 @@ held s = Some (contents s)
 abbrev pub around : World → Bool → Option Place → Around
 around w quiet f = record { spelling = w.spelling; names = w.names; enclosing = f; is_quiet = quiet }
 
-module _ (w : World) (members : MembersBegin w) (firsts : FirstsAreMet w) (k l : Further) (ka : Avoids w k.0)
+module _ (w : World) (members : MembersBegin w) (k l : Further) (ka : Avoids w k.0)
     (la : Avoids w l.0) where
   abbrev pub wk : World
   wk = world w k
@@ -151,32 +151,33 @@ module _ (w : World) (members : MembersBegin w) (firsts : FirstsAreMet w) (k l :
   formed_name_same : (d : Declared) → skeleton wk d.at ≡ skeleton wl d.at → formed_name wk d ≡ formed_name wl d
   formed_name_same d e = formed_same (word_span d.at) _ _ e
 
-  name_row_same : (p : Place) (d : Declared) → declared_at w.names.declared p ≡ Some d →
-      Begins w d.at (pointer [] d.type) → name_row wk d ≡ name_row wl d
-  name_row_same p d there h =
+  name_row_same : (d : Declared) → IsMet w d.first → Begins w d.at (pointer [] d.type) → name_row wk d ≡ name_row wl d
+  name_row_same d met h =
       let e = found_same d.at (pointer [] d.type) h in
       joined _ _ _ _ (formed_name_same d e) (joined _ _ _ _ (annotating_same d e) (joined _ _ _ _
       (ap (λ s. indexing wk (pointer [] d.type) s) e ∙ indexing_is w k l (pointer [] d.type) (skeleton wl d.at))
-      (tied_same d e (met_same d.first (firsts p d (pointer [] d.type) there h)))))
+      (tied_same d e (met_same d.first met))))
 
-  declared_same : (p : Place) (f : Option Place) (d : Declared) (role : Role) → declared_at w.names.declared p ≡ Some d →
-      AreFound w (declared_start w.names f d role) → declared_row wk d role ≡ declared_row wl d role
-  declared_same p f d typedef_role there h = refl
-  declared_same p f d enumerator_role there h = refl
-  declared_same p f d object_role there h = name_row_same p d there h.0.0
-  declared_same p f d function_role there h = name_row_same p d there h.0.0
-  declared_same p f d (parameter_role i) there h = name_row_same p d there h.0.0
-  declared_same p f d (field_role n i) there h = name_row_same p d there h.0.0
+  declared_same : (f : Option Place) (d : Declared) (role : Role) → d.role ≡ role →
+      (has_skeleton d.role ≡ true → IsMet w d.first) → AreFound w (declared_start w.names f d role) →
+      declared_row wk d role ≡ declared_row wl d role
+  declared_same f d typedef_role is met h = refl
+  declared_same f d enumerator_role is met h = refl
+  declared_same f d object_role is met h = name_row_same d (met (ap has_skeleton is)) h.0.0
+  declared_same f d function_role is met h = name_row_same d (met (ap has_skeleton is)) h.0.0
+  declared_same f d (parameter_role i) is met h = name_row_same d (met (ap has_skeleton is)) h.0.0
+  declared_same f d (field_role n i) is met h = name_row_same d (met (ap has_skeleton is)) h.0.0
 
-  pub row_same : (q : Bool) (f : Option Place) (token : ℕ) → AreFound w (name_start (around w q f) token) →
+  pub row_same : (q : Bool) (f : Option Place) (token : ℕ) → FirstIsMet w token →
+      AreFound w (name_start (around w q f) token) →
       some_declared_row wk (declared_at w.names.declared (at w token))
       ≡ some_declared_row wl (declared_at w.names.declared (at w token))
-  row_same q f token h = by (declared_at w.names.declared (at w token)) refl h
+  row_same q f token met h = by (declared_at w.names.declared (at w token)) refl h
     where
       by : (o : Option Declared) → declared_at w.names.declared (at w token) ≡ o →
           AreFound w (some_declared_start w.names f o) → some_declared_row wk o ≡ some_declared_row wl o
       by None there h = refl
-      by (Some d) there h = declared_same (at w token) f d d.role there h
+      by (Some d) there h = declared_same f d d.role refl (met d there) h
 
   at_role : (p : Place) (f : Option Place) (d : Declared) (role : Role) → d.role ≡ role →
       declared_at w.names.declared p ≡ Some d → AreFound w (declared_start w.names f d role) →

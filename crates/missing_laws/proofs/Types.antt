@@ -14,7 +14,8 @@ use Rattle.name_rules.specs.Checks.{call_faults, prefix_faults, member_faults, i
 use Rattle.type_rules.specs.Shapes.{is_zero, shape_of, items_value, item_value, stmt_value}
 use Rattle.type_rules.specs.Judging.{expr_faults, operator_faults, block_items_faults, block_item_faults, stmt_faults, count}
 use Rattle.missing_laws.specs.Everywhere.{ExprHas, BlockItemsHave, BlockItemHas, StmtHas}
-use Rattle.missing_laws.specs.Known.{IsKnown}
+use Rattle.row_rules.specs.Worlds.{World}
+use Rattle.missing_laws.specs.Finding.{IsSettled}
 
 -- lists of faults
 
@@ -131,7 +132,13 @@ membered all (Some t) name h p = by (member_of all t name) refl
     by None e = absurd cc
     by (Some it) e = (it.type, refl)
 
-module _ (u : Spelling) (s : Names) (U : ℕ → Type 0) where
+module _ (w : World) (U V : ℕ → Type 0) where
+  abbrev u : Spelling
+  u = w.spelling
+
+  abbrev s : Names
+  s = w.names
+
   abbrev sh : Expr → Shape
   sh e = shape_of u s e
 
@@ -149,7 +156,7 @@ module _ (u : Spelling) (s : Names) (U : ℕ → Type 0) where
   prefixed token p e h none = (base [], refl)
 
   mutual
-    pub typed : (e : Expr) → ExprHas (IsKnown u s) U e → expr_faults u s e ≡ [] → Is (shape_of u s e).type
+    pub typed : (e : Expr) → ExprHas (IsSettled w) U V e → expr_faults u s e ≡ [] → Is (shape_of u s e).type
     typed (operation e comma token e2) k h =
         valued (sh e2) (typed e2 k.1.1.1 (last_none (expr_faults u s e) _ h))
     typed (operation e (assign p) token e2) k h = assigned (sh e) (place u token)
@@ -168,7 +175,7 @@ module _ (u : Spelling) (s : Names) (U : ℕ → Type 0) where
         computed p (value (sh e)) (value (sh e2))
         (valued (sh e) (typed e k.1.0 (first_none (expr_faults u s e) _ h)))
         (valued (sh e2) (typed e2 k.1.1.1 (last_none (expr_faults u s e) _ h)))
-    typed (cast opening ws d closing e) k h = k.0
+    typed (cast opening ws d closing e) k h = k.0.0
     typed (prefix token p e) k h = prefixed token p e
         (typed e k.1 (last_none (prefix_faults (place u token) p (sh e)) _ h))
         (first_none (prefix_faults (place u token) p (sh e)) _ h)
@@ -202,19 +209,19 @@ module _ (u : Spelling) (s : Names) (U : ℕ → Type 0) where
         (holds_where _ (place u name.token) no_member (first_none members _ behind))
     typed (post e token p) k h =
         valued (sh e) (typed e k.1 (last_none (fault_where (not (sh e).is_place) (place u token) not_place) _ h))
-    typed (compound opening ws d closing list) k h = k.0
-    typed (name_use token name) k h = k
+    typed (compound opening ws d closing list) k h = k.0.0
+    typed (name_use token name) k h = k.0
     typed (number_use token) k h = (base [], refl)
     typed (char_use token) k h = (base [], refl)
     typed (text_use texts) k h = (_, refl)
     typed (paren opening e closing) k h = typed e k.1 h
     typed (statement_expr opening opening2 items closing closing2) k h = items_typed items k.1 h
-    typed (va_arg keyword opening e separator ws d closing) k h = k.0
+    typed (va_arg keyword opening e separator ws d closing) k h = k.0.0
     typed (va_start keyword opening e separator e2 closing) k h = (void [], refl)
     typed (va_copy keyword opening e separator e2 closing) k h = (void [], refl)
     typed (offset keyword opening ws d separator name steps closing) k h = (base [], refl)
 
-    items_typed : (items : BlockItems) → BlockItemsHave (IsKnown u s) U items → block_items_faults u s items ≡ [] →
+    items_typed : (items : BlockItems) → BlockItemsHave (IsSettled w) U V items → block_items_faults u s items ≡ [] →
         Is (items_value u s items)
     items_typed no_block_items k h = (void [], refl)
     items_typed (more_block_items item no_block_items) k h =
@@ -222,12 +229,12 @@ module _ (u : Spelling) (s : Names) (U : ℕ → Type 0) where
     items_typed (more_block_items item (more_block_items item2 items)) k h =
         items_typed (more_block_items item2 items) k.1 (last_none (block_item_faults u s item) _ h)
 
-    item_typed : (item : BlockItem) → BlockItemHas (IsKnown u s) U item → block_item_faults u s item ≡ [] →
+    item_typed : (item : BlockItem) → BlockItemHas (IsSettled w) U V item → block_item_faults u s item ≡ [] →
         Is (item_value u s item)
     item_typed (block_decl d) k h = (void [], refl)
     item_typed (block_stmt t) k h = stmt_typed t k h
 
-    stmt_typed : (t : Stmt) → StmtHas (IsKnown u s) U t → stmt_faults u s t ≡ [] → Is (stmt_value u s t)
+    stmt_typed : (t : Stmt) → StmtHas (IsSettled w) U V t → stmt_faults u s t ≡ [] → Is (stmt_value u s t)
     stmt_typed (expr_stmt (some_expr e) semi) k h = valued (sh e) (typed e k h)
     stmt_typed (expr_stmt no_expr semi) k h = (void [], refl)
     stmt_typed (block opening items closing) k h = (void [], refl)

@@ -1,4 +1,4 @@
--- What holds at each expression of a form whose constraints count, at each member without a name, and at each function's name. The sizes of arrays, the
+-- What holds at each expression of a form whose constraints count, at names that are declared. The sizes of arrays, the
 -- widths of members, the values of enumerators, case labels, indices of designators, and operands of `sizeof` and `offsetof`
 -- give no constraints, and are left out.
 use Rattle.std.specs.Prelude.{ℕ, List, [], ◌∷◌, Option, None, Some}
@@ -7,8 +7,13 @@ use Rattle.c_tree.specs.Unit.{Item, function_item, decl_item, asm_item, semi_ite
 use Rattle.name_rules.specs.Spellings.{Named}
 use Rattle.type_rules.specs.Tokens.{declared_name}
 
--- `U`: at the keyword of a struct or union without a tag that is a member, and at the name of a function with a body
-module _ (U : ℕ → Type 0) where
+abbrev pub NamedHas : (ℕ → Type 0) → Option Named → Type 0
+NamedHas Q None = Unit {0}
+NamedHas Q (Some it) = Q it.token
+
+-- `U`: at the keyword of a struct or union without a tag that is a member, and at the name of a function with a body;
+-- `V`: at each name that a declaration or a member declares
+module _ (U V : ℕ → Type 0) where
   abbrev pub UnnamedHas : SpecWord → Type 0
   UnnamedHas (struct_type word attrs None body) = U word.token
   UnnamedHas (struct_type word attrs (Some tag) body) = Unit {0}
@@ -21,10 +26,6 @@ module _ (U : ℕ → Type 0) where
   UnnamedHas (enum_type e) = Unit {0}
   UnnamedHas (typedef_name name) = Unit {0}
   UnnamedHas (attribute attr) = Unit {0}
-
-  abbrev pub NamedHas : Option Named → Type 0
-  NamedHas None = Unit {0}
-  NamedHas (Some it) = U it.token
 
   abbrev pub UnnamedHave : SpecWords → Type 0
   UnnamedHave no_words = Unit {0}
@@ -69,7 +70,7 @@ module _ (U : ℕ → Type 0) where
     MemDeclrsHave (more_mem_declrs attrs d ds) = MemDeclrHas d × MemDeclrsHave ds
 
     pub MemDeclrHas : MemDeclr → Type 0
-    MemDeclrHas (named d width attrs) = DeclrHas d
+    MemDeclrHas (named d width attrs) = NamedHas V (declared_name d) × DeclrHas d
     MemDeclrHas (unnamed colon e attrs) = Unit {0}
 
     pub DeclrHas : Declr → Type 0
@@ -92,12 +93,12 @@ module _ (U : ℕ → Type 0) where
     ParamsHave (more_params ws d attrs ps) = WordsHave ws × (SomeDeclrHas d × ParamsHave ps)
 
 -- `P`: at an expression
-module _ (P : Expr → Type 0) (U : ℕ → Type 0) where
+module _ (P : Expr → Type 0) (U V : ℕ → Type 0) where
   abbrev mutual
     pub ExprHas : Expr → Type 0
     ExprHas (operation e op token e2) = P (operation e op token e2) × (ExprHas e × (OperatorHas op × ExprHas e2))
     ExprHas (cast opening ws d closing e) =
-        P (cast opening ws d closing e) × (WordsHave U ws × (SomeDeclrHas U d × ExprHas e))
+        P (cast opening ws d closing e) × (WordsHave U V ws × (SomeDeclrHas U V d × ExprHas e))
     ExprHas (prefix token p e) = P (prefix token p e) × ExprHas e
     ExprHas (sizeof_value word e) = P (sizeof_value word e)
     ExprHas (sizeof_type word opening ws d closing) = P (sizeof_type word opening ws d closing)
@@ -108,7 +109,7 @@ module _ (P : Expr → Type 0) (U : ℕ → Type 0) where
     ExprHas (arrow e token name) = P (arrow e token name) × ExprHas e
     ExprHas (post e token p) = P (post e token p) × ExprHas e
     ExprHas (compound opening ws d closing list) =
-        P (compound opening ws d closing list) × (WordsHave U ws × (SomeDeclrHas U d × InitListHas list))
+        P (compound opening ws d closing list) × (WordsHave U V ws × (SomeDeclrHas U V d × InitListHas list))
     ExprHas (name_use token name) = P (name_use token name)
     ExprHas (number_use token) = P (number_use token)
     ExprHas (char_use token) = P (char_use token)
@@ -117,7 +118,7 @@ module _ (P : Expr → Type 0) (U : ℕ → Type 0) where
     ExprHas (statement_expr opening opening2 items closing closing2) =
         P (statement_expr opening opening2 items closing closing2) × BlockItemsHave items
     ExprHas (va_arg keyword opening e separator ws d closing) =
-        P (va_arg keyword opening e separator ws d closing) × (ExprHas e × (WordsHave U ws × SomeDeclrHas U d))
+        P (va_arg keyword opening e separator ws d closing) × (ExprHas e × (WordsHave U V ws × SomeDeclrHas U V d))
     ExprHas (va_start keyword opening e separator e2 closing) =
         P (va_start keyword opening e separator e2 closing) × (ExprHas e × ExprHas e2)
     ExprHas (va_copy keyword opening e separator e2 closing) =
@@ -157,10 +158,10 @@ module _ (P : Expr → Type 0) (U : ℕ → Type 0) where
     pub InitDeclrsHave : InitDeclrs → Type 0
     InitDeclrsHave no_init_declrs = Unit {0}
     InitDeclrsHave (more_init_declrs attrs d asm_label attrs2 init ds) =
-        DeclrHas U d × (SomeInitHas init × InitDeclrsHave ds)
+        NamedHas V (declared_name d) × (DeclrHas U V d × (SomeInitHas init × InitDeclrsHave ds))
 
     pub DeclarationHas : Declaration → Type 0
-    DeclarationHas (declaration exts ws ds semi) = WordsHave U ws × InitDeclrsHave ds
+    DeclarationHas (declaration exts ws ds semi) = WordsHave U V ws × InitDeclrsHave ds
 
     pub DeclHas : Decl → Type 0
     DeclHas (decl_declaration d) = DeclarationHas d
@@ -203,7 +204,7 @@ module _ (P : Expr → Type 0) (U : ℕ → Type 0) where
 
   abbrev pub ItemHas : Item → Type 0
   ItemHas (function_item exts ws d attrs opening items closing) =
-      NamedHas U (declared_name d) × (WordsHave U ws × (DeclrHas U d × BlockItemsHave items))
+      NamedHas U (declared_name d) × (NamedHas V (declared_name d) × (WordsHave U V ws × (DeclrHas U V d × BlockItemsHave items)))
   ItemHas (decl_item d) = DeclHas d
   ItemHas (asm_item keyword group semi) = Unit {0}
   ItemHas (semi_item semi) = Unit {0}

@@ -2,13 +2,14 @@
 use Rattle.std.specs.Prelude.{◌≡◌, ◌⊎◌, ℕ, Bool, true, false, List, [], ◌∷◌, ◌++◌, slice_get, Option, None, Some}
 use Rattle.c_words.specs.declared.kinds.Punct.{Punct}
 use Rattle.c_words.specs.declared.kinds.Punct.TheVariants as signs
-use Rattle.c_tree.specs.Tree.{Expr, operation, cast, prefix, sizeof_value, sizeof_type, extension, index, call, dot, arrow, post, compound, name_use, number_use, char_use, text_use, paren, statement_expr, va_arg, va_start, va_copy, offset}
+use Rattle.c_tree.specs.Tree.{Expr, operation, cast, prefix, sizeof_value, sizeof_type, extension, index, call, dot, arrow, post, compound, name_use, number_use, char_use, text_use, paren, statement_expr, va_arg, va_start, va_copy, offset, SpecWords, SomeDeclr}
 use Rattle.type_table.specs.Types.{CType, pointer}
 use Rattle.qual_types.specs.Skel.{no_skeleton, numbered, within}
 use Rattle.name_rules.specs.Spellings.{Place}
 use Rattle.name_rules.specs.Scopes.{Role, typedef_role, object_role, function_role, parameter_role, field_role, enumerator_role, Declared, declared_at, means, Known, Own, body_of}
-use Rattle.name_rules.specs.Uses.{use_at}
+use Rattle.name_rules.specs.Uses.{type_named_at, use_at, use_shape}
 use Rattle.name_rules.specs.Values.{Shape, member_in, own_of}
+use Rattle.type_rules.specs.Tokens.{first_word, some_declared_name}
 use Rattle.type_rules.specs.Shapes.{shape_of}
 use Rattle.row_rules.specs.Sites.{has_place}
 use Rattle.row_rules.specs.Starting.{Around, Start}
@@ -46,6 +47,18 @@ NameBegins w d function_role = Begins w d.at (pointer [] d.type)
 NameBegins w d (parameter_role i) = Begins w d.at (pointer [] d.type)
 NameBegins w d (field_role n i) = Begins w d.at (pointer [] d.type)
 
+-- a type's name was found
+abbrev pub TypeIsKnown : World → SpecWords → Type 0
+TypeIsKnown w ws = (t : CType) × (type_named_at w.names.type_names (at w (first_word ws)) ≡ Some t)
+
+-- a name was found, or is that of a function that is called without a declaration
+abbrev pub UseIsKnown : World → ℕ → Type 0
+UseIsKnown w token = (t : CType) × ((use_shape w.names (use_at w.names.uses (at w token))).type ≡ Some t)
+
+-- an expression has a type
+abbrev pub HasType : World → Expr → Type 0
+HasType w e = (t : CType) × ((shape_of w.spelling w.names e).type ≡ Some t)
+
 -- what the name at a token means has a skeleton
 abbrev pub UseBegins : World → ℕ → Type 0
 UseBegins w token =
@@ -67,12 +80,16 @@ is_prefix p = false
 abbrev pub IsPrefix : Punct → Type 0
 IsPrefix p = is_prefix p ≡ true
 
+-- a type's name is known, and its declarator has no name
+abbrev pub IsTypeName : World → SpecWords → SomeDeclr → Type 0
+IsTypeName w ws d = TypeIsKnown w ws × (some_declared_name d ≡ None)
+
 -- at an expression itself, its parts aside
 abbrev pub IsSettled : World → Expr → Type 0
-IsSettled w (name_use token name) = UseBegins w token
+IsSettled w (name_use token name) = UseIsKnown w token × UseBegins w token
 IsSettled w (prefix token p e) = IsPrefix p
 IsSettled w (operation e op token e2) = Unit {0}
-IsSettled w (cast opening ws d closing e) = Unit {0}
+IsSettled w (cast opening ws d closing e) = IsTypeName w ws d
 IsSettled w (sizeof_value word e) = Unit {0}
 IsSettled w (sizeof_type word opening ws d closing) = Unit {0}
 IsSettled w (extension keyword e) = Unit {0}
@@ -81,13 +98,13 @@ IsSettled w (call e opening es closing) = Unit {0}
 IsSettled w (dot e token name) = Unit {0}
 IsSettled w (arrow e token name) = Unit {0}
 IsSettled w (post e token p) = Unit {0}
-IsSettled w (compound opening ws d closing list) = Unit {0}
+IsSettled w (compound opening ws d closing list) = IsTypeName w ws d
 IsSettled w (number_use token) = Unit {0}
 IsSettled w (char_use token) = Unit {0}
 IsSettled w (text_use texts) = Unit {0}
 IsSettled w (paren opening e closing) = Unit {0}
 IsSettled w (statement_expr opening opening2 items closing closing2) = Unit {0}
-IsSettled w (va_arg keyword opening e separator ws d closing) = Unit {0}
+IsSettled w (va_arg keyword opening e separator ws d closing) = IsTypeName w ws d
 IsSettled w (va_start keyword opening e separator e2 closing) = Unit {0}
 IsSettled w (va_copy keyword opening e separator e2 closing) = Unit {0}
 IsSettled w (offset keyword opening ws d separator name steps closing) = Unit {0}
@@ -131,10 +148,10 @@ abbrev pub IsMet : World → Place → Type 0
 IsMet w p = ((t : CType) × Begins w p t)
     ⊎ ((d : Declared) × (declared_at w.names.declared p ≡ Some d) × (has_skeleton d.role ≡ false))
 
--- where a declaration has a skeleton, the first one of what it declares has one too, or is that of an enumerator
-abbrev pub FirstsAreMet : World → Type 0
-FirstsAreMet w =
-    (p : Place) (d : Declared) (t : CType) → declared_at w.names.declared p ≡ Some d → Begins w d.at t → IsMet w d.first
+-- Where the declaration at a token has a skeleton, the first one of what it declares has one too, or is that of an enumerator.
+abbrev pub FirstIsMet : World → ℕ → Type 0
+FirstIsMet w token =
+    (d : Declared) → declared_at w.names.declared (at w token) ≡ Some d → has_skeleton d.role ≡ true → IsMet w d.first
 
 -- a skeleton begins at a token
 abbrev pub TokenBegins : World → ℕ → Type 0

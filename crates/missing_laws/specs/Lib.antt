@@ -1,4 +1,4 @@
 pub mod Everywhere
 pub mod Finding
-pub mod Known
 pub mod Laws
+pub mod Programs
