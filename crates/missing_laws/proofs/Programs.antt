@@ -1,0 +1,212 @@
+-- What each unit of an accepted program looks up is there.
+use Rattle.std.proofs.Common.{◌≡◌, ℕ, true, false, All, List, [], ◌∷◌, ◌++◌, Option, None, Some, refl, sym, subst, ◌∙◌, append_assoc}
+use Rattle.std.proofs.lemmas.List.Elements.{All-head, All-tail}
+use Rattle.c_tree.specs.declared.lexeme.Lexeme.{Lexeme}
+use Rattle.c_tree.specs.Tree.{Expr, SpecWords, Declr, BlockItems}
+use Rattle.c_tree.specs.Unit.{IsItem, Item, function_item, decl_item, asm_item, semi_item}
+use Rattle.c_tree.specs.WellFormed.{AreBlockItems}
+use Rattle.type_table.specs.Types.{base}
+use Rattle.name_rules.specs.Spellings.{Named, Place, Spelling, place}
+use Rattle.name_rules.specs.Scopes.{Names}
+use Rattle.name_rules.specs.Units.{no_names, unit_begun}
+use Rattle.meaning_laws.specs.Meanings.{Differ}
+use Rattle.type_rules.specs.Tokens.{declared_name}
+use Rattle.type_rules.specs.Naming.{function_by, item_named, items_named}
+use Rattle.type_rules.specs.Judging.{items_faults_of}
+use Rattle.type_rules.specs.Program.{HasNoFault, Source, judged, names_of, sources_named}
+use Rattle.row_rules.specs.Starting.{Start, declared_function, of_function, with_skeleton}
+use Rattle.row_rules.specs.Worlds.{World}
+use Rattle.constraint_rules.specs.Starts.{block_items_starts, declr_starts, item_starts, items_starts, words_starts}
+use Rattle.constraint_rules.specs.Systems.{Program, starts_among, starts_of, world_of}
+use Rattle.missing_laws.specs.Everywhere.{BlockItemsHave, DeclrHas, ItemHas, ItemsHave, NamedHas, WordsHave}
+use Rattle.missing_laws.specs.Finding.{AreFound, FirstIsMet, IsSettled, TokenBegins, loud}
+use Rattle.missing_laws.specs.Programs.{AreFormed, EachHasSkeletons, EachMissesNothing, EachSettled, IsAccepted, PlacesDiffer}
+use Rattle.missing_laws.proofs.Found.{front, back}
+use Rattle.missing_laws.proofs.Types.{first_none, last_none}
+use Rattle.missing_laws.proofs.Typing.{items_typed_of}
+use Rattle.missing_laws.proofs.Items.{missing_nothing}
+use Rattle.missing_laws.proofs.Having.{items_have}
+use Rattle.missing_laws.proofs.Parts.{name_found}
+use Rattle.missing_laws.proofs.Growth.{Grows, stays, joins, sized_grows, thing_grows, entered_grows, left_grows, unit_grows}
+use Rattle.missing_laws.proofs.Growing.{block_items_grow, declr_grows, items_grow}
+use Rattle.missing_laws.proofs.Meant.{Good, good_entered, good_left, good_none, good_sized, good_unit, members_begin, thing_good}
+use Rattle.missing_laws.proofs.Uses.{UsesDiffer, named_round}
+use Rattle.missing_laws.proofs.Settling.{block_items_ok, decl_ok, declr_ok, words_ok}
+use Rattle.missing_laws.proofs.Places.{all_found, declared_differ, uses_differ}
+
+some_named : (it name : Named) → Some it ≡ Some name → it ≡ name
+some_named it name e = cc
+
+module _ (w : World) (differ : Differ w.names.declared) (uses : UsesDiffer w.names.uses)
+    (clean : w.names.faults ≡ []) (all : List Lexeme) where
+  abbrev u : Spelling
+  u = w.spelling
+
+  abbrev U : ℕ → Type 0
+  U token = TokenBegins w token
+
+  abbrev V : ℕ → Type 0
+  V token = FirstIsMet w token
+
+  abbrev P : Expr → Type 0
+  P e = IsSettled w e
+
+  abbrev G : Names → Type 0
+  G s = Good w differ (true ∷ []) s
+
+  function_ok : (ws : SpecWords) (d : Declr) (items : BlockItems) (f : Option Place) (o : Option Named) (s : Names) →
+      declared_name d ≡ o → ((it : Named) × (declared_name d ≡ Some it)) → AreBlockItems all items →
+      AreFound w (words_starts (loud w None) ws) → AreFound w (declr_starts (loud w None) with_skeleton (of_function f) d) →
+      AreFound w (block_items_starts (loud w f) items) → Grows (function_by u o ws d items s) w.names → G s →
+      G (function_by u o ws d items s)
+      × (NamedHas U o × (NamedHas V o × (WordsHave U V ws × (DeclrHas U V d × BlockItemsHave P U V items))))
+  function_ok ws d items f None s e some wf fw fd fi g h = absurd (never (sym e ∙ some.1))
+    where
+      never : None ≡ Some some.0 → ⊥
+      never e = absurd cc
+  function_ok ws d items f (Some it) s e some wf fw fd fi g h =
+      let gl = joins (left_grows _) g in
+      let gt = joins (entered_grows (place u it.token) _ _) (joins (block_items_grow u items _) gl) in
+      let gd = joins (sized_grows (place u it.token) _ _)
+      (joins (thing_grows (place u it.token) (u.key it.name) _ _) gt) in
+      let one = words_ok w differ uses clean all None false false ws (base []) [] true [] s fw
+      (joins (declr_grows u _ d _) gd) h in
+      let two = declr_ok w differ uses clean all None false _ with_skeleton (of_function f) d true [] _ tt fd gd one.0 in
+      let three = thing_good w differ false None true [] it.token (u.key it.name) _ _ gt
+      (name_found w (loud w None) with_skeleton (of_function f) d it e fd)
+      (good_sized w differ (true ∷ []) (place u it.token) _ _ two.0) in
+      let four = block_items_ok w differ uses clean all f false items (true ∷ []) _ (λ is. (refl, tt)) (λ is. wf) fi gl
+      (good_entered w differ (place u it.token) _ _ three.0) in
+      (good_left w differ true (true ∷ []) _ four.0, (three.1.1, (three.1.0, (one.1, (two.1, four.1 refl)))))
+
+  item_ok : (item : Item) (s : Names) → IsItem all item → AreFound w (item_starts u w.names item) →
+      Grows (item_named u item s) w.names → G s → G (item_named u item s) × ItemHas P U V item
+  item_ok (function_item exts ws d attrs opening items closing) s wf found g h =
+      let f = declared_function u w.names (declared_name d) in
+      let behind = back w (words_starts (loud w None) ws) _ found in
+      function_ok ws d items f (declared_name d) s refl (named_round d false wf.4) wf.6
+      (front w (words_starts (loud w None) ws) _ found)
+      (front w (declr_starts (loud w None) with_skeleton (of_function f) d) _ behind)
+      (back w (declr_starts (loud w None) with_skeleton (of_function f) d) _ behind) g h
+  item_ok (decl_item d) s wf found g h =
+      let one = decl_ok w differ uses clean all None false d [] s (λ is. tt) (λ is. wf) found g h in (one.0, one.1 refl)
+  item_ok (asm_item keyword group semi) s wf found g h = (h, tt)
+  item_ok (semi_item semi) s wf found g h = (h, tt)
+
+  pub items_ok : (items : List Item) (s : Names) → All (IsItem all) items → AreFound w (items_starts u w.names items) →
+      Grows (items_named u items s) w.names → G s → G (items_named u items s) × ItemsHave P U V items
+  items_ok [] s wf found g h = (h, tt)
+  items_ok (item ∷ items) s wf found g h =
+      let one = item_ok item s (All-head (IsItem all) item items wf) (front w (item_starts u w.names item) _ found)
+      (joins (items_grow u items _) g) h in
+      let two = items_ok items _ (All-tail (IsItem all) item items wf) (back w (item_starts u w.names item) _ found) g
+      one.0 in
+      (two.0, (one.1, two.1))
+
+sources_grow : (sources : List Source) (s : Names) → Grows s (sources_named sources s)
+sources_grow [] s = stays s
+sources_grow (it ∷ sources) s = joins (unit_grows s) (joins (items_grow it.spelling it.items _) (sources_grow sources _))
+
+module _ (p : Program) (formed : AreFormed p.sources) (no_fault : HasNoFault p.sources)
+    (places : PlacesDiffer p.sources) where
+  abbrev S : Names
+  S = names_of p.sources
+
+  differ : Differ S.declared
+  differ = declared_differ S.declared places.declared
+
+  uses : UsesDiffer S.uses
+  uses = uses_differ S.uses places.uses
+
+  clean : S.faults ≡ []
+  clean = first_none S.faults (judged p.sources S) no_fault
+
+  -- names are good for each unit alike
+  abbrev GoodFor : Source → Names → Type 0
+  GoodFor it s = Good (world_of p it) differ (true ∷ []) s
+
+  moved : (it other : Source) (s : Names) → GoodFor it s → GoodFor other s
+  moved it other s h = record {
+    scopes = h.scopes;
+    things = h.things;
+    round = h.round;
+    kept = h.kept;
+    members = h.members;
+  }
+
+  found_of : (xs : List Start) (it : Source) (sources : List Source) →
+      starts_of p.sources ≡ xs ++ (items_starts it.spelling S it.items ++ starts_among S sources) →
+      AreFound (world_of p it) (items_starts it.spelling S it.items)
+  found_of xs it sources e = all_found (world_of p it) (starts_of p.sources) refl refl places.starts xs
+      (items_starts it.spelling S it.items) (starts_among S sources) e
+
+  -- each unit's items, and good names behind all
+  abbrev EachHas : List Source → Type 0
+  EachHas [] = Unit {0}
+  EachHas (it ∷ sources) =
+      ItemsHave (IsSettled (world_of p it)) (TokenBegins (world_of p it)) (FirstIsMet (world_of p it)) it.items
+      × EachHas sources
+
+  run : (sources : List Source) (last : Source) (xs : List Start) (s : Names) → AreFormed sources →
+      starts_of p.sources ≡ xs ++ starts_among S sources → sources_named sources s ≡ S → GoodFor last s →
+      GoodFor last S × EachHas sources
+  run [] last xs s wf e is h = (subst (GoodFor last) is h, tt)
+  run (it ∷ sources) last xs s wf e is h =
+      let w = world_of p it in
+      let next = items_named it.spelling it.items (unit_begun s) in
+      let grown = subst (Grows next) is (sources_grow sources next) in
+      let one = items_ok w differ uses clean wf.0.0 it.items (unit_begun s) wf.0.1.parts (found_of xs it sources e) grown
+      (good_unit w differ s (moved last it s h)) in
+      let two = run sources last (xs ++ items_starts it.spelling S it.items) next wf.1
+      (e ∙ sym (append_assoc xs (items_starts it.spelling S it.items) (starts_among S sources))) is
+      (moved it last next one.0) in
+      (two.0, (one.1, two.1))
+
+  settle : (last : Source) (sources : List Source) (xs : List Start) →
+      starts_of p.sources ≡ xs ++ starts_among S sources → judged sources S ≡ [] → EachHas sources → GoodFor last S →
+      EachSettled p sources
+  settle last [] xs e none has h = tt
+  settle last (it ∷ sources) xs e none has h = (
+    record {
+      clean = first_none (items_faults_of it.spelling S it.items) _ none;
+      settled = has.0;
+      starts = found_of xs it sources e;
+      members = members_begin (world_of p it) differ (moved last it S h).members;
+    },
+    settle last sources (xs ++ items_starts it.spelling S it.items)
+        (e ∙ sym (append_assoc xs (items_starts it.spelling S it.items) (starts_among S sources)))
+        (last_none (items_faults_of it.spelling S it.items) _ none) has.1 h,
+  )
+
+  whole : (sources : List Source) → p.sources ≡ sources → EachSettled p p.sources
+  whole [] e = subst (EachSettled p) (sym e) tt
+  whole (it ∷ sources) e =
+      let done = run p.sources it [] no_names formed refl refl (good_none (world_of p it) differ) in
+      settle it p.sources [] refl (last_none S.faults (judged p.sources S) no_fault) done.1 done.0
+
+pub programs_are_settled : (p : Program) → IsAccepted p → EachSettled p p.sources
+programs_are_settled p h = whole p h.0 h.1 h.2 p.sources refl
+
+each_has : (p : Program) (sources : List Source) → EachSettled p sources → EachHasSkeletons p sources
+each_has p [] h = tt
+each_has p (it ∷ sources) h =
+    let w = world_of p it in (
+      items_have w h.0.members it.items h.0.settled
+          (items_typed_of w (TokenBegins w) (FirstIsMet w) it.items h.0.settled h.0.clean) h.0.starts,
+      each_has p sources h.1,
+    )
+
+pub programs_have_skeletons : (p : Program) → IsAccepted p → EachHasSkeletons p p.sources
+programs_have_skeletons p h = each_has p p.sources (programs_are_settled p h)
+
+each_misses : (p : Program) (sources : List Source) → EachSettled p sources → EachMissesNothing p sources
+each_misses p [] h = tt
+each_misses p (it ∷ sources) h =
+    let w = world_of p it in (
+      missing_nothing w it.items h.0.members h.0.settled
+          (items_typed_of w (TokenBegins w) (FirstIsMet w) it.items h.0.settled h.0.clean) h.0.starts,
+      each_misses p sources h.1,
+    )
+
+pub programs_miss_nothing : (p : Program) → IsAccepted p → EachMissesNothing p p.sources
+programs_miss_nothing p h = each_misses p p.sources (programs_are_settled p h)

@@ -1,0 +1,214 @@
+-- What holds at each expression of a form whose constraints count, at names that are declared. The sizes of arrays, the
+-- widths of members, the values of enumerators, case labels, indices of designators, and operands of `sizeof` and `offsetof`
+-- give no constraints, and are left out.
+use Rattle.std.specs.Prelude.{ℕ, List, [], ◌∷◌, Option, None, Some}
+use Rattle.c_tree.specs.Tree.{Expr, operation, cast, prefix, sizeof_value, sizeof_type, extension, index, call, dot, arrow, post, compound, name_use, number_use, char_use, text_use, paren, statement_expr, va_arg, va_start, va_copy, offset, Operator, comma, assign, cond, binary, SomeExpr, no_expr, some_expr, Exprs, no_exprs, more_exprs, SpecWords, no_words, more_words, SpecWord, storage, thread, inline_word, noreturn, qualifier, basic, struct_type, enum_type, typedef_name, attribute, SomeBody, no_body, some_body, StructItems, no_struct_items, more_struct_items, StructItem, member, member_semi, member_assert, MemDeclrs, no_mem_declrs, more_mem_declrs, MemDeclr, named, unnamed, Declr, pointer, declr_name, declr_paren, array, params, abs_pointer, abs_paren, abs_array, abs_params, SomeDeclr, no_declr, some_declr, Params, no_params, more_params, Init, init_value, init_braced, InitList, init_list, InitItems, no_init_items, more_init_items, SomeInit, no_init, some_init, InitDeclrs, no_init_declrs, more_init_declrs, Declaration, declaration, Decl, decl_declaration, decl_assert, BlockItems, no_block_items, more_block_items, BlockItem, block_decl, block_stmt, Stmt, block, expr_stmt, attr_stmt, label, case_stmt, default_stmt, if_stmt, switch_stmt, while_stmt, do_stmt, for_stmt, goto_stmt, continue_stmt, break_stmt, return_stmt, asm_stmt, SomeElse, no_else, some_else, ForStart, start_declaration, start_value}
+use Rattle.c_tree.specs.Unit.{Item, function_item, decl_item, asm_item, semi_item}
+use Rattle.name_rules.specs.Spellings.{Named}
+use Rattle.type_rules.specs.Tokens.{declared_name}
+
+abbrev pub NamedHas : (ℕ → Type 0) → Option Named → Type 0
+NamedHas Q None = Unit {0}
+NamedHas Q (Some it) = Q it.token
+
+-- `U`: at the keyword of a struct or union without a tag that is a member, and at the name of a function with a body;
+-- `V`: at each name that a declaration or a member declares
+module _ (U V : ℕ → Type 0) where
+  abbrev pub UnnamedHas : SpecWord → Type 0
+  UnnamedHas (struct_type word attrs None body) = U word.token
+  UnnamedHas (struct_type word attrs (Some tag) body) = Unit {0}
+  UnnamedHas (storage word) = Unit {0}
+  UnnamedHas (thread token) = Unit {0}
+  UnnamedHas (inline_word token) = Unit {0}
+  UnnamedHas (noreturn token) = Unit {0}
+  UnnamedHas (qualifier q) = Unit {0}
+  UnnamedHas (basic word) = Unit {0}
+  UnnamedHas (enum_type e) = Unit {0}
+  UnnamedHas (typedef_name name) = Unit {0}
+  UnnamedHas (attribute attr) = Unit {0}
+
+  abbrev pub UnnamedHave : SpecWords → Type 0
+  UnnamedHave no_words = Unit {0}
+  UnnamedHave (more_words word words) = UnnamedHas word × UnnamedHave words
+
+  abbrev mutual
+    pub WordsHave : SpecWords → Type 0
+    WordsHave no_words = Unit {0}
+    WordsHave (more_words word words) = WordHas word × WordsHave words
+
+    pub WordHas : SpecWord → Type 0
+    WordHas (struct_type word attrs tag body) = SomeBodyHas body
+    WordHas (storage word) = Unit {0}
+    WordHas (thread token) = Unit {0}
+    WordHas (inline_word token) = Unit {0}
+    WordHas (noreturn token) = Unit {0}
+    WordHas (qualifier q) = Unit {0}
+    WordHas (basic word) = Unit {0}
+    WordHas (enum_type e) = Unit {0}
+    WordHas (typedef_name name) = Unit {0}
+    WordHas (attribute attr) = Unit {0}
+
+    pub SomeBodyHas : SomeBody → Type 0
+    SomeBodyHas no_body = Unit {0}
+    SomeBodyHas (some_body opening items closing) = StructItemsHave items
+
+    pub StructItemsHave : StructItems → Type 0
+    StructItemsHave no_struct_items = Unit {0}
+    StructItemsHave (more_struct_items item items) = StructItemHas item × StructItemsHave items
+
+    pub StructItemHas : StructItem → Type 0
+    StructItemHas (member exts ws ds semi) = WordsHave ws × MembersHave ws ds
+    StructItemHas (member_semi semi) = Unit {0}
+    StructItemHas (member_assert it) = Unit {0}
+
+    pub MembersHave : SpecWords → MemDeclrs → Type 0
+    MembersHave ws no_mem_declrs = UnnamedHave ws
+    MembersHave ws (more_mem_declrs attrs d ds) = MemDeclrHas d × MemDeclrsHave ds
+
+    pub MemDeclrsHave : MemDeclrs → Type 0
+    MemDeclrsHave no_mem_declrs = Unit {0}
+    MemDeclrsHave (more_mem_declrs attrs d ds) = MemDeclrHas d × MemDeclrsHave ds
+
+    pub MemDeclrHas : MemDeclr → Type 0
+    MemDeclrHas (named d width attrs) = NamedHas V (declared_name d) × DeclrHas d
+    MemDeclrHas (unnamed colon e attrs) = Unit {0}
+
+    pub DeclrHas : Declr → Type 0
+    DeclrHas (pointer star words d) = DeclrHas d
+    DeclrHas (declr_name token name) = Unit {0}
+    DeclrHas (declr_paren opening attrs d closing) = DeclrHas d
+    DeclrHas (array d opening words size closing) = DeclrHas d
+    DeclrHas (params d opening ps dots closing) = DeclrHas d × ParamsHave ps
+    DeclrHas (abs_pointer star words d) = SomeDeclrHas d
+    DeclrHas (abs_paren opening attrs d closing) = DeclrHas d
+    DeclrHas (abs_array d opening words size closing) = SomeDeclrHas d
+    DeclrHas (abs_params d opening ps dots closing) = SomeDeclrHas d × ParamsHave ps
+
+    pub SomeDeclrHas : SomeDeclr → Type 0
+    SomeDeclrHas no_declr = Unit {0}
+    SomeDeclrHas (some_declr d) = DeclrHas d
+
+    pub ParamsHave : Params → Type 0
+    ParamsHave no_params = Unit {0}
+    ParamsHave (more_params ws d attrs ps) = WordsHave ws × (SomeDeclrHas d × ParamsHave ps)
+
+-- `P`: at an expression
+module _ (P : Expr → Type 0) (U V : ℕ → Type 0) where
+  abbrev mutual
+    pub ExprHas : Expr → Type 0
+    ExprHas (operation e op token e2) = P (operation e op token e2) × (ExprHas e × (OperatorHas op × ExprHas e2))
+    ExprHas (cast opening ws d closing e) =
+        P (cast opening ws d closing e) × (WordsHave U V ws × (SomeDeclrHas U V d × ExprHas e))
+    ExprHas (prefix token p e) = P (prefix token p e) × ExprHas e
+    ExprHas (sizeof_value word e) = P (sizeof_value word e)
+    ExprHas (sizeof_type word opening ws d closing) = P (sizeof_type word opening ws d closing)
+    ExprHas (extension keyword e) = P (extension keyword e) × ExprHas e
+    ExprHas (index e opening e2 closing) = P (index e opening e2 closing) × (ExprHas e × ExprHas e2)
+    ExprHas (call e opening es closing) = P (call e opening es closing) × (ExprHas e × ExprsHave es)
+    ExprHas (dot e token name) = P (dot e token name) × ExprHas e
+    ExprHas (arrow e token name) = P (arrow e token name) × ExprHas e
+    ExprHas (post e token p) = P (post e token p) × ExprHas e
+    ExprHas (compound opening ws d closing list) =
+        P (compound opening ws d closing list) × (WordsHave U V ws × (SomeDeclrHas U V d × InitListHas list))
+    ExprHas (name_use token name) = P (name_use token name)
+    ExprHas (number_use token) = P (number_use token)
+    ExprHas (char_use token) = P (char_use token)
+    ExprHas (text_use texts) = P (text_use texts)
+    ExprHas (paren opening e closing) = P (paren opening e closing) × ExprHas e
+    ExprHas (statement_expr opening opening2 items closing closing2) =
+        P (statement_expr opening opening2 items closing closing2) × BlockItemsHave items
+    ExprHas (va_arg keyword opening e separator ws d closing) =
+        P (va_arg keyword opening e separator ws d closing) × (ExprHas e × (WordsHave U V ws × SomeDeclrHas U V d))
+    ExprHas (va_start keyword opening e separator e2 closing) =
+        P (va_start keyword opening e separator e2 closing) × (ExprHas e × ExprHas e2)
+    ExprHas (va_copy keyword opening e separator e2 closing) =
+        P (va_copy keyword opening e separator e2 closing) × (ExprHas e × ExprHas e2)
+    ExprHas (offset keyword opening ws d separator name steps closing) =
+        P (offset keyword opening ws d separator name steps closing)
+
+    pub OperatorHas : Operator → Type 0
+    OperatorHas comma = Unit {0}
+    OperatorHas (assign p) = Unit {0}
+    OperatorHas (cond middle colon) = SomeExprHas middle
+    OperatorHas (binary p) = Unit {0}
+
+    pub SomeExprHas : SomeExpr → Type 0
+    SomeExprHas no_expr = Unit {0}
+    SomeExprHas (some_expr e) = ExprHas e
+
+    pub ExprsHave : Exprs → Type 0
+    ExprsHave no_exprs = Unit {0}
+    ExprsHave (more_exprs e es) = ExprHas e × ExprsHave es
+
+    pub InitHas : Init → Type 0
+    InitHas (init_value e) = ExprHas e
+    InitHas (init_braced list) = InitListHas list
+
+    pub InitListHas : InitList → Type 0
+    InitListHas (init_list opening items last closing) = InitItemsHave items
+
+    pub InitItemsHave : InitItems → Type 0
+    InitItemsHave no_init_items = Unit {0}
+    InitItemsHave (more_init_items ds equal init items) = InitHas init × InitItemsHave items
+
+    pub SomeInitHas : SomeInit → Type 0
+    SomeInitHas no_init = Unit {0}
+    SomeInitHas (some_init equal init) = InitHas init
+
+    pub InitDeclrsHave : InitDeclrs → Type 0
+    InitDeclrsHave no_init_declrs = Unit {0}
+    InitDeclrsHave (more_init_declrs attrs d asm_label attrs2 init ds) =
+        NamedHas V (declared_name d) × (DeclrHas U V d × (SomeInitHas init × InitDeclrsHave ds))
+
+    pub DeclarationHas : Declaration → Type 0
+    DeclarationHas (declaration exts ws ds semi) = WordsHave U V ws × InitDeclrsHave ds
+
+    pub DeclHas : Decl → Type 0
+    DeclHas (decl_declaration d) = DeclarationHas d
+    DeclHas (decl_assert it) = Unit {0}
+
+    pub BlockItemsHave : BlockItems → Type 0
+    BlockItemsHave no_block_items = Unit {0}
+    BlockItemsHave (more_block_items item items) = BlockItemHas item × BlockItemsHave items
+
+    pub BlockItemHas : BlockItem → Type 0
+    BlockItemHas (block_decl d) = DeclHas d
+    BlockItemHas (block_stmt t) = StmtHas t
+
+    pub StmtHas : Stmt → Type 0
+    StmtHas (block opening items closing) = BlockItemsHave items
+    StmtHas (expr_stmt e semi) = SomeExprHas e
+    StmtHas (attr_stmt attrs semi) = Unit {0}
+    StmtHas (label name colon attrs t) = StmtHas t
+    StmtHas (case_stmt keyword e colon t) = StmtHas t
+    StmtHas (default_stmt keyword colon t) = StmtHas t
+    StmtHas (if_stmt keyword opening e closing t other) = ExprHas e × (StmtHas t × SomeElseHas other)
+    StmtHas (switch_stmt keyword opening e closing t) = ExprHas e × StmtHas t
+    StmtHas (while_stmt keyword opening e closing t) = ExprHas e × StmtHas t
+    StmtHas (do_stmt keyword t keyword2 opening e closing semi) = StmtHas t × ExprHas e
+    StmtHas (for_stmt keyword opening start e semi e2 closing t) =
+        ForStartHas start × (SomeExprHas e × (SomeExprHas e2 × StmtHas t))
+    StmtHas (goto_stmt keyword name semi) = Unit {0}
+    StmtHas (continue_stmt keyword semi) = Unit {0}
+    StmtHas (break_stmt keyword semi) = Unit {0}
+    StmtHas (return_stmt keyword e semi) = SomeExprHas e
+    StmtHas (asm_stmt keyword words group semi) = Unit {0}
+
+    pub SomeElseHas : SomeElse → Type 0
+    SomeElseHas no_else = Unit {0}
+    SomeElseHas (some_else keyword t) = StmtHas t
+
+    pub ForStartHas : ForStart → Type 0
+    ForStartHas (start_declaration d) = DeclarationHas d
+    ForStartHas (start_value e semi) = SomeExprHas e
+
+  abbrev pub ItemHas : Item → Type 0
+  ItemHas (function_item exts ws d attrs opening items closing) =
+      NamedHas U (declared_name d) × (NamedHas V (declared_name d) × (WordsHave U V ws × (DeclrHas U V d × BlockItemsHave items)))
+  ItemHas (decl_item d) = DeclHas d
+  ItemHas (asm_item keyword group semi) = Unit {0}
+  ItemHas (semi_item semi) = Unit {0}
+
+  abbrev pub ItemsHave : List Item → Type 0
+  ItemsHave [] = Unit {0}
+  ItemsHave (item ∷ items) = ItemHas item × ItemsHave items

@@ -1,0 +1,4 @@
+pub mod Everywhere
+pub mod Finding
+pub mod Laws
+pub mod Programs

@@ -1,0 +1,71 @@
+-- Programs whose units are well formed and without faults, each of whose declarations, uses of names and skeletons is at a place
+-- of its own.
+use Rattle.std.specs.Prelude.{◌≡◌, List, [], ◌∷◌}
+use Rattle.c_tree.specs.declared.lexeme.Lexeme.{Lexeme}
+use Rattle.c_tree.specs.Unit.{IsUnit}
+use Rattle.name_rules.specs.Spellings.{Place}
+use Rattle.name_rules.specs.Scopes.{Declared, NameUse}
+use Rattle.type_rules.specs.Program.{HasNoFault, Source, names_of}
+use Rattle.row_rules.specs.Sites.{AreDifferent}
+use Rattle.row_rules.specs.Starting.{Start}
+use Rattle.row_rules.specs.Worlds.{Numbered}
+use Rattle.constraint_rules.specs.Demands.{items_demand}
+use Rattle.constraint_rules.specs.Systems.{Program, starts_of, world_of}
+use Rattle.missing_laws.specs.Everywhere.{ItemsHave}
+use Rattle.missing_laws.specs.Finding.{Avoids, FirstIsMet, TokenBegins, more}
+use Rattle.missing_laws.specs.Laws.{AreSettled, HasOne}
+
+abbrev pub declared_places : List Declared → List Place
+declared_places [] = []
+declared_places (d ∷ ds) = d.at ∷ declared_places ds
+
+abbrev pub use_places : List NameUse → List Place
+use_places [] = []
+use_places (it ∷ uses) = it.at ∷ use_places uses
+
+abbrev pub start_places : List Start → List Place
+start_places [] = []
+start_places (start ∷ starts) = start.at ∷ start_places starts
+
+-- each token declares one name at most, is one use of a name at most, and one skeleton at most begins at it
+pub record PlacesDiffer (sources : List Source) : Type 0 where
+  pub declared : AreDifferent (declared_places (names_of sources).declared)
+  pub uses : AreDifferent (use_places (names_of sources).uses)
+  pub starts : AreDifferent (start_places (starts_of sources))
+
+-- each unit is well formed of some tokens
+abbrev pub AreFormed : List Source → Type 0
+AreFormed [] = Unit {0}
+AreFormed (it ∷ sources) = ((all : List Lexeme) × IsUnit all it.items) × AreFormed sources
+
+abbrev pub IsAccepted : Program → Type 0
+IsAccepted p = AreFormed p.sources × HasNoFault p.sources × PlacesDiffer p.sources
+
+abbrev pub EachSettled : Program → List Source → Type 0
+EachSettled p [] = Unit {0}
+EachSettled p (it ∷ sources) = AreSettled (world_of p it) it.items × EachSettled p sources
+
+abbrev pub EachHasSkeletons : Program → List Source → Type 0
+EachHasSkeletons p [] = Unit {0}
+EachHasSkeletons p (it ∷ sources) =
+    ItemsHave (HasOne (world_of p it)) (TokenBegins (world_of p it)) (FirstIsMet (world_of p it)) it.items
+    × EachHasSkeletons p sources
+
+abbrev pub EachMissesNothing : Program → List Source → Type 0
+EachMissesNothing p [] = Unit {0}
+EachMissesNothing p (it ∷ sources) =
+    ((skeletons : List Numbered) (sites : List Place) → Avoids (world_of p it) skeletons →
+    items_demand (more (world_of p it) skeletons sites) it.items ≡ items_demand (world_of p it) it.items)
+    × EachMissesNothing p sources
+
+-- what each unit of an accepted program looks up is there
+abbrev pub ProgramsAreSettled : Type 0
+ProgramsAreSettled = (p : Program) → IsAccepted p → EachSettled p p.sources
+
+-- each expression of an accepted program whose constraints count has a skeleton of its type
+abbrev pub ProgramsHaveSkeletons : Type 0
+ProgramsHaveSkeletons = (p : Program) → IsAccepted p → EachHasSkeletons p p.sources
+
+-- no constraint of an accepted program stands on what is missing
+abbrev pub ProgramsMissNothing : Type 0
+ProgramsMissNothing = (p : Program) → IsAccepted p → EachMissesNothing p p.sources
