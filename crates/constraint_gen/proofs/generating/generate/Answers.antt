@@ -1,14 +1,18 @@
-use Rattle.std.proofs.Common.{◌<◌, ◌≤◌, ℕ, sym, subst}
+use Rattle.std.proofs.Common.{◌≡◌, ◌<◌, ◌≤◌, ℕ, Err, IsErrOf, sym, ap, subst}
 use Rattle.lattice_core.specs.View.{orders_of}
 use Rattle.flow_graph.specs.System.{System, IsWellOwned, most_variables}
 use Rattle.flow_graph.specs.Unfolding.{NamesElements}
 use Rattle.unit_skeletons.specs.declared.skeletons.Skeletons.{Skeletons}
 use Rattle.c_types.specs.Sources.{sources_in}
 use Rattle.constraint_rules.specs.Systems.{AreNamed}
+use Rattle.unit_system.specs.declared.fault.GenerateFault.{GenerateFault}
 use Rattle.unit_system.specs.Systems.{AreNumbered, starts_on}
 use Rattle.constraint_gen.specs.Programs.{program_in}
 use Rattle.constraint_gen.proofs.Sources.{counted, generated}
 use Rattle.constraint_gen.proofs.generating.generate.Goals as goal
+
+same_fault : {A : Type 0} (x y : GenerateFault) → IsErrOf {T = A} (Err x) y → x ≡ y
+same_fault x y is = cc
 
 pub returns-in-Ok-constrain-clause-made : goal.returns-in-Ok-constrain-clause-made
 returns-in-Ok-constrain-clause-made c = λ all is.
@@ -47,3 +51,10 @@ returns-in-Err-constrain-clause-fit_variables c = λ many all is.
     (counted c.args.program.now (sources_in all) is.named is.taped c.starts_of_program_are_found.ensures
     c.positions_are_counted.ensures)
     c.in-Ok.ensures.few
+
+pub returns-in-Err-clause-too_many_variables : goal.returns-in-Err-clause-too_many_variables
+returns-in-Err-clause-too_many_variables c = λ many all is.
+    subst (λ (n : ℕ). most_variables < n)
+    (counted c.args.program.now (sources_in all) is.named is.taped c.starts_of_program_are_found.ensures
+    c.positions_are_counted.ensures)
+    (c.in-Err.ensures.too_many (ap Err (same_fault _ _ many)))
