@@ -1,5 +1,5 @@
 -- The ends of constraints, and the table of names.
-use Rattle.std.proofs.Common.{◌≡◌, ℕ, zero, suc, ◌+◌, ◌*◌, ◌<◌, ◌≤◌, ◌==◌, Bool, true, false, max, List, [], ◌∷◌, length, drop, slice_get, slice_set, Option, Some, None, if◌then◌else◌, refl, sym, ◌∙◌, ap, arith}
+use Rattle.std.proofs.Common.{◌≡◌, ℕ, zero, suc, ◌+◌, ◌*◌, ◌<◌, ◌≤◌, ◌==◌, Bool, true, false, max, List, [], ◌∷◌, length, drop, slice_get, slice_set, Option, Some, None, if◌then◌else◌, refl, sym, ◌∙◌, ap, arith, ne_eqb}
 use Rattle.flow_graph.specs.declared.constraint.Link.{Link}
 use Rattle.flow_graph.specs.declared.constraint.Link.TheVariants.{Le, Const, Bound, Enter, Leave}
 use Rattle.flow_graph.specs.declared.constraint.Constraint.{Constraint}
@@ -65,13 +65,16 @@ set_length [] k x = refl
 set_length (y ∷ xs) zero x = refl
 set_length (y ∷ xs) (suc k) x = ap suc (set_length xs k x)
 
+same_next : (u v : ℕ) → (suc u == suc v) ≡ (u == v)
+same_next u v = grind arith
+
 -- a table where one more name is noted
 pub noted : (table : List (Option ℕ)) (u v k : ℕ) → u < length table → name_in (slice_set table u (Some k)) v ≡ (if u == v then Some k else name_in table v)
 noted [] u v k within = absurd (omega (arith, within))
 noted (x ∷ table) zero zero k within = refl
-noted (x ∷ table) zero (suc v) k within = refl
-noted (x ∷ table) (suc u) zero k within = refl
-noted (x ∷ table) (suc u) (suc v) k within = noted table u v k (omega (arith, within))
+noted (x ∷ table) zero (suc v) k within = rw (ne_eqb 0 (suc v) (λ e. omega (arith, e))) refl
+noted (x ∷ table) (suc u) zero k within = rw (ne_eqb (suc u) 0 (λ e. omega (arith, e))) refl
+noted (x ∷ table) (suc u) (suc v) k within = rw (same_next u v) (noted table u v k (omega (arith, within)))
 
 -- the names of ends from one on, and of one more before them
 pub known_before : (table : List (Option ℕ)) (ends : List ℕ) (k u : ℕ) → slice_get ends k ≡ Some u → u < length table →

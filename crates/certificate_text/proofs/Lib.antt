@@ -1,1 +1,5 @@
 mod Ends
+mod Pairs
+mod Rising
+mod Written
+mod Setting

@@ -38,12 +38,7 @@ fn put_name(out: &mut Vec<u8>, name: u32) -> Result<(), AllocError>
 }
 
 /// The line of the two sets of a variable.
-pub fn put_set(
-    out: &mut Vec<u8>,
-    name: u32,
-    first: u64,
-    second: u64,
-) -> Result<(), AllocError>
+pub fn put_set(out: &mut Vec<u8>, name: u32, first: u64, second: u64) -> Result<(), AllocError>
     ensures { OnOk result (out.new.items ≡ out.old.items
         ++ set_text (record { name = name; first = first; second = second })) }
 {

@@ -28,7 +28,10 @@ fn a_certificate_is_written(rt: HostRuntime) -> Result<(), Fail> {
     let var = |n: u32| VarId::new(n);
     add(&mut graph, Link::Le(var(4), var(1)))?;
     add(&mut graph, Link::Le(var(1), var(1)))?;
-    add(&mut graph, Link::Const(LatticeNo::new(0), Elem::new(1), var(3)))?;
+    add(
+        &mut graph,
+        Link::Const(LatticeNo::new(0), Elem::new(1), var(3)),
+    )?;
     add(&mut graph, Link::Le(var(3), var(0)))?;
     let mut pairs = Vec::new(alloc);
     pairs.push((var(0), var(4)))?;
