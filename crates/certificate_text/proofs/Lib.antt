@@ -1,5 +1,5 @@
-mod Ends
-mod Pairs
-mod Rising
-mod Written
-mod Setting
+pub mod EndLemmas
+pub mod Pairs
+pub mod Rising
+pub mod Written
+pub mod Setting

@@ -3,8 +3,9 @@ use Rattle.std.proofs.Common.{◌≡◌, ℕ, zero, suc, ◌+◌, ◌<◌, ◌�
 use Rattle.flow_graph.specs.System.{System}
 use Rattle.closure_check.specs.declared.part.Part.{Part}
 use Rattle.certificate_text.specs.Names.{Named, ends_in, name_of, is_at, named_at, names_from, names_in}
-use Rattle.certificate_text.specs.Text.{SetLine, set_of, sets_of, set_text, sets_text}
-use Rattle.certificate_text.proofs.Ends.{drop_there, drop_all}
+use Rattle.certificate_text.specs.declared.putting.SetLine.{SetLine}
+use Rattle.certificate_text.specs.Text.{set_of, sets_of, set_text, sets_text}
+use Rattle.certificate_text.proofs.EndLemmas.{drop_there, drop_all}
 
 sets_text-append : (xs ys : List SetLine) → sets_text (xs ++ ys) ≡ sets_text xs ++ sets_text ys
 sets_text-append [] ys = refl

@@ -4,13 +4,8 @@ use Rattle.std.specs.Fmt.{decimal}
 use Rattle.flow_graph.specs.System.{System}
 use Rattle.closure_check.specs.declared.part.Part.{Part}
 use Rattle.closure_check.specs.Parts.{is_among}
+use Rattle.certificate_text.specs.declared.putting.SetLine.{SetLine}
 use Rattle.certificate_text.specs.Names.{Named, names_in}
-
--- the two sets of a variable, by its name
-pub record SetLine : Type 0 where
-  pub name : ℕ
-  pub first : ℕ
-  pub second : ℕ
 
 -- the lines of a lattice; a pair is that of two names
 pub record Written : Type 0 where

@@ -8,4 +8,7 @@ mod putting;
 mod tests;
 mod text;
 
+pub use names::{end_at, ends, name_in, name_table};
+pub use order::put_in_order;
+pub use putting::SetLine;
 pub use text::certificate_text;

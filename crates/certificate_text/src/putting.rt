@@ -7,6 +7,14 @@ ghost use Rattle.certificate_text.specs.Text.{lattice_text};
 
 use std::alloc::AllocError;
 
+/// The two sets of a variable, which stands under its name.
+#[derive(Clone, Copy, PartialEq, Eq, Debug)]
+pub struct SetLine {
+    pub name: u32,
+    pub first: u64,
+    pub second: u64,
+}
+
 /// Puts bytes behind a text.
 pub fn put(out: &mut Vec<u8>, bytes: &[u8]) -> Result<(), AllocError>
     ensures { OnOk result (out.new.items ≡ out.old.items ++ bytes.now) }
@@ -38,16 +46,15 @@ fn put_name(out: &mut Vec<u8>, name: u32) -> Result<(), AllocError>
 }
 
 /// The line of the two sets of a variable.
-pub fn put_set(out: &mut Vec<u8>, name: u32, first: u64, second: u64) -> Result<(), AllocError>
-    ensures { OnOk result (out.new.items ≡ out.old.items
-        ++ set_text (record { name = name; first = first; second = second })) }
+pub fn put_set(out: &mut Vec<u8>, it: SetLine) -> Result<(), AllocError>
+    ensures { OnOk result (out.new.items ≡ out.old.items ++ set_text it) }
 {
     put(out, b"  set ")?;
-    put_name(out, name)?;
+    put_name(out, it.name)?;
     put(out, b" ")?;
-    put_decimal(out, first)?;
+    put_decimal(out, it.first)?;
     put(out, b" ")?;
-    put_decimal(out, second)?;
+    put_decimal(out, it.second)?;
     put(out, b"\n")
 }
 

@@ -9,7 +9,7 @@ ghost use Rattle.certificate_text.specs.Naming.{pair_name, pair_names};
 
 use crate::names::{end_at, ends, name_in, name_table};
 use crate::order::put_in_order;
-use crate::putting::{put, put_lattice, put_pairs, put_set};
+use crate::putting::{SetLine, put, put_lattice, put_pairs, put_set};
 use closure_check::Part;
 use flow_graph::FlowGraph;
 use qual_base::{ElemSet, NoMemory, Numbered, VarId};
@@ -96,7 +96,15 @@ fn put_set_at(
     if second == 0 {
         return Ok(());
     }
-    put_set(out, end, bits_at(part.first.as_slice(), at), second)
+    let first = bits_at(part.first.as_slice(), at);
+    put_set(
+        out,
+        SetLine {
+            name: end,
+            first,
+            second,
+        },
+    )
 }
 
 /// The set of a variable as a number, 0 past the last one.

@@ -1,5 +1,5 @@
 use Rattle.std.proofs.Common.{◌≡◌, ◌*◌, ◌/◌, ◌+◌, arith, refl}
-use Rattle.certificate_text.proofs.Ends.{first_there, second_there, first_below, second_below}
+use Rattle.certificate_text.proofs.EndLemmas.{first_there, second_there, first_below, second_below}
 use Rattle.certificate_text.proofs.names.end_at.Goals as goal
 
 pub returns-then-end-eq0-clause-there : goal.returns-then-end-eq0-clause-there

@@ -1,6 +1,6 @@
 use Rattle.std.proofs.Common.{◌≡◌, ◌+◌, ◌-◌, ◌*◌, ◌≤◌, ℕ, ◌<◌, Some, [], length, suc, drop, slice_get, arith, sym, ◌∙◌, ap, refl, subst}
 use Rattle.certificate_text.specs.Names.{ends_in, first_from, name_in}
-use Rattle.certificate_text.proofs.Ends.{ends_length, drop_all, known_before, set_length}
+use Rattle.certificate_text.proofs.EndLemmas.{ends_length, drop_all, known_before, set_length}
 use Rattle.certificate_text.proofs.names.name_table.Goals as goal
 
 pub ends-init : goal.ends-init

@@ -1,7 +1,7 @@
 use Rattle.std.proofs.Common.{◌≡◌, ◌++◌, ◌+◌, ◌<◌, ◌≤◌, length, sym, ◌∙◌, ap, arith, append-nil}
 use Rattle.certificate_text.specs.Names.{ends_in, named_at}
 use Rattle.certificate_text.specs.Text.{sets_of, sets_text}
-use Rattle.certificate_text.proofs.Ends.{ends_length}
+use Rattle.certificate_text.proofs.EndLemmas.{ends_length}
 use Rattle.certificate_text.proofs.Setting.{sets_from, sets_step, put_more, end_there, sets_none}
 use Rattle.certificate_text.proofs.text.put_sets.Goals as goal
 
