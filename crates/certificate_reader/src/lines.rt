@@ -108,7 +108,7 @@ fn set_kind(rest: &[u8]) -> Line
     let Some((first, second)) = split_at_first(b' ', sets) else {
         return Line::Other;
     };
-    if split_at_first(b' ', second).is_some() {
+    if let Some((_, _)) = split_at_first(b' ', second) {
         return Line::Other;
     }
     match (end_in(name), bits_in(first), bits_in(second)) {
@@ -124,7 +124,7 @@ fn pair_kind(rest: &[u8]) -> Line
     let Some((from, to)) = split_at_first(b' ', rest) else {
         return Line::Other;
     };
-    if split_at_first(b' ', to).is_some() {
+    if let Some((_, _)) = split_at_first(b' ', to) {
         return Line::Other;
     }
     match (end_in(from), end_in(to)) {

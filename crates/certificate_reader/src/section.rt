@@ -1,6 +1,6 @@
 //! Where a line stands in a certificate.
 
-ghost use Rattle.std.specs.Prelude.{◌≡◌, ◌≤◌, ◌+◌, length, slice_index};
+ghost use Rattle.std.specs.Prelude.{◌≡◌, ◌≤◌, ◌+◌, Some, length, slice_index};
 ghost use Rattle.certificate_reader.specs.Grammar.{name_behind, pair_behind, sets_fit};
 ghost use Rattle.certificate_reader.specs.Reader.{lattice_behind, may_end, next};
 
@@ -29,16 +29,17 @@ pub fn next(alls: &[u64], section: Section, line: Line) -> Option<Section>
     ensures { result ≡ next alls.now section line }
 {
     match section {
-        Section::Start => next_at_start(line),
+        Section::Start => next_at_start(alls, line),
         Section::Opened => next_opened(alls, line),
         Section::InSets(number, last) => next_in_sets(alls, number, last, line),
         Section::InPairs(number, from, to) => next_in_pairs(alls, number, (from, to), line),
     }
 }
 
-fn next_at_start(line: Line) -> Option<Section>
-    ensures { (alls : _) → result ≡ next alls Section.Start line }
+fn next_at_start(alls: &[u64], line: Line) -> Option<Section>
+    ensures { result ≡ next alls.now Section.Start line }
 {
+    let _ = &alls;
     match line {
         Line::Certificate => Some(Section::Opened),
         _ => None,
@@ -118,7 +119,7 @@ fn name_behind(last: Option<u32>, name: u32) -> bool
 }
 
 fn is_below(last: (u32, u32), from: u32, to: u32) -> bool
-    ensures { result ≡ Rattle.closure_check.specs.Parts.is_below last from to }
+    ensures { result ≡ pair_behind (Some last) (from, to) }
 {
     last.0 < from || last.0 == from && last.1 < to
 }

@@ -1,5 +1,8 @@
 //! What is read, and where it fails.
 
+ghost use Rattle.std.specs.Prelude.{◌≡◌, length};
+ghost use Rattle.flow_graph.specs.System.{IsWithin};
+
 use crate::{CertFault, read_certificate};
 use certificate_text::certificate_text;
 use flow_graph::{Constraint, FlowGraph, Link};
@@ -8,7 +11,15 @@ use qual_base::{Elem, LatticeNo, Numbered, Span, TokenId, UnitNo, VarId};
 use std::alloc::Global;
 use std::test::Fail;
 
-fn add(graph: &mut FlowGraph, link: Link) -> Result<(), Fail> {
+fn var(number: u32) -> VarId
+    ensures { result ≡ number }
+{
+    VarId::new(number)
+}
+
+fn add(graph: &mut FlowGraph, link: Link) -> Result<(), Fail>
+    requires { IsWithin (length graph.old.sites) link }
+{
     let span = Span {
         unit: UnitNo::new(0),
         from: TokenId::new(0),
@@ -25,7 +36,6 @@ fn add(graph: &mut FlowGraph, link: Link) -> Result<(), Fail> {
 /// Constraints whose ends are the variables 4 1, 1 1, 3 3, 3 0.
 fn graph_of(alloc: Global) -> Result<FlowGraph, Fail> {
     let mut graph = FlowGraph::new(alloc);
-    let var = |n: u32| VarId::new(n);
     add(&mut graph, Link::Le(var(4), var(1)))?;
     add(&mut graph, Link::Le(var(1), var(1)))?;
     add(&mut graph, Link::Const(LatticeNo::new(0), Elem::new(1), var(3)))?;

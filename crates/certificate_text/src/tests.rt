@@ -1,13 +1,23 @@
 //! What a certificate looks like.
 
+ghost use Rattle.std.specs.Prelude.{◌≡◌, length};
+ghost use Rattle.flow_graph.specs.System.{IsWithin};
+
 use crate::certificate_text;
 use closure_check::Part;
 use flow_graph::{Constraint, FlowGraph, Link};
 use qual_base::{Elem, ElemSet, LatticeNo, Numbered, Span, TokenId, UnitNo, VarId};
-use std::alloc::Global;
 use std::test::Fail;
 
-fn add(graph: &mut FlowGraph, link: Link) -> Result<(), Fail> {
+fn var(number: u32) -> VarId
+    ensures { result ≡ number }
+{
+    VarId::new(number)
+}
+
+fn add(graph: &mut FlowGraph, link: Link) -> Result<(), Fail>
+    requires { IsWithin (length graph.old.sites) link }
+{
     let span = Span {
         unit: UnitNo::new(0),
         from: TokenId::new(0),
@@ -25,7 +35,6 @@ fn add(graph: &mut FlowGraph, link: Link) -> Result<(), Fail> {
 fn a_certificate_is_written(rt: HostRuntime) -> Result<(), Fail> {
     let alloc = rt.alloc();
     let mut graph = FlowGraph::new(alloc);
-    let var = |n: u32| VarId::new(n);
     add(&mut graph, Link::Le(var(4), var(1)))?;
     add(&mut graph, Link::Le(var(1), var(1)))?;
     add(
