@@ -29,17 +29,17 @@ struct Scene<'a> {
 }
 
 /// Whether an end is the name of a variable.
-fn is_name(scene: Scene, end: u32) -> bool
-    requires { AreNames scene.graph.now scene.names.now }
-    ensures { result ≡ is_name scene.graph.now end }
+fn is_name(scene: &Scene, end: u32) -> bool
+    requires { AreNames scene.now.graph.now scene.now.names.now }
+    ensures { result ≡ is_name scene.now.graph.now end }
 {
     end < ends(scene.graph) && name_in(scene.names, end_at(scene.graph, end)) == Some(end)
 }
 
 /// Whether the names of a line are those of variables.
-fn is_known(scene: Scene, line: Line) -> bool
-    requires { AreNames scene.graph.now scene.names.now }
-    ensures { result ≡ is_known scene.graph.now line }
+fn is_known(scene: &Scene, line: Line) -> bool
+    requires { AreNames scene.now.graph.now scene.now.names.now }
+    ensures { result ≡ is_known scene.now.graph.now line }
 {
     match line {
         Line::Set(name, _, _) => is_name(scene, name),
@@ -120,7 +120,7 @@ impl Reader {
     fn take_line(
         &mut self,
         alloc: Global,
-        scene: Scene,
+        scene: &Scene,
         line: Line,
         number: u32,
     ) -> Result<(), CertFault> {
@@ -136,7 +136,7 @@ impl Reader {
     }
 
     /// The certificates of a text that has no line from number `end` on.
-    fn finish(mut self, alloc: Global, scene: Scene, end: u32) -> Result<Vec<Part>, CertFault> {
+    fn finish(mut self, alloc: Global, scene: &Scene, end: u32) -> Result<Vec<Part>, CertFault> {
         if !may_end(scene.alls, self.section) {
             return Err(CertFault::Grammar(end));
         }
@@ -152,7 +152,7 @@ impl Reader {
 }
 
 /// Reads the lines of a certificate one by one.
-fn read_lines(alloc: Global, bytes: &[u8], scene: Scene) -> Result<Vec<Part>, CertFault>
+fn read_lines(alloc: Global, bytes: &[u8], scene: &Scene) -> Result<Vec<Part>, CertFault>
     requires { length bytes.now < 2 ^ 32 - 1 }
 {
     let mut reader = Reader::new(alloc);
@@ -210,5 +210,5 @@ pub fn read_certificate(
         names: names.as_slice(),
         alls: alls.as_slice(),
     };
-    read_lines(alloc, bytes, scene)
+    read_lines(alloc, bytes, &scene)
 }

@@ -1,5 +1,5 @@
 -- The order of pairs.
-use Rattle.std.proofs.Common.{◌≡◌, ℕ, ◌==◌, ◌&&◌, true, refl, arith}
+use Rattle.std.proofs.Common.{◌≡◌, ℕ, ◌==◌, ◌&&◌, true, arith}
 use Rattle.std.specs.Cmp.{IsTotalOrder, IsEquivalence, both_tied}
 use Rattle.std.specs.Ordering.{nat_cmp, is_eq, eq_by_cmp}
 use Rattle.std.proofs.lemmas.Cmp.{nat_cmp_total, then_total, on_total, nat_eq_equiv, on_equiv, and_equiv}

@@ -1,8 +1,8 @@
 -- The lines of sets, end by end.
-use Rattle.std.proofs.Common.{◌≡◌, ℕ, zero, suc, ◌+◌, ◌<◌, ◌≤◌, ◌==◌, Bool, true, false, List, [], ◌∷◌, ◌++◌, length, drop, slice_get, slice_index, Option, Some, None, refl, sym, ◌∙◌, ap, arith, append_assoc, append-nil, cond}
+use Rattle.std.proofs.Common.{◌≡◌, ℕ, zero, suc, ◌+◌, ◌<◌, ◌≤◌, List, [], ◌∷◌, ◌++◌, length, drop, slice_get, Some, refl, sym, ◌∙◌, ap, arith, append_assoc}
 use Rattle.flow_graph.specs.System.{System}
 use Rattle.closure_check.specs.declared.part.Part.{Part}
-use Rattle.certificate_text.specs.Names.{Named, ends_in, name_of, is_at, named_at, names_from, names_in}
+use Rattle.certificate_text.specs.Names.{Named, ends_in, named_at, names_from}
 use Rattle.certificate_text.specs.declared.putting.SetLine.{SetLine}
 use Rattle.certificate_text.specs.Text.{set_of, sets_of, set_text, sets_text}
 use Rattle.certificate_text.proofs.EndLemmas.{drop_there, drop_all}

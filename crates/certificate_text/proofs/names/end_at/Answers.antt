@@ -1,4 +1,4 @@
-use Rattle.std.proofs.Common.{◌≡◌, ◌*◌, ◌/◌, ◌+◌, arith, refl}
+use Rattle.std.proofs.Common.{arith, refl}
 use Rattle.certificate_text.proofs.EndLemmas.{first_there, second_there, first_below, second_below}
 use Rattle.certificate_text.proofs.names.end_at.Goals as goal
 

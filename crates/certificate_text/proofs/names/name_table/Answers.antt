@@ -1,5 +1,5 @@
-use Rattle.std.proofs.Common.{◌≡◌, ◌+◌, ◌-◌, ◌*◌, ◌≤◌, ℕ, ◌<◌, Some, [], length, suc, drop, slice_get, arith, sym, ◌∙◌, ap, refl, subst}
-use Rattle.certificate_text.specs.Names.{ends_in, first_from, name_in}
+use Rattle.std.proofs.Common.{◌≡◌, ◌+◌, ◌-◌, ◌<◌, Some, [], length, suc, drop, arith, sym, ◌∙◌, ap}
+use Rattle.certificate_text.specs.Names.{ends_in, first_from}
 use Rattle.certificate_text.proofs.EndLemmas.{ends_length, drop_all, known_before, set_length}
 use Rattle.certificate_text.proofs.names.name_table.Goals as goal
 

@@ -1,4 +1,4 @@
-use Rattle.std.proofs.Common.{◌≡◌, ◌*◌, ◌<◌, ◌≤◌, ℕ, length, drop}
+use Rattle.std.proofs.Common.{◌≡◌, ◌*◌, ◌≤◌, ℕ, length, drop}
 use Rattle.flow_graph.specs.System.{vars_of}
 use Rattle.certificate_text.specs.Names.{ends_in, first_from, name_in}
 use Rattle.certificate_text.proofs.names.name_table.Given as goal

@@ -1,4 +1,4 @@
-use Rattle.std.proofs.Common.{◌≡◌, ◌++◌, ◌+◌, ◌<◌, ◌≤◌, length, sym, ◌∙◌, ap, arith, append-nil}
+use Rattle.std.proofs.Common.{◌++◌, ◌+◌, ◌<◌, ◌≤◌, length, sym, ◌∙◌, ap, arith, append-nil}
 use Rattle.certificate_text.specs.Names.{ends_in, named_at}
 use Rattle.certificate_text.specs.Text.{sets_of, sets_text}
 use Rattle.certificate_text.proofs.EndLemmas.{ends_length}
