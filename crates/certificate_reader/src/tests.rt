@@ -38,7 +38,10 @@ fn graph_of(alloc: Global) -> Result<FlowGraph, Fail> {
     let mut graph = FlowGraph::new(alloc);
     add(&mut graph, Link::Le(var(4), var(1)))?;
     add(&mut graph, Link::Le(var(1), var(1)))?;
-    add(&mut graph, Link::Const(LatticeNo::new(0), Elem::new(1), var(3)))?;
+    add(
+        &mut graph,
+        Link::Const(LatticeNo::new(0), Elem::new(1), var(3)),
+    )?;
     add(&mut graph, Link::Le(var(3), var(0)))?;
     Ok(graph)
 }
@@ -87,20 +90,62 @@ const BAD: [(&[u8], CertFault); 20] = [
     (b"certificate\n", CertFault::Grammar(2)),
     (b"certificate\nlattice 01\n", CertFault::Grammar(2)),
     (b"certificate\nlattice 2\n", CertFault::Grammar(2)),
-    (b"certificate\nlattice 1\nlattice 2\n", CertFault::Grammar(3)),
-    (b"certificate\nlattice 1\n  set 0a 2 3", CertFault::Grammar(3)),
-    (b"certificate\nlattice 1\n  set 0a 2 0\n", CertFault::Grammar(3)),
-    (b"certificate\nlattice 1\n  set 0a 4 1\n", CertFault::Grammar(3)),
-    (b"certificate\nlattice 1\n  set 0a 0 18446744073709551616\n", CertFault::Grammar(3)),
-    (b"certificate\nlattice 1\n  set 0a 1 1 \n", CertFault::Grammar(3)),
-    (b"certificate\nlattice 1\n  set 0c 1 1\n", CertFault::Grammar(3)),
-    (b"certificate\nlattice 1\n  set 0b 1 1\n  set 0a 1 1\n", CertFault::Grammar(4)),
-    (b"certificate\nlattice 1\n  pair 0a 0a\n  set 0a 1 1\n", CertFault::Grammar(4)),
-    (b"certificate\nlattice 1\n  pair 0a 0a\n  pair 0a 0a\n", CertFault::Grammar(4)),
-    (b"certificate\nlattice 1\n  set 1a 1 1\n", CertFault::NoSuchVariable(3)),
-    (b"certificate\nlattice 1\n  set 2b 1 1\n  set\n", CertFault::NoSuchVariable(3)),
-    (b"certificate\nlattice 1\n  pair 0a 3b\n  pair 0a 9999999999999999999999999999999999999999999a\n", CertFault::NoSuchVariable(4)),
-    (b"certificate\nlattice 1\n  set 1a 1 4\n", CertFault::Grammar(3)),
+    (
+        b"certificate\nlattice 1\nlattice 2\n",
+        CertFault::Grammar(3),
+    ),
+    (
+        b"certificate\nlattice 1\n  set 0a 2 3",
+        CertFault::Grammar(3),
+    ),
+    (
+        b"certificate\nlattice 1\n  set 0a 2 0\n",
+        CertFault::Grammar(3),
+    ),
+    (
+        b"certificate\nlattice 1\n  set 0a 4 1\n",
+        CertFault::Grammar(3),
+    ),
+    (
+        b"certificate\nlattice 1\n  set 0a 0 18446744073709551616\n",
+        CertFault::Grammar(3),
+    ),
+    (
+        b"certificate\nlattice 1\n  set 0a 1 1 \n",
+        CertFault::Grammar(3),
+    ),
+    (
+        b"certificate\nlattice 1\n  set 0c 1 1\n",
+        CertFault::Grammar(3),
+    ),
+    (
+        b"certificate\nlattice 1\n  set 0b 1 1\n  set 0a 1 1\n",
+        CertFault::Grammar(4),
+    ),
+    (
+        b"certificate\nlattice 1\n  pair 0a 0a\n  set 0a 1 1\n",
+        CertFault::Grammar(4),
+    ),
+    (
+        b"certificate\nlattice 1\n  pair 0a 0a\n  pair 0a 0a\n",
+        CertFault::Grammar(4),
+    ),
+    (
+        b"certificate\nlattice 1\n  set 1a 1 1\n",
+        CertFault::NoSuchVariable(3),
+    ),
+    (
+        b"certificate\nlattice 1\n  set 2b 1 1\n  set\n",
+        CertFault::NoSuchVariable(3),
+    ),
+    (
+        b"certificate\nlattice 1\n  pair 0a 3b\n  pair 0a 9999999999999999999999999999999999999999999a\n",
+        CertFault::NoSuchVariable(4),
+    ),
+    (
+        b"certificate\nlattice 1\n  set 1a 1 4\n",
+        CertFault::Grammar(3),
+    ),
 ];
 
 #[test]
