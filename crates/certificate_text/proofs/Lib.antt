@@ -1,0 +1,5 @@
+pub mod EndLemmas
+pub mod Pairs
+pub mod Rising
+pub mod Written
+pub mod Setting

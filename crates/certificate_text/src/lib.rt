@@ -1,0 +1,14 @@
+//! Certificates as text: how they are written, and how they are read again.
+#![tactic(auto)]
+
+mod names;
+mod order;
+mod putting;
+#[cfg(test)]
+mod tests;
+mod text;
+
+pub use names::{end_at, ends, name_in, name_table};
+pub use order::put_in_order;
+pub use putting::SetLine;
+pub use text::certificate_text;
