@@ -1,0 +1,5 @@
+mod Parts
+mod Programs
+mod Starts
+mod Uses
+mod Whole

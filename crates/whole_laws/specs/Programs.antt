@@ -1,0 +1,20 @@
+-- Programs that are read: their units are well formed of differently numbered tokens, and have different numbers.
+use Rattle.std.specs.Prelude.{All, List}
+use Rattle.type_rules.specs.Program.{HasNoFault, Source}
+use Rattle.constraint_rules.specs.Systems.{Program}
+use Rattle.key_laws.specs.Differing.{IsRead, UnitsDiffer}
+use Rattle.missing_laws.specs.Programs.{EachHasSkeletons, EachMissesNothing, PlacesDiffer}
+
+-- no two declarations, uses of names or skeletons of units that were read are at one place
+abbrev pub PlacesOfReadDiffer : Type 0
+PlacesOfReadDiffer = (sources : List Source) → All IsRead sources → UnitsDiffer sources → PlacesDiffer sources
+
+-- each expression whose constraints count has a skeleton of its type, in a program that was read and has no fault
+abbrev pub ReadProgramsHaveSkeletons : Type 0
+ReadProgramsHaveSkeletons =
+    (p : Program) → All IsRead p.sources → UnitsDiffer p.sources → HasNoFault p.sources → EachHasSkeletons p p.sources
+
+-- no constraint of a program that was read and has no fault stands on what is missing
+abbrev pub ReadProgramsMissNothing : Type 0
+ReadProgramsMissNothing =
+    (p : Program) → All IsRead p.sources → UnitsDiffer p.sources → HasNoFault p.sources → EachMissesNothing p p.sources
