@@ -1,13 +1,12 @@
 -- What the lists of a certificate say of the system that they were made of.
-use Rattle.std.proofs.Common.{◌≡◌, ℕ, ◌+◌, ◌<◌, ◌≤◌, ◌⊎◌, ◌↔◌, inl, inr, true, false, List, length, slice_get, slice_index, Some, refl, sym, ◌∙◌, ap, subst, arith}
+use Rattle.std.proofs.Common.{◌≡◌, ℕ, ◌<◌, ◌≤◌, ◌↔◌, inl, inr, true, false, List, sym, ◌∙◌, ap, subst, arith}
 use Rattle.std.specs.Int.{bit_at}
-use Rattle.std.specs.List.{Contains}
 use Rattle.std.proofs.lemmas.Bool.{cases_lt}
-use Rattle.lattice_core.specs.Order.{Order, size}
+use Rattle.lattice_core.specs.Order.{Order}
 use Rattle.flow_graph.specs.declared.constraint.Link.{Link}
 use Rattle.flow_graph.specs.declared.constraint.Link.TheVariants.{Le, Const, Enter, Leave}
 use Rattle.flow_graph.specs.System.{System, AllBelow, Has, Stands, vars_of_link}
-use Rattle.flow_graph.specs.Paths.{Returning, Calling, Lead, Match, Part, start, flows, returns, grouped, anew, calls, calls_on, flows_on, grouped_on, flow, group}
+use Rattle.flow_graph.specs.Paths.{Returning, Calling, Lead, Part, start, flows, returns, grouped, anew, calls, calls_on, flows_on, grouped_on, flow, group}
 use Rattle.flow_graph.specs.Unfolding.{NamesElementsIn}
 use Rattle.flow_laws.proofs.Leads.{lead_element}
 use Rattle.certificate_laws.specs.Certificates.{IsInnerEnd, IsJoined}

@@ -5,9 +5,12 @@ ghost use Rattle.flow_graph.specs.System.{IsWithin};
 
 use crate::needed::{Case, NEEDED, Row, Sets};
 use certificate_laws::CertRule;
+use certificate_maker::certificate;
 use closure_check::{Part, check_part, is_part};
 use flow_graph::{Adjacency, Constraint, FlowGraph, Link, Site, names_elements};
 use lattice_core::{Entry, Lattice, Level, Name, Pair, Sign};
+use lattice_solver::Solver;
+use match_summary::summarise;
 use qual_base::{
     Elem, ElemSet, FuncId, LatticeNo, Numbered, Owner, SiteId, Span, TokenId, UnitNo, VarId,
 };
@@ -48,6 +51,42 @@ fn judged(
     let at = LatticeNo::new(0);
     assert!(rt; names_elements(&graph, at, &lattice));
     assert!(rt; is_part(&graph, &lattice, &part));
+    Ok(check_part(&graph, &adjacency, &lattice, at, &part))
+}
+
+#[test]
+fn what_is_written_is_the_least_that_holds(rt: HostRuntime) -> Result<(), Fail> {
+    let alloc = rt.alloc();
+    for case in &NEEDED {
+        let name = case.name;
+        assert!(rt; written(&rt, alloc, case, 1)?.is_ok(), "{name}");
+        assert!(rt;
+            written(&rt, alloc, case, 0)? == Err(CertRule::A9),
+            "{name}"
+        );
+    }
+    Ok(())
+}
+
+/// What is found of the certificate that is written of a system whose bounds are an element. It has the least sets.
+fn written(
+    rt: &impl Abort,
+    alloc: Global,
+    case: &Case,
+    limit: u8,
+) -> Result<Result<(), CertRule>, Fail> {
+    let graph = graph_of(rt, alloc, case, limit)?;
+    let adjacency = Adjacency::build(alloc, &graph)?;
+    let lattice = two(rt, alloc)?;
+    let at = LatticeNo::new(0);
+    let summaries = summarise(alloc, &graph, at)?;
+    let mut solver = Solver::new(alloc, &graph, &summaries, at)?;
+    solver.run(&graph, &summaries);
+    let part = certificate(alloc, &graph, at, &summaries, &solver)?;
+    let least = part_of(alloc, &case.whole)?;
+    assert!(rt; part.pairs == least.pairs);
+    assert!(rt; part.first == least.first && part.second == least.second);
+    assert!(rt; names_elements(&graph, at, &lattice));
     Ok(check_part(&graph, &adjacency, &lattice, at, &part))
 }
 

@@ -1,13 +1,9 @@
-use Rattle.std.proofs.Common.{◌≡◌, ℕ, subst, sym, ◌↔◌, inl}
-use Rattle.std.specs.Int.{bit_at}
+use Rattle.std.proofs.Common.{ℕ, subst, inl}
 use Rattle.flow_graph.specs.Paths.{Lead, Returning}
-use Rattle.flow_graph.specs.System.{vars_of}
-use Rattle.flow_graph.specs.declared.phase.Phase.{Phase}
 use Rattle.flow_graph.specs.declared.phase.Phase.TheVariants.{First}
-use Rattle.lattice_core.specs.Order.{Order}
 use Rattle.lattice_solver.specs.Phases.{set_of}
 use Rattle.lattice_solver.specs.Solution.{reached_at}
-use Rattle.closure_check.specs.Parts.{AreBelow, AreSets}
+use Rattle.closure_check.specs.Parts.{AreBelow, AreSets, certificate_of}
 use Rattle.certificate_maker.proofs.Written.{pairs_below, pairs_say, sets_of, sets_say}
 use Rattle.certificate_maker.proofs.Solved.{first_exact, second_exact}
 use Rattle.certificate_maker.proofs.maker.certificate.Goals as goal
@@ -45,3 +41,9 @@ returns-clause-part c = λ order named.
       ascending = c.in_ok-pairs.ensures.ascending;
       below = subst (λ (n : ℕ). AreBelow n c.in_ok-pairs.pairs.items) same (pairs_below sys lattice vars below c.in_ok-pairs.pairs.items c.in_ok-pairs.ensures.joined);
     }
+
+pub returns-clause-holds : goal.returns-clause-holds
+returns-clause-holds c = λ order owned is_order accepted.
+    c.accepted_is_certified.ensures c.args.graph.now c.args.lattice order
+    (certificate_of (record { pairs = c.in_ok-pairs.pairs; first = c.in_ok-first.first; second = c.in_ok-second.second }))
+    owned is_order (returns-clause-written c) accepted
