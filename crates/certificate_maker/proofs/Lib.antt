@@ -1,0 +1,5 @@
+mod Adding
+mod Collecting
+mod Rising
+mod Solved
+mod Written
