@@ -6,8 +6,7 @@
 //! the constraints are the same.
 //!
 //! A program is accepted that is well formed and without faults, no two of whose declarations, uses of names or skeletons are at
-//! one place. That the last follows where the tokens of each unit have numbers of their own, as `key_laws` says of the ops of
-//! tapes, is proved for declarations alone, in `scope_laws`.
+//! one place. That the last follows where the tokens of each unit have numbers of their own is a law of `whole_laws`.
 //!
 //! One look-up may miss: that of the first declaration of a name which its scope first declares as an enumerator and then as an
 //! object or a parameter, which C refuses (C99, 6.7 paragraph 3) and the reader too, but not the rules on trees. What is put behind gives no
