@@ -1,0 +1,4 @@
+pub mod Owned
+pub mod Source
+pub mod Names
+pub mod Checked

@@ -1,0 +1,82 @@
+-- The annotated source.
+use Rattle.std.proofs.Common.{◌≡◌, ℕ, nat_eq, Bool, true, List, [], ◌∷◌, ◌++◌, codes, Option, Some, None, sym, subst, ap, ◌∙◌, if◌then◌else◌}
+use Rattle.lattice_core.specs.View.{LatticeView}
+use Rattle.c_types.specs.Sources.{UnitRead, lexed_of}
+use Rattle.index_words.specs.Marks.{IndexMark}
+use Rattle.annotate.specs.Texts.{UnitText, line, unit_in}
+use Rattle.annotate.specs.Annotated.{CommentsComeOut, annotated_in}
+use Rattle.annotate.specs.Reports.{AcceptedWith, IsJudgedWith}
+use Rattle.cqual_words.specs.Words.{Task, Annotate, Generate}
+use Rattle.cqual_tool.specs.declared.status.Status.TheVariants.{Accepted}
+use Rattle.cqual_tool.specs.Inputs.{Inputs}
+use Rattle.cqual_tool.specs.Words.{FileNames, of_files, names_of}
+use Rattle.cqual_tool.specs.Programs.{text_of, texts_of}
+use Rattle.cqual_tool.specs.Outcome.{AreBefore, NoPrelude, OnePrelude, ProgramIsRead, annotated_unit, IsEnd, Inferred, ReportChecked, IsRight}
+use Rattle.cqual_tool.specs.Outcome.{SourceRead, OfUnits, PreludeRead, OfFiles, LatticeRead, LatticesRead, OfTask, OfProgram, OfGenerated, WithMeaning}
+use Rattle.answer_laws.specs.Laws.{AnnotatedGivesTheSource, IsAnnotated, judged}
+
+-- the source is found among the texts by its number
+unit_is : (named : FileNames) (inputs : Inputs) (lattices : List LatticeView) (before : List UnitRead) (marks : List IndexMark) (it : UnitRead)
+    → AreBefore named inputs lattices before marks → it.lexed.unit ≡ 1
+    → unit_in (texts_of named (lexed_of (before ++ it ∷ []))) 1 ≡ Some (text_of named it.lexed)
+unit_is named inputs lattices before marks it (NoPrelude none) one =
+    ap (λ (n : ℕ). if nat_eq n 1 then Some (text_of named it.lexed) else None) one
+unit_is named inputs lattices before marks it (OnePrelude file unit _ there reads) one =
+    ap (λ (n : ℕ). if nat_eq n 1 then Some (text_of named unit.lexed) else unit_in (text_of named it.lexed ∷ []) 1)
+    reads.is.parses.lexes.unit
+    ∙ ap (λ (n : ℕ). if nat_eq n 1 then Some (text_of named it.lexed) else None) one
+
+of_text : CommentsComeOut → (named : FileNames) (inputs : Inputs) (it : ProgramIsRead named inputs) (text : List ℕ)
+    → named.annotated ≡ true → IsJudgedWith (judged named inputs it).scene (judged named inputs it).system (annotated_unit named.annotated) true text
+    → IsAnnotated named inputs text
+of_text law named inputs it text annotated is = by (subst Judged annotated is)
+  where
+    Judged : Bool → Type 0
+    Judged b = IsJudgedWith (judged named inputs it).scene (judged named inputs it).system (annotated_unit b) true text
+
+    found : unit_in (judged named inputs it).scene.units 1 ≡ Some (text_of named it.unit.lexed)
+    found = unit_is named inputs it.lattices it.before it.marks it.unit it.are it.counted.reads.parses.lexes.unit
+
+    by : Judged true → IsAnnotated named inputs text
+    by (AcceptedWith _ report is spelled) = record {
+      read = it;
+      report = report;
+      is = is;
+      spelled = subst (λ (o : Option UnitText). text ≡ report ++ (line (codes "annotated") ++ annotated_in (judged named inputs it).scene o is.listings)) found spelled;
+      source = law (judged named inputs it).scene it.unit.lexed is.listings ∙ it.counted.reads.parses.lexes.bytes_are;
+    }
+
+of_end : CommentsComeOut → (named : FileNames) (inputs : Inputs) (it : ProgramIsRead named inputs) (text : List ℕ)
+    → named.annotated ≡ true → named.report ≡ None → IsEnd named inputs (judged named inputs it) Accepted text → IsAnnotated named inputs text
+of_end law named inputs it text annotated none (ReportChecked file _ _ there few is) =
+    absurd (let no : None ≡ Some file = sym none ∙ there in cc)
+of_end law named inputs it text annotated none (Inferred _ _ no_report (IsRight _ is)) = of_text law named inputs it text annotated is
+
+of_units : CommentsComeOut → (named : FileNames) (inputs : Inputs) (lattices : List LatticeView) → LatticesRead inputs.lattice lattices
+    → (text : List ℕ) → named.annotated ≡ true → named.report ≡ None → OfUnits named inputs lattices Accepted text
+    → IsAnnotated named inputs text
+of_units law named inputs lattices read text annotated none (PreludeRead before marks _ _ are (SourceRead it _ _ counted end)) =
+    of_end law named inputs
+    (record { lattices = lattices; read = read; before = before; marks = marks; are = are; unit = it; counted = counted }) text annotated none end
+
+of_files_read : CommentsComeOut → (named : FileNames) (inputs : Inputs) (text : List ℕ) → named.annotated ≡ true → named.report ≡ None
+    → OfFiles named inputs Accepted text → IsAnnotated named inputs text
+of_files_read law named inputs text annotated none (LatticeRead lattices _ _ read units) =
+    of_units law named inputs lattices read text annotated none units
+
+some_task : {x y : Task} → Some x ≡ Some y → x ≡ y
+some_task e = cc
+
+some_names : {x y : FileNames} → Some x ≡ Some y → x ≡ y
+some_names e = cc
+
+pub annotated_gives_the_source : CommentsComeOut → AnnotatedGivesTheSource
+annotated_gives_the_source law words names inputs text means (WithMeaning task _ _ is outcome) =
+    by (some_task (sym is ∙ means)) outcome
+  where
+    by : task ≡ Annotate names → OfTask inputs task Accepted text → IsAnnotated (of_files names true None) inputs text
+    by same (OfGenerated number _ _ made _) = absurd (let no : Generate number ≡ Annotate names = sym made ∙ same in cc)
+    by same (OfProgram named _ _ is_named files) =
+        let e : named ≡ of_files names true None = some_names (sym is_named ∙ ap names_of same) in
+        subst (λ (n : FileNames). IsAnnotated n inputs text) e
+        (of_files_read law named inputs text (ap (λ (n : FileNames). n.annotated) e) (ap (λ (n : FileNames). n.report) e) files)

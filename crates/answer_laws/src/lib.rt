@@ -1,0 +1,6 @@
+//! Laws of the tool's answers: what follows from their definition.
+#![tactic(auto)]
+
+mod laws;
+
+pub use laws::{annotated_gives_the_source, programs_are_owned, rejected_is_checked};
