@@ -18,13 +18,26 @@ use Rattle.c_names.specs.declared.state.State.{State}
 -- by the types of all numbers
 module _ (t : ℕ → CType) where
   abbrev pub specifiers_of : Specifiers → steps.Specifiers
-  specifiers_of s = record { type = so_far_type t s.so_far; words = s.words.items; storage = s.storage.items }
+  specifiers_of s =
+      record {
+        type = so_far_type t s.so_far;
+        words = s.words.items;
+        storage = s.storage.items;
+        is_untagged = s.is_untagged;
+      }
 
   abbrev pub body_of : OpenBody → steps.OpenBody
   body_of b = record { outer = specifiers_of b.outer; members_of = b.members_of }
 
   abbrev pub declaration_of : OpenDeclaration → steps.OpenDeclaration
-  declaration_of d = record { type = t d.ty; storage = d.storage.items; name = option_map named_of d.name; declared = t d.declared }
+  declaration_of d =
+      record {
+        type = t d.ty;
+        storage = d.storage.items;
+        is_untagged = d.is_untagged;
+        name = option_map named_of d.name;
+        declared = t d.declared;
+      }
 
   abbrev pub parameters_of : OpenParameters → steps.OpenParameters
   parameters_of p = record { own = p.own; types = map t p.types.items }

@@ -15,7 +15,9 @@ use crate::specifier::no_specifiers;
 use crate::state::{OpenParameters, State};
 use name_scopes::Place;
 use name_types::Types;
-use name_uses::{Named, declare_member, declare_name, declare_parameter, name_type};
+use name_uses::{
+    Named, declare_member, declare_name, declare_parameter, name_type, untagged_number,
+};
 use qual_base::{NameId, NoMemory, TokenId, TypeId};
 use std::mem;
 use tape_ops::DeclrOp;
@@ -213,14 +215,17 @@ impl State {
     {
         match self.declarations.pop() {
             Some(mut declaration) => {
+                let untagged = untagged_number(types, declaration.is_untagged, declaration.ty);
                 declare_name(
                     &mut self.names,
                     spelling,
                     types,
+                    &untagged,
                     &declaration.name,
                     &declaration.storage,
                     declaration.declared,
                 )?;
+                declaration.is_untagged = false;
                 declaration.name = None;
                 declaration.declared = declaration.ty;
                 self.declarations.push(declaration)

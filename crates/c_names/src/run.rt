@@ -6,7 +6,7 @@ ghost use Rattle.name_types.specs.Known.{Knows, Grows};
 ghost use Rattle.name_rules.specs.Units.{no_names, unit_begun};
 ghost use Rattle.name_rules.specs.Spellings as spellings;
 ghost use Rattle.name_steps.specs.State.{with_names};
-ghost use Rattle.name_steps.specs.Steps.{expression_step, statement_step, step, run};
+ghost use Rattle.name_steps.specs.Steps.{is_plain, expression_step, statement_step, step, run};
 ghost use Rattle.unit_spelling.specs.Spelled.{spelling_of};
 ghost use Rattle.unit_names.specs.Shown.{names_of};
 ghost use Rattle.c_names.specs.Shown.{state_of, IsShown, AreShown};
@@ -14,8 +14,9 @@ ghost use Rattle.c_names.specs.Shown.{state_of, IsShown, AreShown};
 use crate::specifier::no_specifiers;
 use crate::stack::Stack;
 use crate::state::State;
+use c_words::Keyword;
 use name_types::Types;
-use name_uses::{enter_body, use_name};
+use name_uses::{enter_body, has_word, use_name};
 use qual_base::NoMemory;
 use std::alloc::Global;
 use tape_ops::{ExprOp, Op, StmtOp};
@@ -71,6 +72,17 @@ impl State {
         }
     }
 
+    /// Whether the innermost declaration is without `inline`. Linear in its storage words.
+    #[tactic(auto, unfolding(crate::specs::Shown::state_of))]
+    fn is_plain(&self) -> bool
+        ensures { (t : ℕ → CType) → result ≡ is_plain (state_of t self.now) }
+    {
+        match self.declarations.top() {
+            Some(declaration) => !has_word(Keyword::Inline, &declaration.storage),
+            None => true,
+        }
+    }
+
     /// What a statement, a scope or a silence does.
     #[tactic(auto, unfolding(crate::specs::Shown::state_of))]
     fn statement(&mut self, op: StmtOp) -> Result<(), NoMemory>
@@ -85,7 +97,10 @@ impl State {
                 self.names.leave();
                 Ok(())
             }
-            StmtOp::FunctionBody => enter_body(&mut self.names),
+            StmtOp::FunctionBody => {
+                let is_plain = self.is_plain();
+                enter_body(&mut self.names, is_plain)
+            }
             StmtOp::FunctionEnd => {
                 self.names.leave_body();
                 Ok(())
@@ -141,11 +156,11 @@ pub fn name_unit(
     requires { AreShown types.old names }
     ensures named { IfOk result (λ after. (t : ℕ → CType) → Knows t types.new → names_of t after
         ≡ (run (spelling_of spelling.now) tape.now
-        (with_names (unit_begun (names_of t names)))).names) }
+        (with_names (unit_begun (spelling_of spelling.now).unit (names_of t names)))).names) }
     ensures shown { IfOk result (λ after. AreShown types.new after) }
     ensures grown { OnOk result (Grows types.old types.new) }
 {
-    names.begin_unit()?;
+    names.begin_unit(spelling.unit)?;
     let mut state = State::new(alloc, names);
     state.run(spelling, types, tape)?;
     Ok(state.names)

@@ -5,7 +5,7 @@ ghost use Rattle.type_table.specs.Types.{CType};
 ghost use Rattle.name_types.specs.Known.{Knows, Grows, so_far_type};
 ghost use Rattle.name_rules.specs.Declaring.{tag_type, tag_used, tag_begun, untagged_begun};
 ghost use Rattle.name_steps.specs.State.{no_specifiers};
-ghost use Rattle.name_steps.specs.Steps.{body, declaration, with_type, with_word, with_tag, with_body, body_ended, specifiers_ended, with_unnamed_member, specifier_step};
+ghost use Rattle.name_steps.specs.Steps.{body, declaration, with_type, with_word, untagged_by, without_tag, with_tag, with_body, body_ended, specifiers_ended, with_unnamed_member, specifier_step};
 ghost use Rattle.unit_spelling.specs.Spelled.{spelling_of};
 ghost use Rattle.c_names.specs.Shown.{state_of, specifiers_of, IsShown};
 
@@ -29,6 +29,17 @@ pub(crate) fn no_specifiers(alloc: Global) -> Specifiers
         so_far: SoFar::Base,
         words: Vec::new(alloc),
         storage: Vec::new(alloc),
+        is_untagged: false,
+    }
+}
+
+/// Whether a struct or union without a tag is a word of specifiers, behind a body without a tag of this kind.
+fn untagged_by(kind: TagKind, known: bool) -> bool
+    ensures { result ≡ untagged_by kind known }
+{
+    match kind {
+        TagKind::Struct | TagKind::Union => true,
+        TagKind::Enum => known,
     }
 }
 
@@ -116,9 +127,10 @@ impl State {
     fn begin_untagged(&mut self, kind: TagKind, at: &Place) -> Result<(), NoMemory>
         ensures { OnOk result ((t : ℕ → CType) → state_of t self.new
             ≡ with_body kind (untagged_begun at.now kind (state_of t self.old).names)
-            (state_of t self.old)) }
+            (without_tag kind (state_of t self.old))) }
     {
         let begun = begin_untagged(&mut self.names, kind, at)?;
+        self.specifiers.is_untagged = untagged_by(kind, self.specifiers.is_untagged);
         self.open_body(kind, &begun)
     }
 
@@ -157,11 +169,13 @@ impl State {
             so_far,
             words,
             storage,
+            is_untagged,
         } = mem::replace(&mut self.specifiers, no_specifiers(self.alloc));
         let ty = types.specified(self.alloc, words, &so_far)?;
         self.declarations.push(OpenDeclaration {
             ty,
             storage,
+            is_untagged,
             name: None,
             declared: ty,
         })

@@ -9,12 +9,14 @@ use qual_base::{StructId, TypeId};
 use std::alloc::Global;
 use unit_names::Names;
 
-/// Specifiers: their type without annotation words, these words, and the storage words, so far.
+/// Specifiers: their type without annotation words, these words, the storage words and `inline`, and whether a struct or union
+/// without a tag is one of them, so far.
 #[derive(Drop)]
 pub(crate) struct Specifiers {
     pub(crate) so_far: SoFar,
     pub(crate) words: Vec<Place>,
     pub(crate) storage: Vec<Keyword>,
+    pub(crate) is_untagged: bool,
 }
 
 /// A body of a tag: the specifiers that it is a word of, and the struct whose members stand in it.
@@ -24,11 +26,13 @@ pub(crate) struct OpenBody {
     pub(crate) members_of: StructId,
 }
 
-/// A declaration whose specifiers are whole, and of the declarator that is being read the name and the type so far.
+/// A declaration whose specifiers are whole, and until a name was declared whether a struct or union without a tag is one of them;
+/// and of the declarator that is being read the name and the type so far.
 #[derive(Drop)]
 pub(crate) struct OpenDeclaration {
     pub(crate) ty: TypeId,
     pub(crate) storage: Vec<Keyword>,
+    pub(crate) is_untagged: bool,
     pub(crate) name: Option<Named>,
     pub(crate) declared: TypeId,
 }

@@ -2,6 +2,7 @@
 --
 -- A line a node. Attributes, `asm`, assertions, labels and jumps have no op, and no token of theirs is in one.
 use Rattle.std.specs.Prelude.{ℕ, suc, Bool, true, false, ◌&&◌, if◌then◌else◌, List, [], ◌∷◌, ◌++◌, Option, None, Some, map}
+use Rattle.c_words.specs.declared.kinds.Keyword.TheVariants as keywords
 use Rattle.c_syntax.specs.declared.parts.Identifier.{Identifier}
 use Rattle.c_syntax.specs.declared.parts.Word.{Word}
 use Rattle.c_syntax.specs.declared.parts.Qual.{Qual}
@@ -256,7 +257,7 @@ abbrev mutual
   pub word_tape : Bool → SpecWord → List Op
   word_tape alone (storage word) = spec (specs.Storage word.keyword)
   word_tape alone (thread token) = []
-  word_tape alone (inline_word token) = []
+  word_tape alone (inline_word token) = spec (specs.Storage keywords.Inline)
   word_tape alone (noreturn token) = []
   word_tape alone (qualifier q) = qual_tape q
   word_tape alone (basic word) = if is_void word.keyword then spec specs.Void else []

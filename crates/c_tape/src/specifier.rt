@@ -127,10 +127,10 @@ fn specifier<'a>(word: &'a SpecWord, is_alone: bool, todo: &mut Todo<'a>) -> Res
         SpecWord::Storage(word) => todo.spec_op(SpecOp::Storage {
             keyword: word.keyword,
         }),
-        SpecWord::Thread { .. }
-        | SpecWord::Inline { .. }
-        | SpecWord::Noreturn { .. }
-        | SpecWord::Attr(_) => Ok(()),
+        SpecWord::Inline { .. } => todo.spec_op(SpecOp::Storage {
+            keyword: Keyword::Inline,
+        }),
+        SpecWord::Thread { .. } | SpecWord::Noreturn { .. } | SpecWord::Attr(_) => Ok(()),
         SpecWord::Qual(qual) => todo.spec_op(SpecOp::Word {
             token: token_of_qual(qual),
         }),

@@ -14,3 +14,8 @@ has_unit (lexed ∷ units) unit = if nat_eq lexed.unit unit then true else has_u
 -- a map has what the words of units name, and nothing else
 abbrev pub AreMarks : List Lexed → PlaceMap (ℕ × ℕ) → Type 0
 AreMarks units found = (p : Place) → value_at found p ≡ mark_among units p
+
+-- no two units have one number
+abbrev pub NumbersDiffer : List Lexed → Type 0
+NumbersDiffer [] = Unit {0}
+NumbersDiffer (lexed ∷ units) = (has_unit units lexed.unit ≡ false) × NumbersDiffer units

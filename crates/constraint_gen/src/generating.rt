@@ -14,6 +14,7 @@ ghost use Rattle.constraint_rules.specs.Systems.{AreNamed, system_of};
 ghost use Rattle.constraint_gen.specs.Programs.{positions_in, program_in};
 ghost use Rattle.constraint_gen.specs.Generating.{IsGenerated, IsProgramOf};
 ghost use Rattle.constraint_gen.specs.Listing.{is_listed, listed_at};
+ghost use Rattle.constraint_gen.specs.Marking.{NumbersDiffer};
 
 use crate::listing::listed;
 use crate::marking::marks;
@@ -54,7 +55,8 @@ struct Listed {
 /// Numbers units and lists variables; where the skeletons begin is let go.
 fn number(alloc: Global, units: &[Tokens], program: &Program) -> Result<Listed, GenerateFault>
     ensures numbers { IfOk result (λ it. IsNumberingOf program.now it.numbering) }
-    ensures listed { IfOk result (λ it. it.listed.items ≡ listed_at (is_listed
+    ensures listed { IfOk result (λ it. NumbersDiffer units.now → it.listed.items
+        ≡ listed_at (is_listed
         units.now (names_in program.now.rows program.now.names))
         0 (positions_of (starts_on program.now))) }
     ensures few { OnOk result (variables_among (starts_on program.now) ≤ most_variables) }
@@ -110,7 +112,7 @@ fn constrain(
 ///
 /// More than 16,777,216 variables are answered before any constraint is made; more than 67,108,864 constraints only where the
 /// variables are not too many. Time is linear in the tokens and the units, in the variables and in the constraints, but for growth,
-/// for what is looked for among the members of structs, and for the number of units at each skeleton. Memory is linear in the
+/// and for what is looked for among the members of structs. Memory is linear in the
 /// tokens, the units, the variables and the constraints.
 ///
 /// No flow joins two functions but by the calls of a site, and each constant and bound names an element of its lattice: the system

@@ -8,6 +8,7 @@ ghost use Rattle.position_laws.specs.Positions.{positions_of};
 ghost use Rattle.unit_starts.specs.Views.{start_in};
 ghost use Rattle.unit_shapes.specs.Views.{names_in};
 ghost use Rattle.constraint_gen.specs.Listing as rules;
+ghost use Rattle.constraint_gen.specs.Marking.{NumbersDiffer};
 ghost use Rattle.constraint_gen.specs.Listing.{is_listed, listed_at, numbers, listed_from};
 
 use c_lexer::Tokens;
@@ -15,7 +16,7 @@ use c_types::Program;
 use c_words::TokenKind;
 use name_scopes::Place;
 use position_laws::positions_are_counted;
-use qual_base::{NoMemory, Numbered, TokenId, VarId};
+use qual_base::{NoMemory, Numbered, TokenId, UnitNo, VarId};
 use std::alloc::Global;
 use unit_starts::Start;
 
@@ -45,8 +46,20 @@ fn is_name_token(tokens: &Tokens, token: TokenId) -> bool
     is_name(tokens.kind(token))
 }
 
-/// Whether the token at a place is a name. Linear in the number of units.
-fn is_name_at(units: &[Tokens], at: &Place) -> bool
+/// The unit of a number, where units are in the order of their numbers and none is left out. Constant time.
+fn unit_in_order<'a>(units: &'a [Tokens<'a>], unit: UnitNo) -> Option<&'a Tokens<'a>> {
+    let first = units.first()?;
+    let index = unit.number().checked_sub(first.unit().number())?;
+    let tokens = units.get(index as usize)?;
+    if tokens.unit().number() == unit.number() {
+        Some(tokens)
+    } else {
+        None
+    }
+}
+
+/// Whether the token at a place is a name, by going through all units. Linear in their number.
+fn is_name_in_some(units: &[Tokens], at: &Place) -> bool
     ensures { result ≡ rules.is_name_at units.now at.now }
 {
     let (unit, token) = *at;
@@ -58,9 +71,20 @@ fn is_name_at(units: &[Tokens], at: &Place) -> bool
     false
 }
 
-/// Whether a source, and not a prelude, declares a name at a place. Linear in the number of units.
+/// Whether the token at a place is a name. Constant time where the units are in the order of their numbers and none is left out, and
+/// linear in their number otherwise.
+fn is_name_at(units: &[Tokens], at: &Place) -> bool
+    ensures { NumbersDiffer units.now → result ≡ rules.is_name_at units.now at.now }
+{
+    match unit_in_order(units, at.0) {
+        Some(tokens) => is_name_token(tokens, at.1),
+        None => is_name_in_some(units, at),
+    }
+}
+
+/// Whether a source, and not a prelude, declares a name at a place. Constant time where the units are in the order of their numbers.
 fn is_listed(units: &[Tokens], program: &Program, at: &Place) -> bool
-    ensures { result ≡ is_listed units.now
+    ensures { NumbersDiffer units.now → result ≡ is_listed units.now
         (names_in program.now.rows program.now.names) at.now }
 {
     at.0.number() != 0 && is_name_at(units, at) && program.found_names().declared_at(at).is_some()
@@ -78,8 +102,7 @@ fn add_numbers(found: &mut Vec<VarId>, from: u32, count: u32) -> Result<(), NoMe
     Ok(())
 }
 
-/// Adds the variables of a skeleton where it begins at a declared name, and answers the number behind it. Linear in them and in
-/// the number of units.
+/// Adds the variables of a skeleton where it begins at a declared name, and answers the number behind it. Linear in them.
 fn add_start(
     found: &mut Vec<VarId>,
     units: &[Tokens],
@@ -88,7 +111,7 @@ fn add_start(
     from: u32,
 ) -> Result<u32, NoMemory>
     requires { from + size (start_in program.now.rows start.now).type ≤ most_variables }
-    ensures found { OnOk result (found.new.items ≡ found.old.items
+    ensures found { OnOk result (NumbersDiffer units.now → found.new.items ≡ found.old.items
         ++ (if is_listed units.now
         (names_in program.now.rows program.now.names) start.now.at
         then numbers (size (start_in program.now.rows start.now).type) from else [])) }
@@ -112,7 +135,7 @@ fn listed_starts(
     starts: &[Start],
 ) -> Result<Vec<VarId>, NoMemory>
     requires { variables_among (map (start_in program.now.rows) starts.now) ≤ most_variables }
-    ensures { IfOk result (λ it. it.items ≡ listed_from (is_listed
+    ensures { IfOk result (λ it. NumbersDiffer units.now → it.items ≡ listed_from (is_listed
         units.now (names_in program.now.rows program.now.names))
         0 (map (start_in program.now.rows) starts.now)) }
 {
@@ -124,8 +147,7 @@ fn listed_starts(
     Ok(found)
 }
 
-/// The variables that stand where a source declares a name, ascending. Linear in the skeletons, each by the number of units, and
-/// in these variables.
+/// The variables that stand where a source declares a name, ascending. Linear in the skeletons and in these variables.
 #[tactic(auto, using(crate::proofs::Numbering::listed_is))]
 pub(crate) fn listed(
     alloc: Global,
@@ -134,7 +156,7 @@ pub(crate) fn listed(
     starts: &[Start],
 ) -> Result<Vec<VarId>, NoMemory>
     requires { variables_among (map (start_in program.now.rows) starts.now) ≤ most_variables }
-    ensures { IfOk result (λ it. it.items ≡ listed_at (is_listed
+    ensures { IfOk result (λ it. NumbersDiffer units.now → it.items ≡ listed_at (is_listed
         units.now (names_in program.now.rows program.now.names))
         0 (positions_of (map (start_in program.now.rows) starts.now))) }
 {

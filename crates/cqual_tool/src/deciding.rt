@@ -22,7 +22,7 @@ use std::alloc::Global;
 
 /// What is written for words without a meaning.
 const USAGE: &[u8] =
-    b"usage: cqual --lattice FILE [--prelude FILE] [--annotate | --check REPORT] SOURCE\n";
+    b"usage: cqual --lattice FILE [--prelude FILE] [--annotate | --check REPORT] SOURCE...\n";
 
 /// Writes a text and gives the status that it belongs to, or that a write failed.
 fn finish<O: Sink>(out: &mut O, status: Status, text: &[u8]) -> Status

@@ -31,6 +31,8 @@ const LATTICE: &str = "generated.q";
 
 const SOURCE: &str = "generated.c";
 
+const SOURCES: &[&str] = &[SOURCE];
+
 /// The names of what the tool makes itself.
 fn made_names() -> Named<'static>
     ensures { files_in result ≡ rules.made_names }
@@ -40,7 +42,7 @@ fn made_names() -> Named<'static>
         prelude: None,
         annotated: false,
         report: None,
-        source: SOURCE,
+        sources: SOURCES,
     }
 }
 

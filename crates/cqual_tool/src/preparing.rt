@@ -64,15 +64,28 @@ pub enum Prepared<'a> {
     Program(Ready<'a>),
 }
 
-/// The name of the file of a unit.
+/// The name of the file of a unit: of the prelude, or of the source of that number, counted from 1.
 fn file_name<'a>(named: &Named<'a>, unit: UnitNo) -> &'a str
     ensures { result.now ≡ file_of (files_in named.now) unit }
 {
-    if unit.number() != 0 {
-        return named.source;
+    match (unit.number() as usize).checked_sub(1) {
+        None => match named.prelude {
+            Some(name) => name,
+            None => "",
+        },
+        Some(index) => match named.sources.get(index) {
+            Some(name) => *name,
+            None => "",
+        },
     }
-    match named.prelude {
-        Some(name) => name,
+}
+
+/// The name of the last source.
+fn last_file<'a>(named: &Named<'a>) -> &'a str
+    ensures { result.now ≡ last_of (files_in named.now).sources }
+{
+    match named.sources.last() {
+        Some(name) => *name,
         None => "",
     }
 }
@@ -108,7 +121,7 @@ fn faulty(
     ensures reason { IfOk result (λ _. fault ≢ Stops.NoMemory) }
 {
     let units = texts(alloc, named, tokens)?;
-    names_refused(alloc, named.source, &units, fault)
+    names_refused(alloc, last_file(named), &units, fault)
 }
 
 /// A program from units whose names and types have no fault: its variables are counted, then its constraints.
@@ -128,10 +141,10 @@ fn constrain<'a>(
     match generate(alloc, &tokens, program, prelude, lattices) {
         Ok(made) => Ok(Prepared::Program(Ready { tokens, made })),
         Err(GenerateFault::TooManyVariables) => {
-            Ok(Prepared::Refused(malformed(alloc, named.source, b"Q1")?))
+            Ok(Prepared::Refused(malformed(alloc, last_file(named), b"Q1")?))
         }
         Err(GenerateFault::TooManyConstraints) => {
-            Ok(Prepared::Refused(malformed(alloc, named.source, b"G1")?))
+            Ok(Prepared::Refused(malformed(alloc, last_file(named), b"G1")?))
         }
         Err(GenerateFault::NoMemory) => Err(NoMemory),
     }
@@ -157,45 +170,66 @@ fn resolved<'a>(
     }
 }
 
-/// A program from the tokens and the tape of a well-formed source behind earlier units.
-fn joined<'a>(
+/// A program of well-formed units.
+pub fn judged<'a>(
     alloc: Global,
     named: &Named<'_>,
     lattices: &Lattices,
     earlier: Earlier<'a>,
-    tokens: Tokens<'a>,
-    ops: Vec<Op>,
-) -> Result<Prepared<'a>, NoMemory>
-    ensures { (before : List UnitRead) (unit : UnitRead) (bytes : List ℕ) →
-        IsEarlier before earlier.entry → IsTaped unit tokens.entry ops.items →
-        SourceParses lattices.now bytes unit → IfOk result
-        (IsPrepared (files_in named.now) lattices.now before earlier.entry.prelude bytes) }
-{
-    let Earlier { mut units, prelude } = earlier;
-    units.push(alloc, tokens, ops)?;
+) -> Result<Prepared<'a>, NoMemory> {
+    let Earlier { units, prelude } = earlier;
     let (tokens, tapes) = units.into_parts();
     resolved(alloc, named, lattices, tokens, tapes, &prelude)
 }
 
-/// A program from the tokens of a source.
-fn parsed<'a>(
+/// What is made of the bytes of a source behind earlier units: an answer that refuses it, or these units with it behind them.
+#[derive(Drop)]
+pub enum Joined<'a> {
+    Refused(Answer),
+    Units(Earlier<'a>),
+}
+
+/// A source behind earlier units, by its tokens and its tape.
+fn joined<'a>(
     alloc: Global,
-    named: &Named<'_>,
-    lattices: &Lattices,
     earlier: Earlier<'a>,
     tokens: Tokens<'a>,
-) -> Result<Prepared<'a>, NoMemory>
-    ensures { (before : List UnitRead) (bytes : List ℕ) → IsEarlier before earlier.entry →
-        SourceLexes lattices.now bytes tokens.entry → IfOk result
-        (IsPrepared (files_in named.now) lattices.now before earlier.entry.prelude bytes) }
-{
+    ops: Vec<Op>,
+) -> Result<Joined<'a>, NoMemory> {
+    let Earlier { mut units, prelude } = earlier;
+    units.push(alloc, tokens, ops)?;
+    Ok(Joined::Units(Earlier { units, prelude }))
+}
+
+/// A source behind earlier units, by its tokens.
+fn parsed<'a>(
+    alloc: Global,
+    file: &str,
+    earlier: Earlier<'a>,
+    tokens: Tokens<'a>,
+) -> Result<Joined<'a>, NoMemory> {
     match parse_tape(alloc, &tokens) {
-        Ok(ops) => joined(alloc, named, lattices, earlier, tokens, ops),
-        Err(fault) => Ok(Prepared::Refused(unit_refused(alloc, named.source, &tokens, fault)?)),
+        Ok(ops) => joined(alloc, earlier, tokens, ops),
+        Err(fault) => Ok(Joined::Refused(unit_refused(alloc, file, &tokens, fault)?)),
     }
 }
 
-/// What is made of the bytes of a source behind earlier units, where the words mean what the lattices say.
+/// What is made of the bytes of a source, the unit of this number, behind earlier units, where the words mean what the lattices say.
+pub fn read_source<'a>(
+    alloc: Global,
+    file: &str,
+    words: &QualWords,
+    unit: UnitNo,
+    earlier: Earlier<'a>,
+    bytes: &'a [u8],
+) -> Result<Joined<'a>, NoMemory> {
+    match lex(alloc, unit, bytes, words) {
+        Ok(tokens) => parsed(alloc, file, earlier, tokens),
+        Err(fault) => Ok(Joined::Refused(source_refused(alloc, file, bytes, &fault)?)),
+    }
+}
+
+/// What is made of the bytes of the one source, where the words mean what the lattices say.
 pub fn prepare<'a>(
     alloc: Global,
     named: &Named<'_>,
@@ -203,14 +237,16 @@ pub fn prepare<'a>(
     words: &QualWords,
     earlier: Earlier<'a>,
     bytes: &'a [u8],
-) -> Result<Prepared<'a>, NoMemory>
-    requires words { MeansTheSame words.now (words_of lattices.now) }
-    requires within { length bytes.now ≤ source_limit }
-    ensures { (before : List UnitRead) → IsEarlier before earlier.entry → IfOk result
-        (IsPrepared (files_in named.now) lattices.now before earlier.entry.prelude bytes.now) }
-{
-    match lex(alloc, UnitNo::new(1), bytes, words) {
-        Ok(tokens) => parsed(alloc, named, lattices, earlier, tokens),
-        Err(fault) => Ok(Prepared::Refused(source_refused(alloc, named.source, bytes, &fault)?)),
+) -> Result<Prepared<'a>, NoMemory> {
+    match read_source(
+        alloc,
+        last_file(named),
+        words,
+        UnitNo::new(1),
+        earlier,
+        bytes,
+    )? {
+        Joined::Refused(answer) => Ok(Prepared::Refused(answer)),
+        Joined::Units(earlier) => judged(alloc, named, lattices, earlier),
     }
 }

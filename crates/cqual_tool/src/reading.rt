@@ -15,18 +15,18 @@ use crate::answer::Answer;
 use crate::ending::end;
 use crate::faults::lattice_refused;
 use crate::preludes::prelude_refused;
-use crate::preparing::{Earlier, Prepared, nothing_before, prepare};
-use crate::taking::{LATTICE_LIMIT, SOURCE_LIMIT, Stop, taken, too_large};
+use crate::preparing::{Earlier, Joined, Prepared, judged, nothing_before, read_source};
+use crate::taking::{LATTICE_LIMIT, SOURCE_LIMIT, Stop, TOTAL_LIMIT, taken, too_large};
 use crate::words::Named;
 use c_types::Units;
 use cq_prelude::{PreludeRead, read_prelude};
 use lattice_core::Lattices;
 use lattice_file::read_lattices;
 use outside::Files;
-use qual_base::{NoMemory, QualWords};
+use qual_base::{NoMemory, Numbered, QualWords, UnitNo};
 use std::alloc::Global;
 
-/// A prelude stands before the source. Its tree is let go.
+/// A prelude stands before the sources. Its tree is let go.
 fn prelude_before<'a>(alloc: Global, read: PreludeRead<'a>) -> Result<Earlier<'a>, NoMemory>
     ensures units { IfOk result
         (λ it. AreReduced (unit_of read.entry.source ∷ []) it.units) }
@@ -38,33 +38,57 @@ fn prelude_before<'a>(alloc: Global, read: PreludeRead<'a>) -> Result<Earlier<'a
     Ok(Earlier { units, prelude })
 }
 
-/// Takes the source, and what is asked of the program.
-fn take_source<F: Files>(
+/// What is asked of the program of units that were taken.
+fn finish<F: Files>(
+    alloc: Global,
+    named: &Named<'_>,
+    lattices: &Lattices,
+    earlier: Earlier<'_>,
+    files: &mut F,
+) -> Result<Answer, Stop> {
+    match judged(alloc, named, lattices, earlier)? {
+        Prepared::Refused(answer) => Ok(answer),
+        Prepared::Program(ready) => end(alloc, named, lattices, &ready, files),
+    }
+}
+
+/// Takes the sources from the one of an index on, each whole before the next is started, where so many bytes are left for them, and
+/// what is asked of the program. It calls itself once for each source.
+fn take_sources<F: Files>(
     alloc: Global,
     named: &Named<'_>,
     lattices: &Lattices,
     words: &QualWords,
+    index: u32,
+    left: usize,
     earlier: Earlier<'_>,
     files: &mut F,
-) -> Result<Answer, Stop>
-    requires words { MeansTheSame words.now (words_of lattices.now) }
-    requires before { (before : List UnitRead) × IsEarlier before earlier }
-    ensures reads { (before : List UnitRead) → IsEarlier before earlier.entry → SourceAnswered
-        (stands (F.log files.old) (F.failed files.old) (F.contents files.old))
-        (stands (F.log files.new) (F.failed files.new) (F.contents files.new)) (files_in named.now)
-        lattices.now before earlier.entry.prelude result }
-    ensures decided { IfOk result (λ answer. IsDecided answer.status) }
-{
-    match taken(alloc, files, named.source, SOURCE_LIMIT)? {
-        Some(bytes) => match prepare(alloc, named, lattices, words, earlier, &bytes)? {
-            Prepared::Refused(answer) => Ok(answer),
-            Prepared::Program(ready) => end(alloc, named, lattices, &ready, files),
-        },
-        None => Ok(too_large(alloc, named.source)?),
+) -> Result<Answer, Stop> {
+    let Some(file) = named.sources.get(index as usize) else {
+        return finish(alloc, named, lattices, earlier, files);
+    };
+    match taken(alloc, files, file, left.min(SOURCE_LIMIT))? {
+        Some(bytes) => {
+            let unit = UnitNo::new(index + 1);
+            match read_source(alloc, file, words, unit, earlier, &bytes)? {
+                Joined::Refused(answer) => Ok(answer),
+                Joined::Units(earlier) => take_sources(
+                    alloc,
+                    named,
+                    lattices,
+                    words,
+                    index + 1,
+                    left - bytes.len(),
+                    earlier,
+                    files,
+                ),
+            }
+        }
+        None => Ok(too_large(alloc, file)?),
     }
 }
 
-/// Takes a prelude, and then the source.
+/// Takes a prelude, and then the sources.
 fn take_prelude<F: Files>(
     alloc: Global,
     named: &Named<'_>,
@@ -85,7 +109,16 @@ fn take_prelude<F: Files>(
         Some(bytes) => match read_prelude(alloc, &bytes, words) {
             Ok(read) => {
                 let earlier = prelude_before(alloc, read)?;
-                take_source(alloc, named, lattices, words, earlier, files)
+                take_sources(
+                    alloc,
+                    named,
+                    lattices,
+                    words,
+                    0,
+                    TOTAL_LIMIT,
+                    earlier,
+                    files,
+                )
             }
             Err(fault) => Ok(prelude_refused(alloc, file, &bytes, &fault)?),
         },
@@ -93,7 +126,7 @@ fn take_prelude<F: Files>(
     }
 }
 
-/// Takes the prelude where one is named, and then the source.
+/// Takes the prelude where one is named, and then the sources.
 fn take_units<F: Files>(
     alloc: Global,
     named: &Named<'_>,
@@ -109,7 +142,16 @@ fn take_units<F: Files>(
     let words = lattices.words(alloc)?;
     match named.prelude {
         Some(file) => take_prelude(alloc, named, lattices, &words, file, files),
-        None => take_source(alloc, named, lattices, &words, nothing_before(alloc), files),
+        None => take_sources(
+            alloc,
+            named,
+            lattices,
+            &words,
+            0,
+            TOTAL_LIMIT,
+            nothing_before(alloc),
+            files,
+        ),
     }
 }
 

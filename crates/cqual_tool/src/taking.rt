@@ -18,6 +18,9 @@ pub const LATTICE_LIMIT: usize = 1_048_576;
 /// The most bytes that a prelude or a source may have.
 pub const SOURCE_LIMIT: usize = 16_777_216;
 
+/// The most bytes that all sources together may have.
+pub const TOTAL_LIMIT: usize = 67_108_864;
+
 /// The most bytes that a report may have.
 pub const REPORT_LIMIT: usize = 268_435_456;
 

@@ -15,11 +15,12 @@ pub struct Named<'a> {
     pub prelude: Option<&'a str>,
     pub annotated: bool,
     pub report: Option<&'a str>,
-    pub source: &'a str,
+    /// In their order.
+    pub sources: &'a [&'a str],
 }
 
 /// The files of words, with what is to be written.
-pub fn of_files<'a>(files: &FileWords<'a>, annotated: bool, report: Option<&'a str>) -> Named<'a>
+pub fn of_files<'a>(files: &'a FileWords<'a>, annotated: bool, report: Option<&'a str>) -> Named<'a>
     ensures { names_in result ≡ rules.of_files (asked.names_in files.now) annotated
         (option_map (λ name. name.now) report.entry) }
 {
@@ -28,6 +29,6 @@ pub fn of_files<'a>(files: &FileWords<'a>, annotated: bool, report: Option<&'a s
         prelude: files.prelude,
         annotated,
         report,
-        source: files.source,
+        sources: files.sources.as_slice(),
     }
 }

@@ -1,5 +1,5 @@
 -- What the code holds of the words, as a task.
-use Rattle.std.specs.Prelude.{⊤}
+use Rattle.std.specs.Prelude.{⊤, map}
 use Rattle.std.specs.Option.{option_map}
 use Rattle.cqual_words.specs.Words.{FileNames, IsMade, Task}
 use Rattle.cqual_words.specs.Words as words
@@ -11,7 +11,7 @@ abbrev pub names_in : FileWords → FileNames
 names_in files = record {
   lattice = files.lattice.now;
   prelude = option_map (λ name. name.now) files.prelude;
-  source = files.source.now;
+  sources = map (λ name. name.now) files.sources.items;
 }
 
 abbrev pub task_of : Asked → Task

@@ -1,8 +1,8 @@
 -- The options as clap's parser takes them, and what its matches ask.
-use Rattle.std.specs.Prelude.{Bool, true, false, Option, Some, None, codes, if◌then◌else◌, option_and_then}
+use Rattle.std.specs.Prelude.{List, Bool, true, false, Option, Some, None, codes, if◌then◌else◌, option_and_then}
 use Rattle.clap.specs.Words.{App, Rule, new_app, new_rule, with_rule}
 use Rattle.clap.specs.Simple.{on_top}
-use Rattle.clap.specs.declared.builder.ArgAction.TheVariants.{Set, SetTrue}
+use Rattle.clap.specs.declared.builder.ArgAction.TheVariants.{Append, Set, SetTrue}
 use Rattle.cqual_words.specs.Words.{Part, Task, Text, Valued, Lattice, Prelude, Report, Number, Annotation, Source, has_meaning}
 use Rattle.cqual_words.specs.Words.{task_of_parts}
 
@@ -23,7 +23,7 @@ abbrev pub flag_rule : Text → Rule
 flag_rule name = record (new_rule name) { long = Some name; action = Some SetTrue }
 
 abbrev pub source_rule : Rule
-source_rule = record (new_rule (codes "source")) { action = Some Set }
+source_rule = record (new_rule (codes "source")) { action = Some Append }
 
 abbrev pub bare : App
 bare = on_top (λ s. record s { no_binary_name = true; disable_help_flag = true; disable_version_flag = true }) (new_app (codes "cqual"))
@@ -49,8 +49,8 @@ flag_text false = None
 abbrev pub with_given : Option Text → (Option Text → Option Task) → Option Task
 with_given text next = option_and_then next (given text)
 
--- what the matches ask, where the flag is on or off, by the text of each part
-abbrev pub asked_by : Bool → (Text → Option Text) → Option Task
-asked_by on first =
+-- what the matches ask, where the flag is on or off, by the text of each option and by the sources
+abbrev pub asked_by : Bool → (Text → Option Text) → List Text → Option Task
+asked_by on first sources =
     with_given (first (codes "lattice")) (λ l. with_given (first (codes "prelude")) (λ p. with_given (first (codes "check")) (λ r.
-    with_given (first (codes "generate")) (λ n. with_given (first (codes "source")) (λ s. task_of_parts l p r n (flag_text on) s)))))
+    with_given (first (codes "generate")) (λ n. task_of_parts l p r n (flag_text on) sources))))

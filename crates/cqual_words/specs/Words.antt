@@ -1,5 +1,5 @@
 -- What the words of a command line mean.
-use Rattle.std.specs.Prelude.{◌≤◌, ℕ, Bool, false, ◌==◌, ◌&&◌, not, List, [], ◌∷◌, map, Option, Some, None, codes, nat_le}
+use Rattle.std.specs.Prelude.{◌≤◌, ℕ, Bool, false, ◌==◌, ◌&&◌, not, List, [], ◌∷◌, length, map, Option, Some, None, codes, nat_le}
 use Rattle.std.specs.Prelude.{if◌then◌else◌, option_and_then, option_map}
 use Rattle.std.specs.List.{list_all, list_any, before_first, after_first}
 use Rattle.std.specs.Str.{bytes_eq}
@@ -9,11 +9,11 @@ use Rattle.std.specs.Str.Parse.{digits_value}
 abbrev pub Text : Type 0
 Text = List ℕ
 
--- the files that are named
+-- the files that are named: 1 to 256 sources, in their order
 pub record FileNames : Type 0 where
   pub lattice : Text
   pub prelude : Option Text
-  pub source : Text
+  pub sources : List Text
 
 -- what is asked: a report, a report with the annotated source behind it, what another report comes to, or the report of a source
 -- that the tool makes itself
@@ -169,26 +169,31 @@ number_of text = if is_numeral text && nat_le (digits_value 10 text) 1000 then S
 abbrev pub IsMade : ℕ → Type 0
 IsMade number = (1 ≤ number) × (number ≤ 1000)
 
-abbrev pub files_of : Text → Option Text → Text → FileNames
-files_of lattice prelude source = record { lattice = lattice; prelude = prelude; source = source }
+abbrev pub files_of : Text → Option Text → List Text → FileNames
+files_of lattice prelude sources = record { lattice = lattice; prelude = prelude; sources = sources }
 
--- what the parts ask together, by what is there of the lattice, the prelude, the report, the number, the flag and the source
-abbrev pub task_of_parts : Option Text → Option Text → Option Text → Option Text → Option Text → Option Text → Option Task
-task_of_parts (Some l) p None None None (Some s) = Some (Infer (files_of l p s))
-task_of_parts (Some l) p None None (Some on) (Some s) = Some (Annotate (files_of l p s))
-task_of_parts (Some l) p (Some r) None None (Some s) = Some (Check (files_of l p s) r)
-task_of_parts None None None (Some n) None None = option_map (λ number. Generate number) (number_of n)
-task_of_parts l p r n on s = None
+-- the sources, where there are at most 256 and each has a meaning
+abbrev pub sources_of : List Text → Option (List Text)
+sources_of texts = if list_all has_meaning texts && nat_le (length texts) 256 then Some texts else None
 
--- what comes of a part of the pieces, where it stands at most once
+-- what the parts ask together, by what is there of the lattice, the prelude, the report, the number and the flag, and by the sources:
+-- one where it is annotated, and none where the tool makes it
+abbrev pub task_of_parts : Option Text → Option Text → Option Text → Option Text → Option Text → List Text → Option Task
+task_of_parts (Some l) p None None None (s ∷ more) = Some (Infer (files_of l p (s ∷ more)))
+task_of_parts (Some l) p None None (Some on) (s ∷ []) = Some (Annotate (files_of l p (s ∷ [])))
+task_of_parts (Some l) p (Some r) None None (s ∷ more) = Some (Check (files_of l p (s ∷ more)) r)
+task_of_parts None None None (Some n) None [] = option_map (λ number. Generate number) (number_of n)
+task_of_parts l p r n on sources = None
+
+-- what comes of an option among the pieces, where it stands at most once
 abbrev pub with_part : Part → List Piece → (Option Text → Option Task) → Option Task
 with_part part pieces next = option_and_then next (at_most_once (texts_of part pieces))
 
 abbrev pub task_in : List Piece → Option Task
 task_in pieces =
     with_part (Valued Lattice) pieces (λ l. with_part (Valued Prelude) pieces (λ p. with_part (Valued Report) pieces (λ r.
-    with_part (Valued Number) pieces (λ n. with_part Annotation pieces (λ on. with_part Source pieces (λ s.
-    task_of_parts l p r n on s))))))
+    with_part (Valued Number) pieces (λ n. with_part Annotation pieces (λ on.
+    option_and_then (λ sources. task_of_parts l p r n on sources) (sources_of (texts_of Source pieces)))))))
 
 -- what the words behind the program's name ask, or nothing where they have no meaning
 abbrev pub meaning_of : List Text → Option Task

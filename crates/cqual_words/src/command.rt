@@ -23,15 +23,15 @@ fn flag<'a>(alloc: Global, name: &'a str) -> Arg<'a>
     Arg::new(alloc, name).long(name).action(ArgAction::SetTrue)
 }
 
-/// The one word that is no option.
+/// The words that are no options.
 fn source<'a>(alloc: Global) -> Arg<'a>
     ensures rule { rule_of result ≡ source_rule }
     ensures local { result.global ≡ false }
 {
-    Arg::new(alloc, "source").action(ArgAction::Set)
+    Arg::new(alloc, "source").action(ArgAction::Append)
 }
 
-/// The options, the flag and the one word that is neither.
+/// The options, the flag and the words that are neither.
 pub fn command<'a>(alloc: Global) -> Result<Command<'a>, AllocError>
     ensures { IfOk result (λ c. app_of c ≡ tool) }
 {

@@ -7,7 +7,12 @@ use std::test::Fail;
 
 fn files_text(alloc: Global, files: &FileWords<'_>) -> Result<String, AllocError> {
     let prelude = files.prelude.unwrap_or("none");
-    format!(in alloc; "{} {prelude} {}", files.lattice, files.source)
+    let mut text = format!(in alloc; "{} {prelude}", files.lattice)?;
+    for source in &files.sources {
+        text.push_str(" ")?;
+        text.push_str(*source)?;
+    }
+    Ok(text)
 }
 
 fn asked_text(alloc: Global, asked: Option<Asked<'_>>) -> Result<String, AllocError> {
@@ -29,8 +34,8 @@ fn asked_text(alloc: Global, asked: Option<Asked<'_>>) -> Result<String, AllocEr
     }
 }
 
-/// Words with a bar between two, and what they ask: the lattice, the prelude or none, the source and the report.
-static LISTS: [(&str, &str); 49] = [
+/// Words with a bar between two, and what they ask: the lattice, the prelude or none, the sources and the report.
+static LISTS: [(&str, &str); 55] = [
     ("--lattice|l.q|s.c", "infer l.q none s.c"),
     ("--lattice=l.q|s.c", "infer l.q none s.c"),
     ("s.c|--lattice|l.q", "infer l.q none s.c"),
@@ -72,7 +77,19 @@ static LISTS: [(&str, &str); 49] = [
     ("--lattice|l.q|-", "nothing"),
     ("--lattice|l.q|--|-x", "nothing"),
     ("--lattice|l.q|--|--", "nothing"),
-    ("--lattice|l.q|s.c|t.c", "nothing"),
+    ("--lattice|l.q|s.c|t.c", "infer l.q none s.c t.c"),
+    (
+        "s.c|--lattice|l.q|t.c|--prelude=p.h|--|u.c",
+        "infer l.q p.h s.c t.c u.c",
+    ),
+    (
+        "s.c|s.c|--check|r.txt|--lattice|l.q",
+        "check l.q none s.c s.c r.txt",
+    ),
+    ("--lattice|l.q|s.c|-t.c", "nothing"),
+    ("--lattice|l.q|s.c||t.c", "nothing"),
+    ("--lattice|l.q|s.c|t.c|--annotate", "nothing"),
+    ("s.c|--generate|1|t.c", "nothing"),
     ("--lattice|l.q|--lattice|l.q|s.c", "nothing"),
     ("--lattice|l.q|s.c|--annotate|--annotate", "nothing"),
     ("--lattice|l.q|s.c|--annotate=x", "nothing"),
@@ -114,5 +131,28 @@ fn each_list_asks_what_it_means(rt: HostRuntime) -> Result<(), Fail> {
 fn no_words_ask_nothing(rt: HostRuntime) -> Result<(), Fail> {
     let words: Vec<String> = Vec::new(rt.alloc());
     assert!(rt; meaning(rt.alloc(), words.as_slice())?.is_none());
+    Ok(())
+}
+
+/// A lattice file and so many sources.
+fn words_with(alloc: Global, count: usize) -> Result<Vec<String>, AllocError> {
+    let mut words = words_of(alloc, "--lattice|l.q")?;
+    for _ in 0..count {
+        words.push(String::from_str(alloc, "s.c")?)?;
+    }
+    Ok(words)
+}
+
+#[test]
+fn at_most_256_sources_are_named(rt: HostRuntime) -> Result<(), Fail> {
+    let alloc = rt.alloc();
+    let most = words_with(alloc, 256)?;
+    let count = match meaning(alloc, most.as_slice())? {
+        Some(Asked::Infer(files)) => files.sources.len(),
+        _ => 0,
+    };
+    assert_eq!(rt; count, 256);
+    let more = words_with(alloc, 257)?;
+    assert!(rt; meaning(alloc, more.as_slice())?.is_none());
     Ok(())
 }

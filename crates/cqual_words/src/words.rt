@@ -16,6 +16,9 @@ use clap::error::ErrorKind;
 use clap::{ArgMatches, Error};
 use std::alloc::{AllocError, Global};
 
+/// The most sources that words may name.
+const MOST_SOURCES: usize = 256;
+
 /// Whether a text has a meaning: it is not empty and does not begin with a hyphen.
 fn has_meaning(text: &str) -> bool
     ensures { result ≡ rules.has_meaning text.now }
@@ -38,26 +41,55 @@ fn text_of<'a>(matches: &ArgMatches<'a>, id: &str) -> Option<Option<&'a str>>
     }
 }
 
-/// What is asked with a lattice and a source.
-fn of_files<'a>(files: FileWords<'a>, report: Option<&'a str>, annotate: bool) -> Option<Asked<'a>>
-    ensures task { option_map task_of result ≡ rules.task_of_parts (Some files.entry.lattice.now)
-        (option_map (λ s. s.now) files.entry.prelude) (option_map (λ s. s.now) report.entry) None
-        (flag_text annotate) (Some files.entry.source.now) }
-    ensures made { IfSome result AsksMade }
-{
-    match (report, annotate) {
-        (None, false) => Some(Asked::Infer(files)),
-        (None, true) => Some(Asked::Annotate(files)),
-        (Some(report), false) => Some(Asked::Check(files, report)),
-        (Some(_), true) => None,
+/// Whether each text has a meaning. Linear in them.
+fn have_meaning(texts: &[&str]) -> bool {
+    for text in texts {
+        if !has_meaning(text) {
+            return false;
+        }
+    }
+    true
+}
+
+/// The sources; nothing where there are more than 256, or where one has no meaning.
+fn sources_of<'a>(
+    alloc: Global,
+    matches: &ArgMatches<'a>,
+) -> Result<Option<Vec<&'a str>>, AllocError> {
+    match matches.get_strs("source") {
+        None => Ok(Some(Vec::new(alloc))),
+        Some(texts) => {
+            if texts.len() > MOST_SOURCES || !have_meaning(texts) {
+                return Ok(None);
+            }
+            Ok(Some(texts.to_vec(alloc)?))
+        }
     }
 }
 
-/// What the texts of the parts ask.
-fn of_matches<'a>(matches: &ArgMatches<'a>) -> Option<Asked<'a>>
+/// What is asked with a lattice and sources.
+fn of_files<'a>(files: FileWords<'a>, report: Option<&'a str>, annotate: bool) -> Option<Asked<'a>>
+    ensures task { option_map task_of result ≡ rules.task_of_parts (Some files.entry.lattice.now)
+        (option_map (λ s. s.now) files.entry.prelude) (option_map (λ s. s.now) report.entry) None
+        (flag_text annotate) (map (λ s. s.now) files.entry.sources.items) }
+    ensures made { IfSome result AsksMade }
+{
+    let count = files.sources.len();
+    match (report, annotate) {
+        _ if count == 0 => None,
+        (None, false) => Some(Asked::Infer(files)),
+        (None, true) if count == 1 => Some(Asked::Annotate(files)),
+        (Some(report), false) => Some(Asked::Check(files, report)),
+        _ => None,
+    }
+}
+
+/// What the texts of the parts ask, with these sources.
+fn of_parts<'a>(matches: &ArgMatches<'a>, sources: Vec<&'a str>) -> Option<Asked<'a>>
     ensures task { (on : Bool) → one_text (found_of matches.now) (codes "annotate")
         ≡ Some (bool_text on) → option_map task_of result
-        ≡ asked_by on (λ id. first_value (found_of matches.now) id) }
+        ≡ asked_by on (λ id. first_value (found_of matches.now) id)
+        (map (λ s. s.now) sources.entry.items) }
     ensures made { IfSome result AsksMade }
 {
     let lattice = text_of(matches, "lattice")?;
@@ -65,23 +97,33 @@ fn of_matches<'a>(matches: &ArgMatches<'a>) -> Option<Asked<'a>>
     let report = text_of(matches, "check")?;
     let generate = text_of(matches, "generate")?;
     let annotate = matches.get_flag("annotate");
-    let source = text_of(matches, "source")?;
-    match (lattice, generate, source) {
-        (Some(lattice), None, Some(source)) => {
+    match (lattice, generate) {
+        (Some(lattice), None) => {
             let files = FileWords {
                 lattice,
                 prelude,
-                source,
+                sources,
             };
             of_files(files, report, annotate)
         }
-        (None, Some(text), None) => {
-            if prelude.is_some() || report.is_some() || annotate {
+        (None, Some(text)) => {
+            if prelude.is_some() || report.is_some() || annotate || sources.len() > 0 {
                 return None;
             }
             Some(Asked::Generate(number(text)?))
         }
         _ => None,
+    }
+}
+
+/// What the matches ask.
+fn of_matches<'a>(
+    alloc: Global,
+    matches: &ArgMatches<'a>,
+) -> Result<Option<Asked<'a>>, AllocError> {
+    match sources_of(alloc, matches)? {
+        Some(sources) => Ok(of_parts(matches, sources)),
+        None => Ok(None),
     }
 }
 
@@ -94,8 +136,8 @@ fn matches<'a>(alloc: Global, words: &'a [String]) -> Result<ArgMatches<'a>, Err
     command.try_get_matches_from(words)
 }
 
-/// What the words behind the program's name ask, or nothing where they have no meaning. Each part stands at most once, in any
-/// order, as `--name VALUE` or `--name=VALUE`; behind `--` there are no options.
+/// What the words behind the program's name ask, or nothing where they have no meaning. Each option stands at most once, and 1 to 256
+/// sources between, before and behind them, as `--name VALUE` or `--name=VALUE`; behind `--` there are no options.
 ///
 /// Its time is in proportion to the words and their bytes. Memory is taken for the options, for the places of the words and for
 /// the text of a refusal, and is given back: what is asked lends its texts from the words.
@@ -109,7 +151,7 @@ pub fn meaning<'a>(alloc: Global, words: &'a [String]) -> Result<Option<Asked<'a
     ensures made { IfOk result (λ found. IfSome found AsksMade) }
 {
     match matches(alloc, words) {
-        Ok(matches) => Ok(of_matches(&matches)),
+        Ok(matches) => of_matches(alloc, &matches),
         Err(error) => match error.kind() {
             ErrorKind::OutOfMemory => Err(AllocError),
             _ => Ok(None),

@@ -1,18 +1,20 @@
 //! Names, each found at once by its place.
 
-ghost use Rattle.std.specs.Prelude.{◌≡◌, ℕ, IfOk, option_map};
+ghost use Rattle.std.specs.Prelude.{◌≡◌, ℕ, IfOk, map, option_map};
 ghost use Rattle.type_table.specs.Types.{CType};
 ghost use Rattle.name_rules.specs.Spellings.{Place};
 ghost use Rattle.name_rules.specs.Scopes.{declared_at, body_of};
 ghost use Rattle.name_rules.specs.Uses.{use_at, type_named_at};
 ghost use Rattle.name_rules.specs.Values.{member_in};
+ghost use Rattle.name_rules.specs.Linking.{link_of, body_faults};
 ghost use Rattle.place_map.specs.Firsts.{item_of, AreFirst};
 ghost use Rattle.place_map.specs.Values.{value_at};
-ghost use Rattle.unit_names.specs.Shown.{names_of, use_of, declared_of, known_of};
+ghost use Rattle.unit_names.specs.Shown.{names_of, use_of, declared_of, known_of, fault_of};
 ghost use Rattle.found_names.specs.First.{use_place, use_or_missing, first_in, type_entry};
 
 use crate::member_map::{MemberMap, all_members};
-use name_records::{Declared, Known, NameUse, TypeNamed, Use};
+use name_links::{body_faults, link, links};
+use name_records::{Declared, Fault, Known, NameUse, TypeNamed, Use};
 use name_scopes::Place;
 use place_map::{PlaceIndex, PlaceMap};
 use qual_base::{NameId, NoMemory, StructId, TypeId};
@@ -62,7 +64,7 @@ fn use_by(uses: &[NameUse], number: Option<u32>) -> Use
     }
 }
 
-/// The names of a unit, each found at once by its place. Clauses see the names. Memory is linear in them and in the tokens.
+/// The names of units, each found at once by its place. Clauses see the names. Memory is linear in them and in the tokens.
 #[derive(Drop)]
 pub struct FoundNames {
     names: Names,
@@ -71,6 +73,8 @@ pub struct FoundNames {
     /// The first type's name at each place.
     types: PlaceMap<TypeId>,
     members: MemberMap,
+    /// Where what is one thing in several units was first declared.
+    links: PlaceMap<Place>,
 }
 
 impl Model for FoundNames {
@@ -92,11 +96,13 @@ impl FoundNames {
         let uses = first_uses(alloc, names.uses())?;
         let types = first_types(alloc, names.type_names())?;
         let members = all_members(alloc, names.aggregates())?;
+        let links = links(alloc, &names)?;
         Ok(FoundNames {
             names,
             uses,
             types,
             members,
+            links,
         })
     }
 
@@ -128,6 +134,21 @@ impl FoundNames {
             ≡ declared_at (names_of t self.now).declared at.now }
     {
         self.names.declared_at(at)
+    }
+
+    /// Where what was first declared at a place in its unit was first declared in all units. Constant time.
+    pub fn link(&self, at: &Place) -> Place
+        ensures { (t : ℕ → CType) → result ≡ link_of (names_of t self.now) at.now }
+    {
+        link(&self.links, at)
+    }
+
+    /// Second bodies of functions in several units, in the order of the text. Linear in the bodies, but for growth.
+    pub fn body_faults(&self, alloc: Global) -> Result<Vec<Fault>, NoMemory>
+        ensures { IfOk result (λ it. (t : ℕ → CType) → map fault_of it.items
+            ≡ body_faults (names_of t self.now)) }
+    {
+        body_faults(alloc, &self.links, &self.names)
     }
 
     /// A member of a struct by its name. Constant time.

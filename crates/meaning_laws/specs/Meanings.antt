@@ -1,9 +1,10 @@
 -- What names mean, and what is known of declarations, where no two are at one place.
-use Rattle.std.specs.Prelude.{◌≡◌, ℕ, List, [], ◌∷◌, slice_get, Option, None, Some}
+use Rattle.std.specs.Prelude.{◌≡◌, ◌⊎◌, ℕ, List, [], ◌∷◌, slice_get, Option, None, Some}
 use Rattle.name_rules.specs.Spellings.{Place}
 use Rattle.name_rules.specs.Scopes.{Meaning, means_type, means_thing, Scope, function_role, Declared, declared_at, Use, means, called, missing, NameUse, Own, Known, Body, Aggregate, Names, body_of}
 use Rattle.name_rules.specs.Values.{member_in, own_of}
 use Rattle.name_rules.specs.Uses.{use_at}
+use Rattle.name_rules.specs.Linking.{link_of}
 use Rattle.name_rules.specs.Units.{no_names}
 use Rattle.name_steps.specs.Units.{Tape, tapes_named}
 
@@ -95,12 +96,23 @@ pub record FirstIn (ds : List Declared) (ss : List Scope) (ts rs : List (ℕ × 
 abbrev pub AreFirst : Names → Type 0
 AreFirst s = FirstIn s.declared s.scopes s.things s.round s.kept s.uses s.aggregates
 
+-- At the link of a first declaration something is declared. Where that is a function, it is so for the first time, and is its own link.
+-- Where it is another declaration, both are of functions or belong to nobody.
+pub record HasLink (s : Names) (d : Declared) : Type 0 where
+  pub it : Declared
+  pub there : declared_at s.declared (link_of s d.at) ≡ Some it
+  pub is_first : it.role ≡ function_role → it.first ≡ it.at
+  pub is_last : it.role ≡ function_role → link_of s it.at ≡ it.at
+  pub of_file : (link_of s d.at ≡ d.at)
+      ⊎ (((d.role ≡ function_role) ⊎ (d.owner ≡ None)) × ((it.role ≡ function_role) ⊎ (it.owner ≡ None)))
+
 -- of the names of tapes, one after another
 pub record NamesAreFirst (s : Names) : Type 0 where
   pub uses : (p q : Place) → use_at s.uses p ≡ means q → IsFirst s.declared q
   pub firsts : (p : Place) (d : Declared) → declared_at s.declared p ≡ Some d → HasFirst s.declared d
   pub known : (n name : ℕ) (it : Known) → member_in (body_of s.aggregates n) name ≡ Some it → IsNobodys s.declared it.at
   pub own : (n i : ℕ) (it : Own) → slice_get (own_of s.aggregates n) i ≡ Some it → IsNobodys s.declared it.at
+  pub links : (p : Place) (d : Declared) → declared_at s.declared p ≡ Some d → d.first ≡ p → HasLink s d
 
 abbrev pub MeaningsAreFirst : Type 0
 MeaningsAreFirst =

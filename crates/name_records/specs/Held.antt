@@ -1,15 +1,34 @@
--- A map that agrees with a list.
-use Rattle.std.specs.Prelude.{◌≡◌, List, is_some}
+-- Maps that agree with lists.
+use Rattle.std.specs.Prelude.{◌≡◌, ℕ, nat_eq, Bool, ◌&&◌, List, map, is_some}
 use Rattle.std.specs.declared.hash.FoldHasher.{FoldHasher}
 use Rattle.std.specs.declared.hash.BuildHasherDefault.{BuildHasherDefault}
 use Rattle.std.specs.HashMap.{get, HashMap}
 use Rattle.name_rules.specs.Spellings.{Place}
-use Rattle.name_rules.specs.Scopes.{is_place}
-use Rattle.name_rules.specs.Declaring.{has_place}
+use Rattle.name_rules.specs.Scopes as rules
+use Rattle.name_rules.specs.Scopes.{is_place, thing_of}
+use Rattle.name_rules.specs.Declaring.{has_body_in}
+use Rattle.name_records.specs.declared.bodies.Bodied.{Bodied}
 
-abbrev pub PlaceSet : Type 0
-PlaceSet = HashMap Place (Unit {0}) (BuildHasherDefault FoldHasher)
+abbrev pub bodied_of : Bodied → rules.Bodied
+bodied_of it = record { first = it.first; at = it.at; is_plain = it.is_plain }
 
--- a map has the places of a list
-pub record AreKnown (all : List Place) (known : PlaceSet) : Type 0 where
-  pub same : (at : Place) → is_some (get is_place known at) ≡ has_place all at
+-- a function and a unit
+abbrev pub PlaceInUnit : Type 0
+PlaceInUnit = Place × ℕ
+
+abbrev pub is_same_in_unit : PlaceInUnit → PlaceInUnit → Bool
+is_same_in_unit p q = is_place p.0 q.0 && nat_eq p.1 q.1
+
+abbrev pub BodySet : Type 0
+BodySet = HashMap PlaceInUnit (Unit {0}) (BuildHasherDefault FoldHasher)
+
+-- a map has the functions that have a body in a unit
+pub record AreKnown (all : List Bodied) (known : BodySet) : Type 0 where
+  pub same : (unit : ℕ) (first : Place) → is_some (get is_same_in_unit known (first, unit)) ≡ has_body_in unit (map bodied_of all) first
+
+abbrev pub ThingTable : Type 0
+ThingTable = HashMap Place Place (BuildHasherDefault FoldHasher)
+
+-- a table has the newest of a unit and a name
+pub record AreNewest (all : List (ℕ × Place)) (newest : ThingTable) : Type 0 where
+  pub same : (unit name : ℕ) → get is_place newest (unit, name) ≡ thing_of unit all name

@@ -3,7 +3,7 @@
 ghost use Rattle.std.specs.Prelude.{◌≡◌, ◌<◌, ◌^◌, ◌∷◌, ◌++◌, [], None, length, slice_get, IfOk, OnOk, OnErr};
 ghost use Rattle.name_rules.specs.Scopes.{changed_at};
 ghost use Rattle.name_records.specs.Bodies.{has_body, or_empty, with_member, with_unnamed};
-ghost use Rattle.name_records.specs.Aggregates.{body_at, known_at, with_body};
+ghost use Rattle.name_records.specs.Aggregates.{body_at, known_at, with_body, with_key};
 
 use crate::body::{Body, Known};
 use name_scopes::Place;
@@ -12,12 +12,23 @@ use std::alloc::Global;
 use std::marker::Model;
 use tape_ops::TagKind;
 
+/// What a definition at file scope is known by in other sources: its keyword, and its tag, or where it has none the first name of the
+/// typedef of the file that it is a word of. Tags and names of typedefs are apart.
+#[derive(Clone, Copy, PartialEq, Eq, Debug, Drop)]
+pub struct StructKey {
+    pub kind: TagKind,
+    pub by_typedef: bool,
+    pub name: NameId,
+}
+
 /// A struct, union or enum, by the place of its first tag, or of its keyword where it has none.
 #[derive(Drop)]
 pub struct Aggregate {
     pub kind: TagKind,
     pub at: Place,
     pub body: Option<Body>,
+    /// Where the body stands at file scope.
+    pub key: Option<StructKey>,
 }
 
 /// Structs, unions and enums by their numbers. Clauses see their list. Memory is linear in it and in the members.
@@ -57,7 +68,7 @@ impl Aggregates {
     pub fn push(&mut self, kind: TagKind, at: &Place) -> Result<StructId, NoMemory>
         ensures number { IfOk result (λ n. n ≡ length self.old) }
         ensures pushed { OnOk result
-            (self.new ≡ self.old ++ record { kind = kind; at = at.now; body = None } ∷ []) }
+            (self.new ≡ self.old ++ record { kind = kind; at = at.now; body = None; key = None } ∷ []) }
     {
         let count = self.all.len();
         if count >= 4_294_967_295 {
@@ -67,6 +78,7 @@ impl Aggregates {
             kind,
             at: *at,
             body: None,
+            key: None,
         })?;
         Ok(StructId::new(count as u32))
     }
@@ -117,6 +129,16 @@ impl Aggregates {
         it.open(alloc);
     }
 
+    /// What one is known by in other sources. Constant time.
+    pub fn set_key(&mut self, number: StructId, by_typedef: bool, name: NameId)
+        ensures { self.new ≡ changed_at self.old number (with_key by_typedef name) }
+    {
+        let Some(it) = self.all.get_mut(number.number() as usize) else {
+            return;
+        };
+        it.set_key(by_typedef, name);
+    }
+
     /// One more own member, which has a name. Constant time but for growth.
     pub fn push_member(
         &mut self,
@@ -161,6 +183,18 @@ impl Aggregates {
 }
 
 impl Aggregate {
+    /// What it is known by in other sources. Constant time.
+    fn set_key(&mut self, by_typedef: bool, name: NameId)
+        ensures { self.new ≡ with_key by_typedef name self.old }
+    {
+        let kind = self.kind;
+        self.key = Some(StructKey {
+            kind,
+            by_typedef,
+            name,
+        });
+    }
+
     /// The body begins, or goes on. Constant time.
     fn open(&mut self, alloc: Global)
         ensures { self.new ≡ with_body (λ body. body) self.old }

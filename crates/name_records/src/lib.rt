@@ -2,13 +2,15 @@
 #![tactic(auto)]
 
 mod aggregates;
+mod bodies;
 mod body;
 mod declarations;
-mod places;
 mod records;
+mod things;
 
-pub use aggregates::{Aggregate, Aggregates};
+pub use aggregates::{Aggregate, Aggregates, StructKey};
+pub use bodies::{Bodied, Bodies};
 pub use body::{Body, Known, Own};
 pub use declarations::{Declarations, Declared, Role};
-pub use places::Places;
 pub use records::{Fault, NameUse, Rule, TypeNamed, Use};
+pub use things::Things;

@@ -1,9 +1,9 @@
 -- What a use or a declaration of a name says of names (C99, 6.2.1 to 6.2.3, 6.7).
 --
 -- A declaration of a name that its scope already declares is a further declaration of the same thing. An object that a
--- block declares `extern` and a function that a block declares are always the file's. A use of a name has the type of
--- its first declaration.
-use Rattle.std.specs.Prelude.{ℕ, Bool, true, false, ◌||◌, List, [], ◌∷◌, ◌++◌, length, Option, None, Some, if◌then◌else◌}
+-- block declares `extern` and a function that a block declares are always the file's. What the prelude declares is in every
+-- source one with the file's object or function of that name. A use of a name has the type of its first declaration.
+use Rattle.std.specs.Prelude.{ℕ, nat_eq, Bool, true, false, ◌&&◌, ◌||◌, List, [], ◌∷◌, ◌++◌, length, Option, None, Some, if◌then◌else◌}
 use Rattle.c_words.specs.declared.kinds.Keyword.{Keyword}
 use Rattle.c_words.specs.declared.kinds.Keyword.TheVariants as keywords
 use Rattle.tape_ops.specs.declared.specifier.TagKind.{TagKind}
@@ -11,7 +11,7 @@ use Rattle.tape_ops.specs.declared.specifier.TagKind.TheVariants as tags
 use Rattle.type_table.specs.Types.{CType, base, void, struct, pointer, function}
 use Rattle.name_rules.specs.Spellings.{Place, Spelling, place, Named}
 use Rattle.name_rules.specs.Faults.{undeclared, defined_twice, fault_where}
-use Rattle.name_rules.specs.Scopes.{Meaning, means_type, means_thing, Scope, Role, typedef_role, object_role, function_role, parameter_role, field_role, Use, means, called, missing, Names, thing_named, meaning, tag_in, tag_through, innermost, inner_meaning, is_at_file, owner_at, leave, bound, tag_bound, with_faults, with_declared, sized, with_aggregate, or_no_body, body_of, has_body, with_body, with_member, with_unnamed, is_place}
+use Rattle.name_rules.specs.Scopes.{Meaning, means_type, means_thing, Scope, Role, typedef_role, object_role, function_role, parameter_role, field_role, Use, means, called, missing, Bodied, Names, thing_of, or_place, meaning, tag_in, tag_through, innermost, inner_meaning, is_at_file, owner_at, leave, bound, tag_bound, with_faults, with_declared, sized, with_aggregate, or_no_body, body_of, has_body, with_body, with_key, with_member, with_unnamed, is_place}
 use Rattle.name_rules.specs.Pieces.{is_function}
 
 -- uses
@@ -84,27 +84,48 @@ pub record Begun : Type 0 where
 abbrev pub opened : ℕ → Names → Names
 opened n s = with_body n (λ body. body) s
 
-abbrev pub begun_in : Bool → Place → TagKind → Numbered → Begun
-begun_in true at kind it =
+-- what a body at file scope makes known of its tag
+abbrev pub tag_known : Option ℕ → ℕ → Names → Names
+tag_known None n s = s
+tag_known (Some tag) n s = if is_at_file s then with_key n false tag s else s
+
+abbrev pub begun_in : Bool → Place → TagKind → Option ℕ → Numbered → Begun
+begun_in true at kind tag it =
     record {
       number = it.number;
       members_of = length it.names.aggregates;
       names = with_faults (fault_where true at defined_twice)
           (opened (length it.names.aggregates) (with_aggregate kind at it.names));
     }
-begun_in false at kind it = record { number = it.number; members_of = it.number; names = opened it.number it.names }
+begun_in false at kind tag it =
+    record {
+      number = it.number;
+      members_of = it.number;
+      names = tag_known tag it.number (opened it.number it.names);
+    }
 
-abbrev pub begun_body : Place → TagKind → Numbered → Begun
-begun_body at kind it = begun_in (has_body (body_of it.names.aggregates it.number)) at kind it
+abbrev pub begun_body : Place → TagKind → Option ℕ → Numbered → Begun
+begun_body at kind tag it = begun_in (has_body (body_of it.names.aggregates it.number)) at kind tag it
 
 -- a tag with a body is defined in the innermost scope
 abbrev pub tag_begun : Spelling → TagKind → ℕ → ℕ → Names → Begun
-tag_begun u kind token tag s = begun_body (place u token) kind (tag_used u true kind token tag s)
+tag_begun u kind token tag s = begun_body (place u token) kind (Some (u.key tag)) (tag_used u true kind token tag s)
 
 abbrev pub untagged_begun : Place → TagKind → Names → Begun
-untagged_begun at kind s = begun_body at kind (untagged at kind s)
+untagged_begun at kind s = begun_body at kind None (untagged at kind s)
 
 -- declaring
+
+abbrev pub struct_number : CType → ℕ
+struct_number (struct ws n) = n
+struct_number (base ws) = 0
+struct_number (void ws) = 0
+struct_number (pointer ws t) = 0
+struct_number (function ws ps r e) = 0
+
+-- the struct without a tag that is a word of specifiers of this type, where there is one
+abbrev pub untagged_number : Bool → CType → Option ℕ
+untagged_number is_untagged t = if is_untagged then Some (struct_number t) else None
 
 abbrev pub the_thing : Option Meaning → Place → Place
 the_thing (Some (means_thing first)) at = first
@@ -129,26 +150,36 @@ declared_here at name role t own s =
     bound name (means_thing (the_thing (inner_meaning s name) at))
     (declaring at role (the_thing (inner_meaning s name) at) t own s)
 
+-- where the object or function of the file that has a name was first declared in this unit, or else in the prelude; here, where that is
+-- new
 abbrev pub linked : ℕ → Place → Names → Place
-linked name at s = or_at (thing_named s.things name) at
-
--- an object or function of the file
-abbrev pub declared_thing : Place → ℕ → CType → Names → Names
-declared_thing at name t s =
-    bound name (means_thing (linked name at s))
-    (declaring at (if is_function t then function_role else object_role) (linked name at s) t
-    (if is_function t then Some at else None)
-    (record s { things = (name, linked name at s) ∷ s.things }))
+linked name at s = or_at (or_place (thing_of at.0 s.things name) (thing_of 0 s.things name)) at
 
 abbrev pub is_word : Keyword → Keyword → Bool
 is_word keywords.Typedef keywords.Typedef = true
 is_word keywords.Extern keywords.Extern = true
 is_word keywords.Static keywords.Static = true
+is_word keywords.Inline keywords.Inline = true
 is_word word other = false
 
 abbrev pub has_word : Keyword → List Keyword → Bool
 has_word word [] = false
 has_word word (w ∷ ws) = is_word word w || has_word word ws
+
+-- a new object or function of the file
+abbrev pub thing_where : Bool → ℕ → Place → Names → Names
+thing_where is_new name at s = if is_new then record s { things = (name, at) ∷ s.things } else s
+
+abbrev pub static_where : Bool → ℕ → ℕ → Names → Names
+static_where is_static unit name s = if is_static then record s { statics = (unit, name) ∷ s.statics } else s
+
+-- an object or function of the file, by the words of its declaration
+abbrev pub declared_thing : List Keyword → Place → ℕ → CType → Names → Names
+declared_thing words at name t s =
+    bound name (means_thing (linked name at s))
+    (declaring at (if is_function t then function_role else object_role) (linked name at s) t
+    (if is_function t then Some at else None)
+    (static_where (has_word keywords.Static words) at.0 name (thing_where (is_place (linked name at s) at) name at s)))
 
 abbrev pub declared_typedef : Place → ℕ → CType → Names → Names
 declared_typedef at name t s = bound name (means_type t) (declaring at typedef_role at t None s)
@@ -157,13 +188,21 @@ declared_typedef at name t s = bound name (means_type t) (declaring at typedef_r
 abbrev pub declared_by : List Keyword → Place → ℕ → CType → Names → Names
 declared_by words at name t s =
     if has_word keywords.Typedef words then declared_typedef at name t s
-    else if is_at_file s || (is_function t || has_word keywords.Extern words) then declared_thing at name t s
+    else if is_at_file s || (is_function t || has_word keywords.Extern words) then declared_thing words at name t s
     else declared_here at name object_role t (if has_word keywords.Static words then None else s.enclosing) s
 
-abbrev pub declared_some : Spelling → Option Named → List Keyword → CType → Names → Names
-declared_some u None words t s = s
-declared_some u (Some it) words t s =
-    declared_by words (place u it.token) (u.key it.name) t (sized (place u it.token) t s)
+-- the struct of this number, which has no tag and is a word of a declaration with these words, is known by the first name there where
+-- that is a typedef of the file
+abbrev pub typedef_known : List Keyword → ℕ → Option ℕ → Names → Names
+typedef_known words name None s = s
+typedef_known words name (Some n) s =
+    if has_word keywords.Typedef words && is_at_file s then with_key n true name s else s
+
+abbrev pub declared_some : Spelling → Option ℕ → Option Named → List Keyword → CType → Names → Names
+declared_some u untagged None words t s = s
+declared_some u untagged (Some it) words t s =
+    typedef_known words (u.key it.name) untagged
+    (declared_by words (place u it.token) (u.key it.name) t (sized (place u it.token) t s))
 
 -- a parameter, with its number; it belongs to the function whose own parameters these are
 abbrev pub declared_param : Spelling → Option Named → ℕ → Option Place → CType → Names → Names
@@ -178,13 +217,6 @@ declared_member u (Some it) n t s =
     sized (place u it.token) t (with_body n (with_member (u.key it.name) (place u it.token) t)
     (declaring (place u it.token) (field_role n (length (or_no_body (body_of s.aggregates n)).own))
     (place u it.token) t None s))
-
-abbrev pub struct_number : CType → ℕ
-struct_number (struct ws n) = n
-struct_number (base ws) = 0
-struct_number (void ws) = 0
-struct_number (pointer ws t) = 0
-struct_number (function ws ps r e) = 0
 
 abbrev pub unnamed_member : Place → ℕ → CType → Names → Names
 unnamed_member at n t s =
@@ -202,19 +234,20 @@ abbrev pub keep : Option Place → Names → Names
 keep None s = leave s
 keep (Some own) s = leave (record s { kept = Some (innermost s.scopes) })
 
-abbrev pub has_place : List Place → Place → Bool
-has_place [] at = false
-has_place (p ∷ ps) at = is_place p at || has_place ps at
+-- whether a body in this unit is one of what was first declared there
+abbrev pub has_body_in : ℕ → List Bodied → Place → Bool
+has_body_in unit [] first = false
+has_body_in unit (it ∷ bodies) first = (nat_eq it.at.0 unit && is_place it.first first) || has_body_in unit bodies first
 
 abbrev pub scope_kept : Option Scope → List Scope → List Scope
 scope_kept None scopes = scopes
 scope_kept (Some scope) scopes = scope ∷ scopes
 
 -- a body begins, in the scope of its function's own parameters, which was kept for it
-abbrev pub body_entered : Place → Place → Names → Names
-body_entered at first s =
-    record (with_faults (fault_where (has_place s.bodies first) at defined_twice) s) {
-      bodies = first ∷ s.bodies;
+abbrev pub body_entered : Place → Place → Bool → Names → Names
+body_entered at first is_plain s =
+    record (with_faults (fault_where (has_body_in at.0 s.bodies first) at defined_twice) s) {
+      bodies = record { first = first; at = at; is_plain = is_plain } ∷ s.bodies;
       scopes = scope_kept s.kept s.scopes;
       enclosing = Some first;
       kept = None;

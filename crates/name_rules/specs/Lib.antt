@@ -1,6 +1,7 @@
 pub mod Checks
 pub mod Declaring
 pub mod Faults
+pub mod Linking
 pub mod Pieces
 pub mod Scopes
 pub mod Spellings

@@ -39,11 +39,20 @@ pub record Body : Type 0 where
   pub own : List Own
   pub known : List Known
 
+-- What a definition at file scope is known by in other sources: its keyword, and its tag, or where it has none the first name of the
+-- typedef of the file that it is a word of. Tags and names of typedefs are apart.
+pub record StructKey : Type 0 where
+  pub kind : TagKind
+  pub by_typedef : Bool
+  pub name : ℕ
+
 -- a struct, union or enum, by the place of its first tag, or of its keyword where it has none
 pub record Aggregate : Type 0 where
   pub kind : TagKind
   pub at : Place
   pub body : Option Body
+  -- where the body stands at file scope
+  pub key : Option StructKey
 
 pub data Role : Type 0 where
   typedef_role : Role
@@ -80,20 +89,29 @@ pub record TypeNamed : Type 0 where
   pub at : Place
   pub type : CType
 
+-- a body at a function's name, by where the function was first declared in this unit or in the prelude; it is plain without `inline`
+pub record Bodied : Type 0 where
+  pub first : Place
+  pub at : Place
+  pub is_plain : Bool
+
 pub record Names : Type 0 where
   pub declared : List Declared
   -- those that are open, the innermost first
   pub scopes : List Scope
   pub aggregates : List Aggregate
-  -- the objects and functions of file scope and those that blocks declare `extern`, by where each was first declared
+  -- the objects and functions of file scope and those that blocks declare `extern`, of all units so far, each once, by where it was
+  -- first declared in its unit or in the prelude; the newest is first
   pub things : List (ℕ × Place)
-  -- what is visible round the file scope
+  -- the units, and the names of such objects and functions that a declaration there has `static` with
+  pub statics : List (ℕ × ℕ)
+  -- what of the prelude is visible round the file scope
   pub round : List (ℕ × Place)
   pub uses : List NameUse
   pub type_names : List TypeNamed
   pub faults : List Fault
-  -- the functions that have a body
-  pub bodies : List Place
+  -- the newest first
+  pub bodies : List Bodied
   -- the function in whose body this is
   pub enclosing : Option Place
   -- the scope of a function's parameters, until its body goes on in it
@@ -115,6 +133,15 @@ is_kind kind other = false
 abbrev pub thing_named : List (ℕ × Place) → ℕ → Option Place
 thing_named [] name = None
 thing_named (it ∷ things) name = if nat_eq it.0 name then Some it.1 else thing_named things name
+
+-- the object or function of a name that was first declared in this unit
+abbrev pub thing_of : ℕ → List (ℕ × Place) → ℕ → Option Place
+thing_of unit [] name = None
+thing_of unit (it ∷ things) name = if nat_eq it.0 name && nat_eq it.1.0 unit then Some it.1 else thing_of unit things name
+
+abbrev pub or_place : Option Place → Option Place → Option Place
+or_place None other = other
+or_place (Some at) other = Some at
 
 abbrev pub meaning_in : List (ℕ × Meaning) → ℕ → Option Meaning
 meaning_in [] name = None
@@ -210,7 +237,7 @@ abbrev pub sized : Place → CType → Names → Names
 sized at type s = with_faults (fault_where (nat_lt 4096 (size type)) at type_too_large) s
 
 abbrev pub with_aggregate : TagKind → Place → Names → Names
-with_aggregate kind at s = record s { aggregates = s.aggregates ++ record { kind = kind; at = at; body = None } ∷ [] }
+with_aggregate kind at s = record s { aggregates = s.aggregates ++ record { kind = kind; at = at; body = None; key = None } ∷ [] }
 
 abbrev pub changed_at : {A : Type 0} → List A → ℕ → (A → A) → List A
 changed_at [] n change = []
@@ -238,6 +265,14 @@ has_body (Some body) = true
 abbrev pub with_body : ℕ → (Body → Body) → Names → Names
 with_body n change s =
     record s { aggregates = changed_at s.aggregates n (λ it. record it { body = Some (change (or_no_body it.body)) }) }
+
+-- what the struct of this number is known by
+abbrev pub with_key : ℕ → Bool → ℕ → Names → Names
+with_key n by_typedef name s =
+    record s {
+      aggregates = changed_at s.aggregates n
+          (λ it. record it { key = Some (record { kind = it.kind; by_typedef = by_typedef; name = name }) });
+    }
 
 -- one more own member, which has a name
 abbrev pub with_member : ℕ → Place → CType → Body → Body

@@ -1,5 +1,5 @@
--- Names of units one after another: what a later unit sees of those before it.
-use Rattle.std.specs.Prelude.{ℕ, Bool, true, false, List, [], ◌∷◌, ◌++◌, Option, None, Some, if◌then◌else◌}
+-- Names of units one after another: what a source sees of the prelude. Of another source it sees nothing.
+use Rattle.std.specs.Prelude.{ℕ, nat_eq, Bool, true, false, List, [], ◌∷◌, ◌++◌, Option, None, Some, if◌then◌else◌}
 use Rattle.name_rules.specs.Spellings.{Place}
 use Rattle.name_rules.specs.Scopes.{Meaning, means_type, means_thing, no_scope, innermost, Role, typedef_role, object_role, function_role, parameter_role, field_role, enumerator_role, Declared, declared_at, Names}
 
@@ -10,6 +10,7 @@ no_names =
       scopes = no_scope ∷ [];
       aggregates = [];
       things = [];
+      statics = [];
       round = [];
       uses = [];
       type_names = [];
@@ -34,11 +35,16 @@ abbrev pub shared_name : Names → ℕ → Meaning → List (ℕ × Place)
 shared_name s name (means_type t) = []
 shared_name s name (means_thing at) = if is_shared (declared_at s.declared at) then (name, at) ∷ [] else []
 
--- what later units see of a unit: the objects and functions of its file scope, no types, no tags and no enumerators
+-- what sources see of the prelude: the objects and functions of its file scope, no types, no tags and no enumerators
 abbrev pub shared : Names → List (ℕ × Meaning) → List (ℕ × Place)
 shared s [] = []
 shared s (it ∷ names) = shared_name s it.0 it.1 ++ shared s names
 
--- a unit begins with a file scope of its own
-abbrev pub unit_begun : Names → Names
-unit_begun s = record s { scopes = no_scope ∷ []; round = shared s (innermost s.scopes).names ++ s.round }
+-- A unit begins with a file scope of its own. What the prelude's file scope has, which is the innermost behind the prelude, is round
+-- the file scope of the first source and of all others.
+abbrev pub unit_begun : ℕ → Names → Names
+unit_begun unit s =
+    record s {
+      scopes = no_scope ∷ [];
+      round = if nat_eq unit 1 then shared s (innermost s.scopes).names else s.round;
+    }

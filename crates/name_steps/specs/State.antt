@@ -1,16 +1,18 @@
 -- What is known at a place of a tape: names, and what is begun and not yet at its end, the innermost of each kind
 -- first.
-use Rattle.std.specs.Prelude.{ℕ, List, [], ◌∷◌, Option, None}
+use Rattle.std.specs.Prelude.{ℕ, Bool, false, List, [], ◌∷◌, Option, None}
 use Rattle.c_words.specs.declared.kinds.Keyword.{Keyword}
 use Rattle.type_table.specs.Types.{Words, CType, base, CTypes, no_types, more_types}
 use Rattle.name_rules.specs.Spellings.{Place, Named}
 use Rattle.name_rules.specs.Scopes.{Names}
 
--- specifiers: their type without annotation words, these words, and the storage words, so far
+-- specifiers: their type without annotation words, these words, the storage words and `inline`, and whether a struct or union
+-- without a tag is one of them, so far
 pub record Specifiers : Type 0 where
   pub type : CType
   pub words : Words
   pub storage : List Keyword
+  pub is_untagged : Bool
 
 -- a body of a tag: the specifiers that it is a word of, with the type that they have behind it, and the number of the
 -- struct whose members stand in it
@@ -18,11 +20,12 @@ pub record OpenBody : Type 0 where
   pub outer : Specifiers
   pub members_of : ℕ
 
--- a declaration whose specifiers are whole: their type and storage words; and of the declarator that is being read the
--- name, where it has one, and the type so far
+-- a declaration whose specifiers are whole: their type and storage words, and until a name was declared whether a struct or union
+-- without a tag is one of them; and of the declarator that is being read the name, where it has one, and the type so far
 pub record OpenDeclaration : Type 0 where
   pub type : CType
   pub storage : List Keyword
+  pub is_untagged : Bool
   pub name : Option Named
   pub declared : CType
 
@@ -43,7 +46,7 @@ pub record State : Type 0 where
 
 -- specifiers of which no word was read
 abbrev pub no_specifiers : Specifiers
-no_specifiers = record { type = base []; words = []; storage = [] }
+no_specifiers = record { type = base []; words = []; storage = []; is_untagged = false }
 
 -- names, with nothing begun
 abbrev pub with_names : Names → State
@@ -58,7 +61,7 @@ with_names names =
     }
 
 abbrev pub no_declaration : OpenDeclaration
-no_declaration = record { type = base []; storage = []; name = None; declared = base [] }
+no_declaration = record { type = base []; storage = []; is_untagged = false; name = None; declared = base [] }
 
 abbrev pub no_body : OpenBody
 no_body = record { outer = no_specifiers; members_of = 0 }

@@ -1,7 +1,8 @@
 -- Names by one loop over a tape: what each op makes of what is known before it.
-use Rattle.std.specs.Prelude.{ℕ, Bool, true, false, List, [], ◌∷◌, ◌++◌, length, Option, None, Some}
+use Rattle.std.specs.Prelude.{ℕ, Bool, true, false, not, List, [], ◌∷◌, ◌++◌, length, Option, None, Some}
 use Rattle.std.specs.List.{last_or}
 use Rattle.c_words.specs.declared.kinds.Keyword.{Keyword}
+use Rattle.c_words.specs.declared.kinds.Keyword.TheVariants as keywords
 use Rattle.tape_ops.specs.declared.op.Op.{Op}
 use Rattle.tape_ops.specs.declared.op.Op.TheVariants as ops
 use Rattle.tape_ops.specs.declared.expression.ExprOp.{ExprOp}
@@ -9,6 +10,7 @@ use Rattle.tape_ops.specs.declared.expression.ExprOp.TheVariants as exprs
 use Rattle.tape_ops.specs.declared.specifier.SpecOp.{SpecOp}
 use Rattle.tape_ops.specs.declared.specifier.SpecOp.TheVariants as specs
 use Rattle.tape_ops.specs.declared.specifier.TagKind.{TagKind}
+use Rattle.tape_ops.specs.declared.specifier.TagKind.TheVariants as tags
 use Rattle.tape_ops.specs.declared.declarator.DeclrOp.{DeclrOp}
 use Rattle.tape_ops.specs.declared.declarator.DeclrOp.TheVariants as declrs
 use Rattle.tape_ops.specs.declared.statement.StmtOp.{StmtOp}
@@ -17,7 +19,7 @@ use Rattle.type_table.specs.Types.{Words, CType, base, void}
 use Rattle.name_rules.specs.Spellings.{Place, Spelling, place, annotation_at, Named}
 use Rattle.name_rules.specs.Scopes.{enumerator_role, Declared, Names, meaning, enter, leave}
 use Rattle.name_rules.specs.Pieces.{with_words, decayed, piece_of, to_pointer, to_function}
-use Rattle.name_rules.specs.Declaring.{used, type_named, type_by, Numbered, tag_used, tag_type, Begun, tag_begun, untagged_begun, declared_here, linked, declared_some, declared_param, declared_member, unnamed_member, own_where, keep, body_entered, body_left}
+use Rattle.name_rules.specs.Declaring.{used, type_named, type_by, Numbered, tag_used, tag_type, Begun, tag_begun, untagged_begun, untagged_number, declared_here, linked, has_word, declared_some, declared_param, declared_member, unnamed_member, own_where, keep, body_entered, body_left}
 use Rattle.name_steps.specs.State.{OpenBody, OpenDeclaration, OpenParameters, State, no_specifiers, no_declaration, no_body, no_parameters, innermost_or, with_innermost, without_innermost, types_in}
 
 -- the innermost of what is begun
@@ -43,6 +45,18 @@ with_word u token st =
 abbrev pub with_storage : Keyword → State → State
 with_storage word st = record st { specifiers = record st.specifiers { storage = st.specifiers.storage ++ word ∷ [] } }
 
+-- a struct or union without a tag is a word of the specifiers
+abbrev pub untagged_by : TagKind → Bool → Bool
+untagged_by tags.Struct known = true
+untagged_by tags.Union known = true
+untagged_by tags.Enum known = known
+
+abbrev pub without_tag : TagKind → State → State
+without_tag kind st =
+    record st {
+      specifiers = record st.specifiers { is_untagged = untagged_by kind st.specifiers.is_untagged };
+    }
+
 abbrev pub with_tag : TagKind → Numbered → State → State
 with_tag kind it st = record (with_type (tag_type kind it.number st.specifiers.type) st) { names = it.names }
 
@@ -67,6 +81,7 @@ specifiers_ended st =
       declarations = record {
         type = with_words st.specifiers.words st.specifiers.type;
         storage = st.specifiers.storage;
+        is_untagged = st.specifiers.is_untagged;
         name = None;
         declared = with_words st.specifiers.words st.specifiers.type;
       } ∷ st.declarations;
@@ -86,7 +101,8 @@ specifier_step u st (specs.Typedef token name) = with_type (type_by (meaning st.
 specifier_step u st (specs.TagUse kind token name) = with_tag kind (tag_used u false kind token name st.names) st
 specifier_step u st (specs.TagAlone kind token name) = with_tag kind (tag_used u true kind token name st.names) st
 specifier_step u st (specs.TagBody kind token name) = with_body kind (tag_begun u kind token name st.names) st
-specifier_step u st (specs.Untagged kind token) = with_body kind (untagged_begun (place u token) kind st.names) st
+specifier_step u st (specs.Untagged kind token) =
+    with_body kind (untagged_begun (place u token) kind st.names) (without_tag kind st)
 specifier_step u st specs.BodyEnd = body_ended st
 specifier_step u st (specs.Enumerator token name) = with_enumerator (place u token) (u.key name) st
 specifier_step u st (specs.UnnamedMember token) = with_unnamed_member (place u token) st
@@ -161,10 +177,19 @@ declarator_ended st =
           (record (declaration st) { name = None; declared = (declaration st).type }) st.declarations;
     }
 
+-- the first name of a declaration may be what a struct without a tag is known by
+abbrev pub name_ended : State → State
+name_ended st =
+    record st {
+      declarations = with_innermost
+          (record (declaration st) { is_untagged = false; name = None; declared = (declaration st).type }) st.declarations;
+    }
+
 abbrev pub name_declared : Spelling → State → State
 name_declared u st =
-    record (declarator_ended st) {
-      names = declared_some u (declaration st).name (declaration st).storage (declaration st).declared st.names;
+    record (name_ended st) {
+      names = declared_some u (untagged_number (declaration st).is_untagged (declaration st).type)
+          (declaration st).name (declaration st).storage (declaration st).declared st.names;
     }
 
 abbrev pub with_member : Spelling → State → State
@@ -212,9 +237,13 @@ expression_step u st (exprs.Arrow token first last) = st
 expression_step u st (exprs.Dot token member name) = st
 
 -- the body of the function that was declared last
-abbrev pub body_entered_by : Option Declared → Names → Names
-body_entered_by None s = s
-body_entered_by (Some d) s = body_entered d.at d.first s
+abbrev pub body_entered_by : Bool → Option Declared → Names → Names
+body_entered_by is_plain None s = s
+body_entered_by is_plain (Some d) s = body_entered d.at d.first is_plain s
+
+-- whether the innermost declaration is without `inline`
+abbrev pub is_plain : State → Bool
+is_plain st = not (has_word keywords.Inline (declaration st).storage)
 
 abbrev pub statement_step : Spelling → State → StmtOp → State
 statement_step u st stmts.Quiet = st
@@ -223,7 +252,8 @@ statement_step u st stmts.Pop = st
 statement_step u st (stmts.Return token last) = st
 statement_step u st stmts.Enter = record st { names = enter st.names }
 statement_step u st stmts.Leave = record st { names = leave st.names }
-statement_step u st stmts.FunctionBody = record st { names = body_entered_by (last_or None st.names.declared) st.names }
+statement_step u st stmts.FunctionBody =
+    record st { names = body_entered_by (is_plain st) (last_or None st.names.declared) st.names }
 statement_step u st stmts.FunctionEnd = record st { names = body_left st.names }
 
 -- ops of the forms with type names and of initialisers say nothing of names

@@ -17,4 +17,4 @@ tape_named it s = (run it.spelling it.ops (with_names s)).names
 
 abbrev pub tapes_named : List Tape → Names → Names
 tapes_named [] s = s
-tapes_named (it ∷ tapes) s = tapes_named tapes (tape_named it (unit_begun s))
+tapes_named (it ∷ tapes) s = tapes_named tapes (tape_named it (unit_begun it.spelling.unit s))

@@ -1,11 +1,11 @@
 //! What declarators, enumerators and members declare (C99, 6.7).
 
-ghost use Rattle.std.specs.Prelude.{◌≡◌, ◌<◌, [], ℕ, None, OnOk, length, option_map};
+ghost use Rattle.std.specs.Prelude.{◌≡◌, ◌<◌, [], ℕ, Bool, Option, None, OnOk, length, option_map};
 ghost use Rattle.std.specs.List.{last_or};
 ghost use Rattle.type_table.specs.Types.{CType, base};
 ghost use Rattle.name_types.specs.Known.{Knows};
 ghost use Rattle.name_rules.specs.Scopes.{enumerator_role};
-ghost use Rattle.name_rules.specs.Declaring.{declared_here, declared_thing, declared_typedef, declared_by, declared_some, declared_param, declared_member, unnamed_member};
+ghost use Rattle.name_rules.specs.Declaring.{untagged_number, declared_here, thing_where, static_where, declared_thing, declared_typedef, declared_by, typedef_known, declared_some, declared_param, declared_member, unnamed_member};
 ghost use Rattle.name_steps.specs.Steps.{body_entered_by};
 ghost use Rattle.unit_spelling.specs.Spelled.{spelling_of};
 ghost use Rattle.unit_names.specs.Shown.{names_of};
@@ -13,13 +13,13 @@ ghost use Rattle.name_uses.specs.Named.{named_of};
 ghost use Rattle.name_uses.specs.Local.{local_declared};
 
 use crate::first::{Named, declare_first, declare_here};
-use crate::listed::has_word;
+use crate::listed::{has_word, is_place};
 use crate::uses::check_size;
 use c_words::Keyword;
-use name_records::{Role, Rule};
+use name_records::{Bodied, Role, Rule};
 use name_scopes::{Meant, Place};
 use name_types::Types;
-use qual_base::{NameId, NoMemory, StructId, TypeId};
+use qual_base::{NameId, NoMemory, StructId, TypeId, UnitNo};
 use unit_names::Names;
 use unit_spelling::Spelling;
 
@@ -38,20 +38,51 @@ pub fn declare_enumerator(
     Ok(())
 }
 
-/// An object or function of the file. Constant time but for growth.
+/// A new object or function of the file. Constant time but for growth.
+fn add_thing(names: &mut Names, is_new: bool, name: NameId, at: &Place) -> Result<(), NoMemory>
+    ensures { OnOk result ((t : ℕ → CType) → names_of t names.new
+        ≡ thing_where is_new name at.now (names_of t names.old)) }
+{
+    if is_new {
+        names.push_thing(name, at)
+    } else {
+        Ok(())
+    }
+}
+
+/// A declaration of an object or function of the file that may have `static`. Constant time but for growth.
+fn add_static(
+    names: &mut Names,
+    is_static: bool,
+    unit: UnitNo,
+    name: NameId,
+) -> Result<(), NoMemory>
+    ensures { OnOk result ((t : ℕ → CType) → names_of t names.new
+        ≡ static_where is_static unit name (names_of t names.old)) }
+{
+    if is_static {
+        names.push_static(unit, name)
+    } else {
+        Ok(())
+    }
+}
+
+/// An object or function of the file. Linear in the storage words, and constant time but for growth otherwise.
 fn declare_thing(
     names: &mut Names,
     types: &Types,
+    words: &[Keyword],
     at: &Place,
     name: NameId,
     ty: TypeId,
 ) -> Result<(), NoMemory>
     requires { ty < length types.now }
     ensures { OnOk result ((t : ℕ → CType) → Knows t types.now → names_of t names.new
-        ≡ declared_thing at.now name (t ty) (names_of t names.old)) }
+        ≡ declared_thing words.now at.now name (t ty) (names_of t names.old)) }
 {
     let first = names.linked(name, at);
-    names.push_thing(name, first)?;
+    add_thing(names, is_place(&first, at), name, at)?;
+    add_static(names, has_word(Keyword::Static, words), at.0, name)?;
     if types.is_function(ty) {
         declare_first(names, at, &Role::Function, &first, ty, &Some(*at))?;
     } else {
@@ -109,32 +140,62 @@ fn declare_by(
     if has_word(Keyword::Typedef, words) {
         declare_typedef(names, at, name, ty)
     } else if names.is_at_file() || types.is_function(ty) || has_word(Keyword::Extern, words) {
-        declare_thing(names, types, at, name, ty)
+        declare_thing(names, types, words, at, name, ty)
     } else {
         declare_local(names, words, at, name, ty)
     }
 }
 
-/// What a declarator declares, if it has a name. Linear in the storage words, and constant time but for growth otherwise.
+/// The struct without a tag that is a word of specifiers of this type, where there is one.
+pub fn untagged_number(types: &Types, is_untagged: bool, ty: TypeId) -> Option<StructId>
+    requires { ty < length types.now }
+    ensures { (t : ℕ → CType) → Knows t types.now
+        → result ≡ untagged_number is_untagged (t ty) }
+{
+    if is_untagged {
+        Some(types.struct_number(ty))
+    } else {
+        None
+    }
+}
+
+/// What a struct without a tag is known by, where it is a word of a declaration with these storage words whose first name this is.
+/// Linear in the words.
+fn know_untagged(names: &mut Names, words: &[Keyword], name: NameId, untagged: &Option<StructId>)
+    ensures { (t : ℕ → CType) → names_of t names.new
+        ≡ typedef_known words.now name untagged.now (names_of t names.old) }
+{
+    if let Some(number) = untagged {
+        if has_word(Keyword::Typedef, words) && names.is_at_file() {
+            names.set_key(*number, true, name);
+        }
+    }
+}
+
+/// What a declarator declares, if it has a name; it may be what a struct without a tag is known by. Linear in the storage words, and
+/// constant time but for growth otherwise.
 pub fn declare_name(
     names: &mut Names,
     spelling: &Spelling,
     types: &Types,
+    untagged: &Option<StructId>,
     named: &Option<Named>,
     words: &[Keyword],
     ty: TypeId,
 ) -> Result<(), NoMemory>
     requires { ty < length types.now }
     ensures { OnOk result ((t : ℕ → CType) → Knows t types.now → names_of t names.new
-        ≡ declared_some (spelling_of spelling.now) (option_map named_of named.now) words.now (t ty)
-        (names_of t names.old)) }
+        ≡ declared_some (spelling_of spelling.now) untagged.now (option_map named_of named.now)
+        words.now (t ty) (names_of t names.old)) }
 {
     let Some(it) = named else {
         return Ok(());
     };
     let at = spelling.place(it.token);
+    let name = spelling.key(it.name);
     check_size(names, types, &at, ty)?;
-    declare_by(names, types, words, &at, spelling.key(it.name), ty)?;
+    declare_by(names, types, words, &at, name, ty)?;
+    know_untagged(names, words, name, untagged);
     Ok(())
 }
 
@@ -213,16 +274,21 @@ pub fn declare_unnamed(
     Ok(())
 }
 
-/// The body begins of the function that was declared last. Constant time but for growth.
-pub fn enter_body(names: &mut Names) -> Result<(), NoMemory>
+/// The body begins of the function that was declared last. It is plain without `inline`. Constant time but for growth.
+pub fn enter_body(names: &mut Names, is_plain: bool) -> Result<(), NoMemory>
     ensures { OnOk result ((t : ℕ → CType) → names_of t names.new
-        ≡ body_entered_by (last_or None (names_of t names.old).declared) (names_of t names.old)) }
+        ≡ body_entered_by is_plain (last_or None (names_of t names.old).declared)
+        (names_of t names.old)) }
 {
     match names.last_declared() {
         Some(declared) => {
-            let known = names.is_entered(&declared.first);
+            let known = names.is_entered(declared.at.0, &declared.first);
             names.blame(known, &declared.at, Rule::DefinedTwice)?;
-            names.push_body(&declared.first)?;
+            names.push_body(&Bodied {
+                first: declared.first,
+                at: declared.at,
+                is_plain,
+            })?;
             Ok(())
         }
         None => Ok(()),

@@ -9,8 +9,9 @@ mod uses;
 
 pub use declare::{
     declare_enumerator, declare_member, declare_name, declare_parameter, declare_unnamed,
-    enter_body,
+    enter_body, untagged_number,
 };
 pub use first::Named;
+pub use listed::has_word;
 pub use tag::{Begun, begin_tag, begin_untagged, use_tag};
 pub use uses::{name_type, type_by, use_name};

@@ -14,20 +14,21 @@ pub(crate) fn is_place(one: &Place, other: &Place) -> bool
     one.0 == other.0 && one.1 == other.1
 }
 
-/// Whether a storage word is this one, of `typedef`, `extern` and `static`.
+/// Whether a storage word is this one, of `typedef`, `extern`, `static` and `inline`.
 fn is_word(word: Keyword, other: Keyword) -> bool
     ensures { result ≡ is_word word other }
 {
     match (word, other) {
         (Keyword::Typedef, Keyword::Typedef)
         | (Keyword::Extern, Keyword::Extern)
-        | (Keyword::Static, Keyword::Static) => true,
+        | (Keyword::Static, Keyword::Static)
+        | (Keyword::Inline, Keyword::Inline) => true,
         _ => false,
     }
 }
 
 /// Whether a storage word is among some. Linear in them.
-pub(crate) fn has_word(word: Keyword, words: &[Keyword]) -> bool
+pub fn has_word(word: Keyword, words: &[Keyword]) -> bool
     ensures { result ≡ has_word word words.now }
 {
     for other in words {

@@ -1,9 +1,9 @@
 //! Tags, and bodies that begin (C99, 6.7.2.3).
 
-ghost use Rattle.std.specs.Prelude.{◌≡◌, ℕ, IfOk, if◌then◌else◌, length};
+ghost use Rattle.std.specs.Prelude.{◌≡◌, ℕ, None, Some, IfOk, if◌then◌else◌, length};
 ghost use Rattle.type_table.specs.Types.{CType};
 ghost use Rattle.name_rules.specs.Scopes.{tag_in, tag_through, innermost};
-ghost use Rattle.name_rules.specs.Declaring.{new_tag, tag_used, begun_body, tag_begun, untagged_begun};
+ghost use Rattle.name_rules.specs.Declaring.{new_tag, tag_used, tag_known, begun_body, tag_begun, untagged_begun};
 ghost use Rattle.unit_spelling.specs.Spelled.{spelling_of};
 ghost use Rattle.unit_names.specs.Shown.{names_of};
 
@@ -81,16 +81,30 @@ pub fn use_tag(
     }
 }
 
-/// The body of a struct, union or enum begins, and whose its members are. Constant time but for growth.
+/// What a body at file scope makes known of its tag. Constant time.
+fn know_tag(names: &mut Names, tag: &Option<NameId>, number: StructId)
+    ensures { (t : ℕ → CType) → names_of t names.new
+        ≡ tag_known tag.now number (names_of t names.old) }
+{
+    if let Some(tag) = tag {
+        if names.is_at_file() {
+            names.set_key(number, false, *tag);
+        }
+    }
+}
+
+/// The body of a struct, union or enum begins, with its tag, and whose its members are. Constant time but for growth.
 fn begin_body(
     names: &mut Names,
     kind: TagKind,
+    tag: &Option<NameId>,
     at: &Place,
     number: StructId,
 ) -> Result<StructId, NoMemory>
     ensures { IfOk result
         (λ m. (t : ℕ → CType)
-        → begun_body at.now kind (record { number = number; names = names_of t names.old })
+        → begun_body at.now kind tag.now
+        (record { number = number; names = names_of t names.old })
         ≡ record { number = number; members_of = m; names = names_of t names.new }) }
 {
     if names.has_body(number) {
@@ -100,6 +114,7 @@ fn begin_body(
         Ok(members_of)
     } else {
         names.open_body(number);
+        know_tag(names, tag, number);
         Ok(number)
     }
 }
@@ -119,7 +134,7 @@ pub fn begin_tag(
 {
     let at = spelling.place(token);
     let number = use_tag(names, spelling, true, kind, token, tag)?;
-    let members_of = begin_body(names, kind, &at, number)?;
+    let members_of = begin_body(names, kind, &Some(spelling.key(tag)), &at, number)?;
     Ok(Begun { number, members_of })
 }
 
@@ -129,6 +144,6 @@ pub fn begin_untagged(names: &mut Names, kind: TagKind, at: &Place) -> Result<Be
         ≡ record { number = b.number; members_of = b.members_of; names = names_of t names.new }) }
 {
     let number = names.push_aggregate(kind, at)?;
-    let members_of = begin_body(names, kind, at, number)?;
+    let members_of = begin_body(names, kind, &None, at, number)?;
     Ok(Begun { number, members_of })
 }

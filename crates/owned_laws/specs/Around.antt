@@ -17,6 +17,7 @@ use Rattle.name_rules.specs.Spellings.{Place}
 use Rattle.name_rules.specs.Scopes.{Role, typedef_role, object_role, function_role, parameter_role, field_role, enumerator_role, Declared, declared_at, Use, means, called, missing, Own, Known, Names, body_of}
 use Rattle.name_rules.specs.Uses.{use_at}
 use Rattle.name_rules.specs.Values.{member_in, own_of}
+use Rattle.name_rules.specs.Linking.{link_of}
 use Rattle.shape_steps.specs.State.{declared_last}
 use Rattle.row_rules.specs.Starting.{Start, is_some_function}
 use Rattle.row_rules.specs.Worlds.{World, at}
@@ -38,7 +39,7 @@ BeginsIn starts f p = (it : Start) → start_at starts p ≡ Some it → IsOwn f
 -- skeleton of what they mean, or one of their own.
 abbrev pub MeantFits : World → List Start → Option Place → Bool → ℕ → Declared → Role → Type 0
 MeantFits w starts f quiet token d function_role =
-    BeginsIn starts f (at w token) × (quiet ≡ false → IsInstance w starts token d.at)
+    BeginsIn starts f (at w token) × (quiet ≡ false → IsInstance w starts token d.at (link_of w.names d.at))
 MeantFits w starts f quiet token d enumerator_role = BeginsIn starts f (at w token)
 MeantFits w starts f quiet token d typedef_role = BeginsIn starts f d.at
 MeantFits w starts f quiet token d object_role = BeginsIn starts f d.at
@@ -54,10 +55,12 @@ UseFits w starts f quiet token (means p) = SomeMeantFits w starts f quiet token 
 UseFits w starts f quiet token called = BeginsIn starts f (at w token)
 UseFits w starts f quiet token missing = Unit {0}
 
--- a declared name and the first declaration of what it names are of one function, or of nobody
-abbrev pub DeclaredFits : List Start → Option Declared → Type 0
-DeclaredFits starts None = Unit {0}
-DeclaredFits starts (Some d) = (g : Option Place) × BeginsIn starts g d.first × BeginsIn starts g d.at
+-- a declared name, the first declaration of what it names in its unit or in the prelude, and that of all units are of one function, or
+-- of nobody
+abbrev pub DeclaredFits : World → List Start → Option Declared → Type 0
+DeclaredFits w starts None = Unit {0}
+DeclaredFits w starts (Some d) =
+    (g : Option Place) × BeginsIn starts g d.first × BeginsIn starts g (link_of w.names d.first) × BeginsIn starts g d.at
 
 -- what was first declared as a function is no parameter
 abbrev pub ParamFits : World → List Start → Option Place → Option Declared → Type 0
@@ -71,7 +74,7 @@ FunctionFits w starts f None = Unit {0}
 FunctionFits w starts f (Some token) = BeginsIn starts f (at w token)
 
 abbrev pub NamingFits : World → List Start → Option Place → ℕ → Naming → Type 0
-NamingFits w starts f token a_name = DeclaredFits starts (declared_at w.names.declared (at w token))
+NamingFits w starts f token a_name = DeclaredFits w starts (declared_at w.names.declared (at w token))
 NamingFits w starts f token (own_param g n) =
     FunctionFits w starts f g × ParamFits w starts f (declared_at w.names.declared (at w token))
 NamingFits w starts f token other_param = Unit {0}

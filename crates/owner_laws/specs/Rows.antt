@@ -18,7 +18,7 @@ use Rattle.row_rules.specs.Sites.{AreDifferent, owners_among, site_places, sites
 use Rattle.row_rules.specs.Annotations.{annotating, parameters, write_bounds}
 use Rattle.row_rules.specs.Vals.{Val, contents, is_nothing, read, result}
 use Rattle.row_rules.specs.Forming.{formed}
-use Rattle.row_rules.specs.Rows.{dereferenced, assigned, computed, chosen, prefixed, passed, crossed, cast_demand, returned, flowing, formed_name, name_row, param_row, started, taken}
+use Rattle.row_rules.specs.Rows.{dereferenced, assigned, computed, chosen, prefixed, passed, crossed, cast_demand, returned, flowing, equal_to, formed_name, name_row, param_row, started, taken}
 use Rattle.owner_laws.specs.Fitting.{AllFit, start_at}
 
 -- it is no skeleton, or all of its variables belong to the owner or to nobody
@@ -69,7 +69,7 @@ pub record RowsOf (sys : System) (owner : Owner) (w : World) : Type 0 where
   pub flow_into : (zero : Bool) (a t : Skel) (lattices : ℕ) (where_ : Span) → Inside sys owner a →
       Inside sys owner t → AllFit sys (flowing zero a t lattices where_)
   pub form : (s : Skel) (where_ : Span) → MembersInside sys w → Inside sys owner s → AllFit sys (formed w where_ s)
-  pub name : (d : Declared) → AllFit sys (formed_name w d) → Inside sys owner (skeleton w d.first) → Inside sys owner (skeleton w d.at) →
+  pub name : (d : Declared) → AllFit sys (formed_name w d) → Inside sys owner (skeleton w (equal_to w d)) → Inside sys owner (skeleton w d.at) →
       AllFit sys (name_row w d)
   pub parameter : (f : Skel) (n : ℕ) (d : Declared) → AllFit sys (formed_name w d) → Inside sys owner f →
       (is_some_function (declared_at w.names.declared d.first) ≡ true) ⊎ Inside sys owner (skeleton w d.at) →
@@ -95,17 +95,18 @@ pub record KnowsStarts (w : World) (starts : List Start) : Type 0 where
   pub skeletons_are : w.skeletons ≡ numbered_from 0 starts
   pub sites_are : w.sites ≡ site_places starts
 
--- at a token there is an instance of the function that is first declared at a place
-pub record IsInstance (w : World) (starts : List Start) (token : ℕ) (f : Place) : Type 0 where
+-- at a token there is an instance of a function, whose skeleton is that of its declaration at `first`, the first of the unit or of the
+-- prelude; `f` is its link
+pub record IsInstance (w : World) (starts : List Start) (token : ℕ) (first f : Place) : Type 0 where
   pub here : Start
   pub begins_here : start_at starts (at w token) ≡ Some here
   pub calls : here.calls ≡ Some f
   pub there : Start
-  pub begins_there : start_at starts f ≡ Some there
+  pub begins_there : start_at starts first ≡ Some there
   pub is_own : there.owner ≡ Some f
 
 abbrev pub InstancesFit : Type 0
 InstancesFit =
-    (functions : List Place) (starts : List Start) (cs : List Constraint) (w : World) (token : ℕ) (f : Place)
-    → AreDifferent (site_places starts) → KnowsStarts w starts → IsInstance w starts token f
-    → AllFit (system_with functions starts cs) (crossed w token f)
+    (functions : List Place) (starts : List Start) (cs : List Constraint) (w : World) (token : ℕ) (first f : Place)
+    → AreDifferent (site_places starts) → KnowsStarts w starts → IsInstance w starts token first f
+    → AllFit (system_with functions starts cs) (crossed w token first)

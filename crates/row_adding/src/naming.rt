@@ -7,7 +7,8 @@ ghost use Rattle.unit_names.specs.Shown.{role_of, declared_of};
 ghost use Rattle.qual_types.specs.Skel.{param_at};
 ghost use Rattle.row_rules.specs.Annotations as rules;
 ghost use Rattle.row_rules.specs.Rows as rows;
-ghost use Rattle.row_world.specs.Shown.{skel, type};
+ghost use Rattle.row_rules.specs.Worlds.{World};
+ghost use Rattle.row_world.specs.Shown.{Shows, skel, type};
 ghost use Rattle.row_adding.specs.Adding.{Adds, Halts};
 ghost use Rattle.row_adding.specs.Kinds.{kind_of, index_row};
 ghost use Rattle.row_adding.specs.Parts.{given, tied};
@@ -75,6 +76,19 @@ fn tied(
     equate_in_all(known, graph, first, here, span)
 }
 
+/// Where what a declaration is as was declared: first in its unit or in the prelude, or where this is that itself, first in all units.
+/// Constant time.
+fn equal_to(known: &Known, declared: &Declared) -> Place
+    ensures { (w : World) → Shows known.now w
+        → result ≡ rows.equal_to w (declared_of (type known.now) declared.now) }
+{
+    if is_place(&declared.first, &declared.at) {
+        known.link(&declared.at)
+    } else {
+        declared.first
+    }
+}
+
 /// A further declaration is as the first.
 fn as_first(known: &Known, graph: &mut FlowGraph, declared: &Declared) -> Result<(), GraphFault>
     ensures ok { OnOk result (Adds known.now graph.old graph.new
@@ -82,8 +96,9 @@ fn as_first(known: &Known, graph: &mut FlowGraph, declared: &Declared) -> Result
     ensures err { IfErr result (λ fault. Halts known.now graph.old graph.new fault
         (λ w. rows.tied_to_first w (declared_of (type known.now) declared.now))) }
 {
-    let is_one = is_place(&declared.first, &declared.at);
-    let first = known.skeleton(&declared.first);
+    let first_at = equal_to(known, declared);
+    let is_one = is_place(&first_at, &declared.at);
+    let first = known.skeleton(&first_at);
     let here = known.skeleton(&declared.at);
     tied(known, graph, is_one, first, here, &word_span(&declared.at))
 }

@@ -11,6 +11,7 @@ use Rattle.flow_rules.specs.declared.arrow.Arrow.TheVariants.{Flow}
 use Rattle.flow_rules.specs.Lists.{flow, equal, cross, smash, unsmash}
 use Rattle.name_rules.specs.Spellings.{Place, Named}
 use Rattle.name_rules.specs.Scopes.{Role, typedef_role, object_role, function_role, parameter_role, field_role, enumerator_role, Declared, declared_at, Use, means, called, missing, Known, Own, is_place}
+use Rattle.name_rules.specs.Linking.{link_of}
 use Rattle.name_rules.specs.Values.{is_additive, own_of, own_number}
 use Rattle.row_rules.specs.Annotations.{annotating, deref_bounds, further, parameters, uncut, write_bounds}
 use Rattle.row_rules.specs.Indexing.{indexing}
@@ -121,11 +122,18 @@ cast_demand w (Some type) is_zero a t where_ = formed w where_ t ++ casting w ty
 abbrev pub annotating_name : World → Declared → List Constraint
 annotating_name w d = annotating w (pointer [] d.type) (skeleton w d.at)
 
+-- where what a declaration is as was declared: first in its unit or in the prelude, or where this is that itself, first in all units
+abbrev pub equal_to : World → Declared → Place
+equal_to w d = if is_place d.first d.at then link_of w.names d.at else d.first
+
+abbrev pub tied_to : World → Declared → Place → List Constraint
+tied_to w d first =
+    if is_place first d.at || (is_nothing (skeleton w first) || is_nothing (skeleton w d.at)) then []
+    else in_all w (word_span d.at) (equal Flow true (skeleton w first) (skeleton w d.at))
+
 -- a further declaration is as the first
 abbrev pub tied_to_first : World → Declared → List Constraint
-tied_to_first w d =
-    if is_place d.first d.at || (is_nothing (skeleton w d.first) || is_nothing (skeleton w d.at)) then []
-    else in_all w (word_span d.at) (equal Flow true (skeleton w d.first) (skeleton w d.at))
+tied_to_first w d = tied_to w d (equal_to w d)
 
 -- what passes inside the skeleton of a declared name
 abbrev pub formed_name : World → Declared → List Constraint

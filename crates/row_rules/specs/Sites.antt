@@ -1,11 +1,12 @@
 -- Functions by numbers, call sites, and the owner of each variable, from where skeletons begin.
-use Rattle.std.specs.Prelude.{◌≡◌, ℕ, ◌+◌, Bool, true, false, List, [], ◌∷◌, ◌++◌, replicate, Option, None, Some, if◌then◌else◌}
+use Rattle.std.specs.Prelude.{◌≡◌, ℕ, ◌+◌, Bool, true, false, List, [], ◌∷◌, ◌++◌, map, replicate, Option, None, Some, if◌then◌else◌}
 use Rattle.qual_base.specs.declared.places.Owner.{Owner}
 use Rattle.qual_base.specs.declared.places.Owner.TheVariants.{Nobody, Function}
 use Rattle.flow_graph.specs.declared.constraint.Site.{Site}
 use Rattle.type_table.specs.Types.{size}
 use Rattle.name_rules.specs.Spellings.{Place}
-use Rattle.name_rules.specs.Scopes.{Declared, Names, is_place}
+use Rattle.name_rules.specs.Scopes.{Declared, Bodied, Names, is_place}
+use Rattle.name_rules.specs.Linking.{link_of}
 use Rattle.row_rules.specs.Starting.{Start, is_function_role}
 use Rattle.row_rules.specs.Worlds.{number_among}
 
@@ -14,7 +15,8 @@ abbrev pub variables_among : List Start → ℕ
 variables_among [] = 0
 variables_among (start ∷ starts) = size start.type + variables_among starts
 
--- Functions are numbered in the order of their first declarations; so is what is first declared as an object and has a body.
+-- Functions are numbered in the order of their first declarations in each unit, by their links: linked ones have one number, the first.
+-- So is what is first declared as an object and has a body.
 
 abbrev pub has_place : List Place → Place → Bool
 has_place [] p = false
@@ -32,8 +34,11 @@ abbrev pub functions_among : List Place → List Declared → List Place
 functions_among bodies [] = []
 functions_among bodies (d ∷ ds) = if is_first_function bodies d then d.at ∷ functions_among bodies ds else functions_among bodies ds
 
+abbrev pub first_place : Bodied → Place
+first_place it = it.first
+
 abbrev pub functions_of : Names → List Place
-functions_of s = functions_among s.bodies s.declared
+functions_of s = map (link_of s) (functions_among (map first_place s.bodies) s.declared)
 
 abbrev pub owner_by : List Place → Option Place → Owner
 owner_by functions None = Nobody

@@ -5,10 +5,11 @@ use Rattle.c_words.specs.declared.kinds.Punct.TheVariants as signs
 use Rattle.type_table.specs.Types.{CType, base, pointer}
 use Rattle.name_rules.specs.Spellings.{Place, Spelling, place, Named}
 use Rattle.name_rules.specs.Scopes.{Role, typedef_role, object_role, function_role, parameter_role, field_role, enumerator_role, Declared, declared_at, Use, means, called, missing, Names}
+use Rattle.name_rules.specs.Linking.{link_of}
 use Rattle.name_rules.specs.Values.{is_pointer, is_additive, undeclared_function}
 
 -- A skeleton: where it begins, its type, the function that its variables belong to. At a function's name in an expression it is
--- an instance of the function that was first declared at `calls`: a call site.
+-- an instance of the function that was first declared at `calls`: a call site. Functions go by their links, the same in all units.
 pub record Start : Type 0 where
   pub at : Place
   pub type : CType
@@ -48,10 +49,10 @@ abbrev pub owned_there : Option Place → Option Place → Option Place
 owned_there None f = None
 owned_there (Some p) f = f
 
--- The function that a declared name belongs to: what was first declared as a function to that, other names to the function around
--- them, and what is nobody's to none.
+-- The function that a declared name belongs to, by its link: what was first declared as a function in its unit to that, other names to
+-- the function around them, and what is nobody's to none.
 abbrev pub owner_there : Names → Option Place → Declared → Option Place
-owner_there s f d = owned_there d.owner (if is_some_function (declared_at s.declared d.first) then Some d.first else f)
+owner_there s f d = owned_there d.owner (if is_some_function (declared_at s.declared d.first) then Some (link_of s d.first) else f)
 
 -- a name's skeleton is a place of its type
 abbrev pub named_start : Names → Option Place → Declared → List Start
@@ -74,7 +75,7 @@ name_start a token = some_declared_start a.names a.enclosing (declared_at a.name
 
 -- a name in an expression: a function's name is an instance of it
 abbrev pub instance : Around → ℕ → Place → CType → List Start
-instance a token at t = if a.is_quiet then [] else record { at = place a.spelling token; type = pointer [] t; owner = a.enclosing; calls = Some at } ∷ []
+instance a token at t = if a.is_quiet then [] else record { at = place a.spelling token; type = pointer [] t; owner = a.enclosing; calls = Some (link_of a.names at) } ∷ []
 
 abbrev pub use_by_role : Around → ℕ → Declared → Role → List Start
 use_by_role a token d typedef_role = []
@@ -137,11 +138,12 @@ had_name with_skeleton a token = name_start a token
 had_name (of_function f) a token = name_start (record a { enclosing = f }) token
 had_name without_skeleton a token = []
 
-abbrev pub first_of : Option Declared → Option Place
-first_of None = None
-first_of (Some d) = Some d.first
+-- the function that a declaration is of, by its link
+abbrev pub first_of : Names → Option Declared → Option Place
+first_of s None = None
+first_of s (Some d) = Some (link_of s d.first)
 
--- the function that was first declared where a declarator's name was
+-- the function that was declared where a declarator's name was
 abbrev pub declared_function : Spelling → Names → Option Named → Option Place
 declared_function u s None = None
-declared_function u s (Some it) = first_of (declared_at s.declared (place u it.token))
+declared_function u s (Some it) = first_of s (declared_at s.declared (place u it.token))

@@ -21,10 +21,10 @@ use Rattle.shape_steps.specs.Steps.{step, expr_step}
 use Rattle.row_rules.specs.Starting.{Start, Around, fresh, some_fresh, name_start, use_start, some_place, is_some_pointer, is_fresh_binary, is_fresh_prefix, fresh_where, Having, with_skeleton, of_function, without_skeleton, had_name, first_of}
 use Rattle.row_steps.specs.Rounds.{Naming, a_name, own_param, other_param, Rounds, file, is_quiet, naming, left, round_step}
 
--- the function that was first declared where the name at a token was
+-- the function that was declared where the name at a token was
 abbrev pub function_at : Spelling → Names → Option ℕ → Option Place
 function_at u s None = None
-function_at u s (Some token) = first_of (declared_at s.declared (place u token))
+function_at u s (Some token) = first_of s (declared_at s.declared (place u token))
 
 abbrev pub around : Spelling → Names → Rounds → Around
 around u s r = record { spelling = u; names = s; enclosing = function_at u s r.body; is_quiet = is_quiet r }

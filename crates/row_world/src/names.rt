@@ -3,6 +3,7 @@
 ghost use Rattle.std.specs.Prelude.{◌≡◌, ℕ, option_map};
 ghost use Rattle.type_table.specs.Types.{CType};
 ghost use Rattle.name_rules.specs.Scopes.{declared_at};
+ghost use Rattle.name_rules.specs.Linking.{link_of};
 ghost use Rattle.name_rules.specs.Uses as uses;
 ghost use Rattle.unit_names.specs.Shown.{use_of, role_of, declared_of};
 ghost use Rattle.row_rules.specs.Starting as starting;
@@ -59,6 +60,13 @@ impl<'a> Known<'a> {
             ≡ declared_at w.names.declared place.now }
     {
         self.names.declared_at(place)
+    }
+
+    /// Where what was first declared at a place in its unit was first declared in all units. Constant time.
+    pub fn link(&self, place: &Place) -> Place
+        ensures { (w : World) → Shows self.now w → result ≡ link_of w.names place.now }
+    {
+        self.names.link(place)
     }
 
     /// The first declaration at a token. Constant time.

@@ -7,6 +7,7 @@ use Rattle.name_rules.specs.Spellings.{Spelling}
 use Rattle.name_rules.specs.Faults.{Fault, IsFirst}
 use Rattle.name_rules.specs.Scopes.{Names}
 use Rattle.type_rules.specs.Shapes.{shape_of, is_zero}
+use Rattle.name_rules.specs.Linking.{body_faults}
 use Rattle.type_rules.specs.Judging.{items_faults_of}
 use Rattle.type_rules.specs.Program.{Source, names_of, HasNoFault, IsFirstFault}
 use Rattle.shape_steps.specs.State.{expression, State, nothing, operand_put}
@@ -35,7 +36,7 @@ found_on [] s = []
 found_on (it ∷ sources) s = faults_found it.spelling s nothing (tape_of it.items) ++ found_on sources s
 
 abbrev pub all_found : List Source → List Fault
-all_found sources = (names_of sources).faults ++ found_on sources (names_of sources)
+all_found sources = (names_of sources).faults ++ (body_faults (names_of sources) ++ found_on sources (names_of sources))
 
 -- the first fault of a program is the first of the faults of names and of those that are found on its tapes
 abbrev pub FirstFaultIsFound : Type 0

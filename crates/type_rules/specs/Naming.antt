@@ -1,20 +1,19 @@
 -- What names mean (C99, 6.2.1 to 6.2.3, 6.7): a tree is gone through in the order of its text, from what is known of
 -- names before it to what is known behind it.
-use Rattle.std.specs.Prelude.{ℕ, suc, Bool, true, false, ◌&&◌, List, [], ◌∷◌, ◌++◌, Option, None, Some, if◌then◌else◌}
+use Rattle.std.specs.Prelude.{ℕ, suc, Bool, true, false, not, ◌&&◌, ◌||◌, List, [], ◌∷◌, ◌++◌, Option, None, Some, if◌then◌else◌}
 use Rattle.c_words.specs.declared.kinds.Keyword.{Keyword}
 use Rattle.c_words.specs.declared.kinds.Keyword.TheVariants as keywords
 use Rattle.c_syntax.specs.declared.parts.Identifier.{Identifier}
 use Rattle.c_tree.specs.Tree.{Expr, operation, cast, prefix, sizeof_value, sizeof_type, extension, index, call, dot, arrow, post, compound, name_use, number_use, char_use, text_use, paren, statement_expr, va_arg, va_start, va_copy, offset, Operator, comma, assign, cond, binary, SomeExpr, no_expr, some_expr, Exprs, no_exprs, more_exprs, SpecWords, no_words, more_words, SpecWord, storage, thread, inline_word, noreturn, qualifier, basic, struct_type, enum_type, typedef_name, attribute, SomeBody, no_body, some_body, StructItems, no_struct_items, more_struct_items, StructItem, member, member_semi, member_assert, MemDeclrs, no_mem_declrs, more_mem_declrs, MemDeclr, named, unnamed, SomeValue, no_value, some_value, EnumType, enum_of, no_enum_body, some_enum_body, Enumerators, no_enumerators, more_enumerators, Declr, pointer, declr_name, declr_paren, array, params, abs_pointer, abs_paren, abs_array, abs_params, SomeDeclr, no_declr, some_declr, SomeSize, no_size, some_size, ArraySize, size_value, size_star, Params, no_params, more_params, Init, init_value, init_braced, InitList, init_list, InitItems, no_init_items, more_init_items, Desigs, no_desigs, more_desigs, Desig, member_desig, index_desig, SomeInit, no_init, some_init, InitDeclrs, no_init_declrs, more_init_declrs, Declaration, declaration, Decl, decl_declaration, decl_assert, BlockItems, no_block_items, more_block_items, BlockItem, block_decl, block_stmt, Stmt, block, expr_stmt, attr_stmt, label, case_stmt, default_stmt, if_stmt, switch_stmt, while_stmt, do_stmt, for_stmt, goto_stmt, continue_stmt, break_stmt, return_stmt, asm_stmt, SomeElse, no_else, some_else, ForStart, start_declaration, start_value}
 use Rattle.c_tree.specs.Tree.{Dots}
 use Rattle.c_tree.specs.Unit.{Item, function_item, decl_item, asm_item, semi_item}
-use Rattle.c_tree.specs.Specifiers.{storage_words}
 use Rattle.tape_ops.specs.declared.specifier.TagKind.{TagKind}
 use Rattle.tape_ops.specs.declared.specifier.TagKind.TheVariants as tags
 use Rattle.type_table.specs.Types.{Words, CType, base, void, CTypes, no_types, more_types}
 use Rattle.name_rules.specs.Spellings.{Place, Spelling, place, Named}
 use Rattle.name_rules.specs.Scopes.{enumerator_role, Names, meaning, enter, leave, sized}
 use Rattle.name_rules.specs.Pieces.{with_words, decayed, Piece, to_pointer, to_function, applied, no_params_if}
-use Rattle.name_rules.specs.Declaring.{used, type_named, type_by, Numbered, tag_used, tag_type, Begun, tag_begun, untagged_begun, declared_here, linked, declared_thing, declared_some, declared_param, declared_member, unnamed_member, own_where, keep, body_entered, body_left}
+use Rattle.name_rules.specs.Declaring.{used, type_named, type_by, Numbered, tag_used, tag_type, Begun, tag_begun, untagged_begun, untagged_number, declared_here, linked, has_word, declared_thing, declared_some, declared_param, declared_member, unnamed_member, own_where, keep, body_entered, body_left}
 use Rattle.type_rules.specs.Tokens.{annotations, annotation, pointer_annotations, array_annotations, first_word, declared_name, some_declared_name, is_bare, is_void, says_none}
 
 -- what is found, and what is known of names behind it
@@ -111,6 +110,39 @@ is_lone (more_words word ws) = is_lone_word word && is_lone ws
 abbrev pub is_tag_alone : SpecWords → InitDeclrs → Bool
 is_tag_alone ws no_init_declrs = is_lone ws
 is_tag_alone ws (more_init_declrs attrs d asm_label attrs2 init ds) = false
+
+-- the storage words of specifiers, and `inline`
+abbrev pub said_words : SpecWords → List Keyword
+said_words no_words = []
+said_words (more_words word ws) = words_said word ++ said_words ws where
+  words_said : SpecWord → List Keyword
+  words_said (storage word) = word.keyword ∷ []
+  words_said (thread token) = []
+  words_said (inline_word token) = keywords.Inline ∷ []
+  words_said (noreturn token) = []
+  words_said (qualifier q) = []
+  words_said (basic word) = []
+  words_said (struct_type word attrs tag body) = []
+  words_said (enum_type e) = []
+  words_said (typedef_name name) = []
+  words_said (attribute attr) = []
+
+-- whether a struct or union without a tag that has a body is among words
+abbrev pub has_untagged : SpecWords → Bool
+has_untagged no_words = false
+has_untagged (more_words word ws) = is_untagged word || has_untagged ws where
+  is_untagged : SpecWord → Bool
+  is_untagged (struct_type word attrs None body) = not (is_bodiless body)
+  is_untagged (struct_type word attrs (Some tag) body) = false
+  is_untagged (storage word) = false
+  is_untagged (thread token) = false
+  is_untagged (inline_word token) = false
+  is_untagged (noreturn token) = false
+  is_untagged (qualifier q) = false
+  is_untagged (basic word) = false
+  is_untagged (enum_type e) = false
+  is_untagged (typedef_name name) = false
+  is_untagged (attribute attr) = false
 
 -- the annotation words of specifiers behind one of their words, by those before it
 abbrev pub words_behind : Spelling → SpecWord → Words → Words
@@ -332,18 +364,19 @@ module _ (u : Spelling) where
     some_init_named no_init s = s
     some_init_named (some_init equal init) s = init_named init s
 
-    -- a name is declared behind its declarator, before its initialiser
-    pub init_declrs_named : List Keyword → CType → InitDeclrs → Names → Names
-    init_declrs_named words t no_init_declrs s = s
-    init_declrs_named words t (more_init_declrs attrs d asm_label attrs2 init ds) s =
-        init_declrs_named words t ds
+    -- a name is declared behind its declarator, before its initialiser; the first one may be what a struct without a tag is known by
+    pub init_declrs_named : List Keyword → Bool → CType → InitDeclrs → Names → Names
+    init_declrs_named words is_untagged t no_init_declrs s = s
+    init_declrs_named words is_untagged t (more_init_declrs attrs d asm_label attrs2 init ds) s =
+        init_declrs_named words false t ds
         (with_pieced (declr_named None d s)
-        (λ ps s. some_init_named init (declared_some u (declared_name d) words (applied ps t) s)))
+        (λ ps s. some_init_named init
+        (declared_some u (untagged_number is_untagged t) (declared_name d) words (applied ps t) s)))
 
     pub declaration_named : Declaration → Names → Names
     declaration_named (declaration exts ws ds semi) s =
         with_typed (words_named (is_tag_alone ws ds) ws (base []) [] s)
-        (λ t s. init_declrs_named (storage_words ws) t ds s)
+        (λ t s. init_declrs_named (said_words ws) (has_untagged ws) t ds s)
 
     pub decl_named : Decl → Names → Names
     decl_named (decl_declaration d) s = declaration_named d s
@@ -398,7 +431,9 @@ module _ (u : Spelling) where
       (λ t s. with_pieced (declr_named (Some (linked (u.key it.name) (place u it.token) s)) d s)
       (λ ps s. body_left (block_items_named items
       (body_entered (place u it.token) (linked (u.key it.name) (place u it.token) s)
-      (declared_thing (place u it.token) (u.key it.name) (applied ps t) (sized (place u it.token) (applied ps t) s))))))
+      (not (has_word keywords.Inline (said_words ws)))
+      (declared_thing (said_words ws) (place u it.token) (u.key it.name) (applied ps t)
+      (sized (place u it.token) (applied ps t) s))))))
 
   abbrev pub item_named : Item → Names → Names
   item_named (function_item exts ws d attrs opening items closing) s = function_by (declared_name d) ws d items s

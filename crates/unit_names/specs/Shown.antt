@@ -1,5 +1,5 @@
 -- What a program holds of names, with types in place of their numbers.
-use Rattle.std.specs.Prelude.{ℕ, map, option_map}
+use Rattle.std.specs.Prelude.{ℕ, map, reverse, option_map}
 use Rattle.type_table.specs.Types.{CType}
 use Rattle.name_rules.specs.Scopes as rules
 use Rattle.name_rules.specs.Faults as fault_rules
@@ -20,8 +20,13 @@ use Rattle.name_records.specs.declared.records.Fault.{Fault}
 use Rattle.name_records.specs.declared.body.Own.{Own}
 use Rattle.name_records.specs.declared.body.Known.{Known}
 use Rattle.name_records.specs.declared.aggregates.Aggregate.{Aggregate}
+use Rattle.name_records.specs.declared.aggregates.StructKey.{StructKey}
 use Rattle.name_records.specs.Bodies.{OneBody}
+use Rattle.name_records.specs.Held.{bodied_of}
 use Rattle.unit_names.specs.declared.names.Names.{Names}
+
+abbrev pub key_of : StructKey → rules.StructKey
+key_of it = record { kind = it.kind; by_typedef = it.by_typedef; name = it.name }
 
 abbrev pub tagged_of : Tag → rules.Tagged
 tagged_of it = record { kind = it.kind; tag = it.tag; number = it.number }
@@ -75,7 +80,7 @@ module _ (t : ℕ → CType) where
   body_of it = record { own = map own_of it.own; known = map known_of it.known }
 
   abbrev pub aggregate_of : Aggregate → rules.Aggregate
-  aggregate_of it = record { kind = it.kind; at = it.at; body = option_map body_of it.body }
+  aggregate_of it = record { kind = it.kind; at = it.at; body = option_map body_of it.body; key = option_map key_of it.key }
 
   abbrev pub type_named_of : TypeNamed → rules.TypeNamed
   type_named_of it = record { at = it.at; type = t it.ty }
@@ -87,11 +92,12 @@ module _ (t : ℕ → CType) where
         scopes = map scope_of s.scopes;
         aggregates = map aggregate_of s.aggregates;
         things = s.things;
+        statics = reverse s.statics.items;
         round = s.round;
         uses = map name_use_of s.uses.items;
         type_names = map type_named_of s.type_names.items;
         faults = map fault_of s.faults.items;
-        bodies = s.bodies;
+        bodies = map bodied_of s.bodies;
         enclosing = s.enclosing;
         kept = option_map scope_of s.kept;
       }

@@ -4,14 +4,15 @@ ghost use Rattle.std.specs.Prelude.{◌≡◌, ◌∷◌, ◌++◌, [], ℕ, Opt
 ghost use Rattle.std.specs.List.{last_or};
 ghost use Rattle.type_table.specs.Types.{CType};
 ghost use Rattle.name_rules.specs.Faults.{fault_where};
-ghost use Rattle.name_rules.specs.Scopes.{with_faults, with_declared, with_aggregate, with_body, with_member, with_unnamed, or_no_body, body_of, has_body, owner_at, thing_named};
-ghost use Rattle.name_rules.specs.Declaring.{opened, has_place, linked, or_at, scope_kept};
+ghost use Rattle.name_rules.specs.Scopes.{with_faults, with_declared, with_aggregate, with_body, with_key, with_member, with_unnamed, or_no_body, body_of, has_body, owner_at};
+ghost use Rattle.name_rules.specs.Declaring.{opened, has_body_in, linked, or_at, scope_kept};
+ghost use Rattle.name_records.specs.Held.{bodied_of};
 ghost use Rattle.unit_names.specs.Shown.{names_of, meaning_of, declared_of, rule_of, use_of};
 
 use crate::names::Names;
-use name_records::{Declared, Fault, NameUse, Rule, TypeNamed, Use};
+use name_records::{Bodied, Declared, Fault, NameUse, Rule, TypeNamed, Use};
 use name_scopes::Place;
-use qual_base::{NameId, NoMemory, StructId, TypeId};
+use qual_base::{NameId, NoMemory, Numbered, StructId, TypeId, UnitNo};
 use tape_ops::TagKind;
 
 impl Names {
@@ -80,6 +81,15 @@ impl Names {
         self.aggregates.open(self.alloc, number);
     }
 
+    /// What a struct is known by in other sources. Constant time.
+    #[tactic(auto, using(crate::proofs::Views::views), unfolding(crate::specs::Shown::names_of))]
+    pub fn set_key(&mut self, number: StructId, by_typedef: bool, name: NameId)
+        ensures { (t : ℕ → CType) → names_of t self.new
+            ≡ with_key number by_typedef name (names_of t self.old) }
+    {
+        self.aggregates.set_key(number, by_typedef, name);
+    }
+
     /// Whether a struct has a body. Constant time.
     #[tactic(auto, using(crate::proofs::Views::views), unfolding(crate::specs::Shown::names_of))]
     pub fn has_body(&self, number: StructId) -> bool
@@ -136,22 +146,38 @@ impl Names {
 
     /// One more object or function of the file. Constant time but for growth.
     #[tactic(auto, unfolding(crate::specs::Shown::names_of))]
-    pub fn push_thing(&mut self, name: NameId, at: Place) -> Result<(), NoMemory>
+    pub fn push_thing(&mut self, name: NameId, at: &Place) -> Result<(), NoMemory>
         ensures { OnOk result ((t : ℕ → CType) → names_of t self.new
-            ≡ record (names_of t self.old) { things = (name, at) ∷ (names_of t self.old).things }) }
+            ≡ record (names_of t self.old)
+            { things = (name, at.now) ∷ (names_of t self.old).things }) }
     {
         self.things.push(name, at)?;
         Ok(())
     }
 
-    /// Where the object or function of the file was first declared that has a name; here, where there is none yet. Constant time.
+    /// A declaration of an object or function of the file has `static` in a unit. Constant time but for growth.
+    #[tactic(auto, unfolding(crate::specs::Shown::names_of))]
+    pub fn push_static(&mut self, unit: UnitNo, name: NameId) -> Result<(), NoMemory>
+        ensures { OnOk result ((t : ℕ → CType) → names_of t self.new
+            ≡ record (names_of t self.old)
+            { statics = (unit, name) ∷ (names_of t self.old).statics }) }
+    {
+        self.statics.push((unit, name))?;
+        Ok(())
+    }
+
+    /// Where the object or function of the file that has a name was first declared in this unit, or else in the prelude; here, where
+    /// that is new. Constant time.
     #[tactic(auto, using(crate::proofs::Views::views), unfolding(crate::specs::Shown::names_of))]
     pub fn linked(&self, name: NameId, at: &Place) -> Place
         ensures { (t : ℕ → CType) → result ≡ linked name at.now (names_of t self.now) }
     {
-        match self.things.get(name) {
+        match self.things.get(at.0, name) {
             Some(first) => first,
-            None => *at,
+            None => match self.things.get(UnitNo::new(0), name) {
+                Some(first) => first,
+                None => *at,
+            },
         }
     }
 
@@ -184,27 +210,28 @@ impl Names {
         Ok(())
     }
 
-    /// Whether a function has a body. Constant time.
+    /// Whether a function has a body in a unit. Constant time.
     #[tactic(auto, unfolding(crate::specs::Shown::names_of))]
-    pub fn is_entered(&self, first: &Place) -> bool
-        ensures { (t : ℕ → CType) → result ≡ has_place (names_of t self.now).bodies first.now }
+    pub fn is_entered(&self, unit: UnitNo, first: &Place) -> bool
+        ensures { (t : ℕ → CType) → result
+            ≡ has_body_in unit (names_of t self.now).bodies first.now }
     {
-        self.bodies.has(first)
+        self.bodies.has(unit, first)
     }
 
     /// A function has a body, which is gone on with, in the scope that is kept. Constant time but for growth.
     #[tactic(auto, using(crate::proofs::Views::views), unfolding(crate::specs::Shown::names_of))]
-    pub fn push_body(&mut self, first: &Place) -> Result<(), NoMemory>
+    pub fn push_body(&mut self, body: &Bodied) -> Result<(), NoMemory>
         ensures { OnOk result ((t : ℕ → CType) → names_of t self.new
             ≡ record (names_of t self.old) {
-              bodies = first.now ∷ (names_of t self.old).bodies;
+              bodies = bodied_of body.now ∷ (names_of t self.old).bodies;
               scopes = scope_kept (names_of t self.old).kept (names_of t self.old).scopes;
-              enclosing = Some first.now;
+              enclosing = Some body.now.first;
               kept = None;
             }) }
     {
-        self.bodies.push(first)?;
-        self.enclosing = Some(*first);
+        self.bodies.push(body)?;
+        self.enclosing = Some(body.first);
         match self.kept.take() {
             Some(scope) => self.scopes.reopen(scope)?,
             None => {}

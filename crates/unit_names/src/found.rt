@@ -1,13 +1,15 @@
 //! What was found.
 
-ghost use Rattle.std.specs.Prelude.{◌≡◌, ℕ, map, option_map};
+ghost use Rattle.std.specs.Prelude.{◌≡◌, ℕ, map, reverse, option_map};
 ghost use Rattle.type_table.specs.Types.{CType};
 ghost use Rattle.name_rules.specs.Scopes.{declared_at};
+ghost use Rattle.name_records.specs.Held.{bodied_of};
 ghost use Rattle.unit_names.specs.Shown.{names_of, declared_of, aggregate_of, name_use_of, type_named_of, fault_of};
 
 use crate::names::Names;
-use name_records::{Aggregate, Declared, Fault, NameUse, TypeNamed};
+use name_records::{Aggregate, Bodied, Declared, Fault, NameUse, TypeNamed};
 use name_scopes::Place;
+use qual_base::{NameId, UnitNo};
 
 impl Names {
     /// The declarations, in the order of the text.
@@ -35,6 +37,31 @@ impl Names {
             ≡ (names_of t self.now).aggregates }
     {
         self.aggregates.as_slice()
+    }
+
+    /// The objects and functions of files, the oldest first, each with where it was first declared in its unit or in the prelude.
+    #[tactic(auto, unfolding(crate::specs::Shown::names_of))]
+    pub fn things(&self) -> &[(NameId, Place)]
+        ensures { (t : ℕ → CType) → reverse result.now ≡ (names_of t self.now).things }
+    {
+        self.things.as_slice()
+    }
+
+    /// The units, and the names of objects and functions that a declaration there has `static` with, the oldest first.
+    #[tactic(auto, unfolding(crate::specs::Shown::names_of))]
+    pub fn statics(&self) -> &[(UnitNo, NameId)]
+        ensures { (t : ℕ → CType) → reverse result.now ≡ (names_of t self.now).statics }
+    {
+        self.statics.as_slice()
+    }
+
+    /// The bodies of functions, the oldest first.
+    #[tactic(auto, unfolding(crate::specs::Shown::names_of))]
+    pub fn bodies(&self) -> &[Bodied]
+        ensures { (t : ℕ → CType) → map bodied_of (reverse result.now)
+            ≡ (names_of t self.now).bodies }
+    {
+        self.bodies.as_slice()
     }
 
     /// The uses of names, in the order of the text.

@@ -6,9 +6,9 @@ ghost use Rattle.name_rules.specs.Units.{no_names};
 ghost use Rattle.unit_names.specs.Shown.{names_of};
 
 use name_lists::NameList;
-use name_records::{Aggregates, Declarations, Fault, NameUse, Places, TypeNamed};
+use name_records::{Aggregates, Bodies, Declarations, Fault, NameUse, Things, TypeNamed};
 use name_scopes::{Place, Scope, Scopes};
-use qual_base::NoMemory;
+use qual_base::{NameId, NoMemory, UnitNo};
 use std::alloc::Global;
 
 /// What is known of names: declarations so far, scopes, tags, and what was found of uses. Memory is linear in the ops that
@@ -21,12 +21,13 @@ pub struct Names {
     pub(crate) declared: Declarations,
     pub(crate) scopes: Scopes,
     pub(crate) aggregates: Aggregates,
-    pub(crate) things: NameList<Place>,
+    pub(crate) things: Things,
+    pub(crate) statics: Vec<(UnitNo, NameId)>,
     pub(crate) round: NameList<Place>,
     pub(crate) uses: Vec<NameUse>,
     pub(crate) type_names: Vec<TypeNamed>,
     pub(crate) faults: Vec<Fault>,
-    pub(crate) bodies: Places,
+    pub(crate) bodies: Bodies,
     pub(crate) enclosing: Option<Place>,
     pub(crate) kept: Option<Scope>,
 }
@@ -44,12 +45,13 @@ impl Names {
             declared: Declarations::new(alloc),
             scopes,
             aggregates: Aggregates::new(alloc),
-            things: NameList::new(alloc),
+            things: Things::new(alloc),
+            statics: Vec::new(alloc),
             round: NameList::new(alloc),
             uses: Vec::new(alloc),
             type_names: Vec::new(alloc),
             faults: Vec::new(alloc),
-            bodies: Places::new(alloc),
+            bodies: Bodies::new(alloc),
             enclosing: None,
             kept: None,
         })

@@ -4,13 +4,14 @@ ghost use Rattle.std.specs.Prelude.{◌≡◌, ℕ, List, Option, OnOk, option_m
 ghost use Rattle.type_table.specs.Types.{CType};
 ghost use Rattle.name_rules.specs.Scopes.{enter, leave, bound, tag_bound, meaning, inner_meaning, tag_in, tag_through, innermost, is_at_file};
 ghost use Rattle.name_rules.specs.Declaring.{keep, body_left};
-ghost use Rattle.name_rules.specs.Units.{unit_begun};
+ghost use Rattle.name_rules.specs.Units.{shared, unit_begun};
 ghost use Rattle.unit_names.specs.Shown.{names_of, meaning_of};
 
 use crate::names::Names;
 use crate::shared::share_all;
+use name_lists::NameList;
 use name_scopes::{Meant, Place, Scopes};
-use qual_base::{NameId, NoMemory, StructId};
+use qual_base::{NameId, NoMemory, Numbered, StructId, UnitNo};
 use tape_ops::TagKind;
 
 impl Names {
@@ -133,15 +134,30 @@ impl Names {
         self.enclosing = None;
         self.scopes.leave();
     }
-    /// A unit begins, with a file scope of its own: of the names before it, it sees the objects and functions of the innermost
-    /// scope, behind a whole unit that of the file. The scopes that are open are let go. Linear in their declarations.
+    /// What of the prelude is visible round the file scope of each source: the objects and functions of the innermost scope, behind a
+    /// whole prelude that of its file. The scope ends. Linear in its declarations.
     #[tactic(auto, using(crate::proofs::Sharing::begun_is), unfolding(crate::specs::Shown::names_of))]
-    pub fn begin_unit(&mut self) -> Result<(), NoMemory>
-        ensures { OnOk result
-            ((t : ℕ → CType) → names_of t self.new ≡ unit_begun (names_of t self.old)) }
+    fn share(&mut self) -> Result<(), NoMemory>
+        ensures { OnOk result ((t : ℕ → CType) → names_of t self.new
+            ≡ record (leave (names_of t self.old))
+            { round = shared (names_of t self.old) (innermost (names_of t self.old).scopes).names }) }
     {
         let file = self.scopes.close();
-        share_all(&mut self.round, &self.declared, file.names())?;
+        self.round = NameList::new(self.alloc);
+        share_all(&mut self.round, &self.declared, file.names())
+    }
+
+    /// A unit begins, with a file scope of its own: the first source sees the objects and functions of the scope that is innermost
+    /// then, behind a whole prelude that of its file, and so do the later ones. The scopes that are open are let go. Linear in their
+    /// declarations.
+    #[tactic(auto, using(crate::proofs::Sharing::begun_is), unfolding(crate::specs::Shown::names_of))]
+    pub fn begin_unit(&mut self, unit: UnitNo) -> Result<(), NoMemory>
+        ensures { OnOk result ((t : ℕ → CType) → names_of t self.new
+            ≡ unit_begun unit (names_of t self.old)) }
+    {
+        if unit.number() == 1 {
+            self.share()?;
+        }
         self.scopes = Scopes::new(self.alloc);
         self.scopes.enter()?;
         Ok(())

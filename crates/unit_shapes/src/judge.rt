@@ -62,6 +62,16 @@ pub fn first_of_names(names: &FoundNames) -> Option<Fault>
     earliest(names.names().faults())
 }
 
+/// Keeps the first one of some faults and of these faults of names. Linear in them.
+pub fn keep_of_names(best: &mut Option<Fault>, more: &[records::Fault])
+    ensures { (faults : List rules.Fault) → IsFirstOf (some_fault_of best.old) faults
+        → IsFirstOf (some_fault_of best.new) (faults ++ map shown.fault_of more.now) }
+{
+    for fault in more {
+        keep(best, &fault_of_names(fault));
+    }
+}
+
 /// Keeps the earliest one of a fault that is known and of those of a tape. Linear in the tape, but
 /// for growth.
 fn judge(

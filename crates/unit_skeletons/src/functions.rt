@@ -1,19 +1,22 @@
 //! Functions by numbers.
 
-ghost use Rattle.std.specs.Prelude.{◌≡◌, ◌++◌, ◌∷◌, [], IfOk};
+ghost use Rattle.std.specs.Prelude.{◌≡◌, ◌++◌, ◌∷◌, [], List, map, reverse, IfOk};
 ghost use Rattle.type_table.specs.Rows.{type_of};
 ghost use Rattle.name_rules.specs.Scopes as rules;
 ghost use Rattle.row_rules.specs.Sites as sites;
+ghost use Rattle.name_records.specs.Held.{bodied_of};
 ghost use Rattle.unit_names.specs.Shown.{declared_of};
+ghost use Rattle.unit_skeletons.specs.Bodies.{AreFirsts};
 ghost use Rattle.unit_shapes.specs.Views.{names_in};
 
 use crate::place_numbers::PlaceNumbers;
-use name_records::Declared;
+use found_names::FoundNames;
+use name_records::{Bodied, Declared};
 use name_scopes::Place;
+use place_map::PlaceMap;
 use qual_base::{FuncId, NoMemory, Numbered, Owner};
 use std::alloc::Global;
 use type_table::TypeTable;
-use unit_names::Names;
 use unit_starts::is_function;
 
 /// Whether two places are one.
@@ -23,10 +26,21 @@ fn is_place(one: &Place, other: &Place) -> bool
     one.0.number() == other.0.number() && one.1.number() == other.1.number()
 }
 
+/// Where what has a body was first declared. Linear in the bodies, but for growth.
+fn first_bodies(alloc: Global, bodies: &[Bodied]) -> Result<PlaceMap<()>, NoMemory>
+    ensures { IfOk result (λ it. AreFirsts (map bodied_of (reverse bodies.now)) it) }
+{
+    let mut firsts = PlaceMap::new(alloc);
+    for it in bodies {
+        firsts.add(&it.first, &())?;
+    }
+    Ok(firsts)
+}
+
 /// Whether a declaration is the first of a function, or of what has a body. Constant time.
-#[tactic(auto, using(crate::proofs::Counting::same_bodies))]
-fn is_first_function(types: &TypeTable, names: &Names, declared: &Declared) -> bool
-    ensures { result ≡ sites.is_first_function (names_in types.now names.now).bodies
+fn is_first_function(types: &TypeTable, bodies: &PlaceMap<()>, declared: &Declared) -> bool
+    ensures { (all : List rules.Bodied) → AreFirsts all bodies.now
+        → result ≡ sites.is_first_function (map sites.first_place all)
         (declared_of (type_of types.now) declared.now) }
 {
     let _ = types;
@@ -34,7 +48,7 @@ fn is_first_function(types: &TypeTable, names: &Names, declared: &Declared) -> b
         if is_function(declared.role) {
             true
         } else {
-            names.is_entered(&declared.at)
+            bodies.get(&declared.at).is_some()
         }
     } else {
         false
@@ -42,7 +56,7 @@ fn is_first_function(types: &TypeTable, names: &Names, declared: &Declared) -> b
 }
 
 impl PlaceNumbers {
-    /// The owner that a function is, by where it was first declared, among all functions. Constant time.
+    /// The owner that a function is, by its link, among all functions. Constant time.
     pub fn owner(&self, function: &Option<Place>) -> Owner
         ensures { result ≡ sites.owner_by self.now function.now }
     {
@@ -53,19 +67,21 @@ impl PlaceNumbers {
     }
 }
 
-/// The functions of units, by the places of their first declarations. Linear in the declarations.
+/// The functions of units, by the links of their first declarations: linked ones have one number. Linear in the declarations and in the
+/// bodies.
 pub fn functions_of(
     alloc: Global,
     types: &TypeTable,
-    names: &Names,
+    names: &FoundNames,
 ) -> Result<PlaceNumbers, NoMemory>
     ensures { IfOk result (λ it. it ≡ sites.functions_of (names_in types.now names.now)) }
 {
     let mut found = PlaceNumbers::new(alloc);
-    let all = names.declared();
+    let bodies = first_bodies(alloc, names.names().bodies())?;
+    let all = names.names().declared();
     for declared in all {
-        if is_first_function(types, names, declared) {
-            found.push(&declared.at)?;
+        if is_first_function(types, &bodies, declared) {
+            found.push(&names.link(&declared.at))?;
         }
     }
     Ok(found)

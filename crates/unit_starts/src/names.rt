@@ -63,7 +63,7 @@ fn owner_there(
     match declared.owner {
         Some(_) => {
             if is_some_function(names, types, &declared.first) {
-                Some(declared.first)
+                Some(names.link(&declared.first))
             } else {
                 *function
             }
@@ -171,7 +171,6 @@ fn instance(
         (around_in (spelling_of spelling.now) (names_in types.now names.now) around.now) token
         declared.now.at (type_of types.now declared.now.ty) }
 {
-    let _ = names;
     let _ = types;
     if around.is_quiet {
         None
@@ -181,7 +180,7 @@ fn instance(
             ty: declared.ty,
             outer: true,
             owner: around.enclosing,
-            calls: Some(declared.at),
+            calls: Some(names.link(&declared.at)),
         })
     }
 }

@@ -24,7 +24,7 @@ use unit_shapes::FoundNames;
 use unit_spelling::Spelling;
 
 /// A skeleton that begins at a place, of a type, or of a reference to it where `outer` is true. Its variables belong to the function that was first declared at `owner`. At a
-/// function's name in an expression it is an instance of the function that was first declared at `calls`.
+/// function's name in an expression it is an instance of the function that was first declared at `calls`. Functions go by their links.
 #[derive(Clone, Copy, PartialEq, Eq, Debug)]
 pub struct Start {
     pub at: Place,
@@ -45,31 +45,32 @@ impl Start {
     }
 }
 
-/// The function in whose body something stands, by where it was first declared, and whether nothing is fresh there.
+/// The function in whose body something stands, by its link, and whether nothing is fresh there.
 #[derive(Clone, Copy, PartialEq, Eq, Debug, Drop)]
 pub(crate) struct Around {
     pub(crate) enclosing: Option<Place>,
     pub(crate) is_quiet: bool,
 }
 
-/// The function that was first declared where the name at a token was. Constant time.
+/// The function that was declared where the name at a token was, by its link. Constant time.
 fn first_declared(
     spelling: &Spelling,
     names: &FoundNames,
     types: &TypeTable,
     token: TokenId,
 ) -> Option<Place>
-    ensures { result ≡ first_of (declared_at (names_in types.now names.now).declared
+    ensures { result ≡ first_of (names_in types.now names.now)
+        (declared_at (names_in types.now names.now).declared
         (place (spelling_of spelling.now) token)) }
 {
     let _ = types;
     match names.declared_at(&spelling.place(token)) {
-        Some(declared) => Some(declared.first),
+        Some(declared) => Some(names.link(&declared.first)),
         None => None,
     }
 }
 
-/// The function whose name is at a token, where there is one, by where it was first declared. Constant time.
+/// The function whose name is at a token, where there is one, by its link. Constant time.
 pub(crate) fn function_at(
     spelling: &Spelling,
     names: &FoundNames,

@@ -79,7 +79,7 @@ fn number(alloc: Global, program: &Program, starts: &[Start]) -> Result<Numberin
         → most_variables < variables_among (starts_on program.now) }
     ensures apart { IsErrOf result GenerateFault.TooManyConstraints → ⊥ }
 {
-    let functions = match functions_of(alloc, program.types(), program.names()) {
+    let functions = match functions_of(alloc, program.types(), program.found_names()) {
         Ok(functions) => functions,
         Err(NoMemory) => return Err(GenerateFault::NoMemory),
     };

@@ -4,6 +4,7 @@ use Rattle.type_table.specs.declared.row.Row.{Row}
 use Rattle.name_rules.specs.Faults.{Fault}
 use Rattle.name_rules.specs.Scopes as scopes
 use Rattle.name_rules.specs.Units.{no_names}
+use Rattle.name_rules.specs.Linking.{body_faults}
 use Rattle.name_steps.specs.Units.{Tape, tapes_named}
 use Rattle.shape_steps.specs.State.{nothing}
 use Rattle.shape_steps.specs.Found.{faults_found}
@@ -33,6 +34,7 @@ abbrev pub faults_among : scopes.Names → List Tape → List Fault
 faults_among s [] = []
 faults_among s (it ∷ tapes) = faults_found it.spelling s nothing it.ops ++ faults_among s tapes
 
--- the faults of names, and those of expressions, which see also what is declared behind them
+-- the faults of names, those of bodies in several units, and those of expressions, which see also what is declared behind them
 abbrev pub faults_on : List Tape → List Fault
-faults_on tapes = (names_on tapes).faults ++ faults_among (names_on tapes) tapes
+faults_on tapes =
+    (names_on tapes).faults ++ (body_faults (names_on tapes) ++ faults_among (names_on tapes) tapes)

@@ -3,6 +3,7 @@
 ghost use Rattle.std.specs.Prelude.{◌≡◌, ◌++◌, [], ℕ, IfOk, IfErr, OnOk};
 ghost use Rattle.type_table.specs.Types.{CType};
 ghost use Rattle.name_types.specs.Known.{Knows};
+ghost use Rattle.name_rules.specs.Linking.{body_faults};
 ghost use Rattle.unit_names.specs.Shown.{names_of};
 ghost use Rattle.unit_shapes.specs.Faults.{some_fault_of, IsFirstOf};
 ghost use Rattle.unit_shapes.specs.Views.{names_in, AreImplicit};
@@ -17,7 +18,7 @@ use qual_base::NoMemory;
 use std::alloc::Global;
 use type_table::TypeTable;
 use unit_names::Names;
-use unit_shapes::{Fault, FoundNames, ImplicitTypes, first_of_names, judge_tape};
+use unit_shapes::{Fault, FoundNames, ImplicitTypes, first_of_names, judge_tape, keep_of_names};
 
 /// Units with their first fault, if they have one.
 #[derive(Drop)]
@@ -38,7 +39,7 @@ fn name_units(alloc: Global, types: &mut Types, units: &[UnitTape]) -> Result<Na
     Ok(names)
 }
 
-/// The first fault of units, of their names and of their expressions.
+/// The first fault of units, of their names, of their bodies and of their expressions.
 fn first_fault(
     alloc: Global,
     names: &FoundNames,
@@ -49,9 +50,12 @@ fn first_fault(
     requires { AreImplicit types.now implicit.now }
     ensures { IfOk result (λ first. IsFirstOf (some_fault_of first)
         ((names_in types.now names.now).faults
-        ++ faults_among (names_in types.now names.now) (tapes_of units.now))) }
+        ++ (body_faults (names_in types.now names.now)
+        ++ faults_among (names_in types.now names.now) (tapes_of units.now)))) }
 {
     let mut best = first_of_names(names);
+    let bodies = names.body_faults(alloc)?;
+    keep_of_names(&mut best, &bodies);
     for unit in units {
         judge_tape(
             alloc,
@@ -90,8 +94,9 @@ fn judge(alloc: Global, units: Vec<UnitTape>) -> Result<Judged, NoMemory>
 
 /// The names and types of units in their order, from their tapes and what is read from their
 /// tokens, or their first fault: that of the earliest unit, there at the earliest token, of several
-/// there that of the lowest rule. A unit sees the objects and functions of the file scopes of those
-/// before it. Expressions are judged by all names, those declared behind them too.
+/// there that of the lowest rule. A source sees the objects and functions of the prelude's file
+/// scope, and nothing of another source. Expressions are judged by all names, those declared behind
+/// them too.
 ///
 /// Time is linear in the tapes, but for growth, for looking names up in the scopes that are open,
 /// and for the words and parameters of the types that are made. Memory is linear in the tapes.

@@ -1,0 +1,12 @@
+//! What is one thing in several sources, behind all units: objects and functions, and members of structs and unions (C99, 6.2.2 and
+//! 6.2.7).
+#![tactic(auto)]
+
+mod bodies;
+mod externals;
+mod keys;
+mod links;
+mod members;
+
+pub use bodies::body_faults;
+pub use links::{link, links};

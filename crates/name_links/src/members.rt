@@ -1,0 +1,209 @@
+//! The members of structs and unions of several sources that are one.
+
+ghost use Rattle.std.specs.Prelude.{◌≡◌, ◌+◌, ℕ, List, None, map, IfOk, OnOk, option_map};
+ghost use Rattle.type_table.specs.Types.{CType};
+ghost use Rattle.name_rules.specs.Spellings.{Place};
+ghost use Rattle.name_rules.specs.Scopes as rules;
+ghost use Rattle.name_rules.specs.Linking.{member_link};
+ghost use Rattle.place_map.specs.Values.{value_at, or_else, there};
+ghost use Rattle.unit_names.specs.Shown.{names_of, aggregate_of, key_of};
+ghost use Rattle.name_links.specs.Tables.{key_in_source, AreKeyed, shared_by, member_there, first_known, link_in, first_link, AreMembers};
+
+use crate::keys::{Keys, Shared};
+use name_records::{Aggregate, Known, StructKey};
+use name_scopes::Place;
+use place_map::PlaceMap;
+use qual_base::{NameId, NoMemory, Numbered, StructId};
+use std::alloc::Global;
+use std::collections::HashMap;
+use unit_names::Names;
+
+/// What a definition of a source is known by. Constant time.
+fn key_in_source(it: &Aggregate) -> Option<StructKey>
+    ensures { (t : ℕ → CType) → option_map key_of result
+        ≡ key_in_source (aggregate_of t it.now) }
+{
+    if it.body.is_some() && it.at.0.number() != 0 {
+        it.key
+    } else {
+        None
+    }
+}
+
+/// The number behind this one.
+fn next(number: u32) -> Result<u32, NoMemory>
+    ensures { IfOk result (λ n. n ≡ number + 1) }
+{
+    match number.checked_add(1) {
+        Some(next) => Ok(next),
+        None => Err(NoMemory),
+    }
+}
+
+/// The definitions of sources by what they are known by. Linear in the structs, but for growth.
+fn find_keys(alloc: Global, all: &[Aggregate]) -> Result<Keys, NoMemory>
+    ensures { IfOk result
+        (λ keys. (t : ℕ → CType) → AreKeyed (map (aggregate_of t) all.now) keys) }
+{
+    let mut keys = Keys::new(alloc);
+    let mut number = 0u32;
+    for it in all {
+        if let Some(key) = key_in_source(it) {
+            keys.add(&key, StructId::new(number), it.at.0)?;
+        }
+        number = next(number)?;
+    }
+    Ok(keys)
+}
+
+/// Places of members by structs and by names, the first of each.
+#[derive(Drop)]
+struct MemberPlaces {
+    map: HashMap<(StructId, NameId), Place>,
+}
+
+impl MemberPlaces {
+    /// None. Takes no memory.
+    fn new(alloc: Global) -> Self
+        ensures { (at : Place) → member_there result.map at ≡ None }
+    {
+        MemberPlaces {
+            map: HashMap::new(alloc),
+        }
+    }
+
+    /// The first of a struct and a name. Constant time.
+    fn get(&self, number: StructId, name: NameId) -> Option<Place>
+        ensures { result ≡ member_there self.now.map (number, name) }
+    {
+        self.map.get(&(number, name)).copied()
+    }
+
+    /// Has this be the first of a struct and a name that have none. Constant time but for growth.
+    fn add(&mut self, number: StructId, name: NameId, at: &Place) -> Result<(), NoMemory>
+        ensures { OnOk result ((p : Place) → member_there self.new.map p
+            ≡ or_else (member_there self.old.map p) (there (number, name) at.now p)) }
+    {
+        if self.map.get(&(number, name)).is_some() {
+            return Ok(());
+        }
+        match self.map.insert((number, name), *at) {
+            Ok(_) => Ok(()),
+            Err(_) => Err(NoMemory),
+        }
+    }
+}
+
+/// The members of definitions that several sources have: those that a struct finds by its names, and by the number of the first
+/// definition that is known by the same those that any of these finds.
+#[derive(Drop)]
+struct Members {
+    own: MemberPlaces,
+    among: MemberPlaces,
+}
+
+impl Members {
+    /// Adds the members of a definition. Linear in them, but for growth.
+    fn add(&mut self, number: StructId, shared: &Shared, known: &[Known]) -> Result<(), NoMemory>
+        ensures own { OnOk result ((p : Place) → member_there self.new.own.map p
+            ≡ or_else (member_there self.old.own.map p) (first_known number known.now p)) }
+        ensures among { OnOk result ((p : Place) → member_there self.new.among.map p
+            ≡ or_else (member_there self.old.among.map p)
+            (first_known shared.now.first known.now p)) }
+    {
+        for it in known {
+            self.own.add(number, it.name, &it.at)?;
+            self.among.add(shared.first, it.name, &it.at)?;
+        }
+        Ok(())
+    }
+
+    /// The link of a member of a definition: the first of its name, where the struct finds this one by it. Constant time.
+    fn link(&self, number: StructId, shared: &Shared, it: &Known) -> Option<Place>
+        ensures { result ≡ link_in self.now.own.map self.now.among.map number shared.now it.now }
+    {
+        let found = self.own.get(number, it.name)?;
+        if found == it.at {
+            self.among.get(shared.first, it.name)
+        } else {
+            None
+        }
+    }
+
+    /// Adds the links of the members of a definition. Linear in them, but for growth.
+    fn add_links(
+        &self,
+        links: &mut PlaceMap<Place>,
+        number: StructId,
+        shared: &Shared,
+        known: &[Known],
+    ) -> Result<(), NoMemory>
+        ensures { OnOk result ((p : Place) → value_at links.new p
+            ≡ or_else (value_at links.old p)
+            (first_link self.now.own.map self.now.among.map number shared.now known.now p)) }
+    {
+        for it in known {
+            if let Some(first) = self.link(number, shared, it) {
+                links.add(&it.at, &first)?;
+            }
+        }
+        Ok(())
+    }
+}
+
+/// What several sources know a definition by. Constant time.
+fn shared_by(keys: &Keys, it: &Aggregate) -> Option<Shared>
+    ensures { (t : ℕ → CType) (all : List rules.Aggregate) → AreKeyed all keys.now
+        → result ≡ shared_by all (aggregate_of t it.now) }
+{
+    let key = key_in_source(it)?;
+    let shared = keys.get(&key)?;
+    if shared.is_elsewhere {
+        Some(shared)
+    } else {
+        None
+    }
+}
+
+/// The members of definitions that several sources have. Linear in the structs and in these members, but for growth.
+fn find_members(alloc: Global, keys: &Keys, all: &[Aggregate]) -> Result<Members, NoMemory>
+    ensures { (t : ℕ → CType) → AreKeyed (map (aggregate_of t) all.now) keys.now → IfOk result
+        (λ it. AreMembers (map (aggregate_of t) all.now) it.own.map it.among.map) }
+{
+    let mut members = Members {
+        own: MemberPlaces::new(alloc),
+        among: MemberPlaces::new(alloc),
+    };
+    let mut number = 0u32;
+    for it in all {
+        if let (Some(shared), Some(body)) = (shared_by(keys, it), &it.body) {
+            members.add(StructId::new(number), &shared, body.known())?;
+        }
+        number = next(number)?;
+    }
+    Ok(members)
+}
+
+/// Adds the links of members of structs and unions of sources, at places that have none. Linear in the structs and in the members of
+/// those that several sources have, but for growth.
+pub(crate) fn link_members(
+    alloc: Global,
+    links: &mut PlaceMap<Place>,
+    names: &Names,
+) -> Result<(), NoMemory>
+    ensures { OnOk result ((t : ℕ → CType) (p : Place) → value_at links.new p
+        ≡ or_else (value_at links.old p)
+        (member_link (names_of t names.now).aggregates (names_of t names.now).aggregates p)) }
+{
+    let all = names.aggregates();
+    let keys = find_keys(alloc, all)?;
+    let members = find_members(alloc, &keys, all)?;
+    let mut number = 0u32;
+    for it in all {
+        if let (Some(shared), Some(body)) = (shared_by(&keys, it), &it.body) {
+            members.add_links(links, StructId::new(number), &shared, body.known())?;
+        }
+        number = next(number)?;
+    }
+    Ok(())
+}
