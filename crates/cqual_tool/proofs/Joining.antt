@@ -3,11 +3,9 @@ use Rattle.std.proofs.Common.{arith, ◌≡◌, ◌≢◌, Bool, true, false, �
 use Rattle.std.specs.Prelude.{All, nat_eq, if◌then◌else◌}
 use Rattle.std.proofs.lemmas.Bool.{eq-eqb, eqb-true}
 use Rattle.std.proofs.lemmas.List.Elements.{All-nil, All-cons, All-head, All-tail, All-push, All-weaker}
-use Rattle.lattice_core.specs.View.{LatticeView}
 use Rattle.c_lexer.specs.declared.token.Token.{Token}
 use Rattle.c_lexer.specs.Tokens.{Lexed}
 use Rattle.c_parser.specs.Parsing.{lexemes_of, numbered}
-use Rattle.flow_graph.specs.System.{most_constraints, most_variables}
 use Rattle.type_rules.specs.Program as rules
 use Rattle.name_laws.specs.NameLaws.{IsSound}
 use Rattle.key_laws.specs.Differing.{AreNumbered, IsRead, UnitsDiffer, has_number, has_unit}
@@ -15,16 +13,11 @@ use Rattle.c_types.specs.Sources.{UnitRead, sources_behind, sources_in}
 use Rattle.annotate.specs.Texts.{UnitText}
 use Rattle.annotate.specs.declared.scene.UnitText.{UnitText as LentUnit}
 use Rattle.annotate.specs.Scenes as scenes
-use Rattle.index_words.specs.Marks.{IndexMark}
-use Rattle.constraint_gen.specs.Programs.{program_in, positions_in}
-use Rattle.constraint_rules.specs.Systems.{Program, system_of}
 use Rattle.cqual_tool.specs.declared.answer.Answer.{Answer}
 use Rattle.cqual_tool.specs.declared.status.Status.TheVariants.{Malformed}
 use Rattle.cqual_tool.specs.Statuses.{Says}
-use Rattle.cqual_tool.specs.Texts.{malformed_line}
 use Rattle.cqual_tool.specs.Words.{FileNames}
 use Rattle.cqual_tool.specs.Programs.{text_of, texts_of}
-use Rattle.cqual_tool.specs.Outcome.{IsCounted, IsRefused, ManyConstraints, ManyVariables, SourceReads}
 use Rattle.cqual_tool.specs.Preparing.{AreEarlier, IsFormed}
 
 -- tokens that are numbered by their places have numbers of their own
@@ -96,49 +89,44 @@ differ_on earlier (u ∷ units) it differ none =
     by false e own more =
         (no_unit_on u.lexed.unit behind units it differ.0 (other_way u.lexed.unit it.lexed.unit e), more own)
 
--- a source behind units that may stand before it
-pub read_on : (before : List UnitRead) (unit : UnitRead) → AreEarlier before → IsFormed unit → All IsRead (sources_in (before ++ unit ∷ []))
-read_on before unit may own = read_behind [] (before ++ unit ∷ []) (All-push IsFormed before unit may.formed own)
+apart : (n m : ℕ) → n < m → nat_eq n m ≡ false
+apart n m lt = by (nat_eq n m) refl
+  where
+    by : (b : Bool) → nat_eq n m ≡ b → b ≡ false
+    by true e = let same : n ≡ m = eqb-true n m e in absurd (omega (arith, lt, same))
+    by false e = refl
 
-pub units_differ : (before : List UnitRead) (unit : UnitRead) → AreEarlier before → unit.lexed.unit ≡ 1 → UnitsDiffer (sources_in (before ++ unit ∷ []))
-units_differ before unit may one =
-    differ_on [] before unit may.differ (subst (λ (n : ℕ). has_unit n (sources_in before) ≡ false) (sym one) may.none_is_source)
+-- units that are well formed
+pub read_all : (units : List UnitRead) → All IsFormed units → All IsRead (sources_in units)
+read_all units formed = read_behind [] units formed
 
 -- nothing
-pub nothing_earlier : AreEarlier []
-nothing_earlier = record { formed = All-nil IsFormed; differ = tt; none_is_source = refl }
+pub nothing_earlier : (number : ℕ) → AreEarlier number []
+nothing_earlier number = record { formed = All-nil IsFormed; differ = tt; lower = λ n le. refl }
+
+-- one more source, which has the next number
+pub one_more_may : (number : ℕ) (before : List UnitRead) (unit : UnitRead) → AreEarlier number before → unit.lexed.unit ≡ number → IsFormed unit
+    → AreEarlier (number + 1) (before ++ unit ∷ [])
+one_more_may number before unit may is own = record {
+  formed = All-push IsFormed before unit may.formed own;
+  differ =
+      differ_on [] before unit may.differ
+      (subst (λ (n : ℕ). has_unit n (sources_in before) ≡ false) (sym is) (may.lower number (omega arith)));
+  lower = λ n le. no_unit_on n [] before unit (may.lower n (omega (arith, le))) (apart unit.lexed.unit n (omega (arith, le, is)));
+}
 
 -- a prelude alone, which is unit 0
-pub prelude_alone : (it : UnitRead) → it.lexed.unit ≡ 0 → IsFormed it → AreEarlier (it ∷ [])
+pub prelude_alone : (it : UnitRead) → it.lexed.unit ≡ 0 → IsFormed it → AreEarlier 1 (it ∷ [])
 prelude_alone it unit formed = record {
   formed = All-cons IsFormed it [] formed (All-nil IsFormed);
   differ = (refl, tt);
-  none_is_source = subst (λ (n : ℕ). (if nat_eq n 1 then true else false) ≡ false) (sym unit) refl;
+  lower = λ n le. rw (apart it.lexed.unit n (omega (arith, le, unit))) refl;
 }
 
--- an answer that says a line which refuses the source
-pub refused : (named : FileNames) (lattices : List LatticeView) (before : List UnitRead) (marks : List IndexMark) (bytes line : List ℕ) (answer : Answer)
-    → Says Malformed line answer → IsRefused named lattices before marks bytes line
-    → (answer.status ≡ Malformed) × IsRefused named lattices before marks bytes answer.text.items
-refused named lattices before marks bytes line answer says is =
-    (says.0, subst (IsRefused named lattices before marks bytes) (sym says.1) is)
-
--- what is counted of the units before a source and of the source
-module _ (named : FileNames) (lattices : List LatticeView) (before : List UnitRead) (marks : List IndexMark) (bytes : List ℕ) (unit : UnitRead)
-    (is : SourceReads lattices before bytes unit) where
-  abbrev whole : Program
-  whole = program_in lattices marks (before ++ unit ∷ [])
-
-  pub many_variables : most_variables < length (positions_in whole) → IsRefused named lattices before marks bytes (malformed_line named.source (codes "Q1"))
-  many_variables many = ManyVariables unit is many
-
-  pub many_constraints : length (positions_in whole) ≤ most_variables → most_constraints < length (system_of whole).constraints
-      → IsRefused named lattices before marks bytes (malformed_line named.source (codes "G1"))
-  many_constraints few many = ManyConstraints unit is few many
-
-  pub counted : length (positions_in whole) ≤ most_variables → length (system_of whole).constraints ≤ most_constraints
-      → IsCounted named lattices before marks bytes unit
-  counted few few_constraints = record { reads = is; few_variables = few; few_constraints = few_constraints }
+-- an answer that says a line which refuses something
+pub refused : (Refuses : List ℕ → Type 0) (line : List ℕ) (answer : Answer) → Says Malformed line answer → Refuses line
+    → (answer.status ≡ Malformed) × Refuses answer.text.items
+refused Refuses line answer says is = (says.0, subst Refuses (sym says.1) is)
 
 -- the texts of units, one more at a time
 shown_on : (shown : List LentUnit) (u : LentUnit) → scenes.units_of (shown ++ u ∷ []) ≡ scenes.units_of shown ++ scenes.unit_of u ∷ []

@@ -1,5 +1,5 @@
 -- What one call of the tool does, by what was read, decided and sent.
-use Rattle.std.proofs.Common.{◌≡◌, inl, inr, ℕ, ◌+◌, ◌<◌, ◌||◌, Bool, true, false, List, [], ◌∷◌, ◌++◌, Option, Some, None, Ok, Err, All, refl, sym, ◌∙◌, ap, subst, arith}
+use Rattle.std.proofs.Common.{◌≡◌, inl, inr, ℕ, ◌+◌, ◌<◌, ◌||◌, Bool, true, false, List, [], ◌∷◌, ◌++◌, map, Option, Some, None, Ok, Err, All, refl, sym, ◌∙◌, ap, subst, arith}
 use Rattle.std.proofs.lemmas.List.Elements.{All-head, All-tail}
 use Rattle.outside.specs.Readings.{Agrees, MayGive, Reading, ReadsAs, Standing, broken_in, content_of, has_broken, is_broken, names_read, one_if, since}
 use Rattle.cqual_words.specs.Words.{Generate, Task, meaning_of}
@@ -10,7 +10,7 @@ use Rattle.cqual_tool.specs.declared.taking.Stop.{Stop}
 use Rattle.cqual_tool.specs.declared.taking.Stop.TheVariants as stops
 use Rattle.cqual_tool.specs.Words.{FileNames, names_of}
 use Rattle.cqual_tool.specs.Texts.{usage_line}
-use Rattle.cqual_tool.specs.Inputs.{Inputs, asked, content_named, files_asked, files_named, inputs_asked, inputs_in, inputs_of, one_file}
+use Rattle.cqual_tool.specs.Inputs.{Inputs, asked, behind_first, content_named, files_asked, files_named, files_with, first_of, inputs_asked, inputs_in, inputs_of, one_file}
 use Rattle.cqual_tool.specs.Outcome.{Answers, ForTask, IsAnswer, IsDecided, NoFile, NoMeaningYet, OfTask, StartsFor, TaskStarts, WithMeaning, WithoutMeaning}
 use Rattle.cqual_tool.specs.Sending.{Sends}
 use Rattle.cqual_tool.specs.Answering.{AnsweredBy, IsSaid, TaskGoes}
@@ -262,13 +262,21 @@ module _ (files : List (List ℕ × List ℕ)) where
   last None content these reads agree = reads
   last (Some name) content these reads agree = step name content [] [] these reads agree (λ more reads agree. reads)
 
+  among : (names contents : List (List ℕ)) (rest told : List (List ℕ × List ℕ)) (these : List Reading) → ReadsAs (files_with names contents ++ rest) these
+      → All (Agrees files) these → ((more : List Reading) → ReadsAs rest more → All (Agrees files) more → ReadsAs told more)
+      → ReadsAs (files_with names (map (content_of files) names) ++ told) these
+  among [] contents rest told these reads agree on = on these reads agree
+  among (name ∷ names) contents rest told these reads agree on =
+      step name (first_of contents) _ _ these reads agree (λ more reads agree.
+      among names (behind_first contents) rest told more reads agree on)
+
   by_names : (named : Option FileNames) (inputs : Inputs) (these : List Reading) → ReadsAs (files_named named inputs) these → All (Agrees files) these
       → ReadsAs (files_named named (inputs_of files named)) these
   by_names None inputs these reads agree = reads
   by_names (Some named) inputs these reads agree =
       step named.lattice inputs.lattice _ _ these reads agree (λ more reads agree.
       may named.prelude inputs.prelude _ _ more reads agree (λ more reads agree.
-      step named.source inputs.source _ _ more reads agree (λ more reads agree.
+      among named.sources inputs.sources _ _ more reads agree (λ more reads agree.
       last named.report inputs.report more reads agree)))
 
   by_task : (o : Option Task) (inputs : Inputs) (these : List Reading) → ReadsAs (files_asked o inputs) these → All (Agrees files) these

@@ -1,5 +1,5 @@
--- What is answered behind the reading of each file in turn: the lattice file, the prelude, the source and the report.
-use Rattle.std.proofs.Common.{◌≡◌, ◌<◌, ◌≤◌, ℕ, false, List, [], ◌∷◌, ◌++◌, length, Option, Some, None, Ok, Err, refl, sym, ap, subst}
+-- What is answered behind the reading of each file in turn: the lattice file, the prelude, each source and the report.
+use Rattle.std.proofs.Common.{◌≡◌, arith, ◌<◌, ◌≤◌, ◌+◌, ◌-◌, ℕ, false, List, [], ◌∷◌, ◌++◌, length, Option, Some, None, Ok, Err, refl, sym, ap, subst, append-nil}
 use Rattle.std.specs.declared.result.Result.{Result}
 use Rattle.std.specs.declared.vec.Vec.{Vec}
 use Rattle.std.specs.declared.alloc.Global.{Global}
@@ -9,18 +9,19 @@ use Rattle.c_types.specs.Sources.{UnitRead}
 use Rattle.index_words.specs.Marks.{IndexMark}
 use Rattle.cqual_tool.specs.declared.answer.Answer.{Answer}
 use Rattle.cqual_tool.specs.declared.status.Status.{Status}
+use Rattle.cqual_tool.specs.declared.status.Status.TheVariants.{Malformed}
 use Rattle.cqual_tool.specs.declared.taking.Stop.{Stop}
 use Rattle.cqual_tool.specs.declared.taking.Stop.TheVariants.{ReadFault, NoMemory}
 use Rattle.cqual_words.specs.Words.{Generate, Task}
 use Rattle.cqual_tool.specs.Words.{FileNames, names_of}
-use Rattle.cqual_tool.specs.Programs.{Judging}
-use Rattle.cqual_tool.specs.Inputs.{Inputs, files_named, files_of, from_prelude, from_report, from_source, one_file}
-use Rattle.cqual_tool.specs.Outcome.{AreBefore, IsCounted, IsEnd, LatticeAlone, LatticesRead, InOrder, MadeAlone, NoPrelude, OfFiles, OfProgram, OfSource, OfTask, OfUnits, PreludeRead, Starts, named_one}
-use Rattle.cqual_tool.specs.Preparing.{EndStarts, NoReport, NoUnit, OneReport, PreludeAlone, SourceAlone, SourceStarts, UnitsStart}
-use Rattle.cqual_tool.specs.Answering.{Answered, EndAnswered, FilesAnswered, FilesGo, Finds, IsSaid, SourceAnswered, SourceGoes, TaskAnswered, UnitsAnswered, UnitsGo}
+use Rattle.cqual_tool.specs.Programs.{Judging, judging_of}
+use Rattle.cqual_tool.specs.Inputs.{Inputs, behind_first, files_named, files_of, files_with, first_of, from_prelude, from_report, from_sources, one_file}
+use Rattle.cqual_tool.specs.Outcome.{AreBefore, AreCounted, InOrder, IsEnd, LatticeAlone, LatticesRead, MadeAlone, NoPrelude, NoSource, NotCounted, OfFiles, OfProgram, OfSources, OfTask, OfUnits, PreludeRead, SourceParses, SourcesRead, Starts, UnitsRefused, limit_in, named_one, sources_of, total_limit}
+use Rattle.cqual_tool.specs.Preparing.{EndStarts, NoReport, NoUnit, NoneLeft, OneReport, PreludeAlone, SomeStart, SourcesStart, UnitsStart}
+use Rattle.cqual_tool.specs.Answering.{Answered, EndAnswered, FilesAnswered, FilesGo, Finds, IsSaid, SourcesAnswered, SourcesGo, TaskAnswered, UnitsAnswered, UnitsGo}
 use Rattle.cqual_tool.proofs.Readings as reading
 use Rattle.cqual_tool.proofs.Readings.{whole_is}
-use Rattle.cqual_tool.proofs.Starting.{all_start, at_name, at_units, behind_source, units_start}
+use Rattle.cqual_tool.proofs.Starting.{all_start, at_name, end_starts, one_of, one_starts, rest_of, units_start}
 
 -- what was found of a file
 pub found_some : (limit : ℕ) (r : Reading) (found : Option (Vec ℕ Global)) (bytes : Vec ℕ Global) → found ≡ Some bytes → Finds limit r (Ok found)
@@ -39,29 +40,34 @@ going_stands r is = ap is_broken is
 
 -- parts at other bytes
 abbrev with_lattice : Inputs → List ℕ → Inputs
-with_lattice inputs bytes = record { lattice = bytes; prelude = inputs.prelude; source = inputs.source; report = inputs.report }
+with_lattice inputs bytes = record { lattice = bytes; prelude = inputs.prelude; sources = inputs.sources; report = inputs.report }
 
 abbrev with_prelude : Inputs → List ℕ → Inputs
-with_prelude inputs bytes = record { lattice = inputs.lattice; prelude = bytes; source = inputs.source; report = inputs.report }
+with_prelude inputs bytes = record { lattice = inputs.lattice; prelude = bytes; sources = inputs.sources; report = inputs.report }
 
 abbrev with_source : Inputs → List ℕ → Inputs
-with_source inputs bytes = record { lattice = inputs.lattice; prelude = inputs.prelude; source = bytes; report = inputs.report }
+with_source inputs bytes = record {
+  lattice = inputs.lattice;
+  prelude = inputs.prelude;
+  sources = bytes ∷ behind_first inputs.sources;
+  report = inputs.report;
+}
 
 abbrev with_report : Inputs → List ℕ → Inputs
-with_report inputs bytes = record { lattice = inputs.lattice; prelude = inputs.prelude; source = inputs.source; report = bytes }
+with_report inputs bytes = record { lattice = inputs.lattice; prelude = inputs.prelude; sources = inputs.sources; report = bytes }
 
 -- where the prelude or the report has this name, or none
 pub at_prelude : (named : FileNames) (o : Option (List ℕ)) → named.prelude ≡ o → (P : (Inputs → List (List ℕ × List ℕ)) → Type 0)
-    → P (λ inputs. one_file o inputs.prelude ++ from_source named inputs) → P (from_prelude named)
-at_prelude named o is P there = subst (λ (name : Option (List ℕ)). P (λ inputs. one_file name inputs.prelude ++ from_source named inputs)) (sym is) there
+    → P (λ inputs. one_file o inputs.prelude ++ from_sources named named.sources inputs) → P (from_prelude named)
+at_prelude named o is P there = subst (λ (name : Option (List ℕ)). P (λ inputs. one_file name inputs.prelude ++ from_sources named named.sources inputs)) (sym is) there
 
 pub at_report : (named : FileNames) (o : Option (List ℕ)) → named.report ≡ o → (P : (Inputs → List (List ℕ × List ℕ)) → Type 0)
     → P (λ inputs. one_file o inputs.report) → P (from_report named)
 at_report named o is P there = subst (λ (name : Option (List ℕ)). P (λ inputs. one_file name inputs.report)) (sym is) there
 
 behind_prelude : (named : FileNames) (o : Option (List ℕ)) → named.prelude ≡ o → (inputs : Inputs) (these : List Reading)
-    → ReadsAs (from_prelude named inputs) these → ReadsAs (one_file o inputs.prelude ++ from_source named inputs) these
-behind_prelude named o is inputs these reads = subst (λ (name : Option (List ℕ)). ReadsAs (one_file name inputs.prelude ++ from_source named inputs) these) is reads
+    → ReadsAs (from_prelude named inputs) these → ReadsAs (one_file o inputs.prelude ++ from_sources named named.sources inputs) these
+behind_prelude named o is inputs these reads = subst (λ (name : Option (List ℕ)). ReadsAs (one_file name inputs.prelude ++ from_sources named named.sources inputs) these) is reads
 
 -- where memory is wanting before any file is read
 pub units_lack : (s : Standing) (named : FileNames) (lattices : List LatticeView) (stop : Stop) → stop ≡ NoMemory → UnitsAnswered s s named lattices (Err stop)
@@ -112,42 +118,102 @@ module _ (old mid : Standing) (r : Reading) (read : ReadOn old mid (r ∷ [])) (
             (all_start named lattices _ (λ inputs. ReadsAs (from_prelude named inputs) these) _ (λ inputs given. given.2)
             (λ inputs given. subst (λ (bytes : List ℕ). LatticesRead bytes lattices) (sym (whole_is r inputs.lattice whole given.1)) reads) starts)
 
-  -- a source
-  module _ (same : r.name ≡ named.source) (lattices : List LatticeView) (before : List UnitRead) (marks : List IndexMark) where
-    source_alone : SourceGoes named lattices before marks (r ∷ [])
+  -- a source, and those behind it
+  module _ (file : List ℕ) (same : r.name ≡ file) (lattices : List LatticeView) (before : List UnitRead) (marks : List IndexMark) (number left : ℕ)
+      (names : List (List ℕ)) where
+    abbrev Of : Inputs → Status → List ℕ → Type 0
+    Of inputs = OfSources named lattices before marks (IsEnd named inputs.report) number left (files_with (file ∷ names) inputs.sources)
+
+    abbrev Go : List Reading → Type 0
+    Go = SourcesGo named lattices before marks number left (file ∷ names)
+
+    abbrev rest : Inputs → List (List ℕ × List ℕ)
+    rest inputs = from_sources named names (rest_of inputs)
+
+    source_alone : Go (r ∷ [])
     source_alone =
-        at_name (SourceStarts named lattices before marks (λ inputs. ReadsAs ((named.source, inputs.source) ∷ from_report named inputs) (r ∷ []))) r named.source [] same SourceAlone
+        at_name (SourcesStart named lattices before marks number left (file ∷ names) (λ inputs. ReadsAs (from_sources named (file ∷ names) inputs) (r ∷ [])))
+        r file [] same (SomeStart 0 (omega arith) (λ inputs given. ([], NoSource number left)))
 
-    pub source_stops : (limit : ℕ) (stop : Stop) → Finds limit r (Err stop) → SourceAnswered old mid named lattices before marks (Err stop)
+    pub source_stops : (limit : ℕ) (stop : Stop) → Finds limit r (Err stop)
+        → SourcesAnswered old mid named lattices before marks number left (file ∷ names) (Err stop)
     source_stops limit stop is =
-        reading.stops old mid r read named.source same (λ i. i.source) with_source (from_report named) (λ i b. refl) (λ i b. refl)
-        (λ inputs. OfSource named inputs lattices before marks) (SourceGoes named lattices before marks) limit stop source_alone is
+        reading.stops old mid r read file same (λ i. first_of i.sources) with_source rest (λ i b. refl) (λ i b. refl) Of Go limit stop source_alone is
 
-    pub source_lacks : (stop : Stop) → stop ≡ NoMemory → is_broken r.end ≡ false → SourceAnswered old mid named lattices before marks (Err stop)
+    pub source_lacks : (stop : Stop) → stop ≡ NoMemory → is_broken r.end ≡ false
+        → SourcesAnswered old mid named lattices before marks number left (file ∷ names) (Err stop)
     source_lacks stop is whole =
-        reading.lacks old mid r read named.source same (λ i. i.source) with_source (from_report named) (λ i b. refl) (λ i b. refl)
-        (λ inputs. OfSource named inputs lattices before marks) (SourceGoes named lattices before marks) stop is source_alone whole
+        reading.lacks old mid r read file same (λ i. first_of i.sources) with_source rest (λ i b. refl) (λ i b. refl) Of Go stop is source_alone whole
 
     pub source_answers : (answer : Answer) → is_broken r.end ≡ false
-        → ((inputs : Inputs) → MayGive r.end inputs.source r.bytes → OfSource named inputs lattices before marks answer.status answer.text.items)
-        → SourceAnswered old mid named lattices before marks (Ok answer)
+        → ((inputs : Inputs) → MayGive r.end (first_of inputs.sources) r.bytes → Of inputs answer.status answer.text.items)
+        → SourcesAnswered old mid named lattices before marks number left (file ∷ names) (Ok answer)
     source_answers answer whole of =
-        reading.answers old mid r read named.source same (λ i. i.source) with_source (from_report named) (λ i b. refl) (λ i b. refl)
-        (λ inputs. OfSource named inputs lattices before marks) (SourceGoes named lattices before marks) answer source_alone whole of
+        reading.answers old mid r read file same (λ i. first_of i.sources) with_source rest (λ i b. refl) (λ i b. refl) Of Go answer source_alone whole of
 
-    pub source_goes : (new : Standing) (it : Judging) (unit : UnitRead) (whole : r.end ≡ Whole) → IsCounted named lattices before marks r.bytes unit
-        → ((inputs : Inputs) (status : Status) (text : List ℕ) → inputs.source ≡ r.bytes → IsEnd named inputs it status text → OfSource named inputs lattices before marks status text)
-        → (result : Result Answer Stop) → EndAnswered mid new named it result → SourceAnswered old new named lattices before marks result
-    source_goes new it unit whole counted of result more =
-        reading.goes old mid r read named.source same (λ i. i.source) with_source (from_report named) (λ i b. refl) (λ i b. refl)
-        (λ inputs. OfSource named inputs lattices before marks) (SourceGoes named lattices before marks) new
-        (λ inputs. IsEnd named inputs it) (λ these. EndStarts named (names_read these)) whole starting of result more
-      where
-        starting : (these : List Reading) → EndStarts named (names_read these) → SourceGoes named lattices before marks (r ∷ these)
-        starting these starts =
-            at_name (SourceStarts named lattices before marks (λ inputs. ReadsAs ((named.source, inputs.source) ∷ from_report named inputs) (r ∷ these))) r named.source _ same
-            (behind_source named lattices _ before marks _ starts
-            (λ inputs given. (unit, subst (λ (bytes : List ℕ). IsCounted named lattices before marks bytes unit) (sym (whole_is r inputs.source whole given.1)) counted)))
+    -- it is the unit
+    module _ (new : Standing) (unit : UnitRead) (whole : r.end ≡ Whole) (within : length r.bytes ≤ limit_in left)
+        (parses : SourceParses lattices number r.bytes unit) where
+      abbrev OfRest : Inputs → Status → List ℕ → Type 0
+      OfRest inputs =
+          OfSources named lattices (before ++ unit ∷ []) marks (IsEnd named inputs.report) (number + 1) (left - length r.bytes)
+          (files_with names (behind_first inputs.sources))
+
+      abbrev GoRest : List Reading → Type 0
+      GoRest = SourcesGo named lattices (before ++ unit ∷ []) marks (number + 1) (left - length r.bytes) names
+
+      -- those behind it, by the parts of all
+      among : (these : List Reading) (result : Result Answer Stop)
+          → IsSaid (from_sources named names)
+          (λ inputs. OfSources named lattices (before ++ unit ∷ []) marks (IsEnd named inputs.report) (number + 1) (left - length r.bytes) (files_with names inputs.sources)) these result
+          → IsSaid rest OfRest these result
+      among these (Ok answer) says = (says.0, λ inputs reads. says.1 (rest_of inputs) reads)
+      among these (Err ReadFault) says = says
+      among these (Err NoMemory) says = says
+
+      in_front : Inputs → Inputs
+      in_front inputs = record {
+        lattice = inputs.lattice;
+        prelude = inputs.prelude;
+        sources = [] ∷ inputs.sources;
+        report = inputs.report;
+      }
+
+      behind : (result : Result Answer Stop)
+          → SourcesAnswered mid new named lattices (before ++ unit ∷ []) marks (number + 1) (left - length r.bytes) names result
+          → Answered mid new rest OfRest GoRest result
+      behind result (these, by) = (
+        these,
+        record {
+          read = by.read;
+          in_turn = by.in_turn;
+          there = (in_front by.there.0, by.there.1);
+          starts = by.starts;
+          says = among these result by.says;
+        },
+      )
+
+      starting : (these : List Reading) → GoRest these → Go (r ∷ these)
+      starting these starts =
+          at_name (SourcesStart named lattices before marks number left (file ∷ names) (λ inputs. ReadsAs (from_sources named (file ∷ names) inputs) (r ∷ these)))
+          r file _ same
+          (one_starts named lattices before marks number left file r.bytes unit within parses names _
+          (λ inputs. ReadsAs (from_sources named names inputs) these) _
+          (λ inputs given. (whole_is r (first_of inputs.sources) whole given.1, given.2)) starts)
+
+      of : (inputs : Inputs) (status : Status) (text : List ℕ) → first_of inputs.sources ≡ r.bytes → OfRest inputs status text → Of inputs status text
+      of inputs status text here is =
+          subst (λ (content : List ℕ). OfSources named lattices before marks (IsEnd named inputs.report) number left
+          ((file, content) ∷ files_with names (behind_first inputs.sources)) status text) (sym here)
+          (one_of named lattices before marks number left file r.bytes unit within parses (IsEnd named inputs.report)
+          (files_with names (behind_first inputs.sources)) status text is)
+
+      pub source_goes : (result : Result Answer Stop)
+          → SourcesAnswered mid new named lattices (before ++ unit ∷ []) marks (number + 1) (left - length r.bytes) names result
+          → SourcesAnswered old new named lattices before marks number left (file ∷ names) result
+      source_goes result more =
+          reading.goes old mid r read file same (λ i. first_of i.sources) with_source rest (λ i b. refl) (λ i b. refl)
+          Of Go new OfRest GoRest whole starting of result (behind result more)
 
   -- a prelude
   module _ (file : List ℕ) (same : r.name ≡ file) (is : named.prelude ≡ Some file) (lattices : List LatticeView) where
@@ -161,13 +227,13 @@ module _ (old mid : Standing) (r : Reading) (read : ReadOn old mid (r ∷ [])) (
     pub prelude_stops : (limit : ℕ) (stop : Stop) → Finds limit r (Err stop) → UnitsAnswered old mid named lattices (Err stop)
     prelude_stops limit stop finds =
         at_prelude named (Some file) is (λ files. Prelude files mid (Err stop))
-        (reading.stops old mid r read file same (λ i. i.prelude) with_prelude (from_source named) (λ i b. refl) (λ i b. refl)
+        (reading.stops old mid r read file same (λ i. i.prelude) with_prelude (from_sources named named.sources) (λ i b. refl) (λ i b. refl)
         (λ inputs. OfUnits named inputs lattices) (UnitsGo named lattices) limit stop prelude_alone finds)
 
     pub prelude_lacks : (stop : Stop) → stop ≡ NoMemory → is_broken r.end ≡ false → UnitsAnswered old mid named lattices (Err stop)
     prelude_lacks stop memory whole =
         at_prelude named (Some file) is (λ files. Prelude files mid (Err stop))
-        (reading.lacks old mid r read file same (λ i. i.prelude) with_prelude (from_source named) (λ i b. refl) (λ i b. refl)
+        (reading.lacks old mid r read file same (λ i. i.prelude) with_prelude (from_sources named named.sources) (λ i b. refl) (λ i b. refl)
         (λ inputs. OfUnits named inputs lattices) (UnitsGo named lattices) stop memory prelude_alone whole)
 
     pub prelude_answers : (answer : Answer) → is_broken r.end ≡ false
@@ -175,29 +241,31 @@ module _ (old mid : Standing) (r : Reading) (read : ReadOn old mid (r ∷ [])) (
         → UnitsAnswered old mid named lattices (Ok answer)
     prelude_answers answer whole of =
         at_prelude named (Some file) is (λ files. Prelude files mid (Ok answer))
-        (reading.answers old mid r read file same (λ i. i.prelude) with_prelude (from_source named) (λ i b. refl) (λ i b. refl)
+        (reading.answers old mid r read file same (λ i. i.prelude) with_prelude (from_sources named named.sources) (λ i b. refl) (λ i b. refl)
         (λ inputs. OfUnits named inputs lattices) (UnitsGo named lattices) answer prelude_alone whole of)
 
-    pub prelude_goes : (new : Standing) (before : List UnitRead) (marks : List IndexMark) (whole : r.end ≡ Whole)
+    pub prelude_goes : (new : Standing) (before : List UnitRead) (marks : List IndexMark) (whole : r.end ≡ Whole) → 1 ≤ length named.sources
         → ((inputs : Inputs) → inputs.prelude ≡ r.bytes → AreBefore named inputs lattices before marks)
-        → (result : Result Answer Stop) → SourceAnswered mid new named lattices before marks result → UnitsAnswered old new named lattices result
-    prelude_goes new before marks whole are result more =
+        → (result : Result Answer Stop) → SourcesAnswered mid new named lattices before marks 1 total_limit named.sources result
+        → UnitsAnswered old new named lattices result
+    prelude_goes new before marks whole some are result more =
         at_prelude named (Some file) is (λ files. Prelude files new result)
-        (reading.goes old mid r read file same (λ i. i.prelude) with_prelude (from_source named) (λ i b. refl) (λ i b. refl)
-        (λ inputs. OfUnits named inputs lattices) (UnitsGo named lattices) new (λ inputs. OfSource named inputs lattices before marks)
-        (SourceGoes named lattices before marks) whole starting (λ inputs status text here of. PreludeRead before marks status text (are inputs here) of) result more)
+        (reading.goes old mid r read file same (λ i. i.prelude) with_prelude (from_sources named named.sources) (λ i b. refl) (λ i b. refl)
+        (λ inputs. OfUnits named inputs lattices) (UnitsGo named lattices) new
+        (λ inputs. OfSources named lattices before marks (IsEnd named inputs.report) 1 total_limit (sources_of named inputs))
+        (SourcesGo named lattices before marks 1 total_limit named.sources) whole starting (λ inputs status text here of. PreludeRead before marks status text (are inputs here) of) result more)
       where
-        starting : (these : List Reading) → SourceGoes named lattices before marks these → UnitsGo named lattices (r ∷ these)
+        starting : (these : List Reading) → SourcesGo named lattices before marks 1 total_limit named.sources these → UnitsGo named lattices (r ∷ these)
         starting these starts =
             at_name (UnitsStart named lattices (λ inputs. ReadsAs (from_prelude named inputs) (r ∷ these))) r file _ same
-            (units_start named lattices _ (λ inputs. ReadsAs (from_source named inputs) these) before marks _ (file ∷ []) (ap named_one is)
+            (units_start named lattices _ (λ inputs. ReadsAs (from_sources named named.sources inputs) these) before marks _ (file ∷ []) (ap named_one is) some
             (λ inputs given. (behind_prelude named (Some file) is inputs (r ∷ these) given).2)
             (λ inputs given. are inputs (whole_is r inputs.prelude whole (behind_prelude named (Some file) is inputs (r ∷ these) given).1)) starts)
 
   -- a report
   module _ (file : List ℕ) (same : r.name ≡ file) (is : named.report ≡ Some file) (it : Judging) where
     abbrev Report : (Inputs → List (List ℕ × List ℕ)) → Result Answer Stop → Type 0
-    Report files result = Answered old mid files (λ inputs. IsEnd named inputs it) (λ these. EndStarts named (names_read these)) result
+    Report files result = Answered old mid files (λ inputs. IsEnd named inputs.report it) (λ these. EndStarts named (names_read these)) result
 
     report_alone : EndStarts named (r.name ∷ [])
     report_alone = at_name (EndStarts named) r file [] same (OneReport file is)
@@ -206,39 +274,41 @@ module _ (old mid : Standing) (r : Reading) (read : ReadOn old mid (r ∷ [])) (
     report_stops limit stop finds =
         at_report named (Some file) is (λ files. Report files (Err stop))
         (reading.stops old mid r read file same (λ i. i.report) with_report (λ i. []) (λ i b. refl) (λ i b. refl)
-        (λ inputs. IsEnd named inputs it) (λ these. EndStarts named (names_read these)) limit stop report_alone finds)
+        (λ inputs. IsEnd named inputs.report it) (λ these. EndStarts named (names_read these)) limit stop report_alone finds)
 
     pub report_lacks : (stop : Stop) → stop ≡ NoMemory → is_broken r.end ≡ false → EndAnswered old mid named it (Err stop)
     report_lacks stop memory whole =
         at_report named (Some file) is (λ files. Report files (Err stop))
         (reading.lacks old mid r read file same (λ i. i.report) with_report (λ i. []) (λ i b. refl) (λ i b. refl)
-        (λ inputs. IsEnd named inputs it) (λ these. EndStarts named (names_read these)) stop memory report_alone whole)
+        (λ inputs. IsEnd named inputs.report it) (λ these. EndStarts named (names_read these)) stop memory report_alone whole)
 
     pub report_answers : (answer : Answer) → is_broken r.end ≡ false
-        → ((inputs : Inputs) → MayGive r.end inputs.report r.bytes → IsEnd named inputs it answer.status answer.text.items)
+        → ((inputs : Inputs) → MayGive r.end inputs.report r.bytes → IsEnd named inputs.report it answer.status answer.text.items)
         → EndAnswered old mid named it (Ok answer)
     report_answers answer whole of =
         at_report named (Some file) is (λ files. Report files (Ok answer))
         (reading.answers old mid r read file same (λ i. i.report) with_report (λ i. []) (λ i b. refl) (λ i b. refl)
-        (λ inputs. IsEnd named inputs it) (λ these. EndStarts named (names_read these)) answer report_alone whole of)
+        (λ inputs. IsEnd named inputs.report it) (λ these. EndStarts named (names_read these)) answer report_alone whole of)
 
 -- where no prelude is named
-pub no_prelude : (old new : Standing) (named : FileNames) (lattices : List LatticeView) → named.prelude ≡ None → (result : Result Answer Stop)
-    → SourceAnswered old new named lattices [] [] result → UnitsAnswered old new named lattices result
-no_prelude old new named lattices is result (these, by) = (
+pub no_prelude : (old new : Standing) (named : FileNames) (lattices : List LatticeView) → named.prelude ≡ None → 1 ≤ length named.sources
+    → (result : Result Answer Stop) → SourcesAnswered old new named lattices [] [] 1 total_limit named.sources result
+    → UnitsAnswered old new named lattices result
+no_prelude old new named lattices is some result (these, by) = (
   these,
   record {
     read = by.read;
     in_turn = by.in_turn;
     there = (by.there.0, at_prelude named None is (λ files. ReadsAs (files by.there.0) these) by.there.1);
     starts =
-        units_start named lattices _ (λ inputs. ReadsAs (from_source named inputs) these) [] [] _ [] (ap named_one is)
+        units_start named lattices _ (λ inputs. ReadsAs (from_sources named named.sources inputs) these) [] [] _ [] (ap named_one is) some
         (λ inputs given. behind_prelude named None is inputs these given) (λ inputs given. NoPrelude is) by.starts;
     says = said result by.says;
   },
 )
   where
-    said : (result : Result Answer Stop) → IsSaid (from_source named) (λ inputs. OfSource named inputs lattices [] []) these result
+    said : (result : Result Answer Stop) → IsSaid (from_sources named named.sources) 
+        (λ inputs. OfSources named lattices [] [] (IsEnd named inputs.report) 1 total_limit (sources_of named inputs)) these result
         → IsSaid (from_prelude named) (λ inputs. OfUnits named inputs lattices) these result
     said (Ok answer) says = (
       says.0,
@@ -250,7 +320,7 @@ no_prelude old new named lattices is result (these, by) = (
 
 -- where no report is asked for
 pub no_report : (s : Standing) (named : FileNames) (it : Judging) (result : Result Answer Stop)
-    → IsSaid (from_report named) (λ inputs. IsEnd named inputs it) [] result → EndAnswered s s named it result
+    → IsSaid (from_report named) (λ inputs. IsEnd named inputs.report it) [] result → EndAnswered s s named it result
 no_report s named it result says = (
   [],
   record {
@@ -262,12 +332,78 @@ no_report s named it result says = (
   },
 )
 
--- what is answered behind units and marks is answered behind equal ones
-pub at_source : (old new : Standing) (named : FileNames) (lattices : List LatticeView) (units other : List UnitRead) (marks same : List IndexMark)
-    (result : Result Answer Stop) → units ≡ other → marks ≡ same → SourceAnswered old new named lattices units marks result
-    → SourceAnswered old new named lattices other same result
-at_source old new named lattices units other marks same result one two is =
-    at_units (λ us ms. SourceAnswered old new named lattices us ms result) units other marks same one two is
+-- where no source is left: what comes of a program
+
+module _ (old new : Standing) (named : FileNames) (lattices : List LatticeView) (units : List UnitRead) (marks : List IndexMark) (number left : ℕ) where
+  behind_none : (P : List UnitRead → Type 0) → P units → P (units ++ [])
+  behind_none P is = subst P (sym (append-nil units)) is
+
+  pub program_goes : AreCounted named lattices marks units → (result : Result Answer Stop)
+      → EndAnswered old new named (judging_of named lattices marks units) result → SourcesAnswered old new named lattices units marks number left [] result
+  program_goes counted result (these, by) = (
+    these,
+    record {
+      read = by.read;
+      in_turn = by.in_turn;
+      there = by.there;
+      starts = end_starts named lattices units marks number left _ _ by.starts (λ inputs given. ([], NoSource number left, all));
+      says = said result by.says;
+    },
+  )
+    where
+      all : AreCounted named lattices marks (units ++ [])
+      all = behind_none (AreCounted named lattices marks) counted
+
+      said : (result : Result Answer Stop)
+          → IsSaid (from_report named) (λ inputs. IsEnd named inputs.report (judging_of named lattices marks units)) these result
+          → IsSaid (from_sources named [])
+          (λ inputs. OfSources named lattices units marks (IsEnd named inputs.report) number left (files_with [] inputs.sources)) these result
+      said (Ok answer) says = (
+        says.0,
+        λ inputs reads.
+            SourcesRead [] answer.status answer.text.items (NoSource number left) all
+            (behind_none (λ us. IsEnd named inputs.report (judging_of named lattices marks us) answer.status answer.text.items) (says.1 inputs reads)),
+      )
+      said (Err ReadFault) says = says
+      said (Err NoMemory) says = says
+
+module _ (s : Standing) (named : FileNames) (lattices : List LatticeView) (units : List UnitRead) (marks : List IndexMark) (number left : ℕ) where
+  no_more : (result : Result Answer Stop)
+      → IsSaid (from_sources named [])
+      (λ inputs. OfSources named lattices units marks (IsEnd named inputs.report) number left (files_with [] inputs.sources)) [] result
+      → SourcesAnswered s s named lattices units marks number left [] result
+  no_more result says = (
+    [],
+    record {
+      read = reading.nothing_read s;
+      in_turn = tt;
+      there = (reading.none, tt);
+      starts = NoneLeft refl;
+      says = says;
+    },
+  )
+
+  pub program_lacks : SourcesAnswered s s named lattices units marks number left [] (Err NoMemory)
+  program_lacks = no_more (Err NoMemory) refl
+
+  pub program_refused : (answer : Answer) → answer.status ≡ Malformed → UnitsRefused named lattices marks units answer.text.items
+      → SourcesAnswered s s named lattices units marks number left [] (Ok answer)
+  program_refused answer status is =
+      no_more (Ok answer) (
+        refl,
+        λ inputs reads.
+            subst (λ (st : Status). OfSources named lattices units marks (IsEnd named inputs.report) number left [] st answer.text.items) (sym status)
+            (NotCounted [] answer.text.items (NoSource number left)
+            (behind_none s s named lattices units marks number left (λ us. UnitsRefused named lattices marks us answer.text.items) is)),
+      )
+
+-- what is answered behind units and marks is answered behind equal marks
+pub at_marks : (old new : Standing) (named : FileNames) (lattices : List LatticeView) (units : List UnitRead) (marks same : List IndexMark)
+    (number left : ℕ) (names : List (List ℕ)) (result : Result Answer Stop) → marks ≡ same
+    → SourcesAnswered old new named lattices units marks number left names result
+    → SourcesAnswered old new named lattices units same number left names result
+at_marks old new named lattices units marks same number left names result is more =
+    subst (λ (ms : List IndexMark). SourcesAnswered old new named lattices units ms number left names result) is more
 
 -- the files of a task
 pub of_task : (old new : Standing) (task : Task) (named : FileNames) → names_of task ≡ Some named → (result : Result Answer Stop)

@@ -4,12 +4,9 @@ use Rattle.lattice_core.specs.View.{orders_of}
 use Rattle.flow_graph.specs.System.{System}
 use Rattle.flow_graph.specs.Unfolding.{IsAccepted}
 use Rattle.annotate.specs.Reports.{ErrorCount}
-use Rattle.c_types.specs.Sources.{UnitRead}
 use Rattle.generated_source.specs.declared.summary.Counts.{Counts}
 use Rattle.generated_source.specs.Summary.{summary_text}
-use Rattle.index_words.specs.Marks.{IndexMark}
 use Rattle.cqual_tool.specs.declared.status.Status.{Status}
-use Rattle.cqual_tool.specs.Words.{FileNames}
 use Rattle.cqual_tool.specs.Programs.{Judging}
 use Rattle.cqual_tool.specs.Outcome.{IsSummed, SummedUp, sum_status}
 use Rattle.cqual_tool.proofs.Outcomes.{at_equal}
@@ -34,13 +31,3 @@ summed_as number errors it sys counts status text system same spelled variables 
     (SummedUp errors (subst (λ (s : System). ErrorCount it.scene s (length s.constraints) errors) (sym system) found)
     (subst (λ (s : System). errors ≡ 0 → IsAccepted s (orders_of it.scene.lattices)) (sym system) holds)
     (subst (λ (s : System). 0 < errors → IsAccepted s (orders_of it.scene.lattices) → ⊥) (sym system) fails))
-
--- what holds of names, units, marks and bytes holds of equal ones
-pub at_made : (P : FileNames → List UnitRead → List IndexMark → List ℕ → Type 0) (names : FileNames) (units : List UnitRead)
-    (marks : List IndexMark) (bytes : List ℕ) (names' : FileNames) (units' : List UnitRead) (marks' : List IndexMark) (bytes' : List ℕ)
-    → names ≡ names' → units ≡ units' → marks ≡ marks' → bytes ≡ bytes' → P names units marks bytes → P names' units' marks' bytes'
-at_made P names units marks bytes names' units' marks' bytes' one two three four is =
-    subst (λ (ns : FileNames). P ns units' marks' bytes') one
-    (subst (λ (us : List UnitRead). P names us marks' bytes') two
-    (subst (λ (ms : List IndexMark). P names units ms bytes') three
-    (subst (λ (bs : List ℕ). P names units marks bs) four is)))

@@ -14,9 +14,9 @@ use Rattle.cqual_tool.specs.declared.taking.Stop.TheVariants.{ReadFault, NoMemor
 use Rattle.cqual_words.specs.Words.{Task}
 use Rattle.cqual_tool.specs.Words.{FileNames, names_of}
 use Rattle.cqual_tool.specs.Programs.{Judging}
-use Rattle.cqual_tool.specs.Inputs.{Inputs, files_named, files_of, from_prelude, from_report, from_source}
-use Rattle.cqual_tool.specs.Outcome.{IsEnd, OfFiles, OfSource, OfTask, OfUnits, Starts, TaskStarts}
-use Rattle.cqual_tool.specs.Preparing.{EndStarts, SourceStarts, UnitsStart}
+use Rattle.cqual_tool.specs.Inputs.{Inputs, files_named, files_of, files_with, from_prelude, from_report, from_sources}
+use Rattle.cqual_tool.specs.Outcome.{IsEnd, OfFiles, OfSources, OfTask, OfUnits, Starts, TaskStarts}
+use Rattle.cqual_tool.specs.Preparing.{EndStarts, SourcesStart, UnitsStart}
 
 -- what taking a file gives, by its reading: all its bytes, or none where it has more than the limit
 abbrev pub Finds : ℕ → Reading → Result (Option (Vec ℕ Global)) Stop → Type 0
@@ -46,19 +46,22 @@ abbrev pub Answered : Standing → Standing → (Inputs → List (List ℕ × Li
     → Result Answer Stop → Type 0
 Answered old new files Of Starting result = (these : List Reading) × AnsweredBy old new files Of Starting result these
 
--- behind a source
+-- behind the sources
 abbrev pub EndAnswered : Standing → Standing → FileNames → Judging → Result Answer Stop → Type 0
 EndAnswered old new named it result =
-    Answered old new (from_report named) (λ inputs. IsEnd named inputs it) (λ these. EndStarts named (names_read these)) result
+    Answered old new (from_report named) (λ inputs. IsEnd named inputs.report it) (λ these. EndStarts named (names_read these)) result
 
--- from the source on
-abbrev pub SourceGoes : FileNames → List LatticeView → List UnitRead → List IndexMark → List Reading → Type 0
-SourceGoes named lattices before marks these =
-    SourceStarts named lattices before marks (λ inputs. ReadsAs (from_source named inputs) these) (names_read these)
+-- from some sources on, the first of which has this number, where so many bytes are left for all of them
+abbrev pub SourcesGo : FileNames → List LatticeView → List UnitRead → List IndexMark → ℕ → ℕ → List (List ℕ) → List Reading → Type 0
+SourcesGo named lattices before marks number left names these =
+    SourcesStart named lattices before marks number left names (λ inputs. ReadsAs (from_sources named names inputs) these) (names_read these)
 
-abbrev pub SourceAnswered : Standing → Standing → FileNames → List LatticeView → List UnitRead → List IndexMark → Result Answer Stop → Type 0
-SourceAnswered old new named lattices before marks result =
-    Answered old new (from_source named) (λ inputs. OfSource named inputs lattices before marks) (SourceGoes named lattices before marks) result
+abbrev pub SourcesAnswered : Standing → Standing → FileNames → List LatticeView → List UnitRead → List IndexMark → ℕ → ℕ → List (List ℕ)
+    → Result Answer Stop → Type 0
+SourcesAnswered old new named lattices before marks number left names result =
+    Answered old new (from_sources named names)
+    (λ inputs. OfSources named lattices before marks (IsEnd named inputs.report) number left (files_with names inputs.sources))
+    (SourcesGo named lattices before marks number left names) result
 
 -- behind the lattice file
 abbrev pub UnitsGo : FileNames → List LatticeView → List Reading → Type 0

@@ -1,15 +1,15 @@
 -- The files of one call by what they are for. They go by part and not by name: a file that is read twice may give two contents
--- on a disk that changes, as where the prelude is the source.
-use Rattle.std.specs.Prelude.{ℕ, List, [], ◌∷◌, ◌++◌, Option, Some, None}
+-- on a disk that changes, as where one source is named twice.
+use Rattle.std.specs.Prelude.{ℕ, List, [], ◌∷◌, ◌++◌, map, Option, Some, None}
 use Rattle.outside.specs.Readings.{content_of}
 use Rattle.cqual_words.specs.Words.{Task, meaning_of}
 use Rattle.cqual_tool.specs.Words.{FileNames, names_of}
 
--- the bytes of each part
+-- the bytes of each part; those of the sources in their order
 pub record Inputs : Type 0 where
   pub lattice : List ℕ
   pub prelude : List ℕ
-  pub source : List ℕ
+  pub sources : List (List ℕ)
   pub report : List ℕ
 
 -- a file, as its name and its bytes, where it is named
@@ -17,16 +17,30 @@ abbrev pub one_file : Option (List ℕ) → List ℕ → List (List ℕ × List 
 one_file None bytes = []
 one_file (Some name) bytes = (name, bytes) ∷ []
 
--- The files that are named, in the order in which they are read: the report, those from the source on, those from the prelude on,
+-- the bytes of the first of some files, and those of the others; a file of which nothing is said is empty
+abbrev pub first_of : List (List ℕ) → List ℕ
+first_of [] = []
+first_of (bytes ∷ contents) = bytes
+
+abbrev pub behind_first : List (List ℕ) → List (List ℕ)
+behind_first [] = []
+behind_first (bytes ∷ contents) = contents
+
+-- files, each as its name and its bytes, by their names and what they hold in that order
+abbrev pub files_with : List (List ℕ) → List (List ℕ) → List (List ℕ × List ℕ)
+files_with [] contents = []
+files_with (name ∷ names) contents = (name, first_of contents) ∷ files_with names (behind_first contents)
+
+-- The files that are named, in the order in which they are read: the report, those from some sources on, those from the prelude on,
 -- and all.
 abbrev pub from_report : FileNames → Inputs → List (List ℕ × List ℕ)
 from_report named inputs = one_file named.report inputs.report
 
-abbrev pub from_source : FileNames → Inputs → List (List ℕ × List ℕ)
-from_source named inputs = (named.source, inputs.source) ∷ from_report named inputs
+abbrev pub from_sources : FileNames → List (List ℕ) → Inputs → List (List ℕ × List ℕ)
+from_sources named names inputs = files_with names inputs.sources ++ from_report named inputs
 
 abbrev pub from_prelude : FileNames → Inputs → List (List ℕ × List ℕ)
-from_prelude named inputs = one_file named.prelude inputs.prelude ++ from_source named inputs
+from_prelude named inputs = one_file named.prelude inputs.prelude ++ from_sources named named.sources inputs
 
 abbrev pub files_of : FileNames → Inputs → List (List ℕ × List ℕ)
 files_of named inputs = (named.lattice, inputs.lattice) ∷ from_prelude named inputs
@@ -49,11 +63,11 @@ content_named files None = []
 content_named files (Some name) = content_of files name
 
 abbrev pub inputs_of : List (List ℕ × List ℕ) → Option FileNames → Inputs
-inputs_of files None = record { lattice = []; prelude = []; source = []; report = [] }
+inputs_of files None = record { lattice = []; prelude = []; sources = []; report = [] }
 inputs_of files (Some named) = record {
   lattice = content_of files named.lattice;
   prelude = content_named files named.prelude;
-  source = content_of files named.source;
+  sources = map (content_of files) named.sources;
   report = content_named files named.report;
 }
 

@@ -1,5 +1,5 @@
 -- What the tool answers and writes, for the words and the bytes of the files.
-use Rattle.std.specs.Prelude.{◌≡◌, ◌≢◌, ℕ, zero, suc, Bool, true, false, ◌<◌, ◌≤◌, List, [], ◌∷◌, ◌++◌, length, Some, None, codes, Option}
+use Rattle.std.specs.Prelude.{◌≡◌, ◌≢◌, ℕ, zero, suc, ◌+◌, ◌-◌, nat_le, Bool, true, false, ◌<◌, ◌≤◌, List, [], ◌∷◌, ◌++◌, length, take, Some, None, codes, Option, if◌then◌else◌}
 use Rattle.outside.specs.Readings.{Reading, ReadsAs, names_read}
 use Rattle.qual_base.specs.Words.{MeansTheSame}
 use Rattle.lattice_core.specs.Names.{words_of}
@@ -40,13 +40,13 @@ use Rattle.cqual_words.specs.Words.{Task, Generate, meaning_of}
 use Rattle.generated_source.specs.Source.{generated_text, lattice_text}
 use Rattle.generated_source.specs.Summary.{summary_text}
 use Rattle.cqual_tool.specs.Words.{FileNames, names_of}
-use Rattle.cqual_tool.specs.Inputs.{Inputs, asked}
+use Rattle.cqual_tool.specs.Inputs.{Inputs, asked, files_with}
 use Rattle.cqual_tool.specs.Texts.{usage_line, malformed_line}
 use Rattle.cqual_tool.specs.Faults.{lattice_line, lex_line}
 use Rattle.cqual_tool.specs.Syntax.{syntax_line}
 use Rattle.cqual_tool.specs.Shapes.{shape_line}
 use Rattle.cqual_tool.specs.Preludes.{prelude_line}
-use Rattle.cqual_tool.specs.Programs.{Judging, judging_of, texts_of}
+use Rattle.cqual_tool.specs.Programs.{Judging, judging_of, last_of, texts_of}
 
 -- the most bytes that a lattice file, a prelude or a source, and a report may have
 abbrev pub lattice_limit : ℕ
@@ -54,6 +54,10 @@ lattice_limit = 1048576
 
 abbrev pub source_limit : ℕ
 source_limit = 16777216
+
+-- the most bytes that all sources together may have
+abbrev pub total_limit : ℕ
+total_limit = 67108864
 
 abbrev pub report_limit : ℕ
 report_limit = 268435456
@@ -84,61 +88,77 @@ pub record PreludeFails (lattices : List LatticeView) (bytes : List ℕ) (fault 
   pub refused : IsFaultOf words bytes fault
   pub reason : fault ≢ OutOfSpace
 
--- the units before the source, and what their index words say: those of the prelude that is named, if one is
+-- the units before the sources, and what their index words say: those of the prelude that is named, if one is
 pub data AreBefore (named : FileNames) (inputs : Inputs) (lattices : List LatticeView) : List UnitRead → List IndexMark → Type 0 where
   NoPrelude : named.prelude ≡ None → AreBefore named inputs lattices [] []
   OnePrelude : (file : List ℕ) (unit : UnitRead) (marks : List IndexMark) → named.prelude ≡ Some file →
       PreludeReads lattices inputs.prelude unit marks → AreBefore named inputs lattices (unit ∷ []) marks
 
--- the bytes are within the limit, and spell these tokens where words mean what the names of the lattices do
-pub record SourceLexes (lattices : List LatticeView) (bytes : List ℕ) (lexed : Lexed) : Type 0 where
-  pub within : length bytes ≤ source_limit
-  pub unit : lexed.unit ≡ 1
+-- the bytes of the unit of this number spell these tokens where words mean what the names of the lattices do
+pub record SourceLexes (lattices : List LatticeView) (number : ℕ) (bytes : List ℕ) (lexed : Lexed) : Type 0 where
+  pub unit : lexed.unit ≡ number
   pub bytes_are : lexed.bytes ≡ bytes
   pub marks : IsMarkedBy (words_of lattices) lexed
 
--- the bytes are within the limit, and stop to spell tokens at the place of this fault
-pub record SourceFails (lattices : List LatticeView) (bytes : List ℕ) (fault : LexFault) : Type 0 where
-  pub within : length bytes ≤ source_limit
+-- the bytes stop to spell tokens at the place of this fault
+pub record SourceFails (lattices : List LatticeView) (number : ℕ) (bytes : List ℕ) (fault : LexFault) : Type 0 where
   pub words : Meanings
   pub mean : MeansTheSame words (words_of lattices)
-  pub refused : IsRefusal 1 words bytes fault
+  pub refused : IsRefusal number words bytes fault
   pub reason : fault ≢ NoRoom
 
 -- the tokens are those of this well-formed unit
-pub record SourceParses (lattices : List LatticeView) (bytes : List ℕ) (it : UnitRead) : Type 0 where
-  pub lexes : SourceLexes lattices bytes it.lexed
+pub record SourceParses (lattices : List LatticeView) (number : ℕ) (bytes : List ℕ) (it : UnitRead) : Type 0 where
+  pub lexes : SourceLexes lattices number bytes it.lexed
   pub formed : IsWellFormed (lexemes_of it.lexed) it.items
 
--- the names and types of the units before it and of the source have no fault
-pub record SourceReads (lattices : List LatticeView) (before : List UnitRead) (bytes : List ℕ) (it : UnitRead) : Type 0 where
-  pub parses : SourceParses lattices bytes it
-  pub shaped : HasNoFault (sources_in (before ++ it ∷ []))
+-- the whole line for the bytes of a file that are no tokens, or whose tokens are those of no well-formed unit
+pub data SourceRefused (lattices : List LatticeView) (number : ℕ) (file bytes : List ℕ) : List ℕ → Type 0 where
+  Unspelled : (fault : LexFault) → SourceFails lattices number bytes fault → SourceRefused lattices number file bytes (lex_line file bytes fault)
+  Unparsed : (lexed : Lexed) (fault : ParseFault) → SourceLexes lattices number bytes lexed → fault ≢ OutOfRoom → IsUnitRefusal lexed fault →
+      SourceRefused lattices number file bytes (syntax_line file lexed fault)
 
--- The whole line for a source that does not read, or whose variables, counted first, or constraints are too many.
-pub data IsRefused (named : FileNames) (lattices : List LatticeView) (before : List UnitRead) (marks : List IndexMark) (bytes : List ℕ) : List ℕ → Type 0 where
-  Unspelled : (fault : LexFault) → SourceFails lattices bytes fault →
-      IsRefused named lattices before marks bytes (lex_line named.source bytes fault)
-  Unparsed : (lexed : Lexed) (fault : ParseFault) → SourceLexes lattices bytes lexed → fault ≢ OutOfRoom → IsUnitRefusal lexed fault →
-      IsRefused named lattices before marks bytes (syntax_line named.source lexed fault)
-  Faulty : (it : UnitRead) (fault : ShapeFault) → SourceParses lattices bytes it → fault ≢ OutOfNames →
-      IsFirstUnlessMemory fault (faults_of (sources_in (before ++ it ∷ []))) →
-      IsRefused named lattices before marks bytes (shape_line named.source (texts_of named (lexed_of (before ++ it ∷ []))) fault)
-  ManyVariables : (it : UnitRead) → SourceReads lattices before bytes it →
-      most_variables < length (judging_of named lattices marks (before ++ it ∷ [])).scene.positions →
-      IsRefused named lattices before marks bytes (malformed_line named.source (codes "Q1"))
-  ManyConstraints : (it : UnitRead) → SourceReads lattices before bytes it →
-      length (judging_of named lattices marks (before ++ it ∷ [])).scene.positions ≤ most_variables →
-      most_constraints < length (judging_of named lattices marks (before ++ it ∷ [])).system.constraints →
-      IsRefused named lattices before marks bytes (malformed_line named.source (codes "G1"))
+-- the most bytes of a source, where so many are left for it and those behind it
+abbrev pub limit_in : ℕ → ℕ
+limit_in left = if nat_le left source_limit then left else source_limit
 
--- the source reads, and the counts are within their limits
-pub record IsCounted (named : FileNames) (lattices : List LatticeView) (before : List UnitRead) (marks : List IndexMark) (bytes : List ℕ) (it : UnitRead) : Type 0 where
-  pub reads : SourceReads lattices before bytes it
-  pub few_variables : length (judging_of named lattices marks (before ++ it ∷ [])).scene.positions ≤ most_variables
-  pub few_constraints : length (judging_of named lattices marks (before ++ it ∷ [])).system.constraints ≤ most_constraints
+-- Sources, each its name and its bytes, are these units: the first has this number, and each other the next one. So many bytes are left
+-- for all of them together.
+pub data SourcesParse (lattices : List LatticeView) : ℕ → ℕ → List (List ℕ × List ℕ) → List UnitRead → Type 0 where
+  NoSource : (number left : ℕ) → SourcesParse lattices number left [] []
+  OneSource : (number left : ℕ) (file bytes : List ℕ) (more : List (List ℕ × List ℕ)) (unit : UnitRead) (units : List UnitRead) →
+      length bytes ≤ limit_in left → SourceParses lattices number bytes unit →
+      SourcesParse lattices (number + 1) (left - length bytes) more units →
+      SourcesParse lattices number left ((file, bytes) ∷ more) (unit ∷ units)
 
--- the unit of which the annotated source is asked for: 1 is the source
+-- The whole line for sources of which one has too many bytes or is no well-formed unit: for the first of these.
+pub data SourcesFail (lattices : List LatticeView) : ℕ → ℕ → List (List ℕ × List ℕ) → List ℕ → Type 0 where
+  TooLarge : (number left : ℕ) (file bytes : List ℕ) (more : List (List ℕ × List ℕ)) → limit_in left < length bytes →
+      SourcesFail lattices number left ((file, bytes) ∷ more) (malformed_line file (codes "F2"))
+  Refused : (number left : ℕ) (file bytes : List ℕ) (more : List (List ℕ × List ℕ)) (text : List ℕ) → length bytes ≤ limit_in left →
+      SourceRefused lattices number file bytes text → SourcesFail lattices number left ((file, bytes) ∷ more) text
+  Later : (number left : ℕ) (file bytes : List ℕ) (more : List (List ℕ × List ℕ)) (unit : UnitRead) (text : List ℕ) →
+      length bytes ≤ limit_in left → SourceParses lattices number bytes unit →
+      SourcesFail lattices (number + 1) (left - length bytes) more text → SourcesFail lattices number left ((file, bytes) ∷ more) text
+
+-- The whole line for well-formed units, the prelude's too, whose names and types have a fault, or whose variables, counted first, or
+-- constraints are too many.
+pub data UnitsRefused (named : FileNames) (lattices : List LatticeView) (marks : List IndexMark) (units : List UnitRead) : List ℕ → Type 0 where
+  Faulty : (fault : ShapeFault) → fault ≢ OutOfNames → IsFirstUnlessMemory fault (faults_of (sources_in units)) →
+      UnitsRefused named lattices marks units (shape_line (last_of named.sources) (texts_of named (lexed_of units)) fault)
+  ManyVariables : HasNoFault (sources_in units) → most_variables < length (judging_of named lattices marks units).scene.positions →
+      UnitsRefused named lattices marks units (malformed_line (last_of named.sources) (codes "Q1"))
+  ManyConstraints : HasNoFault (sources_in units) → length (judging_of named lattices marks units).scene.positions ≤ most_variables →
+      most_constraints < length (judging_of named lattices marks units).system.constraints →
+      UnitsRefused named lattices marks units (malformed_line (last_of named.sources) (codes "G1"))
+
+-- the names and types of units have no fault, and the counts are within their limits
+pub record AreCounted (named : FileNames) (lattices : List LatticeView) (marks : List IndexMark) (units : List UnitRead) : Type 0 where
+  pub shaped : HasNoFault (sources_in units)
+  pub few_variables : length (judging_of named lattices marks units).scene.positions ≤ most_variables
+  pub few_constraints : length (judging_of named lattices marks units).system.constraints ≤ most_constraints
+
+-- the unit of which the annotated source is asked for: 1 is the one source
 abbrev pub annotated_unit : Bool → Option ℕ
 annotated_unit true = Some 1
 annotated_unit false = None
@@ -156,23 +176,29 @@ pub data IsChecked (it : Judging) (bytes : List ℕ) : Status → List ℕ → T
   Failing : (line : ℕ) (code : Code) → ComesTo it.system (orders_of it.scene.lattices) bytes (Bad line code) →
       IsChecked it bytes PathBad (checked_text (Bad line code))
 
--- The status and the whole text for a program within the limits, by what is asked of it.
-pub data IsEnd (named : FileNames) (inputs : Inputs) (it : Judging) : Status → List ℕ → Type 0 where
-  Inferred : (status : Status) (text : List ℕ) → named.report ≡ None → IsReport named it status text → IsEnd named inputs it status text
-  ReportTooLarge : (file : List ℕ) → named.report ≡ Some file → report_limit < length inputs.report →
-      IsEnd named inputs it Malformed (malformed_line file (codes "F2"))
-  ReportChecked : (file : List ℕ) (status : Status) (text : List ℕ) → named.report ≡ Some file → length inputs.report ≤ report_limit →
-      IsChecked it inputs.report status text → IsEnd named inputs it status text
+-- The status and the whole text for a program within the limits, by what is asked of it, and by the bytes of the report.
+pub data IsEnd (named : FileNames) (report : List ℕ) (it : Judging) : Status → List ℕ → Type 0 where
+  Inferred : (status : Status) (text : List ℕ) → named.report ≡ None → IsReport named it status text → IsEnd named report it status text
+  ReportTooLarge : (file : List ℕ) → named.report ≡ Some file → report_limit < length report →
+      IsEnd named report it Malformed (malformed_line file (codes "F2"))
+  ReportChecked : (file : List ℕ) (status : Status) (text : List ℕ) → named.report ≡ Some file → length report ≤ report_limit →
+      IsChecked it report status text → IsEnd named report it status text
 
--- The status and the whole text for the source, behind lattices and units that were read.
-pub data OfSource (named : FileNames) (inputs : Inputs) (lattices : List LatticeView) (before : List UnitRead) (marks : List IndexMark) : Status → List ℕ → Type 0 where
-  SourceTooLarge : source_limit < length inputs.source →
-      OfSource named inputs lattices before marks Malformed (malformed_line named.source (codes "F2"))
-  SourceRefused : (text : List ℕ) → IsRefused named lattices before marks inputs.source text →
-      OfSource named inputs lattices before marks Malformed text
-  SourceRead : (it : UnitRead) (status : Status) (text : List ℕ) → IsCounted named lattices before marks inputs.source it →
-      IsEnd named inputs (judging_of named lattices marks (before ++ it ∷ [])) status text →
-      OfSource named inputs lattices before marks status text
+-- The status and the whole text for sources, each its name and its bytes, behind lattices and units that were read: the first has this
+-- number, and so many bytes are left for all of them. `Ends` is what comes of their program.
+pub data OfSources (named : FileNames) (lattices : List LatticeView) (before : List UnitRead) (marks : List IndexMark)
+    (Ends : Judging → Status → List ℕ → Type 0) (number left : ℕ) (sources : List (List ℕ × List ℕ)) : Status → List ℕ → Type 0 where
+  NotParsed : (text : List ℕ) → SourcesFail lattices number left sources text →
+      OfSources named lattices before marks Ends number left sources Malformed text
+  NotCounted : (units : List UnitRead) (text : List ℕ) → SourcesParse lattices number left sources units →
+      UnitsRefused named lattices marks (before ++ units) text → OfSources named lattices before marks Ends number left sources Malformed text
+  SourcesRead : (units : List UnitRead) (status : Status) (text : List ℕ) → SourcesParse lattices number left sources units →
+      AreCounted named lattices marks (before ++ units) → Ends (judging_of named lattices marks (before ++ units)) status text →
+      OfSources named lattices before marks Ends number left sources status text
+
+-- the sources that are named, with their bytes
+abbrev pub sources_of : FileNames → Inputs → List (List ℕ × List ℕ)
+sources_of named inputs = files_with named.sources inputs.sources
 
 -- The status and the whole text behind lattices that were read: first for the prelude, where one is named.
 pub data OfUnits (named : FileNames) (inputs : Inputs) (lattices : List LatticeView) : Status → List ℕ → Type 0 where
@@ -181,7 +207,8 @@ pub data OfUnits (named : FileNames) (inputs : Inputs) (lattices : List LatticeV
   PreludeRefused : (file : List ℕ) (fault : PreludeFault) → named.prelude ≡ Some file → PreludeFails lattices inputs.prelude fault →
       OfUnits named inputs lattices Malformed (prelude_line file inputs.prelude fault)
   PreludeRead : (before : List UnitRead) (marks : List IndexMark) (status : Status) (text : List ℕ) → AreBefore named inputs lattices before marks →
-      OfSource named inputs lattices before marks status text → OfUnits named inputs lattices status text
+      OfSources named lattices before marks (IsEnd named inputs.report) 1 total_limit (sources_of named inputs) status text →
+      OfUnits named inputs lattices status text
 
 -- The status and the whole text for files that are named, by the bytes of each.
 pub data OfFiles (named : FileNames) (inputs : Inputs) : Status → List ℕ → Type 0 where
@@ -192,7 +219,7 @@ pub data OfFiles (named : FileNames) (inputs : Inputs) : Status → List ℕ →
 
 -- the names of the files that the tool makes itself
 abbrev pub made_names : FileNames
-made_names = record { lattice = codes "generated.q"; prelude = None; annotated = false; report = None; source = codes "generated.c" }
+made_names = record { lattice = codes "generated.q"; prelude = None; annotated = false; report = None; sources = codes "generated.c" ∷ [] }
 
 abbrev pub sum_status : ℕ → Status
 sum_status zero = Accepted
@@ -215,12 +242,9 @@ pub data IsSummed (number : ℕ) (it : Judging) : Status → List ℕ → Type 0
 pub data OfMade (number : ℕ) : Status → List ℕ → Type 0 where
   MadeLatticesRefused : (fault : LatticeFileFault) → LatticesFail lattice_text fault →
       OfMade number Malformed (lattice_line made_names.lattice fault)
-  MadeTooLarge : source_limit < length (generated_text number) → OfMade number Malformed (malformed_line made_names.source (codes "F2"))
-  MadeRefused : (lattices : List LatticeView) (text : List ℕ) → LatticesRead lattice_text lattices →
-      IsRefused made_names lattices [] [] (generated_text number) text → OfMade number Malformed text
-  MadeRead : (lattices : List LatticeView) (it : UnitRead) (status : Status) (text : List ℕ) → LatticesRead lattice_text lattices →
-      IsCounted made_names lattices [] [] (generated_text number) it →
-      IsSummed number (judging_of made_names lattices [] (it ∷ [])) status text → OfMade number status text
+  MadeRead : (lattices : List LatticeView) (status : Status) (text : List ℕ) → LatticesRead lattice_text lattices →
+      OfSources made_names lattices [] [] (IsSummed number) 1 total_limit (files_with made_names.sources (generated_text number ∷ [])) status text →
+      OfMade number status text
 
 -- The status and the whole text for what is asked, by the bytes of each part.
 pub data OfTask (inputs : Inputs) (task : Task) : Status → List ℕ → Type 0 where
@@ -267,18 +291,20 @@ abbrev pub named_one : Option (List ℕ) → List (List ℕ)
 named_one None = []
 named_one (Some name) = name ∷ []
 
--- what was read before the prelude, before the source, and before the report
+-- what was read before the prelude, before a source behind so many others, and before the report
 
 pub record LatticesAreRead (named : FileNames) (inputs : Inputs) : Type 0 where
   pub lattices : List LatticeView
   pub read : LatticesRead inputs.lattice lattices
 
-pub record UnitsAreRead (named : FileNames) (inputs : Inputs) : Type 0 where
+pub record SourcesAreRead (named : FileNames) (inputs : Inputs) (count : ℕ) : Type 0 where
   pub lattices : List LatticeView
   pub read : LatticesRead inputs.lattice lattices
   pub before : List UnitRead
   pub marks : List IndexMark
   pub are : AreBefore named inputs lattices before marks
+  pub units : List UnitRead
+  pub parse : SourcesParse lattices 1 total_limit (take count (sources_of named inputs)) units
 
 pub record ProgramIsRead (named : FileNames) (inputs : Inputs) : Type 0 where
   pub lattices : List LatticeView
@@ -286,19 +312,20 @@ pub record ProgramIsRead (named : FileNames) (inputs : Inputs) : Type 0 where
   pub before : List UnitRead
   pub marks : List IndexMark
   pub are : AreBefore named inputs lattices before marks
-  pub unit : UnitRead
-  pub counted : IsCounted named lattices before marks inputs.source unit
+  pub units : List UnitRead
+  pub parse : SourcesParse lattices 1 total_limit (sources_of named inputs) units
+  pub counted : AreCounted named lattices marks (before ++ units)
 
--- The files that are started, in order, by their names: the lattice file, the prelude, the source and the report, each only where
+-- The files that are started, in order, by their names: the lattice file, the prelude, the sources and the report, each only where
 -- those before it have read. Given are the bytes of the parts: all that give the readings.
 pub data Starts (named : FileNames) (Given : Inputs → Type 0) : List (List ℕ) → Type 0 where
   LatticeAlone : Starts named Given (named.lattice ∷ [])
   ThenPrelude : (file : List ℕ) → named.prelude ≡ Some file → ((inputs : Inputs) → Given inputs → LatticesAreRead named inputs) →
       Starts named Given (named.lattice ∷ file ∷ [])
-  ThenSource : ((inputs : Inputs) → Given inputs → UnitsAreRead named inputs) →
-      Starts named Given (named.lattice ∷ named_one named.prelude ++ named.source ∷ [])
+  ThenSource : (count : ℕ) → count < length named.sources → ((inputs : Inputs) → Given inputs → SourcesAreRead named inputs count) →
+      Starts named Given (named.lattice ∷ named_one named.prelude ++ take (suc count) named.sources)
   ThenReport : (file : List ℕ) → named.report ≡ Some file → ((inputs : Inputs) → Given inputs → ProgramIsRead named inputs) →
-      Starts named Given (named.lattice ∷ named_one named.prelude ++ named.source ∷ file ∷ [])
+      Starts named Given (named.lattice ∷ named_one named.prelude ++ named.sources ++ file ∷ [])
 
 -- the files that a task starts: a source that the tool makes itself starts none
 pub data TaskStarts (task : Task) (Given : Inputs → Type 0) : List (List ℕ) → Type 0 where

@@ -1,5 +1,5 @@
--- What is made of a source: a line that refuses it, or a program with its constraints.
-use Rattle.std.specs.Prelude.{◌≡◌, ℕ, false, All, List, [], ◌∷◌, ◌++◌, Some}
+-- What is made of sources: a line that refuses them, or a program with its constraints.
+use Rattle.std.specs.Prelude.{◌≡◌, ◌<◌, ◌≤◌, ◌+◌, ℕ, suc, false, All, List, [], ◌∷◌, ◌++◌, length, take, Some}
 use Rattle.lattice_core.specs.View.{LatticeView, orders_of}
 use Rattle.c_lexer.specs.Tokens.{Lexed}
 use Rattle.unit_types.specs.declared.program.UnitTape.{UnitTape}
@@ -16,27 +16,29 @@ use Rattle.constraint_gen.specs.Programs.{program_in}
 use Rattle.constraint_gen.specs.Generating.{IsGenerated}
 use Rattle.cqual_tool.specs.declared.status.Status.TheVariants.{Malformed}
 use Rattle.cqual_tool.specs.declared.preparing.Earlier.{Earlier}
+use Rattle.cqual_tool.specs.declared.preparing.Joined.{Joined}
+use Rattle.cqual_tool.specs.declared.preparing.Joined.TheVariants as joined
 use Rattle.cqual_tool.specs.declared.preparing.Ready.{Ready}
 use Rattle.cqual_tool.specs.declared.preparing.Prepared.{Prepared}
 use Rattle.cqual_tool.specs.declared.preparing.Prepared.TheVariants.{Refused, Program}
 use Rattle.cqual_tool.specs.Words.{FileNames}
-use Rattle.cqual_tool.specs.Inputs.{Inputs}
-use Rattle.cqual_tool.specs.Outcome.{AreBefore, IsCounted, IsRefused, named_one}
+use Rattle.cqual_tool.specs.Inputs.{Inputs, files_with}
+use Rattle.cqual_tool.specs.Outcome.{AreBefore, AreCounted, SourceParses, SourceRefused, SourcesParse, UnitsRefused, named_one, sources_of, total_limit}
 
 -- its items are well formed of its own tokens
 abbrev pub IsFormed : UnitRead → Type 0
 IsFormed it = IsWellFormed (lexemes_of it.lexed) it.items
 
--- units that may stand before a source, which is unit 1: each is well formed, and no two have one number
-pub record AreEarlier (units : List UnitRead) : Type 0 where
+-- units that may stand before a source of this number: each is well formed, no two have one number, and each has a lower one
+pub record AreEarlier (number : ℕ) (units : List UnitRead) : Type 0 where
   pub formed : All IsFormed units
   pub differ : UnitsDiffer (sources_in units)
-  pub none_is_source : has_unit 1 (sources_in units) ≡ false
+  pub lower : (n : ℕ) → number ≤ n → has_unit n (sources_in units) ≡ false
 
--- units that may stand before a source, of which this is left
-pub record IsEarlier (before : List UnitRead) (it : Earlier) : Type 0 where
+-- units that may stand before a source of this number, of which this is left
+pub record IsEarlier (number : ℕ) (before : List UnitRead) (it : Earlier) : Type 0 where
   pub are : AreReduced before it.units
-  pub may : AreEarlier before
+  pub may : AreEarlier number before
 
 -- the tokens and the tapes of units that are read together: each is well formed of its tokens, and no two have one number
 pub record AreJoined (units : List UnitRead) (tokens : List Lexed) (tapes : List UnitTape) : Type 0 where
@@ -44,52 +46,72 @@ pub record AreJoined (units : List UnitRead) (tokens : List Lexed) (tapes : List
   pub read : All IsRead (sources_in units)
   pub differ : UnitsDiffer (sources_in units)
 
--- A program of the units before a source and of that source, within the limits, with its constraints: no flow leaves a
--- function but by a call, and each constant and bound names a lattice and an element of it.
-pub record IsReady (named : FileNames) (lattices : List LatticeView) (before : List UnitRead) (marks : List IndexMark) (bytes : List ℕ) (it : Ready) : Type 0 where
-  pub unit : UnitRead
-  pub counted : IsCounted named lattices before marks bytes unit
-  pub units : it.tokens.items ≡ lexed_of (before ++ unit ∷ [])
-  pub made : IsGenerated (before ++ unit ∷ []) (program_in lattices marks (before ++ unit ∷ [])) it.made
+-- what is made of the bytes of a source of this number behind other units: a line that refuses it, or these units with it behind them
+abbrev pub IsOneMore : List LatticeView → ℕ → List ℕ → List ℕ → List UnitRead → List IndexMark → Joined → Type 0
+IsOneMore lattices number file bytes before marks (joined.Refused answer) =
+    (answer.status ≡ Malformed) × SourceRefused lattices number file bytes answer.text.items
+IsOneMore lattices number file bytes before marks (joined.Units it) =
+    (unit : UnitRead) × SourceParses lattices number bytes unit × IsEarlier (number + 1) (before ++ unit ∷ []) it × (it.prelude ≡ marks)
+
+-- A program of units, within the limits, with its constraints: no flow leaves a function but by a call, and each constant and bound
+-- names a lattice and an element of it.
+pub record IsReady (named : FileNames) (lattices : List LatticeView) (marks : List IndexMark) (units : List UnitRead) (it : Ready) : Type 0 where
+  pub counted : AreCounted named lattices marks units
+  pub units_are : it.tokens.items ≡ lexed_of units
+  pub made : IsGenerated units (program_in lattices marks units) it.made
   pub owned : IsWellOwned it.made.graph
   pub within : AllNamed lattices it.made.graph
   pub elements : NamesElements it.made.graph (orders_of lattices)
 
-abbrev pub IsPrepared : FileNames → List LatticeView → List UnitRead → List IndexMark → List ℕ → Prepared → Type 0
-IsPrepared named lattices before marks bytes (Refused answer) = (answer.status ≡ Malformed) × IsRefused named lattices before marks bytes answer.text.items
-IsPrepared named lattices before marks bytes (Program it) = IsReady named lattices before marks bytes it
+-- what is made of well-formed units
+abbrev pub IsPrepared : FileNames → List LatticeView → List IndexMark → List UnitRead → Prepared → Type 0
+IsPrepared named lattices marks units (Refused answer) =
+    (answer.status ≡ Malformed) × UnitsRefused named lattices marks units answer.text.items
+IsPrepared named lattices marks units (Program it) = IsReady named lattices marks units it
 
--- the files that are started behind a source: the report, where one is to be checked
+-- the files that are started behind the sources: the report, where one is to be checked
 pub data EndStarts (named : FileNames) : List (List ℕ) → Type 0 where
   NoReport : EndStarts named []
   OneReport : (file : List ℕ) → named.report ≡ Some file → EndStarts named (file ∷ [])
 
--- from the source on
-pub data SourceStarts (named : FileNames) (lattices : List LatticeView) (before : List UnitRead) (marks : List IndexMark) (Given : Inputs → Type 0)
-    : List (List ℕ) → Type 0 where
-  SourceAlone : SourceStarts named lattices before marks Given (named.source ∷ [])
+-- what was read of some sources, and of all of them and of the units before them
+abbrev pub AreParsed : List LatticeView → ℕ → ℕ → List (List ℕ × List ℕ) → Type 0
+AreParsed lattices number left sources = (units : List UnitRead) × SourcesParse lattices number left sources units
+
+abbrev pub AreRead : FileNames → List LatticeView → List UnitRead → List IndexMark → ℕ → ℕ → List (List ℕ × List ℕ) → Type 0
+AreRead named lattices before marks number left sources =
+    (units : List UnitRead) × SourcesParse lattices number left sources units × AreCounted named lattices marks (before ++ units)
+
+-- From some sources on, the first of which has this number: the files that are started, by their names.
+pub data SourcesStart (named : FileNames) (lattices : List LatticeView) (before : List UnitRead) (marks : List IndexMark) (number left : ℕ)
+    (names : List (List ℕ)) (Given : Inputs → Type 0) : List (List ℕ) → Type 0 where
+  NoneLeft : names ≡ [] → SourcesStart named lattices before marks number left names Given []
+  SomeStart : (count : ℕ) → count < length names →
+      ((inputs : Inputs) → Given inputs → AreParsed lattices number left (take count (files_with names inputs.sources))) →
+      SourcesStart named lattices before marks number left names Given (take (suc count) names)
   ReportBehind : (file : List ℕ) → named.report ≡ Some file →
-      ((inputs : Inputs) → Given inputs → (unit : UnitRead) × IsCounted named lattices before marks inputs.source unit) →
-      SourceStarts named lattices before marks Given (named.source ∷ file ∷ [])
+      ((inputs : Inputs) → Given inputs → AreRead named lattices before marks number left (files_with names inputs.sources)) →
+      SourcesStart named lattices before marks number left names Given (names ++ file ∷ [])
 
--- what was read before the source, and before the report
-pub record BeforeIsRead (named : FileNames) (lattices : List LatticeView) (inputs : Inputs) : Type 0 where
+-- what was read before a source behind so many others, and before the report
+pub record FirstAreRead (named : FileNames) (lattices : List LatticeView) (inputs : Inputs) (count : ℕ) : Type 0 where
   pub before : List UnitRead
   pub marks : List IndexMark
   pub are : AreBefore named inputs lattices before marks
+  pub parsed : AreParsed lattices 1 total_limit (take count (sources_of named inputs))
 
-pub record CountedIsRead (named : FileNames) (lattices : List LatticeView) (inputs : Inputs) : Type 0 where
+pub record AllAreRead (named : FileNames) (lattices : List LatticeView) (inputs : Inputs) : Type 0 where
   pub before : List UnitRead
   pub marks : List IndexMark
   pub are : AreBefore named inputs lattices before marks
-  pub unit : UnitRead
-  pub counted : IsCounted named lattices before marks inputs.source unit
+  pub read : AreRead named lattices before marks 1 total_limit (sources_of named inputs)
 
 -- behind the lattice file; none where memory is wanting before
 pub data UnitsStart (named : FileNames) (lattices : List LatticeView) (Given : Inputs → Type 0) : List (List ℕ) → Type 0 where
   NoUnit : UnitsStart named lattices Given []
   PreludeAlone : (file : List ℕ) → named.prelude ≡ Some file → UnitsStart named lattices Given (file ∷ [])
-  SourceToo : ((inputs : Inputs) → Given inputs → BeforeIsRead named lattices inputs) →
-      UnitsStart named lattices Given (named_one named.prelude ++ named.source ∷ [])
-  ReportToo : (file : List ℕ) → named.report ≡ Some file → ((inputs : Inputs) → Given inputs → CountedIsRead named lattices inputs) →
-      UnitsStart named lattices Given (named_one named.prelude ++ named.source ∷ file ∷ [])
+  SourceToo : (count : ℕ) → count < length named.sources →
+      ((inputs : Inputs) → Given inputs → FirstAreRead named lattices inputs count) →
+      UnitsStart named lattices Given (named_one named.prelude ++ take (suc count) named.sources)
+  ReportToo : (file : List ℕ) → named.report ≡ Some file → ((inputs : Inputs) → Given inputs → AllAreRead named lattices inputs) →
+      UnitsStart named lattices Given (named_one named.prelude ++ named.sources ++ file ∷ [])

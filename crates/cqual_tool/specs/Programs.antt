@@ -1,5 +1,5 @@
 -- What is judged of well-formed units: their system of constraints, and what the reports name.
-use Rattle.std.specs.Prelude.{ℕ, nat_eq, List, [], map, Option, None, Some, if◌then◌else◌}
+use Rattle.std.specs.Prelude.{ℕ, ◌-◌, nat_eq, List, [], ◌∷◌, map, slice_get, Option, None, Some, if◌then◌else◌}
 use Rattle.lattice_core.specs.View.{LatticeView}
 use Rattle.flow_graph.specs.System.{System}
 use Rattle.annotate.specs.Texts.{Scene, UnitText}
@@ -10,13 +10,19 @@ use Rattle.constraint_rules.specs.Systems.{system_of}
 use Rattle.constraint_gen.specs.Programs.{program_in, positions_in, listed_in}
 use Rattle.cqual_tool.specs.Words.{FileNames}
 
--- the file of a unit: unit 0 is the prelude
+-- the file of a unit: unit 0 is the prelude, and the sources are units from 1 on; one name twice is two sources
 abbrev pub or_no_name : Option (List ℕ) → List ℕ
 or_no_name None = []
 or_no_name (Some name) = name
 
 abbrev pub file_of : FileNames → ℕ → List ℕ
-file_of named unit = if nat_eq unit 0 then or_no_name named.prelude else named.source
+file_of named unit = if nat_eq unit 0 then or_no_name named.prelude else or_no_name (slice_get named.sources (unit - 1))
+
+-- the last of the sources
+abbrev pub last_of : List (List ℕ) → List ℕ
+last_of [] = []
+last_of (file ∷ []) = file
+last_of (file ∷ next ∷ more) = last_of (next ∷ more)
 
 abbrev pub text_of : FileNames → Lexed → UnitText
 text_of named lexed = record { file = file_of named lexed.unit; lexed = lexed }

@@ -1,16 +1,17 @@
 -- The files that a task names, and what is to be written of their program.
-use Rattle.std.specs.Prelude.{ℕ, Bool, true, false, List, Option, Some, None}
+use Rattle.std.specs.Prelude.{ℕ, Bool, true, false, List, map, Option, Some, None}
 use Rattle.std.specs.Option.{option_map}
 use Rattle.cqual_words.specs.Words as words
 use Rattle.cqual_tool.specs.declared.words.Named.{Named}
 
--- the files that are named: where a report is, it is to be checked; where none is, the source may be asked for with what is inferred
+-- The files that are named, the sources in their order. Where a report is, it is to be checked; where none is, the one source may be
+-- asked for with what is inferred.
 pub record FileNames : Type 0 where
   pub lattice : List ℕ
   pub prelude : Option (List ℕ)
   pub annotated : Bool
   pub report : Option (List ℕ)
-  pub source : List ℕ
+  pub sources : List (List ℕ)
 
 -- the names as the code holds them
 abbrev pub names_in : Named → FileNames
@@ -19,7 +20,7 @@ names_in named = record {
   prelude = option_map (λ name. name.now) named.prelude;
   annotated = named.annotated;
   report = option_map (λ name. name.now) named.report;
-  source = named.source.now;
+  sources = map (λ name. name.now) named.sources.now;
 }
 
 abbrev pub of_files : words.FileNames → Bool → Option (List ℕ) → FileNames
@@ -28,7 +29,7 @@ of_files files annotated report = record {
   prelude = files.prelude;
   annotated = annotated;
   report = report;
-  source = files.source;
+  sources = files.sources;
 }
 
 -- the files of a task; none where the tool makes the source itself

@@ -1,6 +1,6 @@
 //! What is asked of a program whose constraints are there: its report, or what another report comes to.
 
-ghost use Rattle.std.specs.Prelude.{◌≡◌, ◌∷◌, ◌++◌, [], ◌<◌, ◌-◌, ◌^◌, ℕ, List, IfOk, length};
+ghost use Rattle.std.specs.Prelude.{◌≡◌, ◌<◌, ◌-◌, ◌^◌, List, IfOk, length};
 ghost use Rattle.outside.specs.Readings.{stands};
 ghost use Rattle.lattice_core.specs.View.{orders_of};
 ghost use Rattle.index_words.specs.Marks.{IndexMark};
@@ -148,11 +148,11 @@ pub fn end<F: Files>(
     requires named { AllNamed lattices.now ready.now.made.graph }
     requires owned { IsWellOwned ready.now.made.graph }
     requires elements { NamesElements ready.now.made.graph (orders_of lattices.now) }
-    ensures reads { (before : List UnitRead) (marks : List IndexMark) (bytes : List ℕ) →
-        (is : IsReady (files_in named.now) lattices.now before marks bytes ready.now) → EndAnswered
+    ensures reads { (marks : List IndexMark) (units : List UnitRead) →
+        IsReady (files_in named.now) lattices.now marks units ready.now → EndAnswered
         (stands (F.log files.old) (F.failed files.old) (F.contents files.old))
         (stands (F.log files.new) (F.failed files.new) (F.contents files.new)) (files_in named.now)
-        (judging_of (files_in named.now) lattices.now marks (before ++ is.unit ∷ [])) result }
+        (judging_of (files_in named.now) lattices.now marks units) result }
     ensures decided { IfOk result (λ answer. IsDecided answer.status) }
 {
     match named.report {

@@ -1,4 +1,4 @@
-//! The tool as one call: reads a lattice file, a prelude and a source, decides, and writes a report; or checks the paths of one.
+//! The tool as one call: reads a lattice file, a prelude and sources, decides, and writes a report; or checks the paths of one.
 #![tactic(auto)]
 
 mod answer;

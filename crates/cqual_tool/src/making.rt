@@ -1,6 +1,7 @@
 //! The source that the tool makes itself, and the sum of what is found in it.
 
-ghost use Rattle.std.specs.Prelude.{◌≡◌, ℕ, [], ◌∷◌, List, IfOk};
+ghost use Rattle.std.specs.Prelude.{◌≡◌, ◌≤◌, ℕ, [], ◌∷◌, List, IfOk, length};
+ghost use Rattle.c_types.specs.Sources.{UnitRead};
 ghost use Rattle.flow_graph.specs.System.{IsWellOwned};
 ghost use Rattle.annotate.specs.Scenes.{Shows};
 ghost use Rattle.annotate.specs.Solutions.{AllNamed};
@@ -9,12 +10,13 @@ ghost use Rattle.cqual_words.specs.Words.{IsMade};
 ghost use Rattle.cqual_tool.specs.Words.{names_in as files_in};
 ghost use Rattle.cqual_tool.specs.Programs.{Judging, judging_of};
 ghost use Rattle.cqual_tool.specs.Outcome as rules;
-ghost use Rattle.cqual_tool.specs.Outcome.{IsDecided, IsSummed, LatticesRead, OfMade};
-ghost use Rattle.cqual_tool.specs.Preparing.{IsReady};
+ghost use Rattle.cqual_tool.specs.Outcome.{IsDecided, IsSummed, LatticesRead, OfMade, OfSources, SourceParses, limit_in, total_limit};
+ghost use Rattle.cqual_tool.specs.Preparing.{IsEarlier, IsReady};
+ghost use Rattle.cqual_tool.specs.Inputs.{files_with};
 
 use crate::answer::Answer;
 use crate::faults::lattice_refused;
-use crate::preparing::{Prepared, Ready, nothing_before, prepare, texts};
+use crate::preparing::{Earlier, Joined, Prepared, Ready, judged, nothing_before, read_source, texts};
 use crate::status::Status;
 use crate::taking::{SOURCE_LIMIT, too_large};
 use crate::words::Named;
@@ -23,7 +25,7 @@ use flow_graph::FlowGraph;
 use generated_source::{Counts, generated_source, lattice_bytes, put_summary};
 use lattice_core::Lattices;
 use lattice_file::read_lattices;
-use qual_base::NoMemory;
+use qual_base::{NoMemory, Numbered, UnitNo};
 use std::alloc::Global;
 
 /// The names of the lattice file and of the source.
@@ -93,9 +95,9 @@ fn of_program(
 ) -> Result<Answer, NoMemory>
     requires named { AllNamed lattices.now ready.now.made.graph }
     requires owned { IsWellOwned ready.now.made.graph }
-    ensures sum { (bytes : List ℕ) →
-        (is : IsReady rules.made_names lattices.now [] [] bytes ready.now) → IfOk result
-        (λ answer. IsSummed number (judging_of rules.made_names lattices.now [] (is.unit ∷ []))
+    ensures sum { (units : List UnitRead) →
+        IsReady rules.made_names lattices.now [] units ready.now → IfOk result
+        (λ answer. IsSummed number (judging_of rules.made_names lattices.now [] units)
         answer.status answer.text.items) }
     ensures decided { IfOk result (λ answer. IsDecided answer.status) }
 {
@@ -108,6 +110,27 @@ fn of_program(
         listed: &ready.made.listed,
     };
     summed(alloc, number, &scene, &ready.made.graph)
+}
+
+/// The answer for the source of a number, a well-formed unit.
+fn of_units(
+    alloc: Global,
+    number: u32,
+    lattices: &Lattices,
+    earlier: Earlier<'_>,
+) -> Result<Answer, NoMemory>
+    requires before { (count : ℕ) × (units : List UnitRead) × IsEarlier count units earlier }
+    ensures outcome { (count : ℕ) (unit : UnitRead) → IsEarlier count (unit ∷ []) earlier.entry →
+        earlier.entry.prelude ≡ [] → (bytes : List ℕ) → length bytes ≤ limit_in total_limit →
+        SourceParses lattices.now 1 bytes unit → IfOk result
+        (λ answer. OfSources rules.made_names lattices.now [] [] (IsSummed number) 1 total_limit
+        (files_with rules.made_names.sources (bytes ∷ [])) answer.status answer.text.items) }
+    ensures decided { IfOk result (λ answer. IsDecided answer.status) }
+{
+    match judged(alloc, &made_names(), lattices, earlier)? {
+        Prepared::Refused(answer) => Ok(answer),
+        Prepared::Program(ready) => of_program(alloc, number, lattices, &ready),
+    }
 }
 
 /// The answer for the source of a number over its lattices.
@@ -125,18 +148,11 @@ fn of_source(
     if bytes.len() > SOURCE_LIMIT {
         return too_large(alloc, SOURCE);
     }
-    let named = made_names();
     let words = lattices.words(alloc)?;
-    match prepare(
-        alloc,
-        &named,
-        lattices,
-        &words,
-        nothing_before(alloc),
-        bytes,
-    )? {
-        Prepared::Refused(answer) => Ok(answer),
-        Prepared::Program(ready) => of_program(alloc, number, lattices, &ready),
+    let unit = UnitNo::new(1);
+    match read_source(alloc, SOURCE, &words, unit, nothing_before(alloc), bytes)? {
+        Joined::Refused(answer) => Ok(answer),
+        Joined::Units(earlier) => of_units(alloc, number, lattices, earlier),
     }
 }
 

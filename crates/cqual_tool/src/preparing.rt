@@ -1,6 +1,7 @@
-//! From the bytes of a source to a program with its constraints.
+//! From the bytes of sources to a program with its constraints.
 
-ghost use Rattle.std.specs.Prelude.{◌≡◌, ◌≢◌, ◌≤◌, ◌∷◌, ◌++◌, [], ℕ, List, IfOk, length};
+ghost use Rattle.std.specs.Prelude.{◌≡◌, ◌≢◌, ◌≤◌, [], ℕ, List, IfOk, length};
+ghost use Rattle.lattice_core.specs.View.{LatticeView};
 ghost use Rattle.qual_base.specs.Words.{MeansTheSame};
 ghost use Rattle.lattice_core.specs.Names.{words_of};
 ghost use Rattle.unit_types.specs.declared.fault.ShapeFault.TheVariants as Stops;
@@ -11,10 +12,12 @@ ghost use Rattle.annotate.specs.Scenes as scenes;
 ghost use Rattle.cqual_tool.specs.declared.status.Status.TheVariants as Statuses;
 ghost use Rattle.cqual_tool.specs.Statuses.{Says};
 ghost use Rattle.cqual_tool.specs.Words.{names_in as files_in};
-ghost use Rattle.cqual_tool.specs.Programs.{file_of, texts_of};
+ghost use Rattle.cqual_tool.specs.Programs.{file_of, last_of, texts_of};
 ghost use Rattle.cqual_tool.specs.Shapes.{shape_line};
-ghost use Rattle.cqual_tool.specs.Outcome.{SourceLexes, SourceParses, SourceReads, source_limit};
-ghost use Rattle.cqual_tool.specs.Preparing.{AreJoined, IsEarlier, IsPrepared};
+ghost use Rattle.type_rules.specs.Program.{HasNoFault};
+ghost use Rattle.c_types.specs.Sources.{sources_in};
+ghost use Rattle.cqual_tool.specs.Outcome.{SourceLexes, SourceParses, source_limit};
+ghost use Rattle.cqual_tool.specs.Preparing.{AreJoined, IsEarlier, IsOneMore, IsPrepared};
 
 use crate::answer::{Answer, malformed};
 use crate::faults::source_refused;
@@ -117,7 +120,8 @@ fn faulty(
     fault: ShapeFault,
 ) -> Result<Answer, NoMemory>
     ensures line { IfOk result (Says Statuses.Malformed
-        (shape_line named.now.source.now (texts_of (files_in named.now) tokens.now) fault)) }
+        (shape_line (last_of (files_in named.now).sources)
+        (texts_of (files_in named.now) tokens.now) fault)) }
     ensures reason { IfOk result (λ _. fault ≢ Stops.NoMemory) }
 {
     let units = texts(alloc, named, tokens)?;
@@ -133,10 +137,9 @@ fn constrain<'a>(
     prelude: &Prelude,
     program: &Resolved,
 ) -> Result<Prepared<'a>, NoMemory>
-    ensures { (before : List UnitRead) (unit : UnitRead) (bytes : List ℕ) →
-        IsProgramOf (before ++ unit ∷ []) tokens.entry.items program.now →
-        SourceReads lattices.now before bytes unit → IfOk result
-        (IsPrepared (files_in named.now) lattices.now before prelude.now bytes) }
+    ensures { (units : List UnitRead) → IsProgramOf units tokens.entry.items program.now →
+        HasNoFault (sources_in units) → IfOk result
+        (IsPrepared (files_in named.now) lattices.now prelude.now units) }
 {
     match generate(alloc, &tokens, program, prelude, lattices) {
         Ok(made) => Ok(Prepared::Program(Ready { tokens, made })),
@@ -159,10 +162,8 @@ fn resolved<'a>(
     tapes: Vec<UnitTape>,
     prelude: &Prelude,
 ) -> Result<Prepared<'a>, NoMemory>
-    ensures { (before : List UnitRead) (unit : UnitRead) (bytes : List ℕ) →
-        AreJoined (before ++ unit ∷ []) tokens.entry.items tapes.items →
-        SourceParses lattices.now bytes unit → IfOk result
-        (IsPrepared (files_in named.now) lattices.now before prelude.now bytes) }
+    ensures { (units : List UnitRead) → AreJoined units tokens.entry.items tapes.items →
+        IfOk result (IsPrepared (files_in named.now) lattices.now prelude.now units) }
 {
     match resolve_tapes(alloc, tapes) {
         Ok(program) => constrain(alloc, named, lattices, tokens, prelude, &program),
@@ -176,7 +177,11 @@ pub fn judged<'a>(
     named: &Named<'_>,
     lattices: &Lattices,
     earlier: Earlier<'a>,
-) -> Result<Prepared<'a>, NoMemory> {
+) -> Result<Prepared<'a>, NoMemory>
+    ensures { (number : ℕ) (units : List UnitRead) → IsEarlier number units earlier.entry →
+        IfOk result
+        (IsPrepared (files_in named.now) lattices.now earlier.entry.prelude units) }
+{
     let Earlier { units, prelude } = earlier;
     let (tokens, tapes) = units.into_parts();
     resolved(alloc, named, lattices, tokens, tapes, &prelude)
@@ -195,7 +200,13 @@ fn joined<'a>(
     earlier: Earlier<'a>,
     tokens: Tokens<'a>,
     ops: Vec<Op>,
-) -> Result<Joined<'a>, NoMemory> {
+) -> Result<Joined<'a>, NoMemory>
+    ensures { (lattices : List LatticeView) (number : ℕ) (file bytes : List ℕ)
+        (before : List UnitRead) (unit : UnitRead) →
+        IsEarlier number before earlier.entry → IsTaped unit tokens.entry ops.items →
+        SourceParses lattices number bytes unit → IfOk result
+        (IsOneMore lattices number file bytes before earlier.entry.prelude) }
+{
     let Earlier { mut units, prelude } = earlier;
     units.push(alloc, tokens, ops)?;
     Ok(Joined::Units(Earlier { units, prelude }))
@@ -207,14 +218,20 @@ fn parsed<'a>(
     file: &str,
     earlier: Earlier<'a>,
     tokens: Tokens<'a>,
-) -> Result<Joined<'a>, NoMemory> {
+) -> Result<Joined<'a>, NoMemory>
+    ensures { (lattices : List LatticeView) (number : ℕ) (bytes : List ℕ)
+        (before : List UnitRead) → IsEarlier number before earlier.entry →
+        SourceLexes lattices number bytes tokens.entry → IfOk result
+        (IsOneMore lattices number file.now bytes before earlier.entry.prelude) }
+{
     match parse_tape(alloc, &tokens) {
         Ok(ops) => joined(alloc, earlier, tokens, ops),
         Err(fault) => Ok(Joined::Refused(unit_refused(alloc, file, &tokens, fault)?)),
     }
 }
 
-/// What is made of the bytes of a source, the unit of this number, behind earlier units, where the words mean what the lattices say.
+/// What is made of the bytes of a source, the unit of this number, behind earlier units, where the words mean what the names of the
+/// lattices do.
 pub fn read_source<'a>(
     alloc: Global,
     file: &str,
@@ -222,31 +239,15 @@ pub fn read_source<'a>(
     unit: UnitNo,
     earlier: Earlier<'a>,
     bytes: &'a [u8],
-) -> Result<Joined<'a>, NoMemory> {
+) -> Result<Joined<'a>, NoMemory>
+    requires within { length bytes.now ≤ source_limit }
+    ensures { (lattices : List LatticeView) (before : List UnitRead) →
+        MeansTheSame words.now (words_of lattices) → IsEarlier unit before earlier.entry →
+        IfOk result
+        (IsOneMore lattices unit file.now bytes.now before earlier.entry.prelude) }
+{
     match lex(alloc, unit, bytes, words) {
         Ok(tokens) => parsed(alloc, file, earlier, tokens),
         Err(fault) => Ok(Joined::Refused(source_refused(alloc, file, bytes, &fault)?)),
-    }
-}
-
-/// What is made of the bytes of the one source, where the words mean what the lattices say.
-pub fn prepare<'a>(
-    alloc: Global,
-    named: &Named<'_>,
-    lattices: &Lattices,
-    words: &QualWords,
-    earlier: Earlier<'a>,
-    bytes: &'a [u8],
-) -> Result<Prepared<'a>, NoMemory> {
-    match read_source(
-        alloc,
-        last_file(named),
-        words,
-        UnitNo::new(1),
-        earlier,
-        bytes,
-    )? {
-        Joined::Refused(answer) => Ok(Prepared::Refused(answer)),
-        Joined::Units(earlier) => judged(alloc, named, lattices, earlier),
     }
 }

@@ -1,12 +1,12 @@
 //! Taking the files in order, and what is answered of their bytes.
 
-ghost use Rattle.std.specs.Prelude.{◌≡◌, ◌∷◌, [], List, Some, IfOk};
+ghost use Rattle.std.specs.Prelude.{◌≡◌, ◌≤◌, ◌+◌, ◌-◌, ◌∷◌, [], ℕ, List, Some, IfOk, drop, length};
 ghost use Rattle.outside.specs.Readings.{stands};
 ghost use Rattle.qual_base.specs.Words.{MeansTheSame};
 ghost use Rattle.lattice_core.specs.Names.{words_of};
 ghost use Rattle.c_types.specs.Sources.{UnitRead, unit_of};
 ghost use Rattle.c_types.specs.Units.{AreReduced};
-ghost use Rattle.cqual_tool.specs.Answering.{FilesAnswered, SourceAnswered, UnitsAnswered};
+ghost use Rattle.cqual_tool.specs.Answering.{FilesAnswered, SourcesAnswered, UnitsAnswered};
 ghost use Rattle.cqual_tool.specs.Words.{names_in as files_in};
 ghost use Rattle.cqual_tool.specs.Outcome.{IsDecided};
 ghost use Rattle.cqual_tool.specs.Preparing.{IsEarlier};
@@ -45,7 +45,15 @@ fn finish<F: Files>(
     lattices: &Lattices,
     earlier: Earlier<'_>,
     files: &mut F,
-) -> Result<Answer, Stop> {
+) -> Result<Answer, Stop>
+    requires before { (number : ℕ) × (units : List UnitRead) × IsEarlier number units earlier }
+    ensures reads { (number left : ℕ) (units : List UnitRead) →
+        IsEarlier number units earlier.entry → SourcesAnswered
+        (stands (F.log files.old) (F.failed files.old) (F.contents files.old))
+        (stands (F.log files.new) (F.failed files.new) (F.contents files.new)) (files_in named.now)
+        lattices.now units earlier.entry.prelude number left [] result }
+    ensures decided { IfOk result (λ answer. IsDecided answer.status) }
+{
     match judged(alloc, named, lattices, earlier)? {
         Prepared::Refused(answer) => Ok(answer),
         Prepared::Program(ready) => end(alloc, named, lattices, &ready, files),
@@ -63,7 +71,20 @@ fn take_sources<F: Files>(
     left: usize,
     earlier: Earlier<'_>,
     files: &mut F,
-) -> Result<Answer, Stop> {
+) -> Result<Answer, Stop>
+    requires words { MeansTheSame words.now (words_of lattices.now) }
+    requires few { length (files_in named.now).sources ≤ 256 }
+    requires within { index ≤ length (files_in named.now).sources }
+    requires before { (before : List UnitRead) × IsEarlier (index + 1) before earlier }
+    ensures reads { (before : List UnitRead) → IsEarlier (index + 1) before earlier.entry →
+        SourcesAnswered
+        (stands (F.log files.old) (F.failed files.old) (F.contents files.old))
+        (stands (F.log files.new) (F.failed files.new) (F.contents files.new)) (files_in named.now)
+        lattices.now before earlier.entry.prelude (index + 1) left
+        (drop index (files_in named.now).sources) result }
+    ensures decided { IfOk result (λ answer. IsDecided answer.status) }
+    decreases { length (files_in named.now).sources - index }
+{
     let Some(file) = named.sources.get(index as usize) else {
         return finish(alloc, named, lattices, earlier, files);
     };
@@ -99,6 +120,8 @@ fn take_prelude<F: Files>(
 ) -> Result<Answer, Stop>
     requires words { MeansTheSame words.now (words_of lattices.now) }
     requires named { (files_in named.now).prelude ≡ Some file.now }
+    requires some { 1 ≤ length (files_in named.now).sources }
+    requires few { length (files_in named.now).sources ≤ 256 }
     ensures reads { UnitsAnswered
         (stands (F.log files.old) (F.failed files.old) (F.contents files.old))
         (stands (F.log files.new) (F.failed files.new) (F.contents files.new))
@@ -133,6 +156,8 @@ fn take_units<F: Files>(
     lattices: &Lattices,
     files: &mut F,
 ) -> Result<Answer, Stop>
+    requires some { 1 ≤ length (files_in named.now).sources }
+    requires few { length (files_in named.now).sources ≤ 256 }
     ensures reads { UnitsAnswered
         (stands (F.log files.old) (F.failed files.old) (F.contents files.old))
         (stands (F.log files.new) (F.failed files.new) (F.contents files.new))
@@ -157,6 +182,8 @@ fn take_units<F: Files>(
 
 /// The answer for files that are named, in the order in which they are read.
 pub fn answer<F: Files>(alloc: Global, named: &Named<'_>, files: &mut F) -> Result<Answer, Stop>
+    requires some { 1 ≤ length (files_in named.now).sources }
+    requires few { length (files_in named.now).sources ≤ 256 }
     ensures reads { FilesAnswered
         (stands (F.log files.old) (F.failed files.old) (F.contents files.old))
         (stands (F.log files.new) (F.failed files.new) (F.contents files.new))

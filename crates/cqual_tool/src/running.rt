@@ -15,7 +15,7 @@ use std::alloc::Global;
 
 /// Reads the files that the words name, decides, and writes the whole text of the answer.
 ///
-/// The words are those after the program's name: `--lattice FILE [--prelude FILE] [--annotate | --check REPORT] SOURCE` in any
+/// The words are those after the program's name: `--lattice FILE [--prelude FILE] [--annotate | --check REPORT] SOURCE...` in any
 /// order, or `--generate N` alone, with N from 1 to 1000. Nothing is written before everything is decided.
 ///
 /// Its clauses speak of the readings of this call: those that came to the log of the files. So they hold of real files too, of

@@ -1,4 +1,4 @@
-use Rattle.std.proofs.Common.{◌≡◌, ◌≤◌, ℕ, List, [], ◌∷◌, ◌++◌, length, Err, refl, ap, sym, ◌∙◌, subst}
+use Rattle.std.proofs.Common.{◌≡◌, ◌≤◌, ℕ, List, length, Err, refl, ap, sym, ◌∙◌, subst}
 use Rattle.std.specs.Option.{option_map}
 use Rattle.std.proofs.lemmas.Result.{err_from_is_err_and}
 use Rattle.cqual_tool.specs.declared.taking.Stop.TheVariants.{NoMemory}
@@ -12,18 +12,18 @@ use Rattle.cqual_tool.proofs.Stages.{found_none, found_some, going_stands, no_re
 use Rattle.cqual_tool.proofs.ending.end.Goals as goal
 
 pub returns-in_err-inferred-in-None-clause-reads : goal.returns-in_err-inferred-in-None-clause-reads
-returns-in_err-inferred-in-None-clause-reads g c = λ before marks bytes is.
+returns-in_err-inferred-in-None-clause-reads g c = λ marks units is.
     let gives = err_from_is_err_and c.from_residual.result c.from_residual.ensures.1 in
     rw (gives.1, gives.2) (no_report _ (names_in c.args.named.now) _ (Err NoMemory) refl)
 
 pub returns-in_ok-inferred-in-None-clause-reads : goal.returns-in_ok-inferred-in-None-clause-reads
-returns-in_ok-inferred-in-None-clause-reads g c = λ before marks bytes is.
+returns-in_ok-inferred-in-None-clause-reads g c = λ marks units is.
     let none = ap (option_map (λ name. name.now)) c.in-None.is in
     no_report _ (names_in c.args.named.now) _ _
-    (refl, λ inputs reads. Inferred _ _ none (c.in_ok-inferred-in-None.ensures.report (before ++ is.unit ∷ []) marks is.units is.made))
+    (refl, λ inputs reads. Inferred _ _ none (c.in_ok-inferred-in-None.ensures.report units marks is.units_are is.made))
 
 pub returns-in_err-text-in-Some-clause-reads : goal.returns-in_err-text-in-Some-clause-reads
-returns-in_err-text-in-Some-clause-reads g c = λ before marks bytes is.
+returns-in_err-text-in-Some-clause-reads g c = λ marks units is.
     let some = ap (option_map (λ name. name.now)) c.in-Some.is in
     let read = c.in_err-text-in-Some.ensures.read in
     let gives = err_from_is_err_and c.from_residual-in_err-text-in-Some.result c.from_residual-in_err-text-in-Some.ensures.1 in
@@ -31,7 +31,7 @@ returns-in_err-text-in-Some-clause-reads g c = λ before marks bytes is.
     (report_stops _ _ read.0 read.1 (names_in c.args.named.now) c.in-Some.file.now read.2 some _ report_limit _ read.3)
 
 pub returns-in_err-checked-in-Some-2-clause-reads : goal.returns-in_err-checked-in-Some-2-clause-reads
-returns-in_err-checked-in-Some-2-clause-reads g c = λ before marks bytes is.
+returns-in_err-checked-in-Some-2-clause-reads g c = λ marks units is.
     let some = ap (option_map (λ name. name.now)) c.in-Some.is in
     let read = c.in_ok-text-in-Some.ensures.read in
     let found = found_some report_limit read.0 c.in_ok-text-in-Some.field-0 c.in-Some-2.text c.in-Some-2.is read.3 in
@@ -40,7 +40,7 @@ returns-in_err-checked-in-Some-2-clause-reads g c = λ before marks bytes is.
     (report_lacks _ _ read.0 read.1 (names_in c.args.named.now) c.in-Some.file.now read.2 some _ NoMemory refl (whole_stands read.0 found.0))
 
 pub returns-in_err-too_large-in-None-2-clause-reads : goal.returns-in_err-too_large-in-None-2-clause-reads
-returns-in_err-too_large-in-None-2-clause-reads g c = λ before marks bytes is.
+returns-in_err-too_large-in-None-2-clause-reads g c = λ marks units is.
     let some = ap (option_map (λ name. name.now)) c.in-Some.is in
     let read = c.in_ok-text-in-Some.ensures.read in
     let found = found_none report_limit read.0 c.in_ok-text-in-Some.field-0 c.in-None-2.is read.3 in
@@ -49,11 +49,11 @@ returns-in_err-too_large-in-None-2-clause-reads g c = λ before marks bytes is.
     (report_lacks _ _ read.0 read.1 (names_in c.args.named.now) c.in-Some.file.now read.2 some _ NoMemory refl (going_stands read.0 found.0))
 
 pub returns-in_ok-checked-in-Some-2-clause-reads : goal.returns-in_ok-checked-in-Some-2-clause-reads
-returns-in_ok-checked-in-Some-2-clause-reads g c = λ before marks bytes is.
+returns-in_ok-checked-in-Some-2-clause-reads g c = λ marks units is.
     let named = names_in c.args.named.now in
     let some = ap (option_map (λ name. name.now)) c.in-Some.is in
     let file = c.in-Some.file.now in
-    let it = judging_of named c.args.lattices.now marks (before ++ is.unit ∷ []) in
+    let it = judging_of named c.args.lattices.now marks units in
     let answer = c.in_ok-checked-in-Some-2.field-0 in
     let Checked : List ℕ → Type 0 = λ report. IsChecked it report answer.status answer.text.items in
     let read = c.in_ok-text-in-Some.ensures.read in
@@ -68,16 +68,16 @@ returns-in_ok-checked-in-Some-2-clause-reads g c = λ before marks bytes is.
     ReportChecked file _ _ some (subst Short content found.2) (subst Checked content says))
 
 pub returns-in_ok-too_large-in-None-2-clause-reads : goal.returns-in_ok-too_large-in-None-2-clause-reads
-returns-in_ok-too_large-in-None-2-clause-reads g c = λ before marks bytes is.
+returns-in_ok-too_large-in-None-2-clause-reads g c = λ marks units is.
     let named = names_in c.args.named.now in
     let some = ap (option_map (λ name. name.now)) c.in-Some.is in
     let file = c.in-Some.file.now in
-    let it = judging_of named c.args.lattices.now marks (before ++ is.unit ∷ []) in
+    let it = judging_of named c.args.lattices.now marks units in
     let answer = c.in_ok-too_large-in-None-2.field-0 in
     let read = c.in_ok-text-in-Some.ensures.read in
     let r = read.0 in
     let found = found_none report_limit r c.in_ok-text-in-Some.field-0 c.in-None-2.is read.3 in
     report_answers _ _ r read.1 named file read.2 some it answer (going_stands r found.0)
     (λ inputs gives.
-    at_equal (IsEnd named inputs it) _ Malformed _ _ c.in_ok-too_large-in-None-2.ensures.0 c.in_ok-too_large-in-None-2.ensures.1
+    at_equal (IsEnd named inputs.report it) _ Malformed _ _ c.in_ok-too_large-in-None-2.ensures.0 c.in_ok-too_large-in-None-2.ensures.1
     (ReportTooLarge file some (past_limit report_limit r inputs.report found gives)))

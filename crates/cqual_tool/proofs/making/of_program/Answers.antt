@@ -1,4 +1,4 @@
-use Rattle.std.proofs.Common.{List, [], ◌∷◌, length, refl, sym, ◌∙◌, ap, subst}
+use Rattle.std.proofs.Common.{List, [], length, refl, sym, ◌∙◌, ap, subst}
 use Rattle.std.proofs.lemmas.Result.{IfOk-weaker}
 use Rattle.qual_types.specs.declared.row.Row.{Row}
 use Rattle.qual_types.specs.Table.{Stands}
@@ -11,8 +11,8 @@ use Rattle.cqual_tool.specs.Outcome.{made_names}
 use Rattle.cqual_tool.proofs.making.of_program.Goals as goal
 
 pub returns-clause-sum : goal.returns-clause-sum
-returns-clause-sum c = λ bytes is.
-    let it = judging_of made_names c.args.lattices.now [] (is.unit ∷ []) in
+returns-clause-sum c = λ units is.
+    let it = judging_of made_names c.args.lattices.now [] units in
     let names = names_in c.made_names-named.result in
     IfOk-weaker c.summed.result _ _
     (λ answer sum.
@@ -21,8 +21,8 @@ returns-clause-sum c = λ bytes is.
       units =
           sym (ap scenes.units_of c.deref-2.ensures.value ∙ c.in_ok-units.ensures
           ∙ ap (λ (ls : List Lexed). texts_of names ls) c.deref.ensures.value
-          ∙ ap (texts_of names) is.units
-          ∙ ap (λ (ns : FileNames). texts_of ns (lexed_of (is.unit ∷ []))) c.made_names-named.ensures);
+          ∙ ap (texts_of names) is.units_are
+          ∙ ap (λ (ns : FileNames). texts_of ns (lexed_of units)) c.made_names-named.ensures);
       lattices = refl;
       listed = sym (c.deref-3.ensures.value ∙ is.made.listed);
       count = sym is.made.count ∙ ap (λ (rows : List Row). length rows) (sym c.vars.ensures);

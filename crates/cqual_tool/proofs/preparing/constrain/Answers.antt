@@ -1,46 +1,48 @@
-use Rattle.std.proofs.Common.{List, [], ◌∷◌, ◌++◌, Err, ap, sym, subst}
+use Rattle.std.proofs.Common.{List, Err, ap, sym, subst}
 use Rattle.c_lexer.specs.Tokens.{Lexed}
 use Rattle.c_types.specs.Sources.{UnitRead}
 use Rattle.constraint_gen.specs.Generating.{IsProgramOf}
 use Rattle.cqual_tool.specs.Words.{names_in}
-use Rattle.cqual_tool.proofs.Joining.{refused, counted, many_variables, many_constraints}
+use Rattle.cqual_tool.specs.Outcome.{ManyConstraints, ManyVariables, UnitsRefused}
+use Rattle.cqual_tool.proofs.Joining.{refused}
 use Rattle.cqual_tool.proofs.preparing.constrain.Goals as goal
 
 pub returns-in-Ok : goal.returns-in-Ok
-returns-in-Ok c = λ before unit bytes of is.
-    let named = names_in c.args.named.now in
-    let all = before ++ unit ∷ [] in
-    let lent : IsProgramOf all c.deref.result.now c.args.program.now =
-    subst (λ (units : List Lexed). IsProgramOf all units c.args.program.now) (sym c.deref.ensures.value) of in
+returns-in-Ok c = λ units of shaped.
+    let lent : IsProgramOf units c.deref.result.now c.args.program.now =
+    subst (λ (lexed : List Lexed). IsProgramOf units lexed c.args.program.now) (sym c.deref.ensures.value) of in
     record {
-      unit = unit;
-      counted = counted named c.args.lattices.now before c.args.prelude.now bytes unit is
-          (c.in-Ok.ensures.few_variables all lent) (c.in-Ok.ensures.few_constraints all lent);
-      units = of.lexed;
-      made = c.in-Ok.ensures.made all lent;
-      owned = c.in-Ok.ensures.owned all lent;
-      within = c.in-Ok.ensures.named all lent;
-      elements = c.in-Ok.ensures.elements all lent;
+      counted = record {
+        shaped = shaped;
+        few_variables = c.in-Ok.ensures.few_variables units lent;
+        few_constraints = c.in-Ok.ensures.few_constraints units lent;
+      };
+      units_are = of.lexed;
+      made = c.in-Ok.ensures.made units lent;
+      owned = c.in-Ok.ensures.owned units lent;
+      within = c.in-Ok.ensures.named units lent;
+      elements = c.in-Ok.ensures.elements units lent;
     }
 
 pub returns-in-Err-TooManyVariables : goal.returns-in-Err-TooManyVariables
-returns-in-Err-TooManyVariables c = λ before unit bytes of is.
-    let named = names_in c.args.named.now in
-    let all = before ++ unit ∷ [] in
-    let lent : IsProgramOf all c.deref.result.now c.args.program.now =
-    subst (λ (units : List Lexed). IsProgramOf all units c.args.program.now) (sym c.deref.ensures.value) of in
-    refused named c.args.lattices.now before c.args.prelude.now bytes _ c.in_ok-malformed-in-Err-TooManyVariables.field-0 c.in_ok-malformed-in-Err-TooManyVariables.ensures
-    (many_variables named c.args.lattices.now before c.args.prelude.now bytes unit is
-    (c.in-Err-TooManyVariables.ensures.too_many_variables (ap Err c.in-Err-TooManyVariables.field-0-is) all lent))
+returns-in-Err-TooManyVariables c = λ units of shaped.
+    let lent : IsProgramOf units c.deref.result.now c.args.program.now =
+    subst (λ (lexed : List Lexed). IsProgramOf units lexed c.args.program.now) (sym c.deref.ensures.value) of in
+    let fault = ap Err c.in-Err-TooManyVariables.field-0-is in
+    let Refuses = UnitsRefused (names_in c.args.named.now) c.args.lattices.now c.args.prelude.now units in
+    let said = c.in_ok-malformed-in-Err-TooManyVariables in
+    let last = c.last_file-in-Err-TooManyVariables.ensures in
+    refused Refuses _ said.field-0 said.ensures
+    (rw last (ManyVariables shaped (c.in-Err-TooManyVariables.ensures.too_many_variables fault units lent)))
 
 pub returns-in-Err-TooManyConstraints : goal.returns-in-Err-TooManyConstraints
-returns-in-Err-TooManyConstraints c = λ before unit bytes of is.
-    let named = names_in c.args.named.now in
-    let all = before ++ unit ∷ [] in
-    let lent : IsProgramOf all c.deref.result.now c.args.program.now =
-    subst (λ (units : List Lexed). IsProgramOf all units c.args.program.now) (sym c.deref.ensures.value) of in
+returns-in-Err-TooManyConstraints c = λ units of shaped.
+    let lent : IsProgramOf units c.deref.result.now c.args.program.now =
+    subst (λ (lexed : List Lexed). IsProgramOf units lexed c.args.program.now) (sym c.deref.ensures.value) of in
     let no = c.in-Err-TooManyConstraints.ensures in
     let fault = ap Err c.in-Err-TooManyConstraints.field-0-is in
-    refused named c.args.lattices.now before c.args.prelude.now bytes _ c.in_ok-malformed-in-Err-TooManyConstraints.field-0 c.in_ok-malformed-in-Err-TooManyConstraints.ensures
-    (many_constraints named c.args.lattices.now before c.args.prelude.now bytes unit is (no.fit_variables fault all lent)
-    (no.too_many_constraints fault all lent))
+    let Refuses = UnitsRefused (names_in c.args.named.now) c.args.lattices.now c.args.prelude.now units in
+    let said = c.in_ok-malformed-in-Err-TooManyConstraints in
+    let last = c.last_file-in-Err-TooManyConstraints.ensures in
+    refused Refuses _ said.field-0 said.ensures
+    (rw last (ManyConstraints shaped (no.fit_variables fault units lent) (no.too_many_constraints fault units lent)))

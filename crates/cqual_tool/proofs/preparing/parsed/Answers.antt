@@ -1,18 +1,18 @@
 use Rattle.std.proofs.Common.{refl}
 use Rattle.c_types.specs.Sources.{UnitRead}
-use Rattle.cqual_tool.specs.Words.{names_in}
-use Rattle.cqual_tool.specs.Outcome.{Unparsed}
+use Rattle.cqual_tool.specs.Outcome.{SourceRefused, Unparsed}
 use Rattle.cqual_tool.proofs.Joining.{refused}
 use Rattle.cqual_tool.proofs.preparing.parsed.Goals as goal
 
 pub returns-in-Ok : goal.returns-in-Ok
-returns-in-Ok c = λ before bytes earlier lexes.
+returns-in-Ok c = λ lattices number bytes before earlier lexes.
     let taped = c.in-Ok.ensures.tape in
     let unit : UnitRead = record { lexed = c.args.tokens; items = taped.items } in
-    c.joined.ensures before unit bytes earlier (record { lexed_is = refl; taped = taped.taped }) (record { lexes = lexes; formed = taped.formed })
+    c.joined.ensures lattices number c.args.file.now bytes before unit earlier (record { lexed_is = refl; taped = taped.taped })
+    (record { lexes = lexes; formed = taped.formed })
 
 pub returns : goal.returns
-returns c = λ before bytes earlier lexes.
+returns c = λ lattices number bytes before earlier lexes.
     let said = c.in_ok-unit_refused-in-Err.ensures in
-    refused (names_in c.args.named.now) c.args.lattices.now before c.args.earlier.prelude bytes _ c.in_ok-unit_refused-in-Err.field-0 said.line
+    refused (SourceRefused lattices number c.args.file.now bytes) _ c.in_ok-unit_refused-in-Err.field-0 said.line
     (Unparsed _ c.in-Err.fault lexes said.reason (c.in-Err.ensures.refused c.in-Err.fault refl said.reason))
