@@ -1,5 +1,7 @@
 -- A rejected report, checked over the same files.
-use Rattle.std.proofs.Common.{◌≡◌, ℕ, zero, suc, ◌≤◌, arith, false, List, [], ◌∷◌, ◌++◌, length, slice_get, Some, None, refl, sym, subst, ap, ◌∙◌}
+use Rattle.std.proofs.Common.{◌≡◌, ℕ, zero, suc, ◌+◌, ◌-◌, ◌≤◌, arith, false, List, [], ◌∷◌, ◌++◌, length, slice_get, Some, None, refl, sym, subst, ap, ◌∙◌}
+use Rattle.std.specs.Prelude.{All}
+use Rattle.std.proofs.lemmas.List.Elements.{All-nil, All-cons, All-head, All-tail}
 use Rattle.lattice_core.specs.View.{LatticeView}
 use Rattle.c_lexer.specs.Tokens.{text_of}
 use Rattle.element_laws.specs.Naming.{ElementsAreNamed}
@@ -17,8 +19,8 @@ use Rattle.cqual_tool.specs.declared.status.Status.TheVariants.{Rejected, PathsH
 use Rattle.cqual_tool.specs.Inputs.{Inputs}
 use Rattle.cqual_tool.specs.Words.{FileNames, of_files, names_of}
 use Rattle.cqual_tool.specs.Programs.{texts_of}
-use Rattle.cqual_tool.specs.Outcome.{AreBefore, NoPrelude, OnePrelude, ProgramIsRead, Inferred, ReportChecked, IsWrong, Holding, report_limit}
-use Rattle.cqual_tool.specs.Outcome.{SourceRead, PreludeRead, OfFiles, LatticeRead, OfTask, OfProgram, OfGenerated, Outcome, WithMeaning}
+use Rattle.cqual_tool.specs.Outcome.{AreBefore, NoPrelude, OnePrelude, NoSource, OneSource, SourcesParse, sources_of, total_limit, ProgramIsRead, Inferred, ReportChecked, IsWrong, Holding, report_limit}
+use Rattle.cqual_tool.specs.Outcome.{SourcesRead, PreludeRead, OfFiles, LatticeRead, OfTask, OfProgram, OfGenerated, Outcome, WithMeaning}
 use Rattle.answer_laws.specs.Laws.{ProgramsAreOwned, RejectedIsChecked, FilesAreFree, judged}
 use Rattle.answer_laws.proofs.Owned.{built_sized, built_lattices}
 use Rattle.answer_laws.proofs.Names.{names_free}
@@ -26,23 +28,37 @@ use Rattle.answer_laws.proofs.Names.{names_free}
 some_unit : {x y : UnitText} → Some x ≡ Some y → x ≡ y
 some_unit e = cc
 
+-- the texts of a unit's tokens have no line feed in them
+abbrev IsFree : UnitRead → Type 0
+IsFree it = (token : ℕ) → HasNoFeed (text_of it.lexed token)
+
+sources_free : TokensHaveNoFeed → (lattices : List LatticeView) (number left : ℕ) (sources : List (List ℕ × List ℕ)) (units : List UnitRead)
+    → SourcesParse lattices number left sources units → All IsFree units
+sources_free law lattices _ _ _ _ (NoSource number left) = All-nil IsFree
+sources_free law lattices _ _ _ _ (OneSource number left source more unit units within parses rest) =
+    let marked = parses.lexes.marks in
+    All-cons IsFree unit units (law marked.words unit.lexed marked.spelled)
+    (sources_free law lattices (number + 1) (left - length source.1) more units rest)
+
+all_free : TokensHaveNoFeed → (named : FileNames) (inputs : Inputs) (lattices : List LatticeView) (before units : List UnitRead) (marks : List IndexMark)
+    → AreBefore named inputs lattices before marks → All IsFree units → All IsFree (before ++ units)
+all_free law named inputs lattices _ units _ (NoPrelude none) free = free
+all_free law named inputs lattices _ units _ (OnePrelude file first marks is reads) free =
+    let marked = reads.is.parses.lexes.marks in All-cons IsFree first units (law marked.words first.lexed marked.spelled) free
+
+free_at : (named : FileNames) (units : List UnitRead) → All IsFree units → (k : ℕ) (unit : UnitText) (token : ℕ)
+    → slice_get (texts_of named (lexed_of units)) k ≡ Some unit → HasNoFeed (text_of unit.lexed token)
+free_at named [] free k unit token there = absurd cc
+free_at named (u ∷ units) free zero unit token there =
+    subst (λ (t : UnitText). HasNoFeed (text_of t.lexed token)) (some_unit there) (All-head IsFree u units free token)
+free_at named (u ∷ units) free (suc k) unit token there = free_at named units (All-tail IsFree u units free) k unit token there
+
 tokens_free : TokensHaveNoFeed → (named : FileNames) (inputs : Inputs) (it : ProgramIsRead named inputs) (k : ℕ) (unit : UnitText) (token : ℕ)
     → slice_get (judged named inputs it).scene.units k ≡ Some unit → HasNoFeed (text_of unit.lexed token)
-tokens_free law named inputs it = by it.before it.marks it.are
-  where
-    own : (token : ℕ) → HasNoFeed (text_of it.unit.lexed token)
-    own token = let marks = it.counted.reads.parses.lexes.marks in law marks.words it.unit.lexed marks.spelled token
-
-    by : (before : List UnitRead) (marks : List IndexMark) → AreBefore named inputs it.lattices before marks → (k : ℕ) (unit : UnitText) (token : ℕ)
-        → slice_get (texts_of named (lexed_of (before ++ it.unit ∷ []))) k ≡ Some unit → HasNoFeed (text_of unit.lexed token)
-    by _ _ (NoPrelude none) zero unit token there = subst (λ (u : UnitText). HasNoFeed (text_of u.lexed token)) (some_unit there) (own token)
-    by _ _ (NoPrelude none) (suc k) unit token there = absurd cc
-    by _ _ (OnePrelude file first marks is reads) zero unit token there =
-        let marked = reads.is.parses.lexes.marks in
-        subst (λ (u : UnitText). HasNoFeed (text_of u.lexed token)) (some_unit there) (law marked.words first.lexed marked.spelled token)
-    by _ _ (OnePrelude file first marks is reads) (suc zero) unit token there =
-        subst (λ (u : UnitText). HasNoFeed (text_of u.lexed token)) (some_unit there) (own token)
-    by _ _ (OnePrelude file first marks is reads) (suc (suc k)) unit token there = absurd cc
+tokens_free law named inputs it =
+    free_at named (it.before ++ it.units)
+    (all_free law named inputs it.lattices it.before it.units it.marks it.are
+    (sources_free law it.lattices 1 total_limit (sources_of named inputs) it.units it.parse))
 
 -- the same names with a report that is to be checked
 abbrev with_report : Names → List ℕ → FileNames
@@ -64,7 +80,7 @@ module _ (owned : ProgramsAreOwned) (elements : ElementsAreNamed) (back : Reject
       → IsRejectedReport (judged (alone names) inputs it).scene (judged (alone names) inputs it).system text
       → OfFiles (with_report names report) (record inputs { report = text }) PathsHold (checked_text Hold)
   of_report it is =
-      let p = program_in it.lattices it.marks (it.before ++ it.unit ∷ []) in
+      let p = program_in it.lattices it.marks (it.before ++ it.units) in
       let built = it.read.read.built in
       let scene = (judged (alone names) inputs it).scene in
       let feeds : HasNoFeeds scene = record {
@@ -77,15 +93,15 @@ module _ (owned : ProgramsAreOwned) (elements : ElementsAreNamed) (back : Reject
       (omega arith) is).comes in
       LatticeRead it.lattices PathsHold (checked_text Hold) it.read
       (PreludeRead it.before it.marks PathsHold (checked_text Hold) (before_on names report inputs text it.lattices it.before it.marks it.are)
-      (SourceRead it.unit PathsHold (checked_text Hold)
-      (record { reads = it.counted.reads; few_variables = it.counted.few_variables; few_constraints = it.counted.few_constraints })
+      (SourcesRead it.units PathsHold (checked_text Hold) it.parse
+      (record { shaped = it.counted.shaped; few_variables = it.counted.few_variables; few_constraints = it.counted.few_constraints })
       (ReportChecked report PathsHold (checked_text Hold) refl few (Holding comes is.rejected))))
 
   of_files_wrong : OfFiles (alone names) inputs Rejected text
       → OfFiles (with_report names report) (record inputs { report = text }) PathsHold (checked_text Hold)
-  of_files_wrong (LatticeRead lattices _ _ read (PreludeRead before marks _ _ are (SourceRead it _ _ counted (Inferred _ _ none (IsWrong _ (RejectedWith _ is)))))) =
-      of_report (record { lattices = lattices; read = read; before = before; marks = marks; are = are; unit = it; counted = counted }) is
-  of_files_wrong (LatticeRead lattices _ _ read (PreludeRead before marks _ _ are (SourceRead it _ _ counted (ReportChecked file _ _ there short is)))) =
+  of_files_wrong (LatticeRead lattices _ _ read (PreludeRead before marks _ _ are (SourcesRead units _ _ parse counted (Inferred _ _ none (IsWrong _ (RejectedWith _ is)))))) =
+      of_report (record { lattices = lattices; read = read; before = before; marks = marks; are = are; units = units; parse = parse; counted = counted }) is
+  of_files_wrong (LatticeRead lattices _ _ read (PreludeRead before marks _ _ are (SourcesRead units _ _ parse counted (ReportChecked file _ _ there short is)))) =
       absurd cc
 
 some_task : {x y : Task} → Some x ≡ Some y → x ≡ y

@@ -1,5 +1,5 @@
 -- The system of files that are read.
-use Rattle.std.proofs.Common.{◌≡◌, ℕ, zero, suc, List, [], ◌∷◌, ◌++◌, length, Some, slice_get, sym, subst, ap, ◌∙◌}
+use Rattle.std.proofs.Common.{◌≡◌, ℕ, zero, suc, ◌+◌, ◌-◌, List, [], ◌∷◌, ◌++◌, length, Some, slice_get, sym, subst, ap, ◌∙◌, append-nil, append_assoc}
 use Rattle.lattice_core.specs.Order.{size, IsLattice}
 use Rattle.lattice_core.specs.View.{LatticeView, AreSized, AreLattices}
 use Rattle.lattice_file.specs.Blocks.{BlockView, AreAllBuilt}
@@ -10,9 +10,9 @@ use Rattle.index_words.specs.Marks.{IndexMark}
 use Rattle.constraint_gen.specs.Programs.{program_in}
 use Rattle.cqual_tool.specs.Inputs.{Inputs}
 use Rattle.cqual_tool.specs.Words.{FileNames}
-use Rattle.cqual_tool.specs.Outcome.{AreBefore, NoPrelude, OnePrelude}
+use Rattle.cqual_tool.specs.Outcome.{AreBefore, NoPrelude, OnePrelude, NoSource, OneSource, SourcesParse, sources_of, total_limit}
 use Rattle.cqual_tool.specs.Preparing.{AreEarlier}
-use Rattle.cqual_tool.proofs.Joining.{nothing_earlier, prelude_alone, read_on, units_differ}
+use Rattle.cqual_tool.proofs.Joining.{nothing_earlier, one_more_may, prelude_alone, read_all}
 use Rattle.answer_laws.specs.Laws.{ProgramsAreOwned}
 
 pub built_sized : (blocks : List BlockView) (lattices : List LatticeView) → AreAllBuilt blocks lattices → AreSized lattices
@@ -44,18 +44,28 @@ built_lattices (block ∷ blocks) (lattice ∷ lattices) built = at (built_latti
     at rest zero view there = subst (λ (v : LatticeView). IsLattice v.order) (first_is view there) built.0.built.bounded
     at rest (suc n) view there = rest n view there
 
--- units that stand before a source
+-- units that stand before the sources
 pub before_is : (named : FileNames) (inputs : Inputs) (lattices : List LatticeView) (before : List UnitRead) (marks : List IndexMark)
-    → AreBefore named inputs lattices before marks → AreEarlier before
-before_is named inputs lattices before marks (NoPrelude none) = nothing_earlier
+    → AreBefore named inputs lattices before marks → AreEarlier 1 before
+before_is named inputs lattices before marks (NoPrelude none) = nothing_earlier 1
 before_is named inputs lattices before marks (OnePrelude file unit _ there reads) =
     prelude_alone unit reads.is.parses.lexes.unit reads.is.parses.formed
 
+-- and the sources behind them
+sources_may : (lattices : List LatticeView) (number left : ℕ) (sources : List (List ℕ × List ℕ)) (before units : List UnitRead) → AreEarlier number before
+    → SourcesParse lattices number left sources units → (n : ℕ) × AreEarlier n (before ++ units)
+sources_may lattices _ _ _ before _ may (NoSource number left) = (number, subst (AreEarlier number) (sym (append-nil before)) may)
+sources_may lattices _ _ _ before _ may (OneSource number left source more unit units within parses rest) =
+    let all = sources_may lattices (number + 1) (left - length source.1) more (before ++ unit ∷ []) units
+    (one_more_may number before unit may parses.lexes.unit parses.formed) rest in
+    (all.0, subst (AreEarlier all.0) (append_assoc before (unit ∷ []) units) all.1)
+
 pub programs_are_owned : SystemsAreOwned → LatticesAreNamed → ProgramsAreOwned
 programs_are_owned owned named names inputs it =
-    let p = program_in it.lattices it.marks (it.before ++ it.unit ∷ []) in
-    let may = before_is names inputs it.lattices it.before it.marks it.are in
-    let parses = it.counted.reads.parses in (
-      owned p (read_on it.before it.unit may parses.formed) (units_differ it.before it.unit may parses.lexes.unit),
+    let units = it.before ++ it.units in
+    let p = program_in it.lattices it.marks units in
+    let before = before_is names inputs it.lattices it.before it.marks it.are in
+    let may = (sources_may it.lattices 1 total_limit (sources_of names inputs) it.before it.units before it.parse).1 in (
+      owned p (read_all units may.formed) may.differ,
       named p (built_sized it.read.read.blocks it.lattices it.read.read.built),
     )

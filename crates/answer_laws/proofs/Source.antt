@@ -1,5 +1,5 @@
 -- The annotated source.
-use Rattle.std.proofs.Common.{◌≡◌, ℕ, nat_eq, Bool, true, List, [], ◌∷◌, ◌++◌, codes, Option, Some, None, sym, subst, ap, ◌∙◌, if◌then◌else◌}
+use Rattle.std.proofs.Common.{◌≡◌, ℕ, nat_eq, Bool, true, List, [], ◌∷◌, ◌++◌, length, codes, Option, Some, None, refl, sym, subst, ap, ◌∙◌, if◌then◌else◌}
 use Rattle.lattice_core.specs.View.{LatticeView}
 use Rattle.c_types.specs.Sources.{UnitRead, lexed_of}
 use Rattle.index_words.specs.Marks.{IndexMark}
@@ -8,11 +8,12 @@ use Rattle.annotate.specs.Annotated.{CommentsComeOut, annotated_in}
 use Rattle.annotate.specs.Reports.{AcceptedWith, IsJudgedWith}
 use Rattle.cqual_words.specs.Words.{Task, Annotate, Generate}
 use Rattle.cqual_tool.specs.declared.status.Status.TheVariants.{Accepted}
-use Rattle.cqual_tool.specs.Inputs.{Inputs}
+use Rattle.cqual_tool.specs.Inputs.{Inputs, files_with, first_of}
 use Rattle.cqual_tool.specs.Words.{FileNames, of_files, names_of}
 use Rattle.cqual_tool.specs.Programs.{text_of, texts_of}
-use Rattle.cqual_tool.specs.Outcome.{AreBefore, NoPrelude, OnePrelude, ProgramIsRead, annotated_unit, IsEnd, Inferred, ReportChecked, IsRight}
-use Rattle.cqual_tool.specs.Outcome.{SourceRead, OfUnits, PreludeRead, OfFiles, LatticeRead, LatticesRead, OfTask, OfProgram, OfGenerated, WithMeaning}
+use Rattle.cqual_tool.proofs.Asking.{tasks_have_sources}
+use Rattle.cqual_tool.specs.Outcome.{AreBefore, NoPrelude, OnePrelude, NoSource, OneSource, SourceParses, SourcesParse, total_limit, ProgramIsRead, annotated_unit, IsEnd, Inferred, ReportChecked, IsRight}
+use Rattle.cqual_tool.specs.Outcome.{SourcesRead, OfUnits, PreludeRead, OfFiles, LatticeRead, LatticesRead, OfTask, OfProgram, OfGenerated, WithMeaning}
 use Rattle.answer_laws.specs.Laws.{AnnotatedGivesTheSource, IsAnnotated, judged}
 
 -- the source is found among the texts by its number
@@ -26,43 +27,70 @@ unit_is named inputs lattices before marks it (OnePrelude file unit _ there read
     reads.is.parses.lexes.unit
     ∙ ap (λ (n : ℕ). if nat_eq n 1 then Some (text_of named it.lexed) else None) one
 
+-- one source is one unit
+one_file : (names contents : List (List ℕ)) → length names ≡ 1 → (file : List ℕ) × (files_with names contents ≡ (file, first_of contents) ∷ [])
+one_file [] contents one = absurd cc
+one_file (file ∷ []) contents one = (file, refl)
+one_file (file ∷ other ∷ more) contents one = absurd cc
+
+one_unit : (lattices : List LatticeView) (number left : ℕ) (source : List ℕ × List ℕ) (units : List UnitRead)
+    → SourcesParse lattices number left (source ∷ []) units → (unit : UnitRead) × (units ≡ unit ∷ []) × SourceParses lattices number source.1 unit
+one_unit lattices _ _ _ _ (OneSource number left source _ unit _ within parses (NoSource _ _)) = (unit, refl, parses)
+
+the_unit : (named : FileNames) (inputs : Inputs) (it : ProgramIsRead named inputs) → length named.sources ≡ 1
+    → (unit : UnitRead) × (it.units ≡ unit ∷ []) × SourceParses it.lattices 1 (first_of inputs.sources) unit
+the_unit named inputs it one =
+    let file = one_file named.sources inputs.sources one in
+    one_unit it.lattices 1 total_limit (file.0, first_of inputs.sources) it.units
+    (subst (λ (files : List (List ℕ × List ℕ)). SourcesParse it.lattices 1 total_limit files it.units) file.1 it.parse)
+
 of_text : CommentsComeOut → (named : FileNames) (inputs : Inputs) (it : ProgramIsRead named inputs) (text : List ℕ)
-    → named.annotated ≡ true → IsJudgedWith (judged named inputs it).scene (judged named inputs it).system (annotated_unit named.annotated) true text
+    → named.annotated ≡ true → length named.sources ≡ 1
+    → IsJudgedWith (judged named inputs it).scene (judged named inputs it).system (annotated_unit named.annotated) true text
     → IsAnnotated named inputs text
-of_text law named inputs it text annotated is = by (subst Judged annotated is)
+of_text law named inputs it text annotated one is = by (subst Judged annotated is)
   where
     Judged : Bool → Type 0
     Judged b = IsJudgedWith (judged named inputs it).scene (judged named inputs it).system (annotated_unit b) true text
 
-    found : unit_in (judged named inputs it).scene.units 1 ≡ Some (text_of named it.unit.lexed)
-    found = unit_is named inputs it.lattices it.before it.marks it.unit it.are it.counted.reads.parses.lexes.unit
+    source : (unit : UnitRead) × (it.units ≡ unit ∷ []) × SourceParses it.lattices 1 (first_of inputs.sources) unit
+    source = the_unit named inputs it one
+
+    found : unit_in (judged named inputs it).scene.units 1 ≡ Some (text_of named source.0.lexed)
+    found =
+        ap (λ (units : List UnitRead). unit_in (texts_of named (lexed_of (it.before ++ units))) 1) source.1
+        ∙ unit_is named inputs it.lattices it.before it.marks source.0 it.are source.2.lexes.unit
 
     by : Judged true → IsAnnotated named inputs text
     by (AcceptedWith _ report is spelled) = record {
       read = it;
+      unit = source.0;
+      one = source.1;
       report = report;
       is = is;
       spelled = subst (λ (o : Option UnitText). text ≡ report ++ (line (codes "annotated") ++ annotated_in (judged named inputs it).scene o is.listings)) found spelled;
-      source = law (judged named inputs it).scene it.unit.lexed is.listings ∙ it.counted.reads.parses.lexes.bytes_are;
+      source = law (judged named inputs it).scene source.0.lexed is.listings ∙ source.2.lexes.bytes_are;
     }
 
 of_end : CommentsComeOut → (named : FileNames) (inputs : Inputs) (it : ProgramIsRead named inputs) (text : List ℕ)
-    → named.annotated ≡ true → named.report ≡ None → IsEnd named inputs (judged named inputs it) Accepted text → IsAnnotated named inputs text
-of_end law named inputs it text annotated none (ReportChecked file _ _ there few is) =
+    → named.annotated ≡ true → named.report ≡ None → length named.sources ≡ 1 → IsEnd named inputs.report (judged named inputs it) Accepted text
+    → IsAnnotated named inputs text
+of_end law named inputs it text annotated none one (ReportChecked file _ _ there few is) =
     absurd (let no : None ≡ Some file = sym none ∙ there in cc)
-of_end law named inputs it text annotated none (Inferred _ _ no_report (IsRight _ is)) = of_text law named inputs it text annotated is
+of_end law named inputs it text annotated none one (Inferred _ _ no_report (IsRight _ is)) = of_text law named inputs it text annotated one is
 
 of_units : CommentsComeOut → (named : FileNames) (inputs : Inputs) (lattices : List LatticeView) → LatticesRead inputs.lattice lattices
-    → (text : List ℕ) → named.annotated ≡ true → named.report ≡ None → OfUnits named inputs lattices Accepted text
+    → (text : List ℕ) → named.annotated ≡ true → named.report ≡ None → length named.sources ≡ 1 → OfUnits named inputs lattices Accepted text
     → IsAnnotated named inputs text
-of_units law named inputs lattices read text annotated none (PreludeRead before marks _ _ are (SourceRead it _ _ counted end)) =
+of_units law named inputs lattices read text annotated none one (PreludeRead before marks _ _ are (SourcesRead units _ _ parse counted end)) =
     of_end law named inputs
-    (record { lattices = lattices; read = read; before = before; marks = marks; are = are; unit = it; counted = counted }) text annotated none end
+    (record { lattices = lattices; read = read; before = before; marks = marks; are = are; units = units; parse = parse; counted = counted })
+    text annotated none one end
 
 of_files_read : CommentsComeOut → (named : FileNames) (inputs : Inputs) (text : List ℕ) → named.annotated ≡ true → named.report ≡ None
-    → OfFiles named inputs Accepted text → IsAnnotated named inputs text
-of_files_read law named inputs text annotated none (LatticeRead lattices _ _ read units) =
-    of_units law named inputs lattices read text annotated none units
+    → length named.sources ≡ 1 → OfFiles named inputs Accepted text → IsAnnotated named inputs text
+of_files_read law named inputs text annotated none one (LatticeRead lattices _ _ read units) =
+    of_units law named inputs lattices read text annotated none one units
 
 some_task : {x y : Task} → Some x ≡ Some y → x ≡ y
 some_task e = cc
@@ -74,9 +102,13 @@ pub annotated_gives_the_source : CommentsComeOut → AnnotatedGivesTheSource
 annotated_gives_the_source law words names inputs text means (WithMeaning task _ _ is outcome) =
     by (some_task (sym is ∙ means)) outcome
   where
+    one : length names.sources ≡ 1
+    one = (tasks_have_sources words (Annotate names) means).2 refl
+
     by : task ≡ Annotate names → OfTask inputs task Accepted text → IsAnnotated (of_files names true None) inputs text
     by same (OfGenerated number _ _ made _) = absurd (let no : Generate number ≡ Annotate names = sym made ∙ same in cc)
     by same (OfProgram named _ _ is_named files) =
         let e : named ≡ of_files names true None = some_names (sym is_named ∙ ap names_of same) in
         subst (λ (n : FileNames). IsAnnotated n inputs text) e
-        (of_files_read law named inputs text (ap (λ (n : FileNames). n.annotated) e) (ap (λ (n : FileNames). n.report) e) files)
+        (of_files_read law named inputs text (ap (λ (n : FileNames). n.annotated) e) (ap (λ (n : FileNames). n.report) e)
+        (ap (λ (n : FileNames). length n.sources) e ∙ one) files)

@@ -4,6 +4,7 @@ use Rattle.lattice_core.specs.View.{orders_of}
 use Rattle.flow_graph.specs.System.{IsWellOwned}
 use Rattle.flow_graph.specs.Unfolding.{NamesElements}
 use Rattle.c_lexer.specs.Tokens.{token_spot}
+use Rattle.c_types.specs.Sources.{UnitRead}
 use Rattle.annotate.specs.Texts.{Scene, UnitText, line, file_text}
 use Rattle.annotate.specs.Annotated.{pieces_of, with_comments, without_comments}
 use Rattle.annotate.specs.Reports.{IsAcceptedReport}
@@ -12,29 +13,31 @@ use Rattle.report_checks.specs.declared.judging.Checked.TheVariants.{Hold}
 use Rattle.report_checks.specs.Texts.{checked_text}
 use Rattle.cqual_words.specs.Words.{FileNames as Names, Infer, Annotate, Check, meaning_of}
 use Rattle.cqual_tool.specs.declared.status.Status.TheVariants.{Accepted, Rejected, PathsHold}
-use Rattle.cqual_tool.specs.Inputs.{Inputs}
+use Rattle.cqual_tool.specs.Inputs.{Inputs, first_of}
 use Rattle.cqual_tool.specs.Words.{FileNames, of_files}
 use Rattle.cqual_tool.specs.Programs.{Judging, judging_of}
 use Rattle.cqual_tool.specs.Outcome.{Outcome, ProgramIsRead, report_limit}
 
 -- what is judged of files that are read
 abbrev pub judged : (named : FileNames) (inputs : Inputs) → ProgramIsRead named inputs → Judging
-judged named inputs it = judging_of named it.lattices it.marks (it.before ++ it.unit ∷ [])
+judged named inputs it = judging_of named it.lattices it.marks (it.before ++ it.units)
 
 -- The system of files that are read is well owned, and names elements of its lattices.
 abbrev pub ProgramsAreOwned : Type 0
 ProgramsAreOwned = (named : FileNames) (inputs : Inputs) (it : ProgramIsRead named inputs) →
     IsWellOwned (judged named inputs it).system × NamesElements (judged named inputs it).system (orders_of it.lattices)
 
--- A text is an accepted report of files that are read, and behind it the bytes of the source with comments: without the
--- comments they are the source.
+-- A text is an accepted report of files that are read, of which one is a source, and behind it the bytes of that source with comments:
+-- without the comments they are the source.
 pub record IsAnnotated (named : FileNames) (inputs : Inputs) (text : List ℕ) : Type 0 where
   pub read : ProgramIsRead named inputs
+  pub unit : UnitRead
+  pub one : read.units ≡ unit ∷ []
   pub report : List ℕ
   pub is : IsAcceptedReport (judged named inputs read).scene (judged named inputs read).system report
   pub spelled : text ≡ report ++ (line (codes "annotated")
-      ++ with_comments (pieces_of (judged named inputs read).scene read.unit.lexed is.listings))
-  pub source : without_comments (pieces_of (judged named inputs read).scene read.unit.lexed is.listings) ≡ inputs.source
+      ++ with_comments (pieces_of (judged named inputs read).scene unit.lexed is.listings))
+  pub source : without_comments (pieces_of (judged named inputs read).scene unit.lexed is.listings) ≡ first_of inputs.sources
 
 -- An accepted text with the annotated source is that.
 abbrev pub AnnotatedGivesTheSource : Type 0
@@ -46,7 +49,7 @@ abbrev pub FilesAreFree : Scene → Type 0
 FilesAreFree scene = (k : ℕ) (unit : UnitText) (token : ℕ) → slice_get scene.units k ≡ Some unit →
     HasNoFeed (file_text unit.file unit.lexed.bytes (token_spot unit.lexed token))
 
--- A rejected text, as the report that is checked over the same lattices, prelude and source, holds: where the names of files have no
+-- A rejected text, as the report that is checked over the same lattices, prelude and sources, holds: where the names of files have no
 -- line feed in them, and the text is not past the limit of reports.
 abbrev pub RejectedIsChecked : Type 0
 RejectedIsChecked = (words others : List (List ℕ)) (names : Names) (report : List ℕ) (inputs : Inputs) (text : List ℕ) →

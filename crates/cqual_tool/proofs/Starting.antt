@@ -32,7 +32,7 @@ pub one_more : (lattices : List LatticeView) (number left : ℕ) (file bytes con
     → SourcesParse lattices number left ((file, content) ∷ more) (unit ∷ units)
 one_more lattices number left file bytes content more unit units same within parses rest =
     subst (λ (b : List ℕ). SourcesParse lattices number left ((file, b) ∷ more) (unit ∷ units)) (sym same)
-    (OneSource number left file bytes more unit units within parses rest)
+    (OneSource number left (file, bytes) more unit units within parses rest)
 
 behind_one : (before : List UnitRead) (unit : UnitRead) (units : List UnitRead) (P : List UnitRead → Type 0) → P ((before ++ unit ∷ []) ++ units)
     → P (before ++ unit ∷ units)
@@ -69,12 +69,12 @@ module _ (named : FileNames) (lattices : List LatticeView) where
     pub one_of : (Ends : Judging → Status → List ℕ → Type 0) (more : List (List ℕ × List ℕ)) (status : Status) (text : List ℕ)
         → OfSources named lattices (before ++ unit ∷ []) marks Ends (number + 1) (left - length bytes) more status text
         → OfSources named lattices before marks Ends number left ((file, bytes) ∷ more) status text
-    one_of Ends more _ _ (NotParsed text fails) = NotParsed text (Later number left file bytes more unit text within parses fails)
+    one_of Ends more _ _ (NotParsed text fails) = NotParsed text (Later number left (file, bytes) more unit text within parses fails)
     one_of Ends more _ _ (NotCounted units text parse refused) =
-        NotCounted (unit ∷ units) text (OneSource number left file bytes more unit units within parses parse)
+        NotCounted (unit ∷ units) text (OneSource number left (file, bytes) more unit units within parses parse)
         (behind_one before unit units (λ all. UnitsRefused named lattices marks all text) refused)
     one_of Ends more _ _ (SourcesRead units status text parse counted ends) =
-        SourcesRead (unit ∷ units) status text (OneSource number left file bytes more unit units within parses parse)
+        SourcesRead (unit ∷ units) status text (OneSource number left (file, bytes) more unit units within parses parse)
         (behind_one before unit units (AreCounted named lattices marks) counted)
         (behind_one before unit units (λ all. Ends (judging_of named lattices marks all) status text) ends)
 

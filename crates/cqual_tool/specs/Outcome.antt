@@ -126,20 +126,20 @@ limit_in left = if nat_le left source_limit then left else source_limit
 -- for all of them together.
 pub data SourcesParse (lattices : List LatticeView) : ℕ → ℕ → List (List ℕ × List ℕ) → List UnitRead → Type 0 where
   NoSource : (number left : ℕ) → SourcesParse lattices number left [] []
-  OneSource : (number left : ℕ) (file bytes : List ℕ) (more : List (List ℕ × List ℕ)) (unit : UnitRead) (units : List UnitRead) →
-      length bytes ≤ limit_in left → SourceParses lattices number bytes unit →
-      SourcesParse lattices (number + 1) (left - length bytes) more units →
-      SourcesParse lattices number left ((file, bytes) ∷ more) (unit ∷ units)
+  OneSource : (number left : ℕ) (source : List ℕ × List ℕ) (more : List (List ℕ × List ℕ)) (unit : UnitRead) (units : List UnitRead) →
+      length source.1 ≤ limit_in left → SourceParses lattices number source.1 unit →
+      SourcesParse lattices (number + 1) (left - length source.1) more units →
+      SourcesParse lattices number left (source ∷ more) (unit ∷ units)
 
 -- The whole line for sources of which one has too many bytes or is no well-formed unit: for the first of these.
 pub data SourcesFail (lattices : List LatticeView) : ℕ → ℕ → List (List ℕ × List ℕ) → List ℕ → Type 0 where
-  TooLarge : (number left : ℕ) (file bytes : List ℕ) (more : List (List ℕ × List ℕ)) → limit_in left < length bytes →
-      SourcesFail lattices number left ((file, bytes) ∷ more) (malformed_line file (codes "F2"))
-  Refused : (number left : ℕ) (file bytes : List ℕ) (more : List (List ℕ × List ℕ)) (text : List ℕ) → length bytes ≤ limit_in left →
-      SourceRefused lattices number file bytes text → SourcesFail lattices number left ((file, bytes) ∷ more) text
-  Later : (number left : ℕ) (file bytes : List ℕ) (more : List (List ℕ × List ℕ)) (unit : UnitRead) (text : List ℕ) →
-      length bytes ≤ limit_in left → SourceParses lattices number bytes unit →
-      SourcesFail lattices (number + 1) (left - length bytes) more text → SourcesFail lattices number left ((file, bytes) ∷ more) text
+  TooLarge : (number left : ℕ) (source : List ℕ × List ℕ) (more : List (List ℕ × List ℕ)) → limit_in left < length source.1 →
+      SourcesFail lattices number left (source ∷ more) (malformed_line source.0 (codes "F2"))
+  Refused : (number left : ℕ) (source : List ℕ × List ℕ) (more : List (List ℕ × List ℕ)) (text : List ℕ) → length source.1 ≤ limit_in left →
+      SourceRefused lattices number source.0 source.1 text → SourcesFail lattices number left (source ∷ more) text
+  Later : (number left : ℕ) (source : List ℕ × List ℕ) (more : List (List ℕ × List ℕ)) (unit : UnitRead) (text : List ℕ) →
+      length source.1 ≤ limit_in left → SourceParses lattices number source.1 unit →
+      SourcesFail lattices (number + 1) (left - length source.1) more text → SourcesFail lattices number left (source ∷ more) text
 
 -- The whole line for well-formed units, the prelude's too, whose names and types have a fault, or whose variables, counted first, or
 -- constraints are too many.

@@ -16,16 +16,16 @@ use Rattle.cq_prelude.specs.declared.fault.PreludeFault.{PreludeFault}
 use Rattle.cqual_tool.specs.declared.status.Status.{Status}
 use Rattle.cqual_tool.specs.declared.status.Status.TheVariants.{Malformed}
 use Rattle.cqual_tool.specs.Words.{FileNames, names_of}
-use Rattle.cqual_tool.specs.Inputs.{Inputs}
+use Rattle.cqual_tool.specs.Inputs.{Inputs, files_with}
 use Rattle.cqual_tool.specs.Programs.{Judging, judging_of}
-use Rattle.cqual_tool.specs.Outcome.{source_limit, annotated_unit, made_names, sum_status, LatticesRead, PreludeFails, AreBefore, NoPrelude, OnePrelude, IsRefused, IsCounted, IsReport, IsRight, IsWrong, IsChecked, Holding, Failing, IsEnd, Inferred, ReportTooLarge, ReportChecked, OfSource, SourceTooLarge, SourceRefused, SourceRead, OfUnits, PreludeTooLarge, PreludeRefused, PreludeRead, OfFiles, LatticeTooLarge, LatticeRefused, LatticeRead, IsSummed, SummedUp, OfMade, MadeLatticesRefused, MadeTooLarge, MadeRefused, MadeRead, OfTask, OfProgram, OfGenerated, WithoutMeaning, WithMeaning}
+use Rattle.cqual_tool.specs.Outcome.{source_limit, total_limit, annotated_unit, made_names, sources_of, sum_status, LatticesRead, PreludeFails, AreBefore, NoPrelude, OnePrelude, SourcesParse, IsReport, IsRight, IsWrong, IsChecked, Holding, Failing, IsEnd, Inferred, ReportTooLarge, ReportChecked, OfSources, NotParsed, NotCounted, SourcesRead, OfUnits, PreludeTooLarge, PreludeRefused, PreludeRead, OfFiles, LatticeTooLarge, LatticeRefused, LatticeRead, IsSummed, SummedUp, OfMade, MadeLatticesRefused, MadeRead, OfTask, OfProgram, OfGenerated, WithoutMeaning, WithMeaning}
 use Rattle.outcome_laws.specs.Outcomes.{HasOneText, OneOutcome}
 use Rattle.outcome_laws.proofs.Lattices.{one_reading_of_lattices}
 use Rattle.outcome_laws.proofs.Judging.{one_judgement, one_error_count}
 use Rattle.outcome_laws.proofs.Checking.{one_check}
 use Rattle.outcome_laws.proofs.Preludes.{one_prelude}
 use Rattle.outcome_laws.proofs.Programs.{SameIndices, judged_same}
-use Rattle.outcome_laws.proofs.Sources.{source_once, never_refused}
+use Rattle.outcome_laws.proofs.Sources.{sources_once, never_fail, never_uncounted}
 
 abbrev Same : Status → Status → List ℕ → List ℕ → Type 0
 Same s t x y = (s ≡ t) × (HasOneText s → x ≡ y)
@@ -55,8 +55,8 @@ check_once it bytes _ _ _ _ (Failing line code h) (Holding k never) =
 check_once it bytes _ _ _ _ (Failing line code h) (Failing other tag k) =
     (refl, λ text. ap checked_text (one_check it.system (orders_of it.scene.lattices) bytes (Bad line code) (Bad other tag) h k))
 
-module _ (named : FileNames) (inputs : Inputs) (it : Judging) (are : AreLattices it.scene.lattices) where
-  end_once : (s t : Status) (x y : List ℕ) → IsEnd named inputs it s x → IsEnd named inputs it t y → Same s t x y
+module _ (named : FileNames) (report : List ℕ) (it : Judging) (are : AreLattices it.scene.lattices) where
+  end_once : (s t : Status) (x y : List ℕ) → IsEnd named report it s x → IsEnd named report it t y → Same s t x y
   end_once _ _ _ _ (Inferred s x none h) (Inferred t y none_too k) = report_once named it are s t x y h k
   end_once _ _ _ _ (Inferred s x none h) (ReportTooLarge file some over) = absurd cc
   end_once _ _ _ _ (Inferred s x none h) (ReportChecked file t y some within k) = absurd cc
@@ -65,39 +65,43 @@ module _ (named : FileNames) (inputs : Inputs) (it : Judging) (are : AreLattices
   end_once _ _ _ _ (ReportTooLarge file some over) (ReportChecked other t y too within k) = absurd (omega (arith, over, within))
   end_once _ _ _ _ (ReportChecked file s x some within h) (Inferred t y none k) = absurd cc
   end_once _ _ _ _ (ReportChecked file s x some within h) (ReportTooLarge other too over) = absurd (omega (arith, over, within))
-  end_once _ _ _ _ (ReportChecked file s x some within h) (ReportChecked other t y too fits k) = check_once it inputs.report s t x y h k
+  end_once _ _ _ _ (ReportChecked file s x some within h) (ReportChecked other t y too fits k) = check_once it report s t x y h k
 
--- the source
+-- the sources
+
+-- what comes of a program is one
+abbrev EndsOnce : (Judging → Status → List ℕ → Type 0) → Judging → Type 0
+EndsOnce Ends it = (s t : Status) (x y : List ℕ) → Ends it s x → Ends it t y → Same s t x y
+
+module _ (one_unit : OneUnitAtMost) (named : FileNames) (lattices : List LatticeView) (before : List UnitRead) (Ends : Judging → Status → List ℕ → Type 0)
+    (number left : ℕ) (sources : List (List ℕ × List ℕ)) (marks said : List IndexMark) (same : SameIndices marks said)
+    (once : (units : List UnitRead) → EndsOnce Ends (judging_of named lattices marks units)) where
+  behind : (units others : List UnitRead) → SourcesParse lattices number left sources units → SourcesParse lattices number left sources others
+      → before ++ units ≡ before ++ others
+  behind units others h k =
+      ap (λ (us : List UnitRead). before ++ us) (sources_once one_unit lattices number left sources units others h k)
+
+  sources_one : (s t : Status) (x y : List ℕ) → OfSources named lattices before marks Ends number left sources s x
+      → OfSources named lattices before said Ends number left sources t y → Same s t x y
+  sources_one _ _ _ _ (NotParsed x fails) (NotParsed y also) = malformed _ _
+  sources_one _ _ _ _ (NotParsed x fails) (NotCounted units y parse refused) = malformed _ _
+  sources_one _ _ _ _ (NotParsed x fails) (SourcesRead units t y parse counted k) =
+      absurd (never_fail one_unit lattices number left sources units x parse fails)
+  sources_one _ _ _ _ (NotCounted units x parse refused) (NotParsed y fails) = malformed _ _
+  sources_one _ _ _ _ (NotCounted units x parse refused) (NotCounted others y also too) = malformed _ _
+  sources_one _ _ _ _ (NotCounted units x parse refused) (SourcesRead others t y also counted k) =
+      absurd (never_uncounted named lattices said marks (λ p. sym (same p)) (before ++ others) (before ++ units) (behind others units also parse)
+      counted x refused)
+  sources_one _ _ _ _ (SourcesRead units s x parse counted h) (NotParsed y fails) =
+      absurd (never_fail one_unit lattices number left sources units y parse fails)
+  sources_one _ _ _ _ (SourcesRead units s x parse counted h) (NotCounted others y also refused) =
+      absurd (never_uncounted named lattices marks said same (before ++ units) (before ++ others) (behind units others parse also) counted y refused)
+  sources_one _ _ _ _ (SourcesRead units s x parse counted h) (SourcesRead others t y also too k) =
+      once (before ++ units) s t x y h
+      (subst (λ (j : Judging). Ends j t y)
+      (sym (judged_same named lattices marks said (before ++ units) (before ++ others) same (behind units others parse also))) k)
 
 module _ (one_unit : OneUnitAtMost) (named : FileNames) (inputs : Inputs) (lattices : List LatticeView) (are : AreLattices lattices) where
-  too_large : (before : List UnitRead) (marks : List IndexMark) (it : UnitRead) → source_limit < length inputs.source →
-      IsCounted named lattices before marks inputs.source it → ⊥
-  too_large before marks it over h = let within = h.reads.parses.lexes.within in omega (arith, over, within)
-
-  ends_once : (marks said : List IndexMark) (units others : List UnitRead) → SameIndices marks said → units ≡ others → (s t : Status) (x y : List ℕ) →
-      IsEnd named inputs (judging_of named lattices marks units) s x → IsEnd named inputs (judging_of named lattices said others) t y → Same s t x y
-  ends_once marks said units others same e s t x y h k =
-      end_once named inputs (judging_of named lattices marks units) are s t x y h
-      (subst (λ (j : Judging). IsEnd named inputs j t y) (sym (judged_same named lattices marks said units others same e)) k)
-
-  module _ (before : List UnitRead) where
-    source_one : (marks said : List IndexMark) → SameIndices marks said → (s t : Status) (x y : List ℕ) →
-        OfSource named inputs lattices before marks s x → OfSource named inputs lattices before said t y → Same s t x y
-    source_one marks said same _ _ _ _ (SourceTooLarge over) (SourceTooLarge above) = malformed _ _
-    source_one marks said same _ _ _ _ (SourceTooLarge over) (SourceRefused y k) = malformed _ _
-    source_one marks said same _ _ _ _ (SourceTooLarge over) (SourceRead it t y counted k) = absurd (too_large before said it over counted)
-    source_one marks said same _ _ _ _ (SourceRefused x h) (SourceTooLarge over) = malformed _ _
-    source_one marks said same _ _ _ _ (SourceRefused x h) (SourceRefused y k) = malformed _ _
-    source_one marks said same _ _ _ _ (SourceRefused x h) (SourceRead it t y counted k) =
-        absurd (never_refused lattices inputs.source one_unit named before said marks (λ p. sym (same p)) it counted x h)
-    source_one marks said same _ _ _ _ (SourceRead it s x counted h) (SourceTooLarge over) = absurd (too_large before marks it over counted)
-    source_one marks said same _ _ _ _ (SourceRead it s x counted h) (SourceRefused y k) =
-        absurd (never_refused lattices inputs.source one_unit named before marks said same it counted y k)
-    source_one marks said same _ _ _ _ (SourceRead it s x counted h) (SourceRead other t y too k) =
-        ends_once marks said (before ++ it ∷ []) (before ++ other ∷ []) same
-        (ap (λ (u : UnitRead). before ++ u ∷ []) (source_once lattices inputs.source one_unit it other counted.reads.parses too.reads.parses))
-        s t x y h k
-
   -- the prelude
 
   before_once : (one other : List UnitRead) (marks said : List IndexMark) → AreBefore named inputs lattices one marks →
@@ -134,8 +138,10 @@ module _ (one_unit : OneUnitAtMost) (named : FileNames) (inputs : Inputs) (latti
       absurd (before_reads before marks name fault too fails reads)
   units_one _ _ _ _ (PreludeRead before marks s x reads h) (PreludeRead ahead said t y also k) =
       let same = before_once before ahead marks said reads also in
-      source_one before marks said same.1 s t x y h
-      (subst (λ (units : List UnitRead). OfSource named inputs lattices units said t y) (sym same.0) k)
+      sources_one one_unit named lattices before (IsEnd named inputs.report) 1 total_limit (sources_of named inputs) marks said same.1
+      (λ units. end_once named inputs.report (judging_of named lattices marks units) are) s t x y h
+      (subst (λ (units : List UnitRead).
+      OfSources named lattices units said (IsEnd named inputs.report) 1 total_limit (sources_of named inputs) t y) (sym same.0) k)
 
 -- the lattices
 
@@ -182,45 +188,18 @@ module _ (one_unit : OneUnitAtMost) where
       )
 
   module _ (number : ℕ) where
-    made_fits : (lattices : List LatticeView) (it : UnitRead) → source_limit < length (generated_text number) →
-        IsCounted made_names lattices [] [] (generated_text number) it → ⊥
-    made_fits lattices it over h = let within = h.reads.parses.lexes.within in omega (arith, over, within)
-
-    made_reads : (lattices others : List LatticeView) (it : UnitRead) (text : List ℕ) → LatticesRead lattice_text lattices →
-        LatticesRead lattice_text others → IsCounted made_names lattices [] [] (generated_text number) it →
-        IsRefused made_names others [] [] (generated_text number) text → ⊥
-    made_reads lattices others it text read also h refused =
-        never_refused lattices (generated_text number) one_unit made_names [] [] [] (λ p. refl) it h text
-        (subst (λ (ls : List LatticeView). IsRefused made_names ls [] [] (generated_text number) text)
-        (sym ((one_reading_of_lattices lattice_text lattices read.read).only others also.read)) refused)
-
     made_one : (s t : Status) (x y : List ℕ) → OfMade number s x → OfMade number t y → Same s t x y
     made_one _ _ _ _ (MadeLatticesRefused fault fails) (MadeLatticesRefused other also) = malformed _ _
-    made_one _ _ _ _ (MadeLatticesRefused fault fails) (MadeTooLarge over) = malformed _ _
-    made_one _ _ _ _ (MadeLatticesRefused fault fails) (MadeRefused lattices y read k) = malformed _ _
-    made_one _ _ _ _ (MadeLatticesRefused fault fails) (MadeRead lattices it t y read counted k) =
+    made_one _ _ _ _ (MadeLatticesRefused fault fails) (MadeRead lattices t y read k) =
         absurd ((one_reading_of_lattices lattice_text lattices read.read).sound fault fails.reason fails.refused)
-    made_one _ _ _ _ (MadeTooLarge over) (MadeLatticesRefused fault fails) = malformed _ _
-    made_one _ _ _ _ (MadeTooLarge over) (MadeTooLarge above) = malformed _ _
-    made_one _ _ _ _ (MadeTooLarge over) (MadeRefused lattices y read k) = malformed _ _
-    made_one _ _ _ _ (MadeTooLarge over) (MadeRead lattices it t y read counted k) = absurd (made_fits lattices it over counted)
-    made_one _ _ _ _ (MadeRefused lattices x read h) (MadeLatticesRefused fault fails) = malformed _ _
-    made_one _ _ _ _ (MadeRefused lattices x read h) (MadeTooLarge over) = malformed _ _
-    made_one _ _ _ _ (MadeRefused lattices x read h) (MadeRefused others y also k) = malformed _ _
-    made_one _ _ _ _ (MadeRefused lattices x read h) (MadeRead others it t y also counted k) =
-        absurd (made_reads others lattices it x also read counted h)
-    made_one _ _ _ _ (MadeRead lattices it s x read counted h) (MadeLatticesRefused fault fails) =
+    made_one _ _ _ _ (MadeRead lattices s x read h) (MadeLatticesRefused fault fails) =
         absurd ((one_reading_of_lattices lattice_text lattices read.read).sound fault fails.reason fails.refused)
-    made_one _ _ _ _ (MadeRead lattices it s x read counted h) (MadeTooLarge over) = absurd (made_fits lattices it over counted)
-    made_one _ _ _ _ (MadeRead lattices it s x read counted h) (MadeRefused others y also k) =
-        absurd (made_reads lattices others it y read also counted k)
-    made_one _ _ _ _ (MadeRead lattices it s x read counted h) (MadeRead others other t y also too k) =
+    made_one _ _ _ _ (MadeRead lattices s x read h) (MadeRead others t y also k) =
         let same : lattices ≡ others = (one_reading_of_lattices lattice_text lattices read.read).only others also.read in
-        let counts : IsCounted made_names lattices [] [] (generated_text number) other =
-        subst (λ (ls : List LatticeView). IsCounted made_names ls [] [] (generated_text number) other) (sym same) too in
-        let unit : it ≡ other = source_once lattices (generated_text number) one_unit it other counted.reads.parses counts.reads.parses in
-        sum_once number (judging_of made_names lattices [] (it ∷ [])) s t x y h
-        (subst (λ (j : Judging). IsSummed number j t y) (λ i. judging_of made_names (sym same i) [] (sym unit i ∷ [])) k)
+        let files = files_with made_names.sources (generated_text number ∷ []) in
+        sources_one one_unit made_names lattices [] (IsSummed number) 1 total_limit files [] [] (λ p. refl)
+        (λ units. sum_once number (judging_of made_names lattices [] units)) s t x y h
+        (subst (λ (ls : List LatticeView). OfSources made_names ls [] [] (IsSummed number) 1 total_limit files t y) (sym same) k)
 
   -- what is asked
 

@@ -14,12 +14,14 @@ use Rattle.cqual_tool.proofs.Readings.{past_limit, whole_is}
 use Rattle.cqual_tool.proofs.Stages.{at_source, found_none, found_some, going_stands, prelude_answers, prelude_goes, prelude_lacks, prelude_stops, whole_stands}
 use Rattle.cqual_tool.proofs.reading.take_prelude.Goals as goal
 
-pub take_source-requires : goal.take_source-requires
-take_source-requires g c =
+pub take_sources-requires : goal.take_sources-requires
+take_sources-requires g c =
     let unit = unit_of c.in-Ok.read.source in
     let parses = c.in-Ok.ensures.reads.parses in
     record {
       words = c.requires.words;
+      few = c.requires.few;
+      within = omega arith;
       before = (unit ∷ [], record { are = c.in_ok-earlier-in-Ok.ensures.units; may = prelude_alone unit parses.lexes.unit parses.formed });
     }
 
