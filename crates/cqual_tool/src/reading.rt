@@ -83,7 +83,6 @@ fn take_sources<F: Files>(
         lattices.now before earlier.entry.prelude (index + 1) left
         (drop index (files_in named.now).sources) result }
     ensures decided { IfOk result (λ answer. IsDecided answer.status) }
-    decreases { length (files_in named.now).sources - index }
 {
     let Some(file) = named.sources.get(index as usize) else {
         return finish(alloc, named, lattices, earlier, files);
