@@ -1,5 +1,6 @@
 -- What rules find in what a program shows of names.
-use Rattle.std.proofs.Common.{arith, ◌≡◌, ℕ, zero, suc, ◌-◌, nat_eq, Bool, true, false, ◌&&◌, List, [], ◌∷◌, ◌++◌, length, map, slice_get, Option, Some, None, option_map, refl, sym, ◌∙◌, ap, if◌then◌else◌}
+use Rattle.std.proofs.Common.{arith, ◌≡◌, ℕ, zero, suc, ◌-◌, nat_eq, Bool, true, false, ◌&&◌, List, [], ◌∷◌, ◌++◌, length, reverse, map, slice_get, Option, Some, None, option_map, refl, sym, ◌∙◌, ap, if◌then◌else◌}
+use Rattle.std.proofs.lemmas.List.{reverse-append}
 use Rattle.std.specs.List.{last_or}
 use Rattle.type_table.specs.Types.{CType}
 use Rattle.tape_ops.specs.declared.specifier.TagKind.{TagKind}
@@ -15,7 +16,7 @@ use Rattle.name_records.specs.declared.aggregates.Aggregate.{Aggregate}
 use Rattle.name_records.specs.Records.{first_declared}
 use Rattle.name_records.specs.Bodies as bodies
 use Rattle.name_records.specs.Aggregates as aggregates
-use Rattle.unit_names.specs.Shown.{tagged_of, meaning_of, entry_of, scope_of, declared_of, own_of, known_of, body_of, aggregate_of}
+use Rattle.unit_names.specs.Shown.{tagged_of, meaning_of, entry_of, scope_of, declared_of, own_of, known_of, body_of, key_of, aggregate_of}
 
 pub map_more : {A B : Type 0} (f : A → B) (xs ys : List A) → map f (xs ++ ys) ≡ map f xs ++ map f ys
 map_more f [] ys = refl
@@ -40,6 +41,10 @@ pub map_changed : {A B : Type 0} (f : A → B) (g : A → A) (h : B → B) → (
 map_changed f g h same [] n = refl
 map_changed f g h same (x ∷ xs) zero = ap (λ y. y ∷ map f xs) (same x)
 map_changed f g h same (x ∷ xs) (suc n) = ap (λ ys. f x ∷ ys) (map_changed f g h same xs n)
+
+-- one more at the end is the first from behind
+pub newest_first : {A : Type 0} (xs : List A) (x : A) → reverse (xs ++ x ∷ []) ≡ x ∷ reverse xs
+newest_first xs x = reverse-append xs (x ∷ [])
 
 pub thing_is : (es : List (ℕ × Place)) (n : ℕ) → rules.thing_named es n ≡ newest es n
 thing_is [] n = refl
@@ -138,8 +143,18 @@ module _ (t : ℕ → CType) where
   changed_is change after same all n =
       map_changed (aggregate_of t) (aggregates.with_body change)
       (λ it. record it { body = Some (after (rules.or_no_body it.body)) })
-      (λ it. ap (λ b. let a : rules.Aggregate = record { kind = it.kind; at = it.at; body = Some b } in a)
+      (λ it. ap
+      (λ b. let a : rules.Aggregate = record { kind = it.kind; at = it.at; body = Some b; key = option_map key_of it.key } in a)
       (same (bodies.or_empty it.body) ∙ ap after (sym (some_body it.body)))) all n
+
+  -- what one of them is known by is set
+  pub keyed_is : (by_typedef : Bool) (name : ℕ) (all : List Aggregate) (n : ℕ)
+      → map (aggregate_of t) (rules.changed_at all n (aggregates.with_key by_typedef name))
+      ≡ rules.changed_at (map (aggregate_of t) all) n
+      (λ it. record it { key = Some (record { kind = it.kind; by_typedef = by_typedef; name = name }) })
+  keyed_is by_typedef name all n =
+      map_changed (aggregate_of t) (aggregates.with_key by_typedef name)
+      (λ it. record it { key = Some (record { kind = it.kind; by_typedef = by_typedef; name = name }) }) (λ it. refl) all n
 
   pub member_is : (name : ℕ) (at : Place) (ty : ℕ) (b : bodies.OneBody) → body_of t (bodies.with_member name at ty b)
       ≡ rules.with_member name at (t ty) (body_of t b)
@@ -171,4 +186,4 @@ last_get [] = refl
 last_get (x ∷ xs) = let e : length (x ∷ xs) - 1 ≡ length xs = omega arith in rw e (last_from x xs)
 
 pub ruleset views =
-    (map_more, map_length, map_last, thing_is, tag_is, meaning_is, innermost_is, outer_is, through_is, tag_through_is, first_is, body_is, lying_is)
+    (map_more, map_length, map_last, newest_first, thing_is, tag_is, meaning_is, innermost_is, outer_is, through_is, tag_through_is, first_is, body_is, lying_is)
