@@ -1,5 +1,5 @@
 -- What sources see of the prelude.
-use Rattle.std.proofs.Common.{arith, ◌≡◌, ℕ, zero, suc, ◌+◌, ◌<◌, nat_eq, Bool, true, false, List, [], ◌∷◌, ◌++◌, length, drop, reverse, map, slice_index_or, Option, Some, None, option_map, inl, inr, refl, sym, ◌∙◌, ap, append_assoc, append-nil, if◌then◌else◌}
+use Rattle.std.proofs.Common.{arith, ◌≡◌, ℕ, zero, suc, ◌+◌, ◌<◌, nat_eq, Bool, false, List, [], ◌∷◌, ◌++◌, length, drop, reverse, map, slice_index_or, Option, Some, None, option_map, inl, inr, refl, sym, ◌∙◌, ap, append_assoc, append-nil, if◌then◌else◌}
 use Rattle.std.proofs.lemmas.Bool.Decides.{eqb_tells}
 use Rattle.std.proofs.lemmas.List.{reverse-append}
 use Rattle.type_table.specs.Types.{CType}

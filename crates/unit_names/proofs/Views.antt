@@ -1,6 +1,5 @@
 -- What rules find in what a program shows of names.
-use Rattle.std.proofs.Common.{arith, ◌≡◌, ℕ, zero, suc, ◌-◌, nat_eq, Bool, true, false, ◌&&◌, List, [], ◌∷◌, ◌++◌, length, reverse, map, slice_get, Option, Some, None, option_map, refl, sym, ◌∙◌, ap, if◌then◌else◌}
-use Rattle.std.proofs.lemmas.List.{reverse-append}
+use Rattle.std.proofs.Common.{arith, ◌≡◌, ℕ, zero, suc, ◌-◌, nat_eq, Bool, true, false, ◌&&◌, List, [], ◌∷◌, ◌++◌, length, map, slice_get, Option, Some, None, option_map, refl, sym, ◌∙◌, ap, if◌then◌else◌}
 use Rattle.std.specs.List.{last_or}
 use Rattle.type_table.specs.Types.{CType}
 use Rattle.tape_ops.specs.declared.specifier.TagKind.{TagKind}
@@ -41,10 +40,6 @@ pub map_changed : {A B : Type 0} (f : A → B) (g : A → A) (h : B → B) → (
 map_changed f g h same [] n = refl
 map_changed f g h same (x ∷ xs) zero = ap (λ y. y ∷ map f xs) (same x)
 map_changed f g h same (x ∷ xs) (suc n) = ap (λ ys. f x ∷ ys) (map_changed f g h same xs n)
-
--- one more at the end is the first from behind
-pub newest_first : {A : Type 0} (xs : List A) (x : A) → reverse (xs ++ x ∷ []) ≡ x ∷ reverse xs
-newest_first xs x = reverse-append xs (x ∷ [])
 
 pub thing_is : (es : List (ℕ × Place)) (n : ℕ) → rules.thing_named es n ≡ newest es n
 thing_is [] n = refl
@@ -186,4 +181,4 @@ last_get [] = refl
 last_get (x ∷ xs) = let e : length (x ∷ xs) - 1 ≡ length xs = omega arith in rw e (last_from x xs)
 
 pub ruleset views =
-    (map_more, map_length, map_last, newest_first, thing_is, tag_is, meaning_is, innermost_is, outer_is, through_is, tag_through_is, first_is, body_is, lying_is)
+    (map_more, map_length, map_last, thing_is, tag_is, meaning_is, innermost_is, outer_is, through_is, tag_through_is, first_is, body_is, lying_is)
