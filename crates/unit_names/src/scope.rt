@@ -134,6 +134,7 @@ impl Names {
         self.enclosing = None;
         self.scopes.leave();
     }
+
     /// What of the prelude is visible round the file scope of each source: the objects and functions of the innermost scope, behind a
     /// whole prelude that of its file. The scope ends. Linear in its declarations.
     fn share(&mut self) -> Result<(), NoMemory>
