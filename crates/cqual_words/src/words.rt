@@ -1,11 +1,11 @@
 //! What the words mean together.
 
-ghost use Rattle.std.specs.Prelude.{◌≡◌, Bool, Some, None, Option, List, ℕ, codes, map, IfOk, IfSome, string_bytes};
+ghost use Rattle.std.specs.Prelude.{◌≡◌, ◌≤◌, Bool, length, Some, None, Option, List, ℕ, codes, map, IfOk, IfSome, string_bytes};
 ghost use Rattle.std.specs.List.{list_all};
 ghost use Rattle.std.specs.Option.{option_map};
 ghost use Rattle.clap.specs.Words.{FailsBy, HasMatchesOf, fault_of, first_value, found_of, one_text};
 ghost use Rattle.clap.specs.Values.{bool_text};
-ghost use Rattle.cqual_words.specs.Asked.{AsksMade, names_in, task_of};
+ghost use Rattle.cqual_words.specs.Asked.{AsksMade, NamesSources, names_in, task_of};
 ghost use Rattle.cqual_words.specs.Words as rules;
 ghost use Rattle.cqual_words.specs.Words.{meaning_of};
 ghost use Rattle.cqual_words.specs.Tool.{asked_by, asked_with, flag_text, given, plain_texts, raw_of, tool};
@@ -59,7 +59,7 @@ fn sources_of<'a>(
     alloc: Global,
     matches: &ArgMatches<'a>,
 ) -> Result<Option<Vec<&'a str>>, AllocError>
-    ensures { IfOk result (λ found. option_map (λ sources. map (λ s. s.now) sources.items) found
+    ensures texts { IfOk result (λ found. option_map (λ sources. map (λ s. s.now) sources.items) found
         ≡ rules.sources_of (plain_texts (raw_of (found_of matches.now) (codes "source")))) }
 {
     match matches.get_strs("source") {
@@ -79,6 +79,7 @@ fn of_files<'a>(files: FileWords<'a>, report: Option<&'a str>, annotate: bool) -
         (option_map (λ s. s.now) files.entry.prelude) (option_map (λ s. s.now) report.entry) None
         (flag_text annotate) (map (λ s. s.now) files.entry.sources.items) }
     ensures made { IfSome result AsksMade }
+    ensures sources { length files.entry.sources.items ≤ 256 → IfSome result NamesSources }
 {
     let count = files.sources.len();
     match (report, annotate) {
@@ -97,6 +98,7 @@ fn of_parts<'a>(matches: &ArgMatches<'a>, sources: Vec<&'a str>) -> Option<Asked
         ≡ asked_with on (λ id. first_value (found_of matches.now) id)
         (map (λ s. s.now) sources.entry.items) }
     ensures made { IfSome result AsksMade }
+    ensures sources { length sources.entry.items ≤ 256 → IfSome result NamesSources }
 {
     let lattice = text_of(matches, "lattice")?;
     let prelude = text_of(matches, "prelude")?;
@@ -129,6 +131,7 @@ fn of_matches<'a>(alloc: Global, matches: &ArgMatches<'a>) -> Result<Option<Aske
         ≡ asked_by on (λ id. first_value (found_of matches.now) id)
         (raw_of (found_of matches.now) (codes "source"))) }
     ensures made { IfOk result (λ found. IfSome found AsksMade) }
+    ensures sources { IfOk result (λ found. IfSome found NamesSources) }
 {
     match sources_of(alloc, matches)? {
         Some(sources) => Ok(of_parts(matches, sources)),
@@ -158,6 +161,7 @@ pub fn meaning<'a>(alloc: Global, words: &'a [String]) -> Result<Option<Asked<'a
     ensures meaning { IfOk result (λ found. option_map task_of found
         ≡ meaning_of (map string_bytes words.entry.now)) }
     ensures made { IfOk result (λ found. IfSome found AsksMade) }
+    ensures sources { IfOk result (λ found. IfSome found NamesSources) }
 {
     match matches(alloc, words) {
         Ok(matches) => of_matches(alloc, &matches),

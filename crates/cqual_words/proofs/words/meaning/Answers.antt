@@ -11,6 +11,7 @@ returns-in-Ok c =
     record {
       meaning = IfOk-weaker c.of_matches.result _ _ (λ found h. h read.0 read.1 ∙ read.2) c.of_matches.ensures.task;
       made = c.of_matches.ensures.made;
+      sources = c.of_matches.ensures.sources;
     }
 
 pub returns : goal.returns
@@ -20,4 +21,5 @@ returns c =
       meaning = refusal_right words c.in-Err.error c.in-Err.ensures.kinds (λ e. c.in_default.not-OutOfMemory (c.kind.ensures
           ∙ e));
       made = tt;
+      sources = tt;
     }
