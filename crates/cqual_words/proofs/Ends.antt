@@ -67,9 +67,6 @@ check_fine rows = refl
 abbrev off_rows : List Row → List Row
 off_rows rows = with_values (codes "annotate") AsWritten DefaultValue (codes "false" ∷ []) rows
 
-end_rows_are : (rows : List Row) → end_rows rows ≡ cond (has_row (codes "annotate") rows) rows (off_rows rows)
-end_rows_are rows = refl
-
 -- the other parts keep their texts
 all_kept : (id : Text) (rows : List Row) → bytes_eq (codes "annotate") id ≡ false → all_of id (end_rows rows) ≡ all_of id rows
 all_kept id rows other = go (has_row (codes "annotate") rows)

@@ -81,10 +81,10 @@ once_more ps p once none a other = go (place (part_of p) == place a) refl
 -- ---- the use of the piece that waits
 
 pub data Settling (ps : List Piece) (pend : Pend) : Type 0 where
-  -- it is used, and stands once
+  -- nothing waits, or it is used: an option that stands once, or a word that is no option
   Settles : settle_fault all_rules false (held_at ps pend) ≡ [] → settled all_rules (held_at ps pend) ≡ held_at (all_at ps pend) Free
       → OnceEach (all_at ps pend) → Settling ps pend
-  -- its part was there before
+  -- it is an option that was there before
   Repeats : settle_fault all_rules false (held_at ps pend) ≡ kind.ArgumentConflict ∷ [] → ((more : List Piece)
       → task_in (all_at ps pend ++ more) ≡ None)
       → Settling ps pend

@@ -148,11 +148,11 @@ fn matches<'a>(alloc: Global, words: &'a [String]) -> Result<ArgMatches<'a>, Err
     command.try_get_matches_from(words)
 }
 
-/// What the words behind the program's name ask, or nothing where they have no meaning. Each option stands at most once, and 1 to 256
-/// sources between, before and behind them, as `--name VALUE` or `--name=VALUE`; behind `--` there are no options.
+/// What the words behind the program's name ask, or nothing where they have no meaning. Each option stands at most once, as
+/// `--name VALUE` or `--name=VALUE`, with 1 to 256 sources before, between and behind them; behind `--` there are no options.
 ///
-/// Its time is in proportion to the words and their bytes. Memory is taken for the options, for the places of the words and for
-/// the text of a refusal, and is given back: what is asked lends its texts from the words.
+/// Its time is in proportion to the words and their bytes. Memory is taken for the options, for the places of the words, for the
+/// list of the sources and for the text of a refusal. What is asked keeps that list alone, and lends its texts from the words.
 ///
 /// # Errors
 ///
