@@ -1,6 +1,7 @@
 //! What the words mean together.
 
-ghost use Rattle.std.specs.Prelude.{◌≡◌, ◌≤◌, Bool, length, Some, None, Option, List, ℕ, codes, map, IfOk, IfSome, string_bytes};
+ghost use Rattle.std.specs.Prelude.{◌≡◌, ◌≤◌, Bool, Some, None, Option, List, ℕ, codes, length, map};
+ghost use Rattle.std.specs.Prelude.{IfOk, IfSome, string_bytes};
 ghost use Rattle.std.specs.List.{list_all};
 ghost use Rattle.std.specs.Option.{option_map};
 ghost use Rattle.clap.specs.Words.{FailsBy, HasMatchesOf, fault_of, first_value, found_of, one_text};
@@ -59,7 +60,7 @@ fn sources_of<'a>(
     alloc: Global,
     matches: &ArgMatches<'a>,
 ) -> Result<Option<Vec<&'a str>>, AllocError>
-    ensures texts { IfOk result (λ found. option_map (λ sources. map (λ s. s.now) sources.items) found
+    ensures { IfOk result (λ found. option_map (λ sources. map (λ s. s.now) sources.items) found
         ≡ rules.sources_of (plain_texts (raw_of (found_of matches.now) (codes "source")))) }
 {
     match matches.get_strs("source") {
