@@ -10,9 +10,9 @@ use Rattle.clap.specs.Kinds.{HasKind, Kinds}
 use Rattle.clap.specs.declared.error.Error.{Error}
 use Rattle.clap.specs.declared.error.kind.ErrorKind.TheVariants as kind
 use Rattle.clap.specs.declared.parser.matches.Found.{Found}
-use Rattle.clap.proofs.WalkLemmas.{first_value-rows, one_text-rows}
+use Rattle.clap.proofs.WalkLemmas.{first_value-rows, one_text-rows, raw_values-rows}
 use Rattle.cqual_words.specs.Words.{Text, meaning_of}
-use Rattle.cqual_words.specs.Tool.{asked_by, tool}
+use Rattle.cqual_words.specs.Tool.{asked_by, raw_of, tool}
 use Rattle.cqual_words.proofs.Rules.{shape}
 use Rattle.cqual_words.proofs.States.{Free}
 use Rattle.cqual_words.proofs.Steps.{Judged}
@@ -33,15 +33,15 @@ agrees words =
     let stop = (Rattle.clap.specs.Walk.walk shape.rules [] nothing_held words).stopped in
     let same : fault_of tool words ≡ level_fault shape [] nothing_held words false [] =
     ap₂ (λ b ks. level_fault shape [] nothing_held words b ks) (no_entered stop) (no_entered_fault stop) in
-    subst (λ ks. Judged ks (matches_of tool words) (meaning_of words)) (sym same) (walks words [] Free 1 (λ a. refl) refl)
+    subst (λ ks. Judged ks (matches_of tool words) (meaning_of words)) (sym same) (walks words [] Free (λ a other. refl))
 
 pub matches_right : (words : List Text) (f : Found) → fault_of tool words ≡ [] → rows_of f ≡ matches_of tool words
-    → (on : Bool) × (one_text f (codes "annotate") ≡ Some (bool_text on)) × (asked_by on (λ id. first_value f id) ≡ meaning_of words)
+    → (on : Bool) × (one_text f (codes "annotate") ≡ Some (bool_text on)) × (asked_by on (λ id. first_value f id) (raw_of f (codes "source")) ≡ meaning_of words)
 matches_right words f fine rows =
     let judged : Judged [] (rows_of f) (meaning_of words) =
     subst (λ rs. Judged [] rs (meaning_of words)) (sym rows) (subst (λ ks. Judged ks (matches_of tool words) (meaning_of words)) fine
     (agrees words)) in
-    (judged.0, one_text-rows f (codes "annotate") ∙ judged.1, (λ i. asked_by judged.0 (λ id. first_value-rows f id i)) ∙ judged.2)
+    (judged.0, one_text-rows f (codes "annotate") ∙ judged.1, (λ i. asked_by judged.0 (λ id. first_value-rows f id i) (raw_values-rows f (codes "source") i)) ∙ judged.2)
 
 pub refusal_right : (words : List Text) (e : Error) → HasKind (fault_of tool words) e → kind_of e ≢ kind.OutOfMemory
     → None ≡ meaning_of words

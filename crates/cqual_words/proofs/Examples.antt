@@ -1,31 +1,78 @@
 -- What some lists of words mean, worked out by hand from the rules.
-use Rattle.std.proofs.Common.{refl, ◌≡◌, [], ◌∷◌, Some, None}
+use Rattle.std.proofs.Common.{refl, ◌≡◌, ℕ, zero, suc, List, [], ◌∷◌, Some, None}
 use Rattle.std.specs.Prelude.{codes}
-use Rattle.cqual_words.specs.Words.{Annotate, Check, Generate, Infer, files_of, meaning_of, pieces_from}
+use Rattle.cqual_words.specs.Words.{Text, Annotate, Check, Generate, Infer, files_of, meaning_of, pieces_from}
 
 -- options in any order, with the value apart or attached
-apart : meaning_of (codes "--lattice" ∷ codes "l.q" ∷ codes "s.c" ∷ []) ≡ Some (Infer (files_of (codes "l.q") None (codes "s.c")))
+apart : meaning_of (codes "--lattice" ∷ codes "l.q" ∷ codes "s.c" ∷ []) ≡ Some (Infer (files_of (codes "l.q") None (codes "s.c" ∷ [])))
 unfolding pieces_from
 apart = refl
 
 attached : meaning_of (codes "--prelude=p.h" ∷ codes "s.c" ∷ codes "--lattice=l.q" ∷ [])
-    ≡ Some (Infer (files_of (codes "l.q") (Some (codes "p.h")) (codes "s.c")))
+    ≡ Some (Infer (files_of (codes "l.q") (Some (codes "p.h")) (codes "s.c" ∷ [])))
 unfolding pieces_from
 attached = refl
 
-first_equals : meaning_of (codes "--lattice==x" ∷ codes "s.c" ∷ []) ≡ Some (Infer (files_of (codes "=x") None (codes "s.c")))
+first_equals : meaning_of (codes "--lattice==x" ∷ codes "s.c" ∷ []) ≡ Some (Infer (files_of (codes "=x") None (codes "s.c" ∷ [])))
 unfolding pieces_from
 first_equals = refl
 
 ended : meaning_of (codes "--annotate" ∷ codes "--lattice=l.q" ∷ codes "--" ∷ codes "s.c" ∷ [])
-    ≡ Some (Annotate (files_of (codes "l.q") None (codes "s.c")))
+    ≡ Some (Annotate (files_of (codes "l.q") None (codes "s.c" ∷ [])))
 unfolding pieces_from
 ended = refl
 
 checked : meaning_of (codes "--check" ∷ codes "r" ∷ codes "--lattice=l.q" ∷ codes "s.c" ∷ [])
-    ≡ Some (Check (files_of (codes "l.q") None (codes "s.c")) (codes "r"))
+    ≡ Some (Check (files_of (codes "l.q") None (codes "s.c" ∷ [])) (codes "r"))
 unfolding pieces_from
 checked = refl
+
+-- sources before, between and behind the options, and behind `--`; one name twice is two sources
+several : meaning_of (codes "s.c" ∷ codes "--lattice" ∷ codes "l.q" ∷ codes "t.c" ∷ codes "--prelude=p.h" ∷ codes "s.c" ∷ codes "--"
+    ∷ codes "u.c" ∷ [])
+    ≡ Some (Infer (files_of (codes "l.q") (Some (codes "p.h")) (codes "s.c" ∷ codes "t.c" ∷ codes "s.c" ∷ codes "u.c" ∷ [])))
+unfolding pieces_from
+several = refl
+
+checked_several : meaning_of (codes "s.c" ∷ codes "t.c" ∷ codes "--check=r" ∷ codes "--lattice=l.q" ∷ [])
+    ≡ Some (Check (files_of (codes "l.q") None (codes "s.c" ∷ codes "t.c" ∷ [])) (codes "r"))
+unfolding pieces_from
+checked_several = refl
+
+-- one source with no meaning among others
+empty_source : meaning_of (codes "--lattice=l.q" ∷ codes "s.c" ∷ [] ∷ codes "t.c" ∷ []) ≡ None
+unfolding pieces_from
+empty_source = refl
+
+hyphen_source : meaning_of (codes "--lattice=l.q" ∷ codes "s.c" ∷ codes "--" ∷ codes "-t.c" ∷ []) ≡ None
+unfolding pieces_from
+hyphen_source = refl
+
+-- one source where it is annotated, and none where the tool makes it
+annotated_several : meaning_of (codes "--annotate" ∷ codes "--lattice=l.q" ∷ codes "s.c" ∷ codes "t.c" ∷ []) ≡ None
+unfolding pieces_from
+annotated_several = refl
+
+no_source : meaning_of (codes "--lattice=l.q" ∷ []) ≡ None
+unfolding pieces_from
+no_source = refl
+
+made_with_source : meaning_of (codes "--generate=1" ∷ codes "s.c" ∷ []) ≡ None
+unfolding pieces_from
+made_with_source = refl
+
+-- at most 256
+abbrev many : ℕ → List Text
+many zero = []
+many (suc n) = codes "s.c" ∷ many n
+
+most_sources : meaning_of (codes "--lattice=l.q" ∷ many 256) ≡ Some (Infer (files_of (codes "l.q") None (many 256)))
+unfolding pieces_from
+most_sources = refl
+
+too_many_sources : meaning_of (codes "--lattice=l.q" ∷ many 257) ≡ None
+unfolding pieces_from
+too_many_sources = refl
 
 made : meaning_of (codes "--generate=1000" ∷ []) ≡ Some (Generate 1000)
 unfolding pieces_from
@@ -60,10 +107,6 @@ hyphen_value = refl
 again : meaning_of (codes "--lattice=l.q" ∷ codes "--lattice=l.q" ∷ codes "s.c" ∷ []) ≡ None
 unfolding pieces_from
 again = refl
-
-two_sources : meaning_of (codes "--lattice=l.q" ∷ codes "s.c" ∷ codes "--" ∷ codes "t.c" ∷ []) ≡ None
-unfolding pieces_from
-two_sources = refl
 
 -- a flag with a value, a name that is cut short, parts that do not go together
 flag_value : meaning_of (codes "--lattice=l.q" ∷ codes "s.c" ∷ codes "--annotate=" ∷ []) ≡ None

@@ -2,16 +2,14 @@
 use Rattle.std.proofs.Common.{refl, ap, ◌≡◌, ◌∙◌, ◌||◌, ◌++◌, Bool, true, false, cond, List, [], ◌∷◌, Some, None, true≢false, append-nil}
 use Rattle.std.specs.Prelude.{option_map, codes}
 use Rattle.std.specs.Str.{bytes_eq}
-use Rattle.clap.specs.Walk.{Row, Rule, arg_by_id, arg_by_long, at_row, has_row, more_values, used, with_values, without}
+use Rattle.clap.specs.Walk.{Row, Rule, arg_by_id, arg_by_long, at_row, has_row, used, without}
 use Rattle.clap.specs.Simple.{Shape, built, filled, with_index}
 use Rattle.clap.specs.Faults.{use_fault}
-use Rattle.clap.specs.declared.parser.matches.ValueSource.TheVariants.{CommandLine}
-use Rattle.clap.specs.declared.builder.value_parser.Reading.TheVariants.{AsWritten}
 use Rattle.clap.specs.declared.error.kind.ErrorKind.TheVariants as kind
 use Rattle.cqual_words.specs.Words.{Key, Part, Piece, Text, Valued, Lattice, Prelude, Report, Number, Annotation, Source, Value, Flag}
-use Rattle.cqual_words.specs.Words.{Plain, named, part_of, text_of}
+use Rattle.cqual_words.specs.Words.{Plain, named}
 use Rattle.cqual_words.specs.Tool.{flag_rule, id_of, option_rule, source_rule, tool}
-use Rattle.cqual_words.proofs.Pieces.{each, row_of}
+use Rattle.cqual_words.proofs.Pieces.{each, with_piece}
 
 abbrev pub rule_for : Part → Rule
 rule_for (Valued Lattice) = filled (option_rule (codes "lattice"))
@@ -44,14 +42,9 @@ at_none id change missing (r ∷ rows) h = go (bytes_eq r.id id) h (at_none id c
     go true h next = absurd (true≢false h)
     go false h next = ap (λ rs. r ∷ rs) (next h)
 
--- a row of a text, for an id that has none, goes to the end
-pub added : (id text : Text) (rows : List Row) → has_row id rows ≡ false
-    → with_values id AsWritten CommandLine (text ∷ []) (without id rows)
-    ≡ rows ++ record { id = id; values = text ∷ []; count = None; source = Some CommandLine; reading = AsWritten } ∷ []
-added id text rows h =
-    ap (with_values id AsWritten CommandLine (text ∷ [])) (at_none id (λ _. []) [] rows h ∙ append-nil rows)
-    ∙ at_none id (more_values CommandLine (text ∷ []))
-    (record { id = id; values = text ∷ []; count = None; source = Some CommandLine; reading = AsWritten } ∷ []) rows h
+-- where an id has no row, none goes
+pub without_none : (id : Text) (rows : List Row) → has_row id rows ≡ false → without id rows ≡ rows
+without_none id rows h = at_none id (λ _. []) [] rows h ∙ append-nil rows
 
 -- ---- the parts that wait for their use: an option with its value, or a word that is none
 pub data Hand : Type 0 where
@@ -62,35 +55,39 @@ abbrev pub piece_of : Hand → Piece
 piece_of (OfKey key text) = Value key text
 piece_of (OfSource text) = Plain text
 
--- a use of a part that is not there yet adds its row
-pub used_hand : (hand : Hand) (rows : List Row) → has_row (id_of (part_of (piece_of hand))) rows ≡ false
-    → used (rule_for (part_of (piece_of hand))) (text_of (piece_of hand) ∷ []) rows ≡ rows ++ row_of (piece_of hand) ∷ []
-used_hand (OfKey Lattice text) rows h = added (codes "lattice") text rows h
-used_hand (OfKey Prelude text) rows h = added (codes "prelude") text rows h
-used_hand (OfKey Report text) rows h = added (codes "check") text rows h
-used_hand (OfKey Number text) rows h = added (codes "generate") text rows h
-used_hand (OfSource text) rows h = added (codes "source") text rows h
+-- a use of an option that is not there yet adds its row
+pub used_key : (key : Key) (text : Text) (rows : List Row) → has_row (id_of (Valued key)) rows ≡ false
+    → used (rule_for (Valued key)) (text ∷ []) rows ≡ with_piece rows (Value key text)
+used_key Lattice text rows h = ap (λ rs. with_piece rs (Value Lattice text)) (without_none (codes "lattice") rows h)
+used_key Prelude text rows h = ap (λ rs. with_piece rs (Value Prelude text)) (without_none (codes "prelude") rows h)
+used_key Report text rows h = ap (λ rs. with_piece rs (Value Report text)) (without_none (codes "check") rows h)
+used_key Number text rows h = ap (λ rs. with_piece rs (Value Number text)) (without_none (codes "generate") rows h)
 
 -- and so does a use of the flag
-pub used_flag : (rows : List Row) → has_row (id_of Annotation) rows ≡ false → used (rule_for Annotation) [] rows ≡ rows ++ row_of Flag ∷ []
-used_flag rows h = added (codes "annotate") (codes "true") rows h
+pub used_flag : (rows : List Row) → has_row (id_of Annotation) rows ≡ false → used (rule_for Annotation) [] rows ≡ with_piece rows Flag
+used_flag rows h = ap (λ rs. with_piece rs Flag) (without_none (codes "annotate") rows h)
+
+-- a word that is no option joins those before it
+pub used_source : (text : Text) (rows : List Row) → used (rule_for Source) (text ∷ []) rows ≡ with_piece rows (Plain text)
+used_source text rows = refl
 
 -- the faults of these uses
-pub hand_fine : (hand : Hand) (rows : List Row) → has_row (id_of (part_of (piece_of hand))) rows ≡ false
-    → use_fault false (rule_for (part_of (piece_of hand))) (text_of (piece_of hand) ∷ []) rows ≡ []
-hand_fine (OfKey Lattice text) rows h = rw h refl
-hand_fine (OfKey Prelude text) rows h = rw h refl
-hand_fine (OfKey Report text) rows h = rw h refl
-hand_fine (OfKey Number text) rows h = rw h refl
-hand_fine (OfSource text) rows h = rw h refl
+pub key_fine : (key : Key) (text : Text) (rows : List Row) → has_row (id_of (Valued key)) rows ≡ false
+    → use_fault false (rule_for (Valued key)) (text ∷ []) rows ≡ []
+key_fine Lattice text rows h = rw h refl
+key_fine Prelude text rows h = rw h refl
+key_fine Report text rows h = rw h refl
+key_fine Number text rows h = rw h refl
 
-pub hand_again : (hand : Hand) (rows : List Row) → has_row (id_of (part_of (piece_of hand))) rows ≡ true
-    → use_fault false (rule_for (part_of (piece_of hand))) (text_of (piece_of hand) ∷ []) rows ≡ kind.ArgumentConflict ∷ []
-hand_again (OfKey Lattice text) rows h = rw h refl
-hand_again (OfKey Prelude text) rows h = rw h refl
-hand_again (OfKey Report text) rows h = rw h refl
-hand_again (OfKey Number text) rows h = rw h refl
-hand_again (OfSource text) rows h = rw h refl
+pub key_again : (key : Key) (text : Text) (rows : List Row) → has_row (id_of (Valued key)) rows ≡ true
+    → use_fault false (rule_for (Valued key)) (text ∷ []) rows ≡ kind.ArgumentConflict ∷ []
+key_again Lattice text rows h = rw h refl
+key_again Prelude text rows h = rw h refl
+key_again Report text rows h = rw h refl
+key_again Number text rows h = rw h refl
+
+pub source_fine : (text : Text) (rows : List Row) → use_fault false (rule_for Source) (text ∷ []) rows ≡ []
+source_fine text rows = refl
 
 pub flag_fine : (rows : List Row) → has_row (id_of Annotation) rows ≡ false → use_fault false (rule_for Annotation) [] rows ≡ []
 flag_fine rows h = rw h refl

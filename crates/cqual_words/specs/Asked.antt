@@ -1,7 +1,7 @@
 -- What the code holds of the words, as a task.
-use Rattle.std.specs.Prelude.{⊤, map}
+use Rattle.std.specs.Prelude.{⊤, length, map}
 use Rattle.std.specs.Option.{option_map}
-use Rattle.cqual_words.specs.Words.{FileNames, IsMade, Task}
+use Rattle.cqual_words.specs.Words.{FileNames, IsMade, IsSourceCount, Task}
 use Rattle.cqual_words.specs.Words as words
 use Rattle.cqual_words.specs.declared.asked.Asked.{Asked}
 use Rattle.cqual_words.specs.declared.asked.Asked.TheVariants as asked
@@ -26,3 +26,10 @@ AsksMade (asked.Infer files) = ⊤
 AsksMade (asked.Annotate files) = ⊤
 AsksMade (asked.Check files report) = ⊤
 AsksMade (asked.Generate number) = IsMade number
+
+-- where files are asked for, 1 to 256 of them are sources
+abbrev pub NamesSources : Asked → Type 0
+NamesSources (asked.Infer files) = IsSourceCount (length files.sources.items)
+NamesSources (asked.Annotate files) = IsSourceCount (length files.sources.items)
+NamesSources (asked.Check files report) = IsSourceCount (length files.sources.items)
+NamesSources (asked.Generate number) = ⊤

@@ -1,10 +1,12 @@
 -- The options as clap's parser takes them, and what its matches ask.
-use Rattle.std.specs.Prelude.{List, Bool, true, false, Option, Some, None, codes, if◌then◌else◌, option_and_then}
+use Rattle.std.specs.Prelude.{List, [], Bool, true, false, Option, Some, None, codes, if◌then◌else◌, option_and_then, option_map}
 use Rattle.clap.specs.Words.{App, Rule, new_app, new_rule, with_rule}
 use Rattle.clap.specs.Simple.{on_top}
+use Rattle.clap.specs.Matches.{matched_of, raw_values}
+use Rattle.clap.specs.declared.parser.matches.Found.{Found}
 use Rattle.clap.specs.declared.builder.ArgAction.TheVariants.{Append, Set, SetTrue}
 use Rattle.cqual_words.specs.Words.{Part, Task, Text, Valued, Lattice, Prelude, Report, Number, Annotation, Source, has_meaning}
-use Rattle.cqual_words.specs.Words.{task_of_parts}
+use Rattle.cqual_words.specs.Words.{sources_of, task_of_parts}
 
 -- the name of a part among the matches, which is an option's name too
 abbrev pub id_of : Part → Text
@@ -49,8 +51,21 @@ flag_text false = None
 abbrev pub with_given : Option Text → (Option Text → Option Task) → Option Task
 with_given text next = option_and_then next (given text)
 
--- what the matches ask, where the flag is on or off, by the text of each option and by the sources
-abbrev pub asked_by : Bool → (Text → Option Text) → List Text → Option Task
-asked_by on first sources =
+-- what the options ask, where the flag is on or off, by the text of each among the matches, and with these sources
+abbrev pub asked_with : Bool → (Text → Option Text) → List Text → Option Task
+asked_with on first sources =
     with_given (first (codes "lattice")) (λ l. with_given (first (codes "prelude")) (λ p. with_given (first (codes "check")) (λ r.
     with_given (first (codes "generate")) (λ n. task_of_parts l p r n (flag_text on) sources))))
+
+-- the texts of the words that are no options: none where the matches have no entry of them
+abbrev pub plain_texts : Option (List Text) → List Text
+plain_texts None = []
+plain_texts (Some texts) = texts
+
+-- the texts of an id among the matches, where it has an entry
+abbrev pub raw_of : Found → Text → Option (List Text)
+raw_of found id = option_map raw_values (matched_of found id)
+
+-- what the matches ask, by the entry of the words that are no options
+abbrev pub asked_by : Bool → (Text → Option Text) → Option (List Text) → Option Task
+asked_by on first plain = option_and_then (λ sources. asked_with on first sources) (sources_of (plain_texts plain))

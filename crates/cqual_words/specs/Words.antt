@@ -176,6 +176,10 @@ files_of lattice prelude sources = record { lattice = lattice; prelude = prelude
 abbrev pub sources_of : List Text → Option (List Text)
 sources_of texts = if list_all has_meaning texts && nat_le (length texts) 256 then Some texts else None
 
+-- as many sources as words may name
+abbrev pub IsSourceCount : ℕ → Type 0
+IsSourceCount count = (1 ≤ count) × (count ≤ 256)
+
 -- what the parts ask together, by what is there of the lattice, the prelude, the report, the number and the flag, and by the sources:
 -- one where it is annotated, and none where the tool makes it
 abbrev pub task_of_parts : Option Text → Option Text → Option Text → Option Text → Option Text → List Text → Option Task

@@ -147,7 +147,8 @@ fn words_with(alloc: Global, count: usize) -> Result<Vec<String>, AllocError> {
 fn at_most_256_sources_are_named(rt: HostRuntime) -> Result<(), Fail> {
     let alloc = rt.alloc();
     let most = words_with(alloc, 256)?;
-    let count = match meaning(alloc, most.as_slice())? {
+    let asked = meaning(alloc, most.as_slice())?;
+    let count = match &asked {
         Some(Asked::Infer(files)) => files.sources.len(),
         _ => 0,
     };

@@ -1,13 +1,15 @@
 //! What the words mean together.
 
-ghost use Rattle.std.specs.Prelude.{◌≡◌, Bool, Some, None, Option, List, ℕ, codes, map, IfOk, IfSome, string_bytes};
+ghost use Rattle.std.specs.Prelude.{◌≡◌, ◌≤◌, Bool, Some, None, Option, List, ℕ, codes, length, map};
+ghost use Rattle.std.specs.Prelude.{IfOk, IfSome, string_bytes};
+ghost use Rattle.std.specs.List.{list_all};
 ghost use Rattle.std.specs.Option.{option_map};
 ghost use Rattle.clap.specs.Words.{FailsBy, HasMatchesOf, fault_of, first_value, found_of, one_text};
 ghost use Rattle.clap.specs.Values.{bool_text};
-ghost use Rattle.cqual_words.specs.Asked.{AsksMade, names_in, task_of};
+ghost use Rattle.cqual_words.specs.Asked.{AsksMade, NamesSources, names_in, task_of};
 ghost use Rattle.cqual_words.specs.Words as rules;
 ghost use Rattle.cqual_words.specs.Words.{meaning_of};
-ghost use Rattle.cqual_words.specs.Tool.{asked_by, flag_text, given, tool};
+ghost use Rattle.cqual_words.specs.Tool.{asked_by, asked_with, flag_text, given, plain_texts, raw_of, tool};
 
 use crate::asked::{Asked, FileWords};
 use crate::command::command;
@@ -42,7 +44,9 @@ fn text_of<'a>(matches: &ArgMatches<'a>, id: &str) -> Option<Option<&'a str>>
 }
 
 /// Whether each text has a meaning. Linear in them.
-fn have_meaning(texts: &[&str]) -> bool {
+fn have_meaning(texts: &[&str]) -> bool
+    ensures { result ≡ list_all rules.has_meaning (map (λ s. s.now) texts.now) }
+{
     for text in texts {
         if !has_meaning(text) {
             return false;
@@ -55,7 +59,10 @@ fn have_meaning(texts: &[&str]) -> bool {
 fn sources_of<'a>(
     alloc: Global,
     matches: &ArgMatches<'a>,
-) -> Result<Option<Vec<&'a str>>, AllocError> {
+) -> Result<Option<Vec<&'a str>>, AllocError>
+    ensures { IfOk result (λ found. option_map (λ sources. map (λ s. s.now) sources.items) found
+        ≡ rules.sources_of (plain_texts (raw_of (found_of matches.now) (codes "source")))) }
+{
     match matches.get_strs("source") {
         None => Ok(Some(Vec::new(alloc))),
         Some(texts) => {
@@ -73,6 +80,7 @@ fn of_files<'a>(files: FileWords<'a>, report: Option<&'a str>, annotate: bool) -
         (option_map (λ s. s.now) files.entry.prelude) (option_map (λ s. s.now) report.entry) None
         (flag_text annotate) (map (λ s. s.now) files.entry.sources.items) }
     ensures made { IfSome result AsksMade }
+    ensures sources { length files.entry.sources.items ≤ 256 → IfSome result NamesSources }
 {
     let count = files.sources.len();
     match (report, annotate) {
@@ -88,9 +96,10 @@ fn of_files<'a>(files: FileWords<'a>, report: Option<&'a str>, annotate: bool) -
 fn of_parts<'a>(matches: &ArgMatches<'a>, sources: Vec<&'a str>) -> Option<Asked<'a>>
     ensures task { (on : Bool) → one_text (found_of matches.now) (codes "annotate")
         ≡ Some (bool_text on) → option_map task_of result
-        ≡ asked_by on (λ id. first_value (found_of matches.now) id)
+        ≡ asked_with on (λ id. first_value (found_of matches.now) id)
         (map (λ s. s.now) sources.entry.items) }
     ensures made { IfSome result AsksMade }
+    ensures sources { length sources.entry.items ≤ 256 → IfSome result NamesSources }
 {
     let lattice = text_of(matches, "lattice")?;
     let prelude = text_of(matches, "prelude")?;
@@ -117,10 +126,14 @@ fn of_parts<'a>(matches: &ArgMatches<'a>, sources: Vec<&'a str>) -> Option<Asked
 }
 
 /// What the matches ask.
-fn of_matches<'a>(
-    alloc: Global,
-    matches: &ArgMatches<'a>,
-) -> Result<Option<Asked<'a>>, AllocError> {
+fn of_matches<'a>(alloc: Global, matches: &ArgMatches<'a>) -> Result<Option<Asked<'a>>, AllocError>
+    ensures task { IfOk result (λ found. (on : Bool) → one_text (found_of matches.now)
+        (codes "annotate") ≡ Some (bool_text on) → option_map task_of found
+        ≡ asked_by on (λ id. first_value (found_of matches.now) id)
+        (raw_of (found_of matches.now) (codes "source"))) }
+    ensures made { IfOk result (λ found. IfSome found AsksMade) }
+    ensures sources { IfOk result (λ found. IfSome found NamesSources) }
+{
     match sources_of(alloc, matches)? {
         Some(sources) => Ok(of_parts(matches, sources)),
         None => Ok(None),
@@ -136,11 +149,11 @@ fn matches<'a>(alloc: Global, words: &'a [String]) -> Result<ArgMatches<'a>, Err
     command.try_get_matches_from(words)
 }
 
-/// What the words behind the program's name ask, or nothing where they have no meaning. Each option stands at most once, and 1 to 256
-/// sources between, before and behind them, as `--name VALUE` or `--name=VALUE`; behind `--` there are no options.
+/// What the words behind the program's name ask, or nothing where they have no meaning. Each option stands at most once, as
+/// `--name VALUE` or `--name=VALUE`, with 1 to 256 sources before, between and behind them; behind `--` there are no options.
 ///
-/// Its time is in proportion to the words and their bytes. Memory is taken for the options, for the places of the words and for
-/// the text of a refusal, and is given back: what is asked lends its texts from the words.
+/// Its time is in proportion to the words and their bytes. Memory is taken for the options, for the places of the words, for the
+/// list of the sources and for the text of a refusal. What is asked keeps that list alone, and lends its texts from the words.
 ///
 /// # Errors
 ///
@@ -149,6 +162,7 @@ pub fn meaning<'a>(alloc: Global, words: &'a [String]) -> Result<Option<Asked<'a
     ensures meaning { IfOk result (λ found. option_map task_of found
         ≡ meaning_of (map string_bytes words.entry.now)) }
     ensures made { IfOk result (λ found. IfSome found AsksMade) }
+    ensures sources { IfOk result (λ found. IfSome found NamesSources) }
 {
     match matches(alloc, words) {
         Ok(matches) => of_matches(alloc, &matches),
