@@ -1,6 +1,5 @@
 -- The first unit of all sees nothing of others.
 use Rattle.std.proofs.Common.{◌≡◌, ℕ, nat_eq, Bool, true, false, [], refl, if◌then◌else◌}
-use Rattle.name_rules.specs.Scopes.{Names}
 use Rattle.name_rules.specs.Units.{no_names, unit_begun}
 
 pub begun_alone : (unit : ℕ) → unit_begun unit no_names ≡ no_names
