@@ -1,5 +1,4 @@
-use Rattle.std.proofs.Common.{◌≡◌, ap, ◌∙◌}
-use Rattle.name_rules.specs.Scopes.{Names}
+use Rattle.std.proofs.Common.{ap, ◌∙◌}
 use Rattle.name_rules.specs.Units.{unit_begun}
 use Rattle.name_steps.specs.State.{State, with_names}
 use Rattle.name_steps.specs.Steps.{run}
