@@ -1,2 +1,6 @@
 mod Adding
+mod Earliest
+mod Known
 mod Lists
+mod Tests
+mod Things
