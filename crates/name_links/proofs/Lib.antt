@@ -1,5 +1,6 @@
 mod Adding
 mod Earliest
+mod Found
 mod Known
 mod Lists
 mod Tests
