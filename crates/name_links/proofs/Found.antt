@@ -18,13 +18,13 @@ use Rattle.place_map.proofs.Adding.{same_place, or_none}
 use Rattle.unit_names.specs.Shown.{key_of, known_of, body_of, aggregate_of}
 use Rattle.name_links.specs.declared.keys.Shared.{Shared}
 use Rattle.name_links.specs.declared.keys.Keys.{Keys}
-use Rattle.name_links.specs.Tables.{keyed, key_held, is_keyed_by, AreKeyed, if_elsewhere, keyed_by, shared_by, PlaceTable, member_there, known_in, first_known, own_members, key_members, first_own, first_among, link_where, link_there, first_link, shared_links, all_links}
+use Rattle.name_links.specs.Tables.{keyed, key_held, is_keyed_by, AreKeyed, if_elsewhere, keyed_by, shared_by, PlaceTable, member_there, known_in, first_known, own_members, key_members, first_own, first_among, link_where, link_there, first_link, shared_links, all_links, known_behind}
 use Rattle.name_links.proofs.Tests.{and_false, not_same, key_same, key_is}
 use Rattle.name_links.proofs.Things.{first_place}
-use Rattle.name_links.proofs.Known as known
+use Rattle.name_links.proofs.Known.{held_is, one_key, known_here}
 
 some_is : {A : Type 0} (x y : A) → Some x ≡ Some y → x ≡ y
-some_is x y is = ap (λ (o : Option A). or_this o) is
+some_is {A = A} x y is = ap (λ (o : Option A). or_this o) is
   where
     or_this : Option A → A
     or_this None = x
@@ -51,7 +51,7 @@ own_other None m n known name other = refl
 own_other (Some s) m n known name other = first_other m n known name other
 
 -- a link that is at this place
-if_there : Bool → Option Place → Option Place
+abbrev if_there : Bool → Option Place → Option Place
 if_there b None = None
 if_there b (Some first) = if b then Some first else None
 
@@ -61,7 +61,7 @@ link_is_there (Some first) at p = refl
 
 module _ (t : ℕ → CType) where
   -- the member that a struct finds by a name
-  pub found_in : Option OneBody → ℕ → Option Place
+  abbrev pub found_in : Option OneBody → ℕ → Option Place
   found_in body name = place_of (member_in (option_map (body_of t) body) name)
 
   pub first_here : (m : ℕ) (body : Option OneBody) (name : ℕ) → first_known m (known_in body) (m, name) ≡ found_in body name
@@ -82,7 +82,7 @@ module _ (t : ℕ → CType) where
           ∙ by_test k ks (nat_eq k.name name) (of_list ks)
 
   -- the first of the members of a key that have a name
-  pub among : rules.StructKey → List Aggregate → ℕ → Option Place
+  abbrev pub among : rules.StructKey → List Aggregate → ℕ → Option Place
   among key all name = member_among key name (map (aggregate_of t) all)
 
   -- where one has the name, there is a first one
@@ -148,7 +148,7 @@ module _ (t : ℕ → CType) where
               → key_members (if_elsewhere o) known (s.first, name) ≡ None
           by_known None is = refl
           by_known (Some u) is = by_flag u u.is_elsewhere (not_same u.first s.first (λ number.
-              let same = known.one_key t all (key_of other) key u s (sym (are (key_of other)) ∙ is) (sym (are key) ∙ has) number in
+              let same = one_key t all (key_of other) key u s (sym (are (key_of other)) ∙ is) (sym (are key) ∙ has) number in
               let no : false ≡ true =
               sym apart ∙ ap (λ (k : rules.StructKey). is_keyed_by k (Some other)) (sym same) ∙ key_same (key_of other) in
               cc))
@@ -157,7 +157,7 @@ module _ (t : ℕ → CType) where
           ≡ member_where (defines key (aggregate_of t it)) (aggregate_of t it) name
       of_one it name =
           by_test (is_keyed_by key (key_held it)) refl
-          ∙ ap (λ b. member_where b (aggregate_of t it) name) (known.held_is t key it)
+          ∙ ap (λ b. member_where b (aggregate_of t it) name) (held_is t key it)
         where
           by_test : (b : Bool) → is_keyed_by key (key_held it) ≡ b
               → key_members (shared_by keys it) (known_in it.body) (s.first, name) ≡ member_where b (aggregate_of t it) name
@@ -231,7 +231,7 @@ module _ (t : ℕ → CType) where
   module _ (keys : Keys) (all : List Aggregate) (are : AreKeyed all keys) (own firsts : PlaceTable)
       (own_is : (p : Place) → member_there own p ≡ first_own keys 0 all p)
       (first_is : (p : Place) → member_there firsts p ≡ first_among keys all p) where
-    shown : List rules.Aggregate
+    abbrev pub shown : List rules.Aggregate
     shown = map (aggregate_of t) all
 
     no_links : (n : ℕ) (known : List Known) (p : Place) (held : Option StructKey) → held ≡ None
@@ -239,9 +239,9 @@ module _ (t : ℕ → CType) where
     no_links n known p held is =
         ap (λ (h : Option StructKey). shared_links own firsts n (if_elsewhere (keyed_by keys h)) known p) is
 
-    none_either : (b : Bool) → (if b then None {StructKey} else None) ≡ None
-    none_either true = refl
-    none_either false = refl
+    none_either : (b : Bool) (held : Option StructKey) → held ≡ None → (if b then held else None) ≡ None
+    none_either true held is = is
+    none_either false held is = refl
 
     -- of a definition of a source that has a key
     of_source : (n : ℕ) (it : Aggregate) (key : StructKey) (body : OneBody) (p : Place) → slice_get all n ≡ Some it
@@ -254,24 +254,24 @@ module _ (t : ℕ → CType) where
         ap (λ (h : Option StructKey). shared_links own firsts n (if_elsewhere (keyed_by keys h)) body.known p) held
         ∙ ap (λ (o : Option Shared). shared_links own firsts n (if_elsewhere o) body.known p) known_is
         ∙ by_flag s.is_elsewhere refl
-        ∙ ap (λ b. if b then links else None) (found.1.1)
+        ∙ ap (λ b. if b then links else None) (found.2)
         ∙ ap (λ b. if b && is_elsewhere it.at.0 (key_of key) shown then links else None) (sym defined)
       where
         holds : is_keyed_by (key_of key) (key_held it) ≡ true
         holds = ap (is_keyed_by (key_of key)) held ∙ key_same (key_of key)
 
         defined : defines (key_of key) (aggregate_of t it) ≡ true
-        defined = sym (known.held_is t (key_of key) it) ∙ holds
+        defined = sym (held_is t (key_of key) it) ∙ holds
 
-        found : (s : Shared) × (Rattle.name_links.specs.Tables.known_behind (key_of key) None 0 all ≡ Some s)
+        found : (s : Shared) × (known_behind (key_of key) None 0 all ≡ Some s)
             × (s.is_elsewhere ≡ is_elsewhere it.at.0 (key_of key) shown)
-        found = known.known_of t (key_of key) it holds 0 all n at
+        found = known_here t (key_of key) it holds 0 all n at
 
         s : Shared
         s = found.0
 
         known_is : keyed keys (key_of key) ≡ Some s
-        known_is = are (key_of key) ∙ found.1.0
+        known_is = are (key_of key) ∙ found.1
 
         links : Option Place
         links = option_and_then (λ name. among (key_of key) all name) (name_found (body_of t body) (map (known_of t) body.known) p)
@@ -320,15 +320,14 @@ module _ (t : ℕ → CType) where
             ∙ ap (λ b. if b && is_elsewhere it.at.0 (key_of key) shown
             then option_and_then (λ name. member_among (key_of key) name shown)
             (name_found (body_of t body) (map (known_of t) body.known) p) else None)
-            (sym (ap (is_keyed_by (key_of key)) held) ∙ known.held_is t (key_of key) it)
+            (sym (ap (is_keyed_by (key_of key)) held) ∙ held_is t (key_of key) it)
 
         by_parts : (key : Option StructKey) (body : Option OneBody) → it.key ≡ key → it.body ≡ body
             → shared_links own firsts n (shared_by keys it) (known_in body) p
             ≡ linked_in shown p (aggregate_of t it) (option_map key_of key) (option_map (body_of t) body)
         by_parts None body key_is body_is =
             no_links n (known_in body) p (key_held it)
-            (ap (λ (o : Option StructKey). if is_some it.body && in_source then o else None) key_is
-            ∙ none_either (is_some it.body && in_source))
+            (none_either (is_some it.body && in_source) it.key key_is)
         by_parts (Some key) None key_is body_is =
             no_links n [] p (key_held it) (ap (λ (o : Option OneBody). if is_some o && in_source then it.key else None) body_is)
         by_parts (Some key) (Some body) key_is body_is = by_source key body in_source key_is body_is refl
@@ -350,4 +349,4 @@ module _ (t : ℕ → CType) where
 
     -- all links of members are those of the rules
     pub members_are : (p : Place) → all_links own firsts keys 0 all p ≡ member_link shown shown p
-    members_are p = of_structs 0 all p (λ i x is. is)
+    members_are p = of_structs 0 all p (λ i x is. let same : 0 + i ≡ i = omega arith in ap (λ (j : ℕ). slice_get all j) same ∙ is)

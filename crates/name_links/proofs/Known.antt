@@ -13,7 +13,7 @@ use Rattle.name_links.specs.Tables.{with_unit, key_held, is_keyed_by, known_behi
 use Rattle.name_links.proofs.Tests.{and_true, and_false, or_false, or_true, or_assoc, number_sym, key_sym, key_is}
 
 some_is : {A : Type 0} (x y : A) → Some x ≡ Some y → x ≡ y
-some_is x y is = ap (λ (o : Option A). or_this o) is
+some_is {A = A} x y is = ap (λ (o : Option A). or_this o) is
   where
     or_this : Option A → A
     or_this None = x
@@ -35,7 +35,7 @@ module _ (t : ℕ → CType) where
   held_is key it = held_by key it.key it.body (not (nat_eq it.at.0 0))
 
   -- whether another source has one too
-  pub others_have : ℕ → rules.StructKey → List Aggregate → Bool
+  abbrev pub others_have : ℕ → rules.StructKey → List Aggregate → Bool
   others_have unit key all = is_elsewhere unit key (map (aggregate_of t) all)
 
   -- where a key has a definition, further ones say only whether they are elsewhere
@@ -61,11 +61,11 @@ module _ (t : ℕ → CType) where
           ∙ ap (λ b. s.is_elsewhere || (not b || others_have s.unit key all)) (number_sym s.unit it.at.0))
 
   -- the first definition of a key is at its number
-  Holder : ℕ → List Aggregate → rules.StructKey → Shared → Type 0
+  abbrev Holder : ℕ → List Aggregate → rules.StructKey → Shared → Type 0
   Holder n all key s =
       (i : ℕ) × (it : Aggregate) × (slice_get all i ≡ Some it) × (s.first ≡ n + i) × (is_keyed_by key (key_held it) ≡ true)
 
-  first_of_some : Option Shared → ℕ
+  abbrev first_of_some : Option Shared → ℕ
   first_of_some None = 0
   first_of_some (Some s) = s.first
 
@@ -81,10 +81,10 @@ module _ (t : ℕ → CType) where
       by_test true holds is behind =
           let first : n ≡ s.first =
           ap first_of_some (sym (known_some key (with_unit None n it.at.0) (suc n) all) ∙ is) in
-          (0, (it, (refl, (omega (arith, first), holds))))
+          (0, it, refl, omega (arith, first), holds)
       by_test false other is behind =
           let found = behind is in
-          (suc found.0, (found.1.0, (found.1.1.0, (omega (arith, found.1.1.1.0), found.1.1.1.1))))
+          (suc found.0, found.1, found.2, omega (arith, found.3), found.4)
 
   same_holder : (a b : rules.StructKey) (held : Option StructKey) → is_keyed_by a held ≡ true → is_keyed_by b held ≡ true → a ≡ b
   same_holder a b None first second = absurd cc
@@ -96,9 +96,9 @@ module _ (t : ℕ → CType) where
   one_key all a b s u first second same =
       let x = holder a 0 all s first in
       let y = holder b 0 all u second in
-      let number : x.0 ≡ y.0 = omega (arith, x.1.1.1.0, y.1.1.1.0, same) in
-      let it_is : x.1.0 ≡ y.1.0 = some_is x.1.0 y.1.0 (sym x.1.1.0 ∙ ap (λ (i : ℕ). slice_get all i) number ∙ y.1.1.0) in
-      same_holder a b (key_held x.1.0) x.1.1.1.1 (ap (λ (it : Aggregate). is_keyed_by b (key_held it)) it_is ∙ y.1.1.1.1)
+      let number : x.0 ≡ y.0 = omega (arith, x.3, y.3, same) in
+      let it_is : x.1 ≡ y.1 = some_is x.1 y.1 (sym x.2 ∙ ap (λ (i : ℕ). slice_get all i) number ∙ y.2) in
+      same_holder a b (key_held x.1) x.4 (ap (λ (it : Aggregate). is_keyed_by b (key_held it)) it_is ∙ y.4)
 
   -- a definition in another unit is elsewhere
   elsewhere_by : (key : rules.StructKey) (unit : ℕ) (it : Aggregate) → is_keyed_by key (key_held it) ≡ true
@@ -114,15 +114,15 @@ module _ (t : ℕ → CType) where
       ∙ or_true (defines key (aggregate_of t x) && not (nat_eq x.at.0 unit))
 
   -- what is known by the key of a definition
-  Known : ℕ → List Aggregate → rules.StructKey → Aggregate → Type 0
+  abbrev pub Known : ℕ → List Aggregate → rules.StructKey → Aggregate → Type 0
   Known n all key it =
       (s : Shared) × (known_behind key None n all ≡ Some s) × (s.is_elsewhere ≡ others_have it.at.0 key all)
 
-  pub known_of : (key : rules.StructKey) (it : Aggregate) → is_keyed_by key (key_held it) ≡ true → (n : ℕ) (all : List Aggregate)
+  pub known_here : (key : rules.StructKey) (it : Aggregate) → is_keyed_by key (key_held it) ≡ true → (n : ℕ) (all : List Aggregate)
       (i : ℕ) → slice_get all i ≡ Some it → Known n all key it
-  known_of key it holds n [] i there = absurd cc
-  known_of key it holds n (x ∷ all) i there =
-      by_test (is_keyed_by key (key_held x)) refl i there (λ j. known_of key it holds (suc n) all j)
+  known_here key it holds n [] i there = absurd cc
+  known_here key it holds n (x ∷ all) i there =
+      by_test (is_keyed_by key (key_held x)) refl i there (λ j. known_here key it holds (suc n) all j)
     where
       of_first : (j : ℕ) → slice_get (x ∷ all) j ≡ Some it → nat_eq x.at.0 it.at.0 ≡ false → others_have x.at.0 key all ≡ true
       of_first zero there apart =
@@ -147,12 +147,10 @@ module _ (t : ℕ → CType) where
           → ((k : ℕ) → slice_get all k ≡ Some it → Known (suc n) all key it) → Known n (x ∷ all) key it
       by_test true is j there behind = (
         record { first = n; unit = x.at.0; is_elsewhere = others_have x.at.0 key all },
-        (
-          ap (λ b. known_behind key (if b then Some (with_unit None n x.at.0) else None) (suc n) all) is
-              ∙ known_some key (with_unit None n x.at.0) (suc n) all,
-          same_others j there
-              ∙ ap (λ b. (b && not (nat_eq x.at.0 it.at.0)) || others_have it.at.0 key all) (sym is ∙ held_is key x),
-        ),
+        ap (λ b. known_behind key (if b then Some (with_unit None n x.at.0) else None) (suc n) all) is
+            ∙ known_some key (with_unit None n x.at.0) (suc n) all,
+        same_others j there
+            ∙ ap (λ b. (b && not (nat_eq x.at.0 it.at.0)) || others_have it.at.0 key all) (sym is ∙ held_is key x),
       )
       by_test false is zero there behind =
           absurd (let no : false ≡ true = sym is ∙ ap (λ (y : Aggregate). is_keyed_by key (key_held y)) (some_is x it there)
@@ -160,8 +158,6 @@ module _ (t : ℕ → CType) where
       by_test false is (suc j) there behind =
           let found = behind j there in (
             found.0,
-            (
-              ap (λ b. known_behind key (if b then Some (with_unit None n x.at.0) else None) (suc n) all) is ∙ found.1.0,
-              found.1.1 ∙ ap (λ b. (b && not (nat_eq x.at.0 it.at.0)) || others_have it.at.0 key all) (sym is ∙ held_is key x),
-            ),
+            ap (λ b. known_behind key (if b then Some (with_unit None n x.at.0) else None) (suc n) all) is ∙ found.1,
+            found.2 ∙ ap (λ b. (b && not (nat_eq x.at.0 it.at.0)) || others_have it.at.0 key all) (sym is ∙ held_is key x),
           )

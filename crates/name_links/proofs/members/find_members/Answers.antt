@@ -19,7 +19,7 @@ loop-it-preserved c =
     record {
       own = λ p.
           let old = member_there c.loop-it.members.own.map p in
-          ap (λ (m : ℕ). or_else (member_there c.add_shared.new.members.own.map p) (first_own keys m rest p)) next
+          ap (λ (m : ℕ). or_else (member_there c.add_shared.new.self.own.map p) (first_own keys m rest p)) next
           ∙ ap (λ (o : Option Place). or_else o (first_own keys (suc n) rest p)) (c.in_ok-add_shared.ensures.own p)
           ∙ or_assoc old (own_members shared c.new.result known p) (first_own keys (suc n) rest p)
           ∙ ap (λ (m : ℕ). or_else old (or_else (own_members shared m known p) (first_own keys (suc n) rest p))) c.new.ensures
