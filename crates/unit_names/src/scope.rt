@@ -139,8 +139,10 @@ impl Names {
     /// whole prelude that of its file. The scope ends. Linear in its declarations.
     fn share(&mut self) -> Result<(), NoMemory>
         ensures { OnOk result ((t : ℕ → CType) → names_of t self.new
-            ≡ record (leave (names_of t self.old))
-            { round = shared (names_of t self.old) (innermost (names_of t self.old).scopes).names }) }
+            ≡ record (leave (names_of t self.old)) {
+              round = shared (names_of t self.old)
+                  (innermost (names_of t self.old).scopes).names;
+            }) }
     {
         let file = self.scopes.close();
         self.round = NameList::new(self.alloc);
