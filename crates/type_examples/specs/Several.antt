@@ -1,15 +1,15 @@
 -- Small programs of several sources, each with what was worked out for it by hand: what is linked with what, where a body is a second
 -- one, and what a source sees of the prelude and of the sources before it. Names have one number in all units.
-use Rattle.std.specs.Prelude.{◌≡◌, ℕ, false, List, [], ◌∷◌, ◌++◌, Option, None, Some}
+use Rattle.std.specs.Prelude.{◌≡◌, ℕ, false, List, [], ◌∷◌, Option, None, Some}
 use Rattle.c_words.specs.declared.kinds.Keyword.{Keyword}
 use Rattle.c_words.specs.declared.kinds.Keyword.TheVariants as keywords
-use Rattle.c_tree.specs.Tree.{SpecWords, no_words, more_words, storage, inline_word, basic, struct_type, SpecWord, some_body, no_struct_items, more_struct_items, member, no_mem_declrs, more_mem_declrs, named, no_value, Declr, declr_name, params, no_declr, no_params, more_params, Init, init_value, SomeInit, no_init, some_init, no_init_declrs, more_init_declrs, declaration, decl_declaration, no_block_items, name_use}
+use Rattle.c_tree.specs.Tree.{SpecWords, no_words, more_words, storage, inline_word, basic, struct_type, SpecWord, some_body, no_struct_items, more_struct_items, member, no_mem_declrs, more_mem_declrs, named, no_value, Declr, declr_name, params, no_declr, no_params, more_params, init_value, SomeInit, no_init, some_init, no_init_declrs, more_init_declrs, declaration, decl_declaration, no_block_items, name_use}
 use Rattle.c_tree.specs.Unit.{Item, function_item, decl_item}
 use Rattle.c_syntax.specs.declared.parts.Identifier.{Identifier}
 use Rattle.name_rules.specs.Spellings.{Place}
 use Rattle.name_rules.specs.Faults.{Fault, undeclared, defined_twice}
 use Rattle.name_rules.specs.Linking.{link_of}
-use Rattle.name_rules.specs.Scopes.{Declared, Names, declared_at}
+use Rattle.name_rules.specs.Scopes.{Declared, declared_at}
 use Rattle.type_rules.specs.Program.{Source, names_of, faults_of}
 
 -- a unit of these items, without annotation words and zeros
