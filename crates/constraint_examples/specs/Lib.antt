@@ -1,2 +1,3 @@
 pub mod Examples
 pub mod IndexWords
+pub mod Several

@@ -2,6 +2,7 @@
 
 ghost use Rattle.constraint_examples.specs.Examples.{ExamplesHold};
 ghost use Rattle.constraint_examples.specs.IndexWords.{IndexWordsHold};
+ghost use Rattle.constraint_examples.specs.Several.{SeveralHold};
 
 /// The system of each example has the constraints, in their order, the call sites and the owners that were worked out for it.
 pub fn examples_hold()
@@ -11,4 +12,9 @@ pub fn examples_hold()
 /// So has that of each example with index words.
 pub fn index_words_hold()
     ensures { IndexWordsHold }
+{}
+
+/// So has that of each example of several sources.
+pub fn examples_of_several_hold()
+    ensures { SeveralHold }
 {}
