@@ -1,6 +1,6 @@
 -- What each step adds to the declarations, behind those that are there, and what it leaves as it is.
-use Rattle.std.proofs.Common.{◌≡◌, ℕ, Bool, true, false, List, [], ◌∷◌, ◌++◌, length, Option, None, Some, refl, sym, ◌∙◌, ap, append_assoc, append-nil}
-use Rattle.std.specs.Prelude.{◌||◌, if◌then◌else◌}
+use Rattle.std.proofs.Common.{◌≡◌, ℕ, Bool, true, false, List, [], ◌∷◌, ◌++◌, length, Option, None, Some, refl, sym, ◌∙◌, ap, subst, append_assoc, append-nil}
+use Rattle.std.specs.Prelude.{◌&&◌, ◌||◌, if◌then◌else◌}
 use Rattle.std.specs.List.{last_or}
 use Rattle.c_words.specs.declared.kinds.Keyword.{Keyword}
 use Rattle.c_words.specs.declared.kinds.Keyword.TheVariants as keywords
@@ -17,12 +17,12 @@ use Rattle.tape_ops.specs.declared.statement.StmtOp.{StmtOp}
 use Rattle.tape_ops.specs.declared.statement.StmtOp.TheVariants as stmts
 use Rattle.type_table.specs.Types.{CType}
 use Rattle.name_rules.specs.Spellings.{Spelling, Place, place, Named}
-use Rattle.name_rules.specs.Scopes.{object_role, Declared, Names, is_at_file, innermost, tag_in, tag_through, body_of, has_body, sized}
+use Rattle.name_rules.specs.Scopes.{object_role, function_role, Declared, Names, is_place, is_at_file, innermost, tag_in, tag_through, body_of, has_body, sized, with_key}
 use Rattle.name_rules.specs.Pieces.{is_function, decayed}
-use Rattle.name_rules.specs.Declaring.{Numbered, found_or_new, tag_used, untagged, begun_in, declared_here, declared_thing, declared_typedef, declared_some, declared_param, declared_member, has_word, keep}
+use Rattle.name_rules.specs.Declaring.{Numbered, found_or_new, tag_used, untagged, opened, tag_known, begun_in, untagged_number, linked, owner_where, thing_where, static_where, declared_here, declared_thing, declared_typedef, declared_by, typedef_known, declared_some, declared_param, declared_member, has_word, keep}
 use Rattle.name_rules.specs.Units.{unit_begun}
 use Rattle.name_steps.specs.State.{OpenDeclaration, State, no_declaration, innermost_or, with_innermost, with_names}
-use Rattle.name_steps.specs.Steps.{declaration, body, parameters, expression_step, specifier_step, declarator_step, body_entered_by, statement_step, step, run}
+use Rattle.name_steps.specs.Steps.{declaration, body, parameters, expression_step, specifier_step, declarator_step, body_entered_by, is_plain, statement_step, step, run}
 use Rattle.name_steps.specs.Units.{Tape, tape_named, tapes_named}
 
 -- the second ones are the first ones and others behind them
@@ -44,23 +44,67 @@ abbrev pub Adds : Spelling → Option Named → List Declared → List Declared 
 Adds u None old new = new ≡ old
 Adds u (Some it) old new = (d : Declared) × (d.at ≡ place u it.token) × (new ≡ old ++ d ∷ [])
 
-pub adds_some : (u : Spelling) (it : Option Named) (words : List Keyword) (t : CType) (s : Names) →
-    Adds u it s.declared (declared_some u it words t s).declared
-adds_some u None words t s = refl
-adds_some u (Some it) words t s =
-    by (has_word keywords.Typedef words) (is_at_file old || (is_function t || has_word keywords.Extern words))
+pub known_same : (words : List Keyword) (name : ℕ) (untagged : Option ℕ) (s : Names) →
+    (typedef_known words name untagged s).declared ≡ s.declared
+known_same words name None s = refl
+known_same words name (Some n) s = by (has_word keywords.Typedef words && is_at_file s)
   where
+    by : (b : Bool) → (if b then with_key n true name s else s).declared ≡ s.declared
+    by true = refl
+    by false = refl
+
+thing_same : (b c : Bool) (unit name : ℕ) (at : Place) (s : Names) →
+    (static_where b unit name (thing_where c name at s)).declared ≡ s.declared
+thing_same true true unit name at s = refl
+thing_same true false unit name at s = refl
+thing_same false true unit name at s = refl
+thing_same false false unit name at s = refl
+
+pub adds_some : (u : Spelling) (untagged : Option ℕ) (it : Option Named) (words : List Keyword) (t : CType) (s : Names) →
+    Adds u it s.declared (declared_some u untagged it words t s).declared
+adds_some u untagged None words t s = refl
+adds_some u untagged (Some it) words t s =
+    subst (Adds u (Some it) s.declared) (sym (known_same words (u.key it.name) untagged
+    (declared_by words at (u.key it.name) t old)))
+    (by (has_word keywords.Typedef words) (is_at_file old || (is_function t || has_word keywords.Extern words)))
+  where
+    at : Place
+    at = place u it.token
+
     old : Names
-    old = sized (place u it.token) t s
+    old = sized at t s
 
     own : Option Place
     own = if has_word keywords.Static words then None else old.enclosing
 
-    by : (b c : Bool) → Adds u (Some it) s.declared (if b then declared_typedef (place u it.token) (u.key it.name) t old
-        else if c then declared_thing (place u it.token) (u.key it.name) t old
-        else declared_here (place u it.token) (u.key it.name) object_role t own old).declared
+    is_static : Bool
+    is_static = has_word keywords.Static words
+
+    first : Place
+    first = linked (u.key it.name) at old
+
+    is_new : Bool
+    is_new = is_place first at
+
+    thing : Declared
+    thing = record {
+      at = at;
+      role = if is_function t then function_role else object_role;
+      first = first;
+      type = t;
+      owner = owner_where (static_where is_static at.0 (u.key it.name) (thing_where is_new (u.key it.name) at old)) first at
+          (if is_function t then Some at else None);
+    }
+
+    by : (b c : Bool) → Adds u (Some it) s.declared (if b then declared_typedef at (u.key it.name) t old
+        else if c then declared_thing words at (u.key it.name) t old
+        else declared_here at (u.key it.name) object_role t own old).declared
     by true c = (_, refl, refl)
-    by false true = (_, refl, refl)
+    by false true = (
+      thing,
+      refl,
+      ap (λ (ds : List Declared). ds ++ thing ∷ []) (thing_same is_static is_new at.0 (u.key it.name) at old),
+    )
     by false false = (_, refl, refl)
 
 pub adds_param : (u : Spelling) (it : Option Named) (i : ℕ) (own : Option Place) (t : CType) (s : Names) →
@@ -88,18 +132,27 @@ used_same u alone kind token tag s =
     tag_same (if alone then tag_in (innermost s.scopes).tags kind (u.key tag) else tag_through s.scopes kind (u.key tag))
     u kind token tag s
 
-begun_same : (b : Bool) (at : Place) (kind : TagKind) (it : Numbered) →
-    (begun_in b at kind it).names.declared ≡ it.names.declared
-begun_same true at kind it = refl
-begun_same false at kind it = refl
+tag_known_same : (tag : Option ℕ) (n : ℕ) (s : Names) → (tag_known tag n s).declared ≡ s.declared
+tag_known_same None n s = refl
+tag_known_same (Some tag) n s = by (is_at_file s)
+  where
+    by : (b : Bool) → (if b then with_key n false tag s else s).declared ≡ s.declared
+    by true = refl
+    by false = refl
+
+begun_same : (b : Bool) (at : Place) (kind : TagKind) (tag : Option ℕ) (it : Numbered) →
+    (begun_in b at kind tag it).names.declared ≡ it.names.declared
+begun_same true at kind tag it = refl
+begun_same false at kind tag it = tag_known_same tag it.number (opened it.number it.names)
 
 pub keep_same : (own : Option Place) (s : Names) → (keep own s).declared ≡ s.declared
 keep_same None s = refl
 keep_same (Some own) s = refl
 
-pub entered_same : (d : Option Declared) (s : Names) → (body_entered_by d s).declared ≡ s.declared
-entered_same None s = refl
-entered_same (Some d) s = refl
+pub entered_same : (is_plain : Bool) (d : Option Declared) (s : Names) →
+    (body_entered_by is_plain d s).declared ≡ s.declared
+entered_same is_plain None s = refl
+entered_same is_plain (Some d) s = refl
 
 -- the names that are read
 
@@ -119,14 +172,15 @@ module _ (u : Spelling) where
       (specifier_step u st (specs.TagBody kind token name)).names.declared ≡ st.names.declared
   tag_body_same st kind token name =
       begun_same (has_body (body_of (tag_used u true kind token name st.names).names.aggregates
-      (tag_used u true kind token name st.names).number)) (place u token) kind
+      (tag_used u true kind token name st.names).number)) (place u token) kind (Some (u.key name))
       (tag_used u true kind token name st.names) ∙ used_same u true kind token name st.names
 
   pub untagged_same : (st : State) (kind : TagKind) (token : ℕ) →
       (specifier_step u st (specs.Untagged kind token)).names.declared ≡ st.names.declared
   untagged_same st kind token =
       begun_same (has_body (body_of (untagged (place u token) kind st.names).names.aggregates
-      (untagged (place u token) kind st.names).number)) (place u token) kind (untagged (place u token) kind st.names)
+      (untagged (place u token) kind st.names).number)) (place u token) kind None
+      (untagged (place u token) kind st.names)
 
   spec_grown : (st : State) (op : SpecOp) → Grown st.names.declared (specifier_step u st op).names.declared
   spec_grown st (specs.TagUse kind token name) = same _ _ (used_same u false kind token name st.names)
@@ -144,14 +198,15 @@ module _ (u : Spelling) where
   declr_grown st declrs.ParamsEnd = same _ _ (keep_same (parameters st).own st.names)
   declr_grown st declrs.Declare =
       adds_grown u (declaration st).name _ _
-      (adds_some u (declaration st).name (declaration st).storage (declaration st).declared st.names)
+      (adds_some u (untagged_number (declaration st).is_untagged (declaration st).type) (declaration st).name
+      (declaration st).storage (declaration st).declared st.names)
   declr_grown st declrs.Member =
       adds_grown u (declaration st).name _ _
       (adds_member u (declaration st).name (body st).members_of (declaration st).declared st.names)
   declr_grown st op = same _ _ refl
 
   stmt_grown : (st : State) (op : StmtOp) → Grown st.names.declared (statement_step u st op).names.declared
-  stmt_grown st stmts.FunctionBody = same _ _ (entered_same (last_or None st.names.declared) st.names)
+  stmt_grown st stmts.FunctionBody = same _ _ (entered_same (is_plain st) (last_or None st.names.declared) st.names)
   stmt_grown st op = same _ _ refl
 
   pub expr_same : (st : State) (op : ExprOp) → (expression_step u st op).names.declared ≡ st.names.declared
@@ -178,6 +233,8 @@ module _ (u : Spelling) where
 pub tapes_grown : (tapes : List Tape) (s : Names) → Grown s.declared (tapes_named tapes s).declared
 tapes_grown [] s = same _ _ refl
 tapes_grown (it ∷ tapes) s =
-    then_grown s.declared (tape_named it (unit_begun s)).declared
-    (tapes_named tapes (tape_named it (unit_begun s))).declared
-    (run_grown it.spelling it.ops (with_names (unit_begun s))) (tapes_grown tapes (tape_named it (unit_begun s)))
+    then_grown s.declared next.declared (tapes_named tapes next).declared
+    (run_grown it.spelling it.ops (with_names (unit_begun it.spelling.unit s))) (tapes_grown tapes next)
+  where
+    next : Names
+    next = tape_named it (unit_begun it.spelling.unit s)

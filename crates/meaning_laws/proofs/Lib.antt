@@ -1,4 +1,5 @@
 mod Changes
 pub mod Growing
+mod Links
 pub mod Lists
 mod Tapes

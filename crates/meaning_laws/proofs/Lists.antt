@@ -1,9 +1,9 @@
 -- Places, one more declaration at a place, and what it leaves as it is.
 use Rattle.std.proofs.Common.{◌≡◌, ℕ, zero, suc, Bool, true, false, List, [], ◌∷◌, ◌++◌, slice_get, Option, None, Some, nat_eq, refl, sym, ◌∙◌, ap, subst}
-use Rattle.std.specs.Prelude.{if◌then◌else◌}
+use Rattle.std.specs.Prelude.{◌&&◌, if◌then◌else◌}
 use Rattle.std.proofs.lemmas.Bool.{and_parts, eq-eqb, eqb-true}
 use Rattle.name_rules.specs.Spellings.{Place}
-use Rattle.name_rules.specs.Scopes.{Meaning, means_type, means_thing, Scope, Declared, declared_at, Use, means, called, missing, NameUse, Own, Known, Body, Aggregate, Names, is_place, thing_named, meaning_in, some_thing, or_outer, meaning_through, innermost, outer_scopes, changed_at, or_no_body, body_of, body_of_some, lying_in}
+use Rattle.name_rules.specs.Scopes.{Meaning, means_type, means_thing, Scope, Declared, declared_at, Use, means, called, missing, NameUse, Own, Known, Body, StructKey, Aggregate, Names, is_place, thing_named, thing_of, or_place, meaning_in, some_thing, or_outer, meaning_through, innermost, outer_scopes, changed_at, or_no_body, body_of, body_of_some, lying_in}
 use Rattle.name_rules.specs.Units.{is_shared, shared_name, shared}
 use Rattle.name_rules.specs.Uses.{use_at}
 use Rattle.name_rules.specs.Values.{known_named, member_in, own_of}
@@ -19,6 +19,15 @@ place_is p q e =
   where
     pair : ℕ → ℕ → Place
     pair m n = (m, n)
+
+pub declared_place : (ds : List Declared) (p : Place) (d : Declared) → declared_at ds p ≡ Some d → d.at ≡ p
+declared_place [] p d e = absurd cc
+declared_place (other ∷ ds) p d e = by (is_place other.at p) (place_is other.at p) e (declared_place ds p d)
+  where
+    by : (b : Bool) → (b ≡ true → other.at ≡ p) → (if b then Some other else declared_at ds p) ≡ Some d →
+        (declared_at ds p ≡ Some d → d.at ≡ p) → d.at ≡ p
+    by true is e more = let same : other ≡ d = cc in subst (λ (it : Declared). it.at ≡ p) same (is refl)
+    by false is e more = more e
 
 pub at_more : (ds more : List Declared) (p : Place) (it : Declared) → declared_at ds p ≡ Some it →
     declared_at (ds ++ more) p ≡ Some it
@@ -145,9 +154,28 @@ module _ (P : Place → Type 0) where
       by true e next = let same : it.1 ≡ at = cc in subst P same h.0
       by false e next = next e
 
-  pub some_thing_is : (things : List (ℕ × Place)) (name : ℕ) (found : Option Place) → ThingsAre P things →
-      thing_named things name ≡ found → (at : Place) → found ≡ Some at → P at
-  some_thing_is things name found h e at is = thing_is things name at h (e ∙ is)
+  thing_of_is : (unit : ℕ) (things : List (ℕ × Place)) (name : ℕ) (at : Place) → ThingsAre P things →
+      thing_of unit things name ≡ Some at → P at
+  thing_of_is unit [] name at h e = absurd cc
+  thing_of_is unit (it ∷ things) name at h e =
+      by (nat_eq it.0 name && nat_eq it.1.0 unit) e (thing_of_is unit things name at h.1)
+    where
+      by : (b : Bool) → (if b then Some it.1 else thing_of unit things name) ≡ Some at →
+          (thing_of unit things name ≡ Some at → P at) → P at
+      by true e next = let same : it.1 ≡ at = cc in subst P same h.0
+      by false e next = next e
+
+  either_place : (p q : Option Place) (at : Place) → (p ≡ Some at → P at) → (q ≡ Some at → P at) →
+      or_place p q ≡ Some at → P at
+  either_place None q at f g e = g e
+  either_place (Some p) q at f g e = f e
+
+  -- of this unit, or of the prelude
+  pub linked_is : (unit : ℕ) (things : List (ℕ × Place)) (name : ℕ) → ThingsAre P things → (at : Place) →
+      or_place (thing_of unit things name) (thing_of 0 things name) ≡ Some at → P at
+  linked_is unit things name h at e =
+      either_place (thing_of unit things name) (thing_of 0 things name) at (thing_of_is unit things name at h)
+      (thing_of_is 0 things name at h) e
 
   pub named_is : (names : List (ℕ × Meaning)) (name : ℕ) (m : Meaning) → NamesAre P names →
       meaning_in names name ≡ Some m → MeaningIs P m
@@ -239,6 +267,12 @@ module _ (P : Place → Type 0) where
   changed_are change c [] n h = tt
   changed_are change c (x ∷ xs) zero h = (c (or_no_body x.body) (or_no_body_is x.body h.0), h.1)
   changed_are change c (x ∷ xs) (suc n) h = (h.0, changed_are change c xs n h.1)
+
+  pub keyed_are : (key : Aggregate → Option StructKey) (xs : List Aggregate) (n : ℕ) → AggregatesAre P xs →
+      AggregatesAre P (changed_at xs n (λ it. record it { key = key it }))
+  keyed_are key [] n h = tt
+  keyed_are key (x ∷ xs) zero h = h
+  keyed_are key (x ∷ xs) (suc n) h = (h.0, keyed_are key xs n h.1)
 
   known_found : (xs : List Known) (name : ℕ) (it : Known) → KnownAre P xs → known_named xs name ≡ Some it → P it.at
   known_found [] name it h e = absurd cc

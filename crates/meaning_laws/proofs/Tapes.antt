@@ -1,5 +1,5 @@
 -- Along tapes.
-use Rattle.std.proofs.Common.{◌≡◌, Bool, true, false, List, [], ◌∷◌, length, Option, None, Some, subst}
+use Rattle.std.proofs.Common.{◌≡◌, Bool, true, false, List, [], ◌∷◌, length, Option, None, Some, sym, ◌∙◌, ap, subst}
 use Rattle.std.specs.Prelude.{if◌then◌else◌}
 use Rattle.std.specs.List.{last_or}
 use Rattle.tape_ops.specs.declared.op.Op.{Op}
@@ -16,14 +16,16 @@ use Rattle.type_table.specs.Types.{base}
 use Rattle.name_rules.specs.Spellings.{Spelling, Place, place}
 use Rattle.name_rules.specs.Scopes.{enumerator_role, Declared, declared_at, Names, is_place, body_of}
 use Rattle.name_rules.specs.Pieces.{decayed}
+use Rattle.name_rules.specs.Declaring.{untagged_number}
 use Rattle.name_rules.specs.Units.{no_names, unit_begun}
 use Rattle.name_steps.specs.State.{State, with_names}
-use Rattle.name_steps.specs.Steps.{declaration, body, parameters, expression_step, specifier_step, declarator_step, body_entered_by, statement_step, step, run}
+use Rattle.name_steps.specs.Steps.{declaration, body, parameters, expression_step, specifier_step, declarator_step, body_entered_by, is_plain, statement_step, step, run}
 use Rattle.name_steps.specs.Units.{Tape, tape_named, tapes_named}
-use Rattle.meaning_laws.specs.Meanings.{Differ, IsFirst, HasFirst, AllFirst, AreFirst, NamesAreFirst, MeaningsAreFirst}
+use Rattle.meaning_laws.specs.Meanings.{Differ, IsFirst, IsNobodys, IsMember, HasFirst, AllFirst, AreFirst, NamesAreFirst, MeaningsAreFirst}
 use Rattle.meaning_laws.proofs.Growing.{Grown, run_grown, tapes_grown}
-use Rattle.meaning_laws.proofs.Lists.{differ_before, use_found, member_found, body_of_is, own_of_found}
+use Rattle.meaning_laws.proofs.Lists.{declared_place, differ_before, use_found, member_found, body_of_is, own_of_found}
 use Rattle.meaning_laws.proofs.Changes.{is_declared_here, is_declared_some, is_declared_param, is_declared_member, is_unnamed_member, is_tag_used, is_tag_begun, is_untagged_begun, is_used, is_entered, is_left, is_kept, is_body_entered, is_body_left, is_unit_begun, no_names_are}
+use Rattle.meaning_laws.proofs.Links.{has_link}
 
 differ_old : (old new : List Declared) → Grown old new → Differ new → Differ old
 differ_old old new g h = differ_before old g.added (subst Differ g.is h)
@@ -49,19 +51,21 @@ module _ (u : Spelling) where
       (decayed (declaration st).declared) st.names d h
   declr_first st declrs.ParamsEnd d h = is_kept (parameters st).own st.names h
   declr_first st declrs.Declare d h =
-      is_declared_some u (declaration st).name (declaration st).storage (declaration st).declared st.names d h
+      is_declared_some u (untagged_number (declaration st).is_untagged (declaration st).type) (declaration st).name
+      (declaration st).storage (declaration st).declared st.names d h
   declr_first st declrs.Member d h =
       is_declared_member u (declaration st).name (body st).members_of (declaration st).declared st.names d h
   declr_first st op d h = h
 
-  entered_first : (d : Option Declared) (s : Names) → AreFirst s → AreFirst (body_entered_by d s)
-  entered_first None s h = h
-  entered_first (Some d) s h = is_body_entered d.at d.first s h
+  entered_first : (is_plain : Bool) (d : Option Declared) (s : Names) → AreFirst s →
+      AreFirst (body_entered_by is_plain d s)
+  entered_first is_plain None s h = h
+  entered_first is_plain (Some d) s h = is_body_entered d.at d.first is_plain s h
 
   stmt_first : (st : State) (op : StmtOp) → AreFirst st.names → AreFirst (statement_step u st op).names
   stmt_first st stmts.Enter h = is_entered st.names h
   stmt_first st stmts.Leave h = is_left st.names h
-  stmt_first st stmts.FunctionBody h = entered_first (last_or None st.names.declared) st.names h
+  stmt_first st stmts.FunctionBody h = entered_first (is_plain st) (last_or None st.names.declared) st.names h
   stmt_first st stmts.FunctionEnd h = is_body_left st.names h
   stmt_first st op h = h
 
@@ -89,11 +93,11 @@ tapes_first : (tapes : List Tape) (s : Names) → Differ (tapes_named tapes s).d
     AreFirst (tapes_named tapes s)
 tapes_first [] s d h = h
 tapes_first (it ∷ tapes) s d h =
-    tapes_first tapes next d (run_first it.spelling it.ops (with_names (unit_begun s))
-    (differ_old next.declared (tapes_named tapes next).declared (tapes_grown tapes next) d) (is_unit_begun s h))
+    tapes_first tapes next d (run_first it.spelling it.ops (with_names (unit_begun it.spelling.unit s))
+    (differ_old next.declared (tapes_named tapes next).declared (tapes_grown tapes next) d) (is_unit_begun it.spelling.unit s h))
   where
     next : Names
-    next = tape_named it (unit_begun s)
+    next = tape_named it (unit_begun it.spelling.unit s)
 
 first_found : (all ds : List Declared) (p : Place) (d : Declared) → AllFirst all ds → declared_at ds p ≡ Some d →
     HasFirst all d
@@ -105,12 +109,18 @@ first_found all (x ∷ ds) p d h e = by (is_place x.at p) e (first_found all ds 
     by true e next = let found : x ≡ d = cc in subst (HasFirst all) found h.0
     by false e next = next e
 
+nobodys : (ds : List Declared) (p : Place) → IsMember ds p → IsNobodys ds p
+nobodys ds p h = record { it = h.it; there = h.there; none = h.none }
+
 known : (s : Names) → AreFirst s → NamesAreFirst s
 known s h = record {
   uses = λ p q e. use_found (IsFirst s.declared) s.uses p q h.uses e;
   firsts = λ p d e. first_found s.declared s.declared p d h.firsts e;
-  known = λ n name it e. member_found _ (body_of s.aggregates n) name it (body_of_is _ s.aggregates n h.members) e;
-  own = λ n i it e. own_of_found _ s.aggregates n i it h.members e;
+  known = λ n name it e. nobodys s.declared it.at (member_found (IsMember s.declared) (body_of s.aggregates n) name it
+      (body_of_is (IsMember s.declared) s.aggregates n h.members) e);
+  own = λ n i it e. nobodys s.declared it.at (own_of_found (IsMember s.declared) s.aggregates n i it h.members e);
+  links = λ p d e f. let at = declared_place s.declared p d e in
+      has_link s h d (ap (declared_at s.declared) at ∙ e) (f ∙ sym at);
 }
 
 pub meanings_are_first : MeaningsAreFirst

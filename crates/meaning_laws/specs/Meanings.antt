@@ -1,7 +1,7 @@
 -- What names mean, and what is known of declarations, where no two are at one place.
-use Rattle.std.specs.Prelude.{◌≡◌, ◌⊎◌, ℕ, List, [], ◌∷◌, slice_get, Option, None, Some}
+use Rattle.std.specs.Prelude.{◌≡◌, ◌⊎◌, ℕ, false, List, [], ◌∷◌, slice_get, Option, None, Some}
 use Rattle.name_rules.specs.Spellings.{Place}
-use Rattle.name_rules.specs.Scopes.{Meaning, means_type, means_thing, Scope, function_role, Declared, declared_at, Use, means, called, missing, NameUse, Own, Known, Body, Aggregate, Names, body_of}
+use Rattle.name_rules.specs.Scopes.{Meaning, means_type, means_thing, Scope, function_role, field_role, Declared, declared_at, Use, means, called, missing, NameUse, Own, Known, Body, Aggregate, Names, is_place, body_of}
 use Rattle.name_rules.specs.Values.{member_in, own_of}
 use Rattle.name_rules.specs.Uses.{use_at}
 use Rattle.name_rules.specs.Linking.{link_of}
@@ -27,11 +27,26 @@ pub record HasFirst (ds : List Declared) (d : Declared) : Type 0 where
   pub is_first : first.first ≡ d.first
   pub same_owner : first.owner ≡ d.owner
 
+-- at the place an object or function of the file is declared for the first time
+pub record IsThing (ds : List Declared) (p : Place) : Type 0 where
+  pub it : Declared
+  pub there : declared_at ds p ≡ Some it
+  pub is_first : it.first ≡ p
+  pub is_itself : it.role ≡ function_role → it.owner ≡ Some p
+  pub of_file : (it.role ≡ function_role) ⊎ (it.owner ≡ None)
+
 -- at the place something is declared that belongs to nobody
 pub record IsNobodys (ds : List Declared) (p : Place) : Type 0 where
   pub it : Declared
   pub there : declared_at ds p ≡ Some it
   pub none : it.owner ≡ None
+
+-- at the place a member is declared
+pub record IsMember (ds : List Declared) (p : Place) : Type 0 where
+  pub it : Declared
+  pub there : declared_at ds p ≡ Some it
+  pub none : it.owner ≡ None
+  pub is_field : (n : ℕ) × (i : ℕ) × (it.role ≡ field_role n i)
 
 abbrev pub MeaningIs : (Place → Type 0) → Meaning → Type 0
 MeaningIs P (means_type t) = Unit {0}
@@ -48,6 +63,11 @@ ScopesAre P (scope ∷ scopes) = NamesAre P scope.names × ScopesAre P scopes
 abbrev pub ThingsAre : (Place → Type 0) → List (ℕ × Place) → Type 0
 ThingsAre P [] = Unit {0}
 ThingsAre P (it ∷ things) = P it.1 × ThingsAre P things
+
+-- no two things are at one place
+abbrev pub ThingsDiffer : List (ℕ × Place) → Type 0
+ThingsDiffer [] = Unit {0}
+ThingsDiffer (it ∷ things) = ThingsAre (λ p. is_place p it.1 ≡ false) things × ThingsDiffer things
 
 abbrev pub KeptIs : (Place → Type 0) → Option Scope → Type 0
 KeptIs P None = Unit {0}
@@ -86,12 +106,13 @@ AggregatesAre Q (it ∷ others) = SomeBodyIs Q it.body × AggregatesAre Q others
 pub record FirstIn (ds : List Declared) (ss : List Scope) (ts rs : List (ℕ × Place)) (inner : Option Scope)
     (us : List NameUse) (as_ : List Aggregate) : Type 0 where
   pub scopes : ScopesAre (IsFirst ds) ss
-  pub things : ThingsAre (IsFirst ds) ts
+  pub things : ThingsAre (IsThing ds) ts
+  pub differ : ThingsDiffer ts
   pub round : ThingsAre (IsFirst ds) rs
   pub kept : KeptIs (IsFirst ds) inner
   pub uses : UsesAre (IsFirst ds) us
   pub firsts : AllFirst ds ds
-  pub members : AggregatesAre (IsNobodys ds) as_
+  pub members : AggregatesAre (IsMember ds) as_
 
 abbrev pub AreFirst : Names → Type 0
 AreFirst s = FirstIn s.declared s.scopes s.things s.round s.kept s.uses s.aggregates

@@ -14,9 +14,10 @@ use Rattle.type_table.specs.Types.{CType}
 use Rattle.name_rules.specs.Spellings.{Spelling, Place, place, Named}
 use Rattle.name_rules.specs.Scopes.{Declared, declared_at, Names, is_place}
 use Rattle.name_rules.specs.Pieces.{decayed}
+use Rattle.name_rules.specs.Declaring.{untagged_number}
 use Rattle.name_rules.specs.Units.{no_names, unit_begun}
 use Rattle.name_steps.specs.State.{OpenDeclaration, State, no_declaration, innermost_or, with_innermost, without_innermost, with_names}
-use Rattle.name_steps.specs.Steps.{declaration, body, parameters, expression_step, specifier_step, declarator_step, statement_step, step, run}
+use Rattle.name_steps.specs.Steps.{declaration, body, parameters, expression_step, specifier_step, declarator_step, is_plain, statement_step, step, run}
 use Rattle.name_steps.specs.Units.{tapes_named}
 use Rattle.name_laws.specs.NameLaws.{tape_of_source, NamesOfTapes}
 use Rattle.c_tape.specs.Tape.{tape_of}
@@ -272,8 +273,13 @@ module _ (u : Spelling) where
     declr_kept declrs.Array none = plain (kept_name _)
     declr_kept (declrs.Function has_ellipsis) none = plain (kept_name _)
     declr_kept declrs.Declare none =
-        plain (unnamed_top ds (record (declaration st) { name = None; declared = (declaration st).type }) _ refl
-        (closing ds _ (adds_some u (declaration st).name (declaration st).storage (declaration st).declared st.names) h))
+        plain (unnamed_top ds (record (declaration st) {
+          is_untagged = false;
+          name = None;
+          declared = (declaration st).type;
+        }) _ refl
+        (closing ds _ (adds_some u (untagged_number (declaration st).is_untagged (declaration st).type)
+        (declaration st).name (declaration st).storage (declaration st).declared st.names) h))
     declr_kept declrs.Member none =
         plain (unnamed_top ds (record (declaration st) { name = None; declared = (declaration st).type }) _ refl
         (closing ds _ (adds_member u (declaration st).name (body st).members_of (declaration st).declared st.names) h))
@@ -281,7 +287,7 @@ module _ (u : Spelling) where
     declr_kept declrs.DeclarationEnd none = plain (top_gone ds h)
 
     stmt_kept : (op : StmtOp) → Next None (statement_step u st op)
-    stmt_kept stmts.FunctionBody = plain (same_names _ (entered_same (last_or None st.names.declared) st.names))
+    stmt_kept stmts.FunctionBody = plain (same_names _ (entered_same (is_plain st) (last_or None st.names.declared) st.names))
     stmt_kept op = plain h
 
     op_kept : (op : Op) → NoKey (op_key op) →
@@ -362,14 +368,14 @@ sources_kept (it ∷ sources) keys fresh s h d =
     (tapes_named (map tape_of_source sources) next).declared [])
     (append_assoc fresh (fresh_places u (tape_of it.items)) (fresh_among sources))
     (sources_kept sources (keys ++ key_places u (tape_of it.items)) (fresh ++ fresh_places u (tape_of it.items)) next
-    (tape_kept u (tape_of it.items) keys fresh (keys_among sources) (with_names (unit_begun s)) h d)
+    (tape_kept u (tape_of it.items) keys fresh (keys_among sources) (with_names (unit_begun u.unit s)) h d)
     (subst AreDifferent (sym (append_assoc keys (key_places u (tape_of it.items)) (keys_among sources))) d)))
   where
     u : Spelling
     u = it.spelling
 
     next : Names
-    next = (run u (tape_of it.items) (with_names (unit_begun s))).names
+    next = (run u (tape_of it.items) (with_names (unit_begun u.unit s))).names
 
 nothing_kept : Kept [] [] [] []
 nothing_kept = record {

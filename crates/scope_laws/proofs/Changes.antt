@@ -1,20 +1,20 @@
 -- Each change of names in an item keeps of which places they are, and what it finds is of the item or of the file.
 use Rattle.std.proofs.Common.{◌≡◌, ◌⊎◌, inl, inr, ℕ, Bool, true, false, List, [], ◌∷◌, ◌++◌, Option, None, Some, refl, sym, ◌∙◌, ap, subst, append_assoc, append-nil}
-use Rattle.std.specs.Prelude.{◌||◌, if◌then◌else◌}
+use Rattle.std.specs.Prelude.{◌&&◌, ◌||◌, if◌then◌else◌}
 use Rattle.c_words.specs.declared.kinds.Keyword.{Keyword}
 use Rattle.c_words.specs.declared.kinds.Keyword.TheVariants as keywords
 use Rattle.tape_ops.specs.declared.specifier.TagKind.{TagKind}
 use Rattle.type_table.specs.Types.{CType, base}
 use Rattle.tape_laws.specs.Marks.{Mark}
 use Rattle.name_rules.specs.Spellings.{Spelling, place, Named, Place}
-use Rattle.name_rules.specs.Scopes.{parameter_role, meaning, sized, body_of, has_body, tag_in, tag_through, Meaning, means_type, means_thing, Scope, Role, typedef_role, object_role, function_role, enumerator_role, Declared, declared_at, Names, NameUse, is_place, thing_named, innermost, outer_scopes, inner_meaning, is_at_file, owner_at}
+use Rattle.name_rules.specs.Scopes.{parameter_role, meaning, sized, body_of, has_body, tag_in, tag_through, Meaning, means_type, means_thing, Scope, Role, typedef_role, object_role, function_role, enumerator_role, Declared, declared_at, Names, NameUse, is_place, thing_of, or_place, innermost, outer_scopes, inner_meaning, is_at_file, owner_at, bound, with_key}
 use Rattle.name_rules.specs.Pieces.{is_function}
-use Rattle.name_rules.specs.Declaring.{use_by, used, Numbered, found_or_new, tag_used, untagged, begun_in, tag_begun, untagged_begun, declared_some, declared_param, declared_member, unnamed_member, the_thing, or_at, linked, owner_where, declared_here, declared_thing, has_word, declared_typedef, declared_by}
+use Rattle.name_rules.specs.Declaring.{use_by, used, Numbered, found_or_new, tag_used, untagged, opened, tag_known, begun_in, tag_begun, untagged_begun, declared_some, declared_param, declared_member, unnamed_member, the_thing, or_at, linked, thing_where, static_where, owner_where, declaring, declared_here, declared_thing, has_word, declared_typedef, declared_by, typedef_known}
 use Rattle.row_rules.specs.Sites.{has_place}
 use Rattle.meaning_laws.specs.Meanings.{Differ, MeaningIs, ThingsAre, UseIs}
 use Rattle.scope_laws.specs.Staying.{IsOfFile, IsWithin}
-use Rattle.meaning_laws.proofs.Growing.{Grown}
-use Rattle.meaning_laws.proofs.Lists.{place_itself, through_is, at_more, at_new, differ_before, last_is_new, some_thing_is, named_is}
+use Rattle.meaning_laws.proofs.Growing.{Grown, known_same}
+use Rattle.meaning_laws.proofs.Lists.{place_itself, place_is, through_is, at_more, at_new, differ_before, last_is_new, linked_is, named_is}
 use Rattle.scope_laws.proofs.Fitting.{around_within, NameIn, Around, AtTop, around_top, around_with, file_at_top, top_within, inside_at_top, Keeps}
 
 -- of each one of a list
@@ -202,10 +202,10 @@ module _ (S : Names) (differ : Differ S.declared) (keys : List Place) where
 
     -- of the file
 
-    thing_of : (at : Place) (found : Option Place) → ((p : Place) → found ≡ Some p → N p) → (or_at found at ≡ at → N at) →
-        N (or_at found at)
-    thing_of at (Some p) is new = is p refl
-    thing_of at None is new = new refl
+    file_or_new : (at : Place) (found : Option Place) → ((p : Place) → found ≡ Some p → N p) →
+        (or_at found at ≡ at → N at) → N (or_at found at)
+    file_or_new at (Some p) is new = is p refl
+    file_or_new at None is new = new refl
 
     is_files : (at first : Place) (b : Bool) → first ≡ at →
         ((if b then function_role else object_role) ≡ function_role)
@@ -213,13 +213,18 @@ module _ (S : Names) (differ : Differ S.declared) (keys : List Place) where
     is_files at first true e = inl refl
     is_files at first false e = inr (own_none s first at e)
 
-    thing_goes : (at : Place) (name : ℕ) (t : CType) → has_place keys at ≡ true →
-        Grown (declared_thing at name t s).declared S.declared → Goes m s (declared_thing at name t s)
-    thing_goes at name t key g =
-        let around = (with_name m s name (means_thing first) h (file_at_top N P m first (file_within first) is)).around in (
-          record { around = around; keeps = h.keeps; things = (is, h.things); round = h.round },
-          adds_one d (key, inr is),
-        )
+    -- a declaration of a thing, by whether it is `static` and whether the thing is new
+    abbrev thing_by : Place → ℕ → CType → Bool → Bool → Names
+    thing_by at name t is_static is_new =
+        bound name (means_thing (linked name at s))
+        (declaring at (if is_function t then function_role else object_role) (linked name at s) t
+        (if is_function t then Some at else None)
+        (static_where is_static at.0 name (thing_where is_new name at s)))
+
+    thing_goes : (words : List Keyword) (at : Place) (name : ℕ) (t : CType) → has_place keys at ≡ true →
+        Grown (declared_thing words at name t s).declared S.declared → Goes m s (declared_thing words at name t s)
+    thing_goes words at name t key g =
+        by (has_word keywords.Static words) (is_place first at) (place_is first at) g
       where
         first : Place
         first = linked name at s
@@ -228,10 +233,29 @@ module _ (S : Names) (differ : Differ S.declared) (keys : List Place) where
         d = made at (if is_function t then function_role else object_role) first t (if is_function t then Some at else None)
             s
 
-        is : N first
-        is = thing_of at (thing_named s.things name)
-            (some_thing_is N s.things name (thing_named s.things name) h.things refl)
-            (λ e. of_file s.declared d g (is_files at first (is_function t) e))
+        is : Grown (s.declared ++ d ∷ []) S.declared → N first
+        is g =
+            file_or_new at (or_place (thing_of at.0 s.things name) (thing_of 0 s.things name))
+            (linked_is N at.0 s.things name h.things) (λ e. of_file s.declared d g (is_files at first (is_function t) e))
+
+        fit : (things : List (ℕ × Place)) → N first → ThingsAre N things →
+            Fit m (record (innermost s.scopes) { names = (name, means_thing first) ∷ (innermost s.scopes).names }
+            ∷ outer_scopes s.scopes) s.kept things s.round
+        fit things k others = record {
+          around = (with_name m s name (means_thing first) h (file_at_top N P m first (file_within first) k)).around;
+          keeps = h.keeps;
+          things = others;
+          round = h.round;
+        }
+
+        by : (b c : Bool) → (c ≡ true → first ≡ at) → Grown (thing_by at name t b c).declared S.declared →
+            Goes m s (thing_by at name t b c)
+        by true true same g =
+            (fit ((name, at) ∷ s.things) (is g) (subst N (same refl) (is g), h.things), adds_one d (key, inr (is g)))
+        by true false same g = (fit s.things (is g) h.things, adds_one d (key, inr (is g)))
+        by false true same g =
+            (fit ((name, at) ∷ s.things) (is g) (subst N (same refl) (is g), h.things), adds_one d (key, inr (is g)))
+        by false false same g = (fit s.things (is g) h.things, adds_one d (key, inr (is g)))
 
     not_left : (a b : Bool) → (a || b) ≡ false → a ≡ false
     not_left true b e = e
@@ -242,7 +266,7 @@ module _ (S : Names) (differ : Differ S.declared) (keys : List Place) where
 
     abbrev either : List Keyword → Place → ℕ → CType → Bool → Bool → Names
     either words at name t b c =
-        if b then declared_typedef at name t s else if c then declared_thing at name t s
+        if b then declared_typedef at name t s else if c then declared_thing words at name t s
         else declared_here at name object_role t (own_of words) s
 
     by_goes : (words : List Keyword) (at : Place) (name : ℕ) (t : CType) → has_place keys at ≡ true →
@@ -253,7 +277,7 @@ module _ (S : Names) (differ : Differ S.declared) (keys : List Place) where
         by : (b c : Bool) → (is_at_file s || (is_function t || has_word keywords.Extern words)) ≡ c →
             Grown (either words at name t b c).declared S.declared → Goes m s (either words at name t b c)
         by true c e g = typedef_goes at name t key
-        by false true e g = thing_goes at name t key g
+        by false true e g = thing_goes words at name t key g
         by false false e g =
             here_goes at name object_role t (own_of words) key
             (λ is. inside_at_top N P m s.scopes at h.around
@@ -321,25 +345,54 @@ module _ (S : Names) (differ : Differ S.declared) (keys : List Place) where
         tag_goes (if alone then tag_in (innermost s.scopes).tags kind (u.key tag) else tag_through s.scopes kind (u.key tag))
         u kind token tag
 
-    begun_goes : (b : Bool) (at : Place) (kind : TagKind) (it : Numbered) → Goes m s it.names →
-        Goes m s (begun_in b at kind it).names
-    begun_goes true at kind it k = k
-    begun_goes false at kind it k = k
+    tag_known_goes : (tag : Option ℕ) (n : ℕ) (next : Names) → Goes m s next → Goes m s (tag_known tag n next)
+    tag_known_goes None n next k = k
+    tag_known_goes (Some tag) n next k = by (is_at_file next)
+      where
+        by : (b : Bool) → Goes m s (if b then with_key n false tag next else next)
+        by true = k
+        by false = k
+
+    begun_goes : (b : Bool) (at : Place) (kind : TagKind) (tag : Option ℕ) (it : Numbered) → Goes m s it.names →
+        Goes m s (begun_in b at kind tag it).names
+    begun_goes true at kind tag it k = k
+    begun_goes false at kind tag it k = tag_known_goes tag it.number (opened it.number it.names) k
 
     pub tag_begun_goes : (u : Spelling) (kind : TagKind) (token tag : ℕ) → Goes m s (tag_begun u kind token tag s).names
     tag_begun_goes u kind token tag =
         begun_goes (has_body (body_of (tag_used u true kind token tag s).names.aggregates
-        (tag_used u true kind token tag s).number)) (place u token) kind (tag_used u true kind token tag s)
-        (tag_used_goes u true kind token tag)
+        (tag_used u true kind token tag s).number)) (place u token) kind (Some (u.key tag))
+        (tag_used u true kind token tag s) (tag_used_goes u true kind token tag)
 
     pub untagged_goes : (at : Place) (kind : TagKind) → Goes m s (untagged_begun at kind s).names
     untagged_goes at kind =
-        begun_goes (has_body (body_of (untagged at kind s).names.aggregates (untagged at kind s).number)) at kind
+        begun_goes (has_body (body_of (untagged at kind s).names.aggregates (untagged at kind s).number)) at kind None
         (untagged at kind s) (h, adds_none)
 
-  pub some_goes : (m : List Mark) (s : Names) → Fits m s → (u : Spelling) (it : Option Named) (words : List Keyword)
-      (t : CType) → NameIn u keys it → Grown (declared_some u it words t s).declared S.declared →
-      Goes m s (declared_some u it words t s)
-  some_goes m s h u None words t key g = (h, adds_none)
-  some_goes m s h u (Some it) words t key g =
-      by_goes m (sized (place u it.token) t s) h words (place u it.token) (u.key it.name) t key g
+    known_goes : (words : List Keyword) (name : ℕ) (untagged : Option ℕ) (next : Names) → Goes m s next →
+        Goes m s (typedef_known words name untagged next)
+    known_goes words name None next k = k
+    known_goes words name (Some n) next k = by (has_word keywords.Typedef words && is_at_file next)
+      where
+        by : (b : Bool) → Goes m s (if b then with_key n true name next else next)
+        by true = k
+        by false = k
+
+  pub some_goes : (m : List Mark) (s : Names) → Fits m s → (u : Spelling) (untagged : Option ℕ) (it : Option Named)
+      (words : List Keyword) (t : CType) → NameIn u keys it →
+      Grown (declared_some u untagged it words t s).declared S.declared →
+      Goes m s (declared_some u untagged it words t s)
+  some_goes m s h u untagged None words t key g = (h, adds_none)
+  some_goes m s h u untagged (Some it) words t key g =
+      known_goes m old h words (u.key it.name) untagged next
+      (by_goes m old h words at (u.key it.name) t key
+      (subst (λ (ds : List Declared). Grown ds S.declared) (known_same words (u.key it.name) untagged next) g))
+    where
+      at : Place
+      at = place u it.token
+
+      old : Names
+      old = sized at t s
+
+      next : Names
+      next = declared_by words at (u.key it.name) t old

@@ -1,21 +1,13 @@
 -- Lists of places, and of what is declared at places.
-use Rattle.std.proofs.Common.{◌≡◌, ◌⊎◌, inl, inr, Bool, true, false, List, [], ◌∷◌, ◌++◌, Some, refl, ◌∙◌, ap, subst, sym, append_assoc}
+use Rattle.std.proofs.Common.{◌≡◌, ◌⊎◌, inl, inr, Bool, true, false, List, [], ◌∷◌, ◌++◌, refl, ◌∙◌, ap, subst, sym, append_assoc}
 use Rattle.std.specs.Prelude.{if◌then◌else◌}
 use Rattle.tape_ops.specs.declared.op.Op.{Op}
 use Rattle.name_rules.specs.Spellings.{Spelling, Place}
-use Rattle.name_rules.specs.Scopes.{Declared, declared_at, is_place}
+use Rattle.name_rules.specs.Scopes.{is_place}
 use Rattle.row_rules.specs.Sites.{has_place, AreDifferent}
 use Rattle.key_laws.specs.Keys.{op_key, key_place, key_places}
 use Rattle.meaning_laws.proofs.Lists.{place_itself, place_is}
-
-pub declared_place : (ds : List Declared) (p : Place) (d : Declared) → declared_at ds p ≡ Some d → d.at ≡ p
-declared_place [] p d e = absurd cc
-declared_place (other ∷ ds) p d e = by (is_place other.at p) (place_is other.at p) e (declared_place ds p d)
-  where
-    by : (b : Bool) → (b ≡ true → other.at ≡ p) → (if b then Some other else declared_at ds p) ≡ Some d →
-        (declared_at ds p ≡ Some d → d.at ≡ p) → d.at ≡ p
-    by true is e more = let same : other ≡ d = cc in subst (λ (it : Declared). it.at ≡ p) same (is refl)
-    by false is e more = more e
+pub use Rattle.meaning_laws.proofs.Lists.{declared_place}
 
 pub has_not : (xs ys : List Place) (p : Place) → has_place xs p ≡ false → has_place ys p ≡ false →
     has_place (xs ++ ys) p ≡ false

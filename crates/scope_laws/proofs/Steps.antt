@@ -20,9 +20,9 @@ use Rattle.tape_laws.specs.Marks.{IsBracketed, named, params_begun, Mark, in_dec
 use Rattle.name_rules.specs.Spellings.{Spelling, Place, place, Named}
 use Rattle.name_rules.specs.Scopes.{enumerator_role, Declared, Names, innermost}
 use Rattle.name_rules.specs.Pieces.{piece_of, to_pointer, to_function, decayed}
-use Rattle.name_rules.specs.Declaring.{used, declared_member, declared_param, tag_used, tag_begun, untagged_begun, unnamed_member, own_where, keep, declared_here, declared_some}
+use Rattle.name_rules.specs.Declaring.{used, declared_member, declared_param, tag_used, tag_begun, untagged_begun, unnamed_member, own_where, keep, declared_here, untagged_number, declared_some}
 use Rattle.name_steps.specs.State.{types_in, OpenDeclaration, State, without_innermost, innermost_or}
-use Rattle.name_steps.specs.Steps.{let_go, ellipsis_where, run, with_declared, declaration, body, parameters, linked_some, expression_step, specifier_step, declarator_step, body_entered_by, statement_step, step}
+use Rattle.name_steps.specs.Steps.{let_go, ellipsis_where, run, with_declared, declaration, body, parameters, linked_some, expression_step, specifier_step, declarator_step, body_entered_by, is_plain, statement_step, step}
 use Rattle.row_rules.specs.Sites.{has_place}
 use Rattle.meaning_laws.specs.Meanings.{Differ}
 use Rattle.key_laws.specs.Keys.{key_place, key_places, op_key, spec_key, declr_key, expr_key}
@@ -46,12 +46,12 @@ last_new token [] d = tt
 last_new token (x ∷ ds) d = tt
 
 -- a name that is declared is one more declaration
-last_declared : (u : Spelling) (name : Option ℕ) (it : Option Named) (words : List Keyword) (t : CType) (s : Names) →
-    HasName name it → HasLast name (declared_some u it words t s).declared
-last_declared u None it words t s h = tt
-last_declared u (Some token) None words t s h = absurd h
-last_declared u (Some token) (Some it) words t s h =
-    let adds = adds_some u (Some it) words t s in
+last_declared : (u : Spelling) (untagged name : Option ℕ) (it : Option Named) (words : List Keyword) (t : CType)
+    (s : Names) → HasName name it → HasLast name (declared_some u untagged it words t s).declared
+last_declared u untagged None it words t s h = tt
+last_declared u untagged (Some token) None words t s h = absurd h
+last_declared u untagged (Some token) (Some it) words t s h =
+    let adds = adds_some u untagged (Some it) words t s in
     subst (HasLast (Some token)) (sym adds.2) (last_new token s.declared adds.0)
 
 own_begun : (u : Spelling) (own : Bool) (name : Option Named) (s : Names) →
@@ -163,7 +163,7 @@ module _ (S : Names) (differ : Differ S.declared) (keys : List Place) (u : Spell
     body_next name token was is =
         next_is (in_body ∷ (in_declaration name (Some token) true ∷ [])) n st (statement_step u st stmts.FunctionBody) is
         (subst (λ (it : Option Declared). Next (in_body ∷ (in_declaration name (Some token) true ∷ [])) st
-        (record st { names = body_entered_by it st.names })) (sym some.1) (
+        (record st { names = body_entered_by (is_plain st) it st.names })) (sym some.1) (
           (
             k.0,
             k.1,
@@ -424,7 +424,7 @@ module _ (S : Names) (differ : Differ S.declared) (keys : List Place) (u : Spell
             (
               reading_with u keys d.name d.last None d.name d.own d.own d.outer ds _ next.declared
                   (read_on here (names ds) st.names next goes.1 at_here.0) tt tt
-                  (last_declared u d.name (declaration st).name (declaration st).storage (declaration st).declared
+                  (last_declared u untagged d.name (declaration st).name (declaration st).storage (declaration st).declared
                   st.names top.0),
               at_here.1,
               refit here (in_declaration None d.name d.own ∷ d.outer) next (λ a. a) (λ k. k) goes.0,
@@ -432,11 +432,14 @@ module _ (S : Names) (differ : Differ S.declared) (keys : List Place) (u : Spell
             goes.1,
           )
         where
+          untagged : Option ℕ
+          untagged = untagged_number (declaration st).is_untagged (declaration st).type
+
           next : Names
-          next = declared_some u (declaration st).name (declaration st).storage (declaration st).declared st.names
+          next = declared_some u untagged (declaration st).name (declaration st).storage (declaration st).declared st.names
 
           goes : Goes S differ keys here st.names next
-          goes = some_goes S differ keys here st.names at_here.2 u (declaration st).name (declaration st).storage
+          goes = some_goes S differ keys here st.names at_here.2 u untagged (declaration st).name (declaration st).storage
               (declaration st).declared top.1 g
 
       member_next : n ≡ in_declaration None d.last d.own ∷ d.outer → Next n st (declarator_step u st declrs.Member)

@@ -1,5 +1,5 @@
 -- What names mean stays in the item, or is of the file.
-use Rattle.std.proofs.Common.{◌≡◌, ◌⊎◌, inl, inr, ℕ, Bool, true, false, List, [], ◌∷◌, ◌++◌, map, Some, refl, sym, ◌∙◌, ap, subst}
+use Rattle.std.proofs.Common.{◌≡◌, ◌⊎◌, inl, inr, ℕ, nat_eq, Bool, true, false, List, [], ◌∷◌, ◌++◌, map, Some, refl, sym, ◌∙◌, ap, subst}
 use Rattle.std.specs.Prelude.{All, if◌then◌else◌}
 use Rattle.std.proofs.lemmas.List.Elements.{All-head, All-tail}
 use Rattle.tape_ops.specs.declared.op.Op.{Op}
@@ -22,7 +22,7 @@ use Rattle.meaning_laws.specs.Meanings.{Differ, ThingsAre, UseIs}
 use Rattle.key_laws.specs.Keys.{key_places}
 use Rattle.key_laws.specs.Differing.{keys_among}
 use Rattle.scope_laws.specs.Staying.{IsOfFile, IsWithin, ItemsStay, SourcesStay, NamesStay}
-use Rattle.meaning_laws.proofs.Lists.{place_is, things_joined, shared_are}
+use Rattle.meaning_laws.proofs.Lists.{place_is, shared_are}
 use Rattle.scope_laws.proofs.Places.{keys_joined, declared_place, differ_left, differ_right, differ_apart, has_left, has_right}
 use Rattle.scope_laws.proofs.Apart.{declared_differ}
 use Rattle.meaning_laws.proofs.Growing.{Grown, then_grown, same, run_grown, tapes_grown}
@@ -103,14 +103,17 @@ module _ (S : Names) (differ : Differ S.declared) where
       Adds (λ it. SomeSource sources (λ keys. UseWithin S differ keys it))
       (λ d. SomeSource sources (λ keys. DeclaredWithin S differ keys d)) s.uses s.declared next.uses next.declared
 
-  unit_at_file : (s : Names) → AtFile s → AtFile (unit_begun s)
-  unit_at_file s h = record {
+  unit_at_file : (unit : ℕ) (s : Names) → AtFile s → AtFile (unit_begun unit s)
+  unit_at_file unit s h = record {
     around = tt;
     things = h.things;
-    round = things_joined (IsOfFile S) (shared s (innermost s.scopes).names) s.round
-        (shared_are (IsOfFile S) s (innermost s.scopes).names
-        (around_top (IsOfFile S) (IsOfFile S) [] s.scopes h.around)) h.round;
+    round = by (nat_eq unit 1);
   }
+    where
+      by : (b : Bool) → ThingsAre (IsOfFile S) (if b then shared s (innermost s.scopes).names else s.round)
+      by true = shared_are (IsOfFile S) s (innermost s.scopes).names
+          (around_top (IsOfFile S) (IsOfFile S) [] s.scopes h.around)
+      by false = h.round
 
   module _ (bracketed : ItemsAreBracketed) where
     items_next : (u : Spelling) (all : List Lexeme) (items : List Item) (st : State) → All (IsItem all) items →
@@ -161,15 +164,15 @@ module _ (S : Names) (differ : Differ S.declared) where
         (sources_next sources next (All-tail IsSound it sources sound) g one.0))
       where
         next : Names
-        next = tape_named (tape_of_source it) (unit_begun s)
+        next = tape_named (tape_of_source it) (unit_begun it.spelling.unit s)
 
         rules : IsSound it
         rules = All-head IsSound it sources sound
 
-        one : AtFile next × ItemAdds it.spelling it.items (unit_begun s) next
-        one = items_next it.spelling rules.0 it.items (with_names (unit_begun s)) rules.1.parts
+        one : AtFile next × ItemAdds it.spelling it.items (unit_begun it.spelling.unit s) next
+        one = items_next it.spelling rules.0 it.items (with_names (unit_begun it.spelling.unit s)) rules.1.parts
             (then_grown next.declared (tapes_named (map tape_of_source sources) next).declared S.declared
-            (tapes_grown (map tape_of_source sources) next) g) (unit_at_file s h)
+            (tapes_grown (map tape_of_source sources) next) g) (unit_at_file it.spelling.unit s h)
 
 -- what is found is among all
 
