@@ -27,7 +27,7 @@ begins_at (head ∷ starts) p start e = by (is_place head.at p) (place_is head.a
     by true is e more = let same : head ≡ start = cc in subst (λ (it : Start). it.at ≡ p) same (is refl)
     by false is e more = more e
 
--- the flows of an by the place that its token has
+-- the flows of an instance, by the place that its token has
 crossing : (functions : List Place) (starts : List Start) (cs : List Constraint) (w : World) (token : ℕ) (f : Place)
     (it of : Numbered) → it.start.at ≡ at w token → Leads functions starts it of f →
     AllFit (system_with functions starts cs)
