@@ -138,7 +138,7 @@ module _ {n : ℕ} (all : List Lexeme) where
         CoversBoth n (word_tape is_alone word) (unnamed_word_tape word) (spec_word_text all word k) k
     word_covers (storage word) h is_alone = alone (then_mute (skip nothing) (mute refl))
     word_covers (thread token) h is_alone = alone (skip nothing)
-    word_covers (inline_word token) h is_alone = alone (skip nothing)
+    word_covers (inline_word token) h is_alone = alone (then_mute (skip nothing) (mute refl))
     word_covers (noreturn token) h is_alone = alone (skip nothing)
     word_covers (qualifier q) h is_alone = alone (then_mute (qual_skip all q nothing) (mute refl))
     word_covers (basic word) h is_alone = alone (then_mute (skip nothing) (void_mute (is_void word.keyword)))

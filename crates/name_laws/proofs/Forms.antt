@@ -1,6 +1,7 @@
 -- What each form that holds specifiers or declarators makes of names, where its parts do what they should.
-use Rattle.std.proofs.Common.{◌≡◌, ℕ, suc, Bool, true, false, ◌&&◌, if◌then◌else◌, List, [], ◌∷◌, ◌++◌, length, Option, None, Some, refl, sym, ◌∙◌, ap, subst}
+use Rattle.std.proofs.Common.{◌≡◌, ℕ, suc, Bool, true, false, ◌&&◌, if◌then◌else◌, List, [], ◌∷◌, ◌++◌, length, Option, None, Some, refl, ◌∙◌, ap, subst}
 use Rattle.c_words.specs.declared.kinds.Keyword.{Keyword}
+use Rattle.c_words.specs.declared.kinds.Keyword.TheVariants as keywords
 use Rattle.c_syntax.specs.declared.parts.Identifier.{Identifier}
 use Rattle.c_syntax.specs.declared.parts.Attr.{Attr}
 use Rattle.c_syntax.specs.declared.parts.ArrayWord.{ArrayWord}
@@ -16,11 +17,11 @@ use Rattle.tape_ops.specs.declared.specifier.TagKind.{TagKind}
 use Rattle.tape_ops.specs.declared.specifier.TagKind.TheVariants as tags
 use Rattle.type_table.specs.Types.{Words, CType, base, void}
 use Rattle.name_rules.specs.Spellings.{Place, Spelling, place, Named}
-use Rattle.name_rules.specs.Scopes.{Names, enter, enumerator_role, sized}
+use Rattle.name_rules.specs.Scopes.{Names, enter, enumerator_role}
 use Rattle.name_rules.specs.Pieces.{decayed, applied, no_params_if}
-use Rattle.name_rules.specs.Declaring.{type_named, tag_type, declared_by, declared_some, declared_here, declared_param, own_where, keep, Begun}
+use Rattle.name_rules.specs.Declaring.{type_named, tag_type, untagged_number, declared_some, declared_here, declared_param, own_where, keep, Begun}
 use Rattle.name_steps.specs.State.{State, no_specifiers}
-use Rattle.name_steps.specs.Steps.{body, linked_some}
+use Rattle.name_steps.specs.Steps.{untagged_by, body, linked_some}
 use Rattle.type_rules.specs.Naming as names
 use Rattle.type_rules.specs.Naming.{Typed, Pieced, typed, expr_named, some_size_named, with_typed, with_pieced, body_begun, words_behind, tag_named, words_named, word_named, struct_named, struct_items_named, struct_item_named, unnamed_where, unnamed_among, unnamed_by, mem_declrs_named, mem_declr_named, some_value_named, enum_named, enumerators_named, declr_named, some_declr_named, params_named, init_declrs_named, some_init_named, declaration_named, is_tag_alone}
 use Rattle.type_rules.specs.Tokens as trees
@@ -33,11 +34,11 @@ use Rattle.name_laws.proofs.Saying.{Says, quietly_says}
 use Rattle.name_laws.proofs.Agreeing.{same_void, same_kind, same_first, same_none}
 use Rattle.name_laws.proofs.Pieces.{listed_behind, lists_of, lists_push, pieces_make}
 
--- the storage words of specifiers, behind others
+-- the storage words of specifiers, and `inline`, behind others
 abbrev pub storage_word : SpecWord → List Keyword → List Keyword
 storage_word (storage word) words = words ++ word.keyword ∷ []
 storage_word (thread token) words = words
-storage_word (inline_word token) words = words
+storage_word (inline_word token) words = words ++ keywords.Inline ∷ []
 storage_word (noreturn token) words = words
 storage_word (qualifier q) words = words
 storage_word (basic word) words = words
@@ -50,10 +51,35 @@ abbrev pub storage_behind : SpecWords → List Keyword → List Keyword
 storage_behind no_words words = words
 storage_behind (more_words word ws) words = storage_behind ws (storage_word word words)
 
--- these lists of storage words say the same of declarations
-abbrev pub SaySame : List Keyword → List Keyword → Type 0
-SaySame words k = (at : Place) (name : ℕ) (t : CType) (s : Names)
-    → declared_by words at name t s ≡ declared_by k at name t s
+-- whether a struct without a tag that has a body is one of the words, behind others
+abbrev pub untagged_begins : TagKind → Option Identifier → Bool → Bool
+untagged_begins kind None b = untagged_by kind b
+untagged_begins kind (Some tag) b = b
+
+abbrev pub untagged_body : TagKind → Option Identifier → SomeBody → Bool → Bool
+untagged_body kind tag no_body b = b
+untagged_body kind tag (some_body opening items closing) b = untagged_begins kind tag b
+
+abbrev pub untagged_word : SpecWord → Bool → Bool
+untagged_word (storage word) b = b
+untagged_word (thread token) b = b
+untagged_word (inline_word token) b = b
+untagged_word (noreturn token) b = b
+untagged_word (qualifier q) b = b
+untagged_word (basic word) b = b
+untagged_word (struct_type word attrs tag body) b = untagged_body (names.tag_kind word.keyword) tag body b
+untagged_word (enum_type e) b = b
+untagged_word (typedef_name name) b = b
+untagged_word (attribute attr) b = b
+
+abbrev pub untagged_behind : SpecWords → Bool → Bool
+untagged_behind no_words b = b
+untagged_behind (more_words word ws) b = untagged_behind ws (untagged_word word b)
+
+-- what is left of it behind declarators: the first name uses it
+abbrev pub untagged_left : InitDeclrs → Bool → Bool
+untagged_left no_init_declrs b = b
+untagged_left (more_init_declrs attrs d asm_label attrs2 init ds) b = untagged_left ds false
 
 -- in a list of parameters, with these types so far
 abbrev pub listing : State → Option Place → List CType → Names → State
@@ -132,24 +158,24 @@ module _ (u : Spelling) where
   -- what each kind of part should do
 
   abbrev pub WordLaw : Bool → SpecWord → Type 0
-  WordLaw alone word = (st : State) (t : CType) (w : Words) (k : List Keyword) (s : Names)
-      → Goes u (word_tape alone word) (among_words st t w k s)
+  WordLaw alone word = (st : State) (t : CType) (w : Words) (k : List Keyword) (b : Bool) (s : Names)
+      → Goes u (word_tape alone word) (among_words st t w k b s)
       (among_words st (word_named u alone word t s).type (words_behind u word w) (storage_word word k)
-      (word_named u alone word t s).names)
+      (untagged_word word b) (word_named u alone word t s).names)
 
   abbrev pub SpecsLaw : Bool → SpecWords → Type 0
-  SpecsLaw alone ws = (st : State) (t : CType) (w : Words) (k : List Keyword) (s : Names)
-      → Goes u (specs_with (words_tape alone ws)) (among_words st t w k s)
-      (declaring st (words_named u alone ws t w s).type (storage_behind ws k) None
+  SpecsLaw alone ws = (st : State) (t : CType) (w : Words) (k : List Keyword) (b : Bool) (s : Names)
+      → Goes u (specs_with (words_tape alone ws)) (among_words st t w k b s)
+      (declaring st (words_named u alone ws t w s).type (storage_behind ws k) (untagged_behind ws b) None
       (words_named u alone ws t w s).type st.finished (words_named u alone ws t w s).names)
 
   abbrev pub StructLaw : Bool → SomeBody → Type 0
   StructLaw alone body =
       (kind : TagKind) (keyword : ℕ) (tag : Option Identifier) (st : State) (t : CType) (w : Words) (k : List Keyword)
-      (s : Names)
-      → Goes u (struct_tape alone kind keyword tag body) (among_words st t w k s)
+      (b : Bool) (s : Names)
+      → Goes u (struct_tape alone kind keyword tag body) (among_words st t w k b s)
       (among_words st (struct_named u alone kind keyword tag body t s).type w k
-      (struct_named u alone kind keyword tag body t s).names)
+      (untagged_body kind tag body b) (struct_named u alone kind keyword tag body t s).names)
 
   abbrev pub ItemsLaw : StructItems → Type 0
   ItemsLaw items = (st : State) (s : Names)
@@ -160,31 +186,31 @@ module _ (u : Spelling) where
       → Goes u (struct_item_tape item) (between st s) (between st (struct_item_named u (body st).members_of item s))
 
   abbrev pub MembersLaw : MemDeclrs → Type 0
-  MembersLaw ds = (st : State) (t : CType) (k : List Keyword) (finished : List (List CType)) (s : Names)
-      → Goes u (mem_declrs_tape ds) (declaring st t k None t finished s)
-      (declaring st t k None t finished (mem_declrs_named u (body st).members_of t ds s))
+  MembersLaw ds = (st : State) (t : CType) (k : List Keyword) (b : Bool) (finished : List (List CType)) (s : Names)
+      → Goes u (mem_declrs_tape ds) (declaring st t k b None t finished s)
+      (declaring st t k b None t finished (mem_declrs_named u (body st).members_of t ds s))
 
   abbrev pub MemberLaw : MemDeclr → Type 0
-  MemberLaw d = (st : State) (t : CType) (k : List Keyword) (finished : List (List CType)) (s : Names)
-      → Goes u (mem_declr_tape d) (declaring st t k None t finished s)
-      (declaring st t k None t finished (mem_declr_named u (body st).members_of t d s))
+  MemberLaw d = (st : State) (t : CType) (k : List Keyword) (b : Bool) (finished : List (List CType)) (s : Names)
+      → Goes u (mem_declr_tape d) (declaring st t k b None t finished s)
+      (declaring st t k b None t finished (mem_declr_named u (body st).members_of t d s))
 
   abbrev pub EnumLaw : EnumType → Type 0
-  EnumLaw e = (st : State) (t : CType) (w : Words) (k : List Keyword) (s : Names)
-      → Goes u (enum_tape e) (among_words st t w k s) (among_words st t w k (enum_named u e s))
+  EnumLaw e = (st : State) (t : CType) (w : Words) (k : List Keyword) (b : Bool) (s : Names)
+      → Goes u (enum_tape e) (among_words st t w k b s) (among_words st t w k b (enum_named u e s))
 
   -- the name, the parameters and the sizes of a declarator
   abbrev pub DeclrLaw : Bool → Declr → Type 0
-  DeclrLaw own d = (st : State) (t : CType) (k : List Keyword) (finished : List (List CType)) (s : Names)
-      → Goes u (contents own d) (declaring st t k None t finished s)
-      (declaring st t k (declared_name d) t
+  DeclrLaw own d = (st : State) (t : CType) (k : List Keyword) (b : Bool) (finished : List (List CType)) (s : Names)
+      → Goes u (contents own d) (declaring st t k b None t finished s)
+      (declaring st t k b (declared_name d) t
       (lists_of (declr_named u (own_where own (linked_some u (declared_name d) s)) d s).pieces finished)
       (declr_named u (own_where own (linked_some u (declared_name d) s)) d s).names)
 
   abbrev pub SomeDeclrLaw : SomeDeclr → Type 0
-  SomeDeclrLaw d = (st : State) (t : CType) (k : List Keyword) (finished : List (List CType)) (s : Names)
-      → Goes u (some_contents d) (declaring st t k None t finished s)
-      (declaring st t k (some_declared_name d) t (lists_of (some_declr_named u d s).pieces finished)
+  SomeDeclrLaw d = (st : State) (t : CType) (k : List Keyword) (b : Bool) (finished : List (List CType)) (s : Names)
+      → Goes u (some_contents d) (declaring st t k b None t finished s)
+      (declaring st t k b (some_declared_name d) t (lists_of (some_declr_named u d s).pieces finished)
       (some_declr_named u d s).names)
 
   abbrev pub ParamsLaw : Params → Type 0
@@ -194,73 +220,74 @@ module _ (u : Spelling) where
       (params_named u (length types) own ps s).names)
 
   abbrev pub DeclrsLaw : InitDeclrs → Type 0
-  DeclrsLaw ds = (st : State) (t : CType) (words k : List Keyword) (finished : List (List CType)) (s : Names)
-      → SaySame words k
-      → Goes u (init_declrs_tape ds) (declaring st t k None t finished s)
-      (declaring st t k None t finished (init_declrs_named u words t ds s))
+  DeclrsLaw ds = (st : State) (t : CType) (k : List Keyword) (b : Bool) (finished : List (List CType)) (s : Names)
+      → Goes u (init_declrs_tape ds) (declaring st t k b None t finished s)
+      (declaring st t k (untagged_left ds b) None t finished (init_declrs_named u k b t ds s))
 
   -- what says of names alone says it also among declarations
   pub inside : {ops : List Op} {f : Names → Names} → Says u ops f
-      → (st : State) (t : CType) (k : List Keyword) (name : Option Named) (m : CType) (finished : List (List CType))
-      (s : Names)
-      → Goes u ops (declaring st t k name m finished s) (declaring st t k name m finished (f s))
-  inside p st t k name m finished s = p.goes (declaring st t k name m finished s) s
+      → (st : State) (t : CType) (k : List Keyword) (b : Bool) (name : Option Named) (m : CType)
+      (finished : List (List CType)) (s : Names)
+      → Goes u ops (declaring st t k b name m finished s) (declaring st t k b name m finished (f s))
+  inside p st t k b name m finished s = p.goes (declaring st t k b name m finished s) s
 
   -- specifiers
 
   pub specs_none : (alone : Bool) → SpecsLaw alone no_words
-  specs_none alone st t w k s = one u (ops.Spec specs.SpecsEnd) _
+  specs_none alone st t w k b s = one u (ops.Spec specs.SpecsEnd) _
 
   pub specs_more : (alone : Bool) (word : SpecWord) (ws : SpecWords) → WordLaw alone word → SpecsLaw alone ws
       → SpecsLaw alone (more_words word ws)
-  specs_more alone word ws p q st t w k s =
-      in_turn (words_tape alone ws) (spec specs.SpecsEnd) (p st t w k s) (q st _ _ _ _)
+  specs_more alone word ws p q st t w k b s =
+      in_turn (words_tape alone ws) (spec specs.SpecsEnd) (p st t w k b s) (q st _ _ _ _ _)
 
   tag_goes : (alone : Bool) (kind : TagKind) (tag : Option Identifier) (st : State) (t : CType) (w : Words)
-      (k : List Keyword) (s : Names)
-      → Goes u (tag_tape alone kind tag) (among_words st t w k s)
-      (among_words st (tag_named u alone kind tag t s).type w k (tag_named u alone kind tag t s).names)
-  tag_goes alone kind None st t w k s = stays u _
-  tag_goes true kind (Some tag) st t w k s = one u (ops.Spec (specs.TagAlone kind tag.token tag.name)) _
-  tag_goes false kind (Some tag) st t w k s = one u (ops.Spec (specs.TagUse kind tag.token tag.name)) _
+      (k : List Keyword) (b : Bool) (s : Names)
+      → Goes u (tag_tape alone kind tag) (among_words st t w k b s)
+      (among_words st (tag_named u alone kind tag t s).type w k b (tag_named u alone kind tag t s).names)
+  tag_goes alone kind None st t w k b s = stays u _
+  tag_goes true kind (Some tag) st t w k b s = one u (ops.Spec (specs.TagAlone kind tag.token tag.name)) _
+  tag_goes false kind (Some tag) st t w k b s = one u (ops.Spec (specs.TagUse kind tag.token tag.name)) _
 
   -- in a body of a tag
-  abbrev bodied : State → TagKind → Begun → CType → Words → List Keyword → State
-  bodied st kind it t w k =
+  abbrev bodied : State → TagKind → Begun → CType → Words → List Keyword → Bool → State
+  bodied st kind it t w k b =
       record st {
         bodies = record {
-          outer = record { type = tag_type kind it.number t; words = w; storage = k };
+          outer = record { type = tag_type kind it.number t; words = w; storage = k; is_untagged = b };
           members_of = it.members_of;
         } ∷ st.bodies;
       }
 
   body_goes : (kind : TagKind) (keyword : ℕ) (tag : Option Identifier) (st : State) (t : CType) (w : Words)
-      (k : List Keyword) (s : Names)
-      → Goes u (body_tape kind keyword tag) (among_words st t w k s)
-      (between (bodied st kind (body_begun u kind keyword tag s) t w k) (body_begun u kind keyword tag s).names)
-  body_goes kind keyword None st t w k s = one u (ops.Spec (specs.Untagged kind keyword)) _
-  body_goes kind keyword (Some tag) st t w k s = one u (ops.Spec (specs.TagBody kind tag.token tag.name)) _
+      (k : List Keyword) (b : Bool) (s : Names)
+      → Goes u (body_tape kind keyword tag) (among_words st t w k b s)
+      (between (bodied st kind (body_begun u kind keyword tag s) t w k (untagged_begins kind tag b))
+      (body_begun u kind keyword tag s).names)
+  body_goes kind keyword None st t w k b s = one u (ops.Spec (specs.Untagged kind keyword)) _
+  body_goes kind keyword (Some tag) st t w k b s = one u (ops.Spec (specs.TagBody kind tag.token tag.name)) _
 
   pub struct_none : (alone : Bool) → StructLaw alone no_body
-  struct_none alone kind keyword tag st t w k s = tag_goes alone kind tag st t w k s
+  struct_none alone kind keyword tag st t w k b s = tag_goes alone kind tag st t w k b s
 
   pub struct_some : (alone : Bool) (opening : ℕ) (items : StructItems) (closing : ℕ) → ItemsLaw items
       → StructLaw alone (some_body opening items closing)
-  struct_some alone opening items closing p kind keyword tag st t w k s =
-      body_goes kind keyword tag st t w k s
-      ▸ p (bodied st kind (body_begun u kind keyword tag s) t w k) (body_begun u kind keyword tag s).names
+  struct_some alone opening items closing p kind keyword tag st t w k b s =
+      body_goes kind keyword tag st t w k b s
+      ▸ p (bodied st kind (body_begun u kind keyword tag s) t w k (untagged_begins kind tag b))
+      (body_begun u kind keyword tag s).names
       ▸ one u (ops.Spec specs.BodyEnd) _
 
   pub word_struct : (alone : Bool) (word : Word) (attrs : List Attr) (tag : Option Identifier) (body : SomeBody)
       → StructLaw alone body → WordLaw alone (struct_type word attrs tag body)
-  word_struct alone word attrs tag body p st t w k s =
-      rw (same_kind word.keyword) (p (names.tag_kind word.keyword) word.token tag st t w k s)
+  word_struct alone word attrs tag body p st t w k b s =
+      rw (same_kind word.keyword) (p (names.tag_kind word.keyword) word.token tag st t w k b s)
 
   pub word_basic : (alone : Bool) (word : Word) → WordLaw alone (basic word)
-  word_basic alone word st t w k s = rw (same_void word.keyword) (by_void (trees.is_void word.keyword))
+  word_basic alone word st t w k b s = rw (same_void word.keyword) (by_void (trees.is_void word.keyword))
     where
-      by_void : (b : Bool) → Goes u (if b then spec specs.Void else []) (among_words st t w k s)
-          (among_words st (if b then void [] else t) w k s)
+      by_void : (is : Bool) → Goes u (if is then spec specs.Void else []) (among_words st t w k b s)
+          (among_words st (if is then void [] else t) w k b s)
       by_void true = one u (ops.Spec specs.Void) _
       by_void false = stays u _
 
@@ -273,27 +300,31 @@ module _ (u : Spelling) where
 
   pub enum_none : (keyword : ℕ) (attrs : List Attr) (tag : Option Identifier)
       → EnumLaw (enum_of keyword attrs tag no_enum_body)
-  enum_none keyword attrs None st t w k s = stays u _
-  enum_none keyword attrs (Some tag) st t w k s = one u (ops.Spec (specs.TagUse tags.Enum tag.token tag.name)) _
+  enum_none keyword attrs None st t w k b s = stays u _
+  enum_none keyword attrs (Some tag) st t w k b s = one u (ops.Spec (specs.TagUse tags.Enum tag.token tag.name)) _
 
   pub enum_some : (keyword : ℕ) (attrs : List Attr) (tag : Option Identifier) (opening : ℕ) (es : Enumerators)
       (last : Option ℕ) (closing : ℕ) → Says u (enumerators_tape es) (enumerators_named u es)
       → EnumLaw (enum_of keyword attrs tag (some_enum_body opening es last closing))
-  enum_some keyword attrs tag opening es last closing p st t w k s =
-      body_goes tags.Enum keyword tag st t w k s
-      ▸ p.goes (bodied st tags.Enum (body_begun u tags.Enum keyword tag s) t w k)
-      (body_begun u tags.Enum keyword tag s).names ▸ one u (ops.Spec specs.BodyEnd) _
+  enum_some keyword attrs None opening es last closing p st t w k b s =
+      body_goes tags.Enum keyword None st t w k b s
+      ▸ p.goes (bodied st tags.Enum (body_begun u tags.Enum keyword None s) t w k b)
+      (body_begun u tags.Enum keyword None s).names ▸ one u (ops.Spec specs.BodyEnd) _
+  enum_some keyword attrs (Some tag) opening es last closing p st t w k b s =
+      body_goes tags.Enum keyword (Some tag) st t w k b s
+      ▸ p.goes (bodied st tags.Enum (body_begun u tags.Enum keyword (Some tag) s) t w k b)
+      (body_begun u tags.Enum keyword (Some tag) s).names ▸ one u (ops.Spec specs.BodyEnd) _
 
   -- declarators
 
   pub whole_declr : (d : SomeDeclr) → SomeDeclrLaw d
-      → (st : State) (t : CType) (k : List Keyword) (finished : List (List CType)) (s : Names)
-      → Goes u (some_declr_tape d) (declaring st t k None t finished s)
-      (declaring st t k (some_declared_name d) (applied (some_declr_named u d s).pieces t) finished
+      → (st : State) (t : CType) (k : List Keyword) (b : Bool) (finished : List (List CType)) (s : Names)
+      → Goes u (some_declr_tape d) (declaring st t k b None t finished s)
+      (declaring st t k b (some_declared_name d) (applied (some_declr_named u d s).pieces t) finished
       (some_declr_named u d s).names)
-  whole_declr no_declr p st t k finished s = stays u _
-  whole_declr (some_declr d) p st t k finished s =
-      p st t k finished s ▸ pieces_make u d None s st t k (declared_name d) t finished _
+  whole_declr no_declr p st t k b finished s = stays u _
+  whole_declr (some_declr d) p st t k b finished s =
+      p st t k b finished s ▸ pieces_make u d None s st t k b (declared_name d) t finished _
 
   pub type_name_says : (ws : SpecWords) (d : SomeDeclr) → SpecsLaw false ws → SomeDeclrLaw d
       → Says u (type_name_with (words_tape false ws) (some_declr_tape d) (tokens.first_word ws))
@@ -309,40 +340,40 @@ module _ (u : Spelling) where
           (λ ps s. type_named (place u (first_word ws)) (applied ps t) s))))
       named st s =
           rw (same_first ws)
-          (p st (base []) [] [] s ▸ whole_declr d q st _ _ _ _ ▸ one u (ops.Declr (declrs.TypeName (first_word ws))) _)
+          (p st (base []) [] [] false s ▸ whole_declr d q st _ _ _ _ _ ▸ one u (ops.Declr (declrs.TypeName (first_word ws))) _)
 
   pub list_goes : (ps : Params) → ParamsLaw ps
-      → (is_own : Bool) (st : State) (t : CType) (k : List Keyword) (name : Option Named) (m : CType)
+      → (is_own : Bool) (st : State) (t : CType) (k : List Keyword) (b : Bool) (name : Option Named) (m : CType)
       (finished : List (List CType)) (s : Names) (o : Option Place)
       → own_where is_own (linked_some u name s) ≡ o
-      → Goes u (params_with is_own (tests.says_none ps) (params_tape ps)) (declaring st t k name m finished s)
-      (declaring st t k name m
+      → Goes u (params_with is_own (tests.says_none ps) (params_tape ps)) (declaring st t k b name m finished s)
+      (declaring st t k b name m
       (listed_behind [] (no_params_if (trees.says_none ps) (params_named u 0 o ps (enter s)).types) ∷ finished)
       (keep o (params_named u 0 o ps (enter s)).names))
-  list_goes ps p is_own st t k name m finished s o is = rw (same_none ps) (by_none (trees.says_none ps) refl)
+  list_goes ps p is_own st t k b name m finished s o is = rw (same_none ps) (by_none (trees.says_none ps) refl)
     where
       opened : State
-      opened = declaring st t k name m finished s
+      opened = declaring st t k b name m finished s
 
-      begins : Goes u (declr (declrs.ParamsBegin is_own)) (declaring st t k name m finished s)
-          (listing (declaring st t k name m finished s) o [] (enter s))
-      begins = record { is = ap (λ (o : Option Place). listing (declaring st t k name m finished s) o [] (enter s)) is }
+      begins : Goes u (declr (declrs.ParamsBegin is_own)) (declaring st t k b name m finished s)
+          (listing (declaring st t k b name m finished s) o [] (enter s))
+      begins = record { is = ap (λ (o : Option Place). listing (declaring st t k b name m finished s) o [] (enter s)) is }
 
-      by_none : (b : Bool) → trees.says_none ps ≡ b
-          → Goes u (params_with is_own b (params_tape ps)) (declaring st t k name m finished s)
-          (declaring st t k name m
-          (listed_behind [] (no_params_if b (params_named u 0 o ps (enter s)).types) ∷ finished)
+      by_none : (none : Bool) → trees.says_none ps ≡ none
+          → Goes u (params_with is_own none (params_tape ps)) (declaring st t k b name m finished s)
+          (declaring st t k b name m
+          (listed_behind [] (no_params_if none (params_named u 0 o ps (enter s)).types) ∷ finished)
           (keep o (params_named u 0 o ps (enter s)).names))
-      by_none true none = rw (none_names ps o (enter s) none)
+      by_none true h = rw (none_names ps o (enter s) h)
           (begins ▸ stays u _ ▸ one u (ops.Declr declrs.ParamsEnd) _)
-      by_none false none = begins ▸ p (declaring st t k name m finished s) o [] (enter s)
+      by_none false h = begins ▸ p (declaring st t k b name m finished s) o [] (enter s)
           ▸ one u (ops.Declr declrs.ParamsEnd) _
 
   pub declr_params : (own : Bool) (d : Declr) (opening : ℕ) (ps : Params) (dots : Option Dots) (closing : ℕ)
       → DeclrLaw own d → ParamsLaw ps → DeclrLaw own (params d opening ps dots closing)
-  declr_params own d opening ps dots closing p q st t k finished s =
+  declr_params own d opening ps dots closing p q st t k b finished s =
       rw (lists_push (declr_named u o d s).pieces _ finished)
-      (p st t k finished s ▸ list_goes ps q (own && tests.is_name d) st t k (declared_name d) t _
+      (p st t k b finished s ▸ list_goes ps q (own && tests.is_name d) st t k b (declared_name d) t _
       (declr_named u o d s).names (own_where (is_bare d) o) (own_same d own o s))
     where
       o : Option Place
@@ -350,38 +381,38 @@ module _ (u : Spelling) where
 
   pub declr_abs_params : (own : Bool) (d : SomeDeclr) (opening : ℕ) (ps : Params) (dots : Option Dots) (closing : ℕ)
       → SomeDeclrLaw d → ParamsLaw ps → DeclrLaw own (abs_params d opening ps dots closing)
-  declr_abs_params own d opening ps dots closing p q st t k finished s =
+  declr_abs_params own d opening ps dots closing p q st t k b finished s =
       rw (lists_push (some_declr_named u d s).pieces _ finished)
-      (p st t k finished s ▸ list_goes ps q false st t k (some_declared_name d) t _
+      (p st t k b finished s ▸ list_goes ps q false st t k b (some_declared_name d) t _
       (some_declr_named u d s).names None refl)
 
   pub declr_pointer : (own : Bool) (star : ℕ) (words : List PointerWord) (d : Declr) → DeclrLaw own d
       → DeclrLaw own (pointer star words d)
-  declr_pointer own star words d p st t k finished s =
+  declr_pointer own star words d p st t k b finished s =
       rw (lists_push (declr_named u (own_where own (linked_some u (declared_name d) s)) d s).pieces _ finished)
-      (p st t k finished s)
+      (p st t k b finished s)
 
   pub declr_array : (own : Bool) (d : Declr) (opening : ℕ) (words : List ArrayWord) (size : SomeSize) (closing : ℕ)
       → DeclrLaw own d → Says u (some_size_tape size) (some_size_named u size)
       → DeclrLaw own (array d opening words size closing)
-  declr_array own d opening words size closing p q st t k finished s =
+  declr_array own d opening words size closing p q st t k b finished s =
       rw (lists_push (declr_named u (own_where own (linked_some u (declared_name d) s)) d s).pieces _ finished)
-      (p st t k finished s ▸ inside q st t k (declared_name d) t _ _)
+      (p st t k b finished s ▸ inside q st t k b (declared_name d) t _ _)
 
   pub declr_abs_pointer : (own : Bool) (star : ℕ) (words : List PointerWord) (d : SomeDeclr) → SomeDeclrLaw d
       → DeclrLaw own (abs_pointer star words d)
-  declr_abs_pointer own star words d p st t k finished s =
-      rw (lists_push (some_declr_named u d s).pieces _ finished) (p st t k finished s)
+  declr_abs_pointer own star words d p st t k b finished s =
+      rw (lists_push (some_declr_named u d s).pieces _ finished) (p st t k b finished s)
 
   pub declr_abs_array : (own : Bool) (d : SomeDeclr) (opening : ℕ) (words : List ArrayWord) (size : SomeSize)
       (closing : ℕ) → SomeDeclrLaw d → Says u (some_size_tape size) (some_size_named u size)
       → DeclrLaw own (abs_array d opening words size closing)
-  declr_abs_array own d opening words size closing p q st t k finished s =
+  declr_abs_array own d opening words size closing p q st t k b finished s =
       rw (lists_push (some_declr_named u d s).pieces _ finished)
-      (p st t k finished s ▸ inside q st t k (some_declared_name d) t _ _)
+      (p st t k b finished s ▸ inside q st t k b (some_declared_name d) t _ _)
 
   pub declr_of_name : (own : Bool) (token name : ℕ) → DeclrLaw own (declr_name token name)
-  declr_of_name own token name st t k finished s = one u (ops.Declr (declrs.DeclName token name)) _
+  declr_of_name own token name st t k b finished s = one u (ops.Declr (declrs.DeclName token name)) _
 
   -- parameters
 
@@ -410,7 +441,7 @@ module _ (u : Spelling) where
 
       first : Goes u (specs_with (words_tape false ws) ++ some_declr_tape d ++ declr declrs.Param)
           (listing st own types s) (listing st own (types ++ param ∷ []) declared)
-      first = p (listing st own types s) (base []) [] [] s ▸ whole_declr d q (listing st own types s) _ _ _ _
+      first = p (listing st own types s) (base []) [] [] false s ▸ whole_declr d q (listing st own types s) _ _ _ _ _
           ▸ one u (ops.Declr declrs.Param) _
 
       Rest : ℕ → Type 0
@@ -420,51 +451,52 @@ module _ (u : Spelling) where
 
   -- members
 
-  unnamed_word_goes : (word : SpecWord) (st : State) (t : CType) (k : List Keyword) (finished : List (List CType))
-      (s : Names)
-      → Goes u (unnamed_word_tape word) (declaring st t k None t finished s)
-      (declaring st t k None t finished (unnamed_by u word (body st).members_of t s))
-  unnamed_word_goes (struct_type word attrs None body) st t k finished s =
+  unnamed_word_goes : (word : SpecWord) (st : State) (t : CType) (k : List Keyword) (b : Bool)
+      (finished : List (List CType)) (s : Names)
+      → Goes u (unnamed_word_tape word) (declaring st t k b None t finished s)
+      (declaring st t k b None t finished (unnamed_by u word (body st).members_of t s))
+  unnamed_word_goes (struct_type word attrs None body) st t k b finished s =
       one u (ops.Spec (specs.UnnamedMember word.token)) _
-  unnamed_word_goes (struct_type word attrs (Some tag) body) st t k finished s = stays u _
-  unnamed_word_goes (storage word) st t k finished s = stays u _
-  unnamed_word_goes (thread token) st t k finished s = stays u _
-  unnamed_word_goes (inline_word token) st t k finished s = stays u _
-  unnamed_word_goes (noreturn token) st t k finished s = stays u _
-  unnamed_word_goes (qualifier q) st t k finished s = stays u _
-  unnamed_word_goes (basic word) st t k finished s = stays u _
-  unnamed_word_goes (enum_type e) st t k finished s = stays u _
-  unnamed_word_goes (typedef_name name) st t k finished s = stays u _
-  unnamed_word_goes (attribute attr) st t k finished s = stays u _
+  unnamed_word_goes (struct_type word attrs (Some tag) body) st t k b finished s = stays u _
+  unnamed_word_goes (storage word) st t k b finished s = stays u _
+  unnamed_word_goes (thread token) st t k b finished s = stays u _
+  unnamed_word_goes (inline_word token) st t k b finished s = stays u _
+  unnamed_word_goes (noreturn token) st t k b finished s = stays u _
+  unnamed_word_goes (qualifier q) st t k b finished s = stays u _
+  unnamed_word_goes (basic word) st t k b finished s = stays u _
+  unnamed_word_goes (enum_type e) st t k b finished s = stays u _
+  unnamed_word_goes (typedef_name name) st t k b finished s = stays u _
+  unnamed_word_goes (attribute attr) st t k b finished s = stays u _
 
-  unnamed_goes : (ws : SpecWords) (st : State) (t : CType) (k : List Keyword) (finished : List (List CType)) (s : Names)
-      → Goes u (unnamed_tape ws) (declaring st t k None t finished s)
-      (declaring st t k None t finished (unnamed_among u ws (body st).members_of t s))
-  unnamed_goes no_words st t k finished s = stays u _
-  unnamed_goes (more_words word ws) st t k finished s =
-      unnamed_word_goes word st t k finished s ▸ unnamed_goes ws st t k finished _
+  unnamed_goes : (ws : SpecWords) (st : State) (t : CType) (k : List Keyword) (b : Bool)
+      (finished : List (List CType)) (s : Names)
+      → Goes u (unnamed_tape ws) (declaring st t k b None t finished s)
+      (declaring st t k b None t finished (unnamed_among u ws (body st).members_of t s))
+  unnamed_goes no_words st t k b finished s = stays u _
+  unnamed_goes (more_words word ws) st t k b finished s =
+      unnamed_word_goes word st t k b finished s ▸ unnamed_goes ws st t k b finished _
 
   pub members_none : MembersLaw no_mem_declrs
-  members_none st t k finished s = stays u _
+  members_none st t k b finished s = stays u _
 
   pub members_more : (attrs : List Attr) (d : MemDeclr) (ds : MemDeclrs) → MemberLaw d → MembersLaw ds
       → MembersLaw (more_mem_declrs attrs d ds)
-  members_more attrs d ds p q st t k finished s = p st t k finished s ▸ q st t k finished _
+  members_more attrs d ds p q st t k b finished s = p st t k b finished s ▸ q st t k b finished _
 
   pub member_named : (d : Declr) (width : SomeValue) (attrs : List Attr) → DeclrLaw false d
       → Says u (some_value_tape width) (some_value_named u width) → MemberLaw (named d width attrs)
-  member_named d width attrs p q st t k finished s =
-      p st t k finished s ▸ pieces_make u d None s st t k (declared_name d) t finished _
-      ▸ one u (ops.Declr declrs.Member) _ ▸ inside q st t k None t finished _
+  member_named d width attrs p q st t k b finished s =
+      p st t k b finished s ▸ pieces_make u d None s st t k b (declared_name d) t finished _
+      ▸ one u (ops.Declr declrs.Member) _ ▸ inside q st t k b None t finished _
 
   pub member_unnamed : (colon : ℕ) (e : Expr) (attrs : List Attr) → Says u (expr_tape false e) (expr_named u false e)
       → MemberLaw (unnamed colon e attrs)
-  member_unnamed colon e attrs p st t k finished s = inside (quietly_says p) st t k None t finished s
+  member_unnamed colon e attrs p st t k b finished s = inside (quietly_says p) st t k b None t finished s
 
   pub item_member : (exts : List ℕ) (ws : SpecWords) (ds : MemDeclrs) (semi : ℕ) → SpecsLaw false ws → MembersLaw ds
       → ItemLaw (member exts ws ds semi)
   item_member exts ws ds semi p q st s =
-      p st (base []) [] [] s ▸ by_list ds q ▸ one u (ops.Declr declrs.DeclarationEnd) _
+      p st (base []) [] [] false s ▸ by_list ds q ▸ one u (ops.Declr declrs.DeclarationEnd) _
     where
       t : CType
       t = (words_named u false ws (base []) [] s).type
@@ -472,36 +504,34 @@ module _ (u : Spelling) where
       k : List Keyword
       k = storage_behind ws []
 
+      b : Bool
+      b = untagged_behind ws false
+
       by_list : (ds : MemDeclrs) → MembersLaw ds
           → Goes u (members_tape ws ds)
-          (declaring st t k None t st.finished (words_named u false ws (base []) [] s).names)
-          (declaring st t k None t st.finished
+          (declaring st t k b None t st.finished (words_named u false ws (base []) [] s).names)
+          (declaring st t k b None t st.finished
           (mem_declrs_named u (body st).members_of t ds
           (unnamed_where u ds ws (body st).members_of t (words_named u false ws (base []) [] s).names)))
-      by_list no_mem_declrs q = unnamed_goes ws st t k st.finished _
-      by_list (more_mem_declrs attrs d ds) q = q st t k st.finished _
+      by_list no_mem_declrs q = unnamed_goes ws st t k b st.finished _
+      by_list (more_mem_declrs attrs d ds) q = q st t k b st.finished _
 
   -- declarations
 
-  declare_goes : (name : Option Named) (st : State) (t : CType) (words k : List Keyword) (m : CType)
-      (finished : List (List CType)) (s : Names) → SaySame words k
-      → Goes u (declr declrs.Declare) (declaring st t k name m finished s)
-      (declaring st t k None t finished (declared_some u name words m s))
-  declare_goes None st t words k m finished s same = one u (ops.Declr declrs.Declare) _
-  declare_goes (Some it) st t words k m finished s same =
-      record {
-        is = ap (λ (s : Names). declaring st t k None t finished s)
-            (sym (same (place u it.token) (u.key it.name) m (sized (place u it.token) m s)));
-      }
+  declare_goes : (name : Option Named) (st : State) (t : CType) (k : List Keyword) (b : Bool) (m : CType)
+      (finished : List (List CType)) (s : Names)
+      → Goes u (declr declrs.Declare) (declaring st t k b name m finished s)
+      (declaring st t k false None t finished (declared_some u (untagged_number b t) name k m s))
+  declare_goes name st t k b m finished s = one u (ops.Declr declrs.Declare) _
 
   pub declrs_none : DeclrsLaw no_init_declrs
-  declrs_none st t words k finished s same = stays u _
+  declrs_none st t k b finished s = stays u _
 
   pub declrs_more : (attrs : List Attr) (d : Declr) (asm_label : Option AsmLabel) (attrs2 : List Attr) (init : SomeInit)
       (ds : InitDeclrs)
       → DeclrLaw false d → Says u (some_init_tape init) (some_init_named u init) → DeclrsLaw ds
       → DeclrsLaw (more_init_declrs attrs d asm_label attrs2 init ds)
-  declrs_more attrs d asm_label attrs2 init ds p q r st t words k finished s same =
-      p st t k finished s ▸ pieces_make u d None s st t k (declared_name d) t finished _
-      ▸ declare_goes (declared_name d) st t words k _ finished _ same
-      ▸ inside q st t k None t finished _ ▸ r st t words k finished _ same
+  declrs_more attrs d asm_label attrs2 init ds p q r st t k b finished s =
+      p st t k b finished s ▸ pieces_make u d None s st t k b (declared_name d) t finished _
+      ▸ declare_goes (declared_name d) st t k b _ finished _
+      ▸ inside q st t k false None t finished _ ▸ r st t k false finished _

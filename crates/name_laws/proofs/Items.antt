@@ -1,6 +1,6 @@
 -- The tape of each item of a well-formed unit, and of the whole of it, says of names what the item says.
 use Rattle.std.proofs.Common.{◌≡◌, ℕ, Bool, true, false, ◌||◌, if◌then◌else◌, List, [], ◌∷◌, ◌++◌, ◌⊎◌, inl, inr, Option, None, Some, refl, sym, ◌∙◌, ap, subst}
-use Rattle.std.specs.Prelude.{Contains, All}
+use Rattle.std.specs.Prelude.{not, Contains, All}
 use Rattle.std.specs.List.{last_or}
 use Rattle.std.proofs.lemmas.List.Elements.{Contains-push, Contains-append_left, Contains-append_right, All-head, All-tail}
 use Rattle.c_words.specs.declared.kinds.Keyword.{Keyword}
@@ -15,9 +15,9 @@ use Rattle.tape_ops.specs.declared.statement.StmtOp.TheVariants as stmts
 use Rattle.tape_ops.specs.declared.declarator.DeclrOp.TheVariants as declrs
 use Rattle.type_table.specs.Types.{Words, CType, base, CTypes}
 use Rattle.name_rules.specs.Spellings.{Place, Spelling, place, Named}
-use Rattle.name_rules.specs.Scopes.{Declared, Names, is_at_file, sized}
+use Rattle.name_rules.specs.Scopes.{Declared, Names, is_place, is_at_file, sized}
 use Rattle.name_rules.specs.Pieces.{Piece, to_function, piece_of, applied, is_function}
-use Rattle.name_rules.specs.Declaring.{has_word, declared_by, declared_thing, linked, body_entered}
+use Rattle.name_rules.specs.Declaring.{has_word, static_where, thing_where, declared_by, typedef_known, untagged_number, declared_thing, linked, body_entered}
 use Rattle.name_steps.specs.State.{State}
 use Rattle.name_steps.specs.Steps.{body_entered_by}
 use Rattle.type_rules.specs.Naming.{Typed, Pieced, words_named, declr_named, function_by, item_named, items_named}
@@ -26,8 +26,8 @@ use Rattle.c_tape.specs.Tape.{declr, stmt, contents, item_tape, tape_of}
 use Rattle.name_laws.proofs.Running.{between, declaring, Goes, ◌▸◌, one}
 use Rattle.name_laws.proofs.Saying.{Says, ◌>>◌, nothing}
 use Rattle.name_laws.proofs.Pieces.{applied_push, lists_of, pieces_make}
-use Rattle.name_laws.proofs.Storage.{same_typedef}
-use Rattle.name_laws.proofs.Forms.{storage_behind, inside}
+use Rattle.name_laws.proofs.Storage.{same_said, same_typedef}
+use Rattle.name_laws.proofs.Forms.{storage_behind, untagged_behind, inside}
 use Rattle.name_laws.proofs.Whole.{specs_law, declr_law, decl_law, block_items_law}
 
 pub no_typedef : (words : List Keyword) → ¬ Contains words keywords.Typedef → has_word keywords.Typedef words ≡ false
@@ -87,19 +87,32 @@ module _ (u : Spelling) where
 
   thing_declared : (words : List Keyword) (at : Place) (name : ℕ) (t : CType) (s : Names)
       → has_word keywords.Typedef words ≡ false → is_function t ≡ true
-      → declared_by words at name t s ≡ declared_thing at name t s
+      → declared_by words at name t s ≡ declared_thing words at name t s
   thing_declared words at name t s untyped is = rw (untyped, is) (by_file _ _ (is_at_file s))
     where
       by_file : {A : Type 0} (x y : A) (b : Bool) → (if b || true then x else y) ≡ x
       by_file x y true = refl
       by_file x y false = refl
 
+  -- what is declared without `typedef` makes no struct known
+  nothing_known : (words : List Keyword) (name : ℕ) (untagged : Option ℕ) (s : Names)
+      → has_word keywords.Typedef words ≡ false → typedef_known words name untagged s ≡ s
+  nothing_known words name None s untyped = refl
+  nothing_known words name (Some n) s untyped = rw untyped refl
+
   -- the body of the function that was declared last
-  body_begins : (at : Place) (name : ℕ) (t : CType) (s : Names)
-      → body_entered_by (last_or None (declared_thing at name t s).declared) (declared_thing at name t s)
-      ≡ body_entered at (linked name at s) (declared_thing at name t s)
-  body_begins at name t s =
-      ap (λ (d : Option Declared). body_entered_by d (declared_thing at name t s)) (last_push None s.declared _)
+  body_begins : (words : List Keyword) (is_plain : Bool) (at : Place) (name : ℕ) (t : CType) (s : Names)
+      → body_entered_by is_plain (last_or None (declared_thing words at name t s).declared)
+      (declared_thing words at name t s)
+      ≡ body_entered at (linked name at s) is_plain (declared_thing words at name t s)
+  body_begins words is_plain at name t s =
+      ap (λ (d : Option Declared). body_entered_by is_plain d (declared_thing words at name t s))
+      (last_push None before.declared _)
+    where
+      before : Names
+      before =
+          static_where (has_word keywords.Static words) at.0 name
+          (thing_where (is_place (linked name at s) at) name at s)
 
   function_goes : (exts : List ℕ) (ws : SpecWords) (d : Declr) (attrs : List Attr) (opening : ℕ) (items : BlockItems)
       (closing : ℕ) (it : Named) → declared_name d ≡ Some it
@@ -107,14 +120,18 @@ module _ (u : Spelling) where
       → Goes u (item_tape (function_item exts ws d attrs opening items closing)) (between st s)
       (between st (function_by u (Some it) ws d items s))
   function_goes exts ws d attrs opening items closing it is untyped round st s =
-      specs_law u false ws st (base []) [] [] s ▸ parts
-      ▸ pieces_make u d own specified.names st specified.type words (Some it) specified.type st.finished found.names
+      rw (same_said ws)
+      (specs_law u false ws st (base []) [] [] false s ▸ parts
+      ▸ pieces_make u d own specified.names st specified.type words b (Some it) specified.type st.finished found.names
       ▸ declares ▸ begins ▸ inside u
-      (block_items_law u false items) st specified.type words None specified.type st.finished _
-      ▸ one u (ops.Stmt stmts.FunctionEnd) _ ▸ one u (ops.Declr declrs.DeclarationEnd) _
+      (block_items_law u false items) st specified.type words false None specified.type st.finished _
+      ▸ one u (ops.Stmt stmts.FunctionEnd) _ ▸ one u (ops.Declr declrs.DeclarationEnd) _)
     where
       words : List Keyword
       words = storage_behind ws []
+
+      b : Bool
+      b = untagged_behind ws false
 
       at : Place
       at = place u it.token
@@ -135,29 +152,33 @@ module _ (u : Spelling) where
       made = applied found.pieces specified.type
 
       declared : Names
-      declared = declared_thing at name made (sized at made found.names)
+      declared = declared_thing words at name made (sized at made found.names)
+
+      plainly : has_word keywords.Typedef words ≡ false
+      plainly = same_typedef ws ∙ untyped
 
       parts : Goes u (contents true d)
-          (declaring st specified.type words None specified.type st.finished specified.names)
-          (declaring st specified.type words (Some it) specified.type (lists_of found.pieces st.finished) found.names)
-      parts = rw is at (declr_law u true d st specified.type words st.finished specified.names)
+          (declaring st specified.type words b None specified.type st.finished specified.names)
+          (declaring st specified.type words b (Some it) specified.type (lists_of found.pieces st.finished) found.names)
+      parts = rw is at (declr_law u true d st specified.type words b st.finished specified.names)
 
       declares : Goes u (declr declrs.Declare)
-          (declaring st specified.type words (Some it) made st.finished found.names)
-          (declaring st specified.type words None specified.type st.finished declared)
+          (declaring st specified.type words b (Some it) made st.finished found.names)
+          (declaring st specified.type words false None specified.type st.finished declared)
       declares = record {
-        is = ap (λ (s : Names). declaring st specified.type words None specified.type st.finished s)
-            (thing_declared words at name made (sized at made found.names) (same_typedef ws ∙ untyped)
+        is = ap (λ (s : Names). declaring st specified.type words false None specified.type st.finished s)
+            (nothing_known words name (untagged_number b specified.type) _ plainly
+            ∙ thing_declared words at name made (sized at made found.names) plainly
             (not_none (function_made d false own specified.names round) specified.type));
       }
 
       begins : Goes u (stmt stmts.FunctionBody)
-          (declaring st specified.type words None specified.type st.finished declared)
-          (declaring st specified.type words None specified.type st.finished
-          (body_entered at (linked name at found.names) declared))
+          (declaring st specified.type words false None specified.type st.finished declared)
+          (declaring st specified.type words false None specified.type st.finished
+          (body_entered at (linked name at found.names) (not (has_word keywords.Inline words)) declared))
       begins = record {
-        is = ap (λ (s : Names). declaring st specified.type words None specified.type st.finished s)
-            (body_begins at name made (sized at made found.names));
+        is = ap (λ (s : Names). declaring st specified.type words false None specified.type st.finished s)
+            (body_begins words (not (has_word keywords.Inline words)) at name made (sized at made found.names));
       }
 
   item_law : (all : List Lexeme) (item : Item) → IsItem all item → Says u (item_tape item) (item_named u item)

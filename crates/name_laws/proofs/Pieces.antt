@@ -66,93 +66,95 @@ lists_push (to_pointer ws ∷ ps) p finished = lists_push ps p finished
 lists_push (to_function ts e ∷ ps) p finished = lists_push ps p (listed_behind [] ts ∷ finished)
 
 module _ (u : Spelling) where
-  pub qual_goes : (q : Qual) (st : State) (t : CType) (w : Words) (storage : List Keyword) (s : Names)
-      → Goes u (qual_tape q) (among_words st t w storage s) (among_words st t (w ++ annotation u q) storage s)
-  qual_goes q st t w storage s =
-      record { is = ap (λ (token : ℕ). among_words st t (w ++ annotation_at u token) storage s) (same_qual q) }
+  pub qual_goes : (q : Qual) (st : State) (t : CType) (w : Words) (storage : List Keyword) (b : Bool) (s : Names)
+      → Goes u (qual_tape q) (among_words st t w storage b s) (among_words st t (w ++ annotation u q) storage b s)
+  qual_goes q st t w storage b s =
+      record { is = ap (λ (token : ℕ). among_words st t (w ++ annotation_at u token) storage b s) (same_qual q) }
 
   -- words behind others
-  behind : (st : State) (t : CType) (storage : List Keyword) (s : Names) {ops : List Op} {before : State}
+  behind : (st : State) (t : CType) (storage : List Keyword) (b : Bool) (s : Names) {ops : List Op} {before : State}
       (w v x : Words)
-      → Goes u ops before (among_words st t (w ++ v ++ x) storage s)
-      → Goes u ops before (among_words st t (w ++ (v ++ x)) storage s)
-  behind st t storage s {ops = ops} {before = before} w v x p =
-      subst (λ (y : Words). Goes u ops before (among_words st t y storage s)) (append_assoc w v x) p
+      → Goes u ops before (among_words st t (w ++ v ++ x) storage b s)
+      → Goes u ops before (among_words st t (w ++ (v ++ x)) storage b s)
+  behind st t storage b s {ops = ops} {before = before} w v x p =
+      subst (λ (y : Words). Goes u ops before (among_words st t y storage b s)) (append_assoc w v x) p
 
-  no_more : (st : State) (t : CType) (storage : List Keyword) (s : Names) (w : Words)
-      → Goes u [] (among_words st t w storage s) (among_words st t (w ++ []) storage s)
-  no_more st t storage s w = record { is = ap (λ (y : Words). among_words st t y storage s) (sym (append-nil w)) }
+  no_more : (st : State) (t : CType) (storage : List Keyword) (b : Bool) (s : Names) (w : Words)
+      → Goes u [] (among_words st t w storage b s) (among_words st t (w ++ []) storage b s)
+  no_more st t storage b s w = record { is = ap (λ (y : Words). among_words st t y storage b s) (sym (append-nil w)) }
 
-  pub quals_goes : (qs : List Qual) (st : State) (t : CType) (w : Words) (storage : List Keyword) (s : Names)
-      → Goes u (quals_tape qs) (among_words st t w storage s) (among_words st t (w ++ annotations u qs) storage s)
-  quals_goes [] st t w storage s = no_more st t storage s w
-  quals_goes (q ∷ qs) st t w storage s =
-      behind st t storage s w _ _ (qual_goes q st t w storage s ▸ quals_goes qs st t (w ++ annotation u q) storage s)
+  pub quals_goes : (qs : List Qual) (st : State) (t : CType) (w : Words) (storage : List Keyword) (b : Bool) (s : Names)
+      → Goes u (quals_tape qs) (among_words st t w storage b s) (among_words st t (w ++ annotations u qs) storage b s)
+  quals_goes [] st t w storage b s = no_more st t storage b s w
+  quals_goes (q ∷ qs) st t w storage b s =
+      behind st t storage b s w _ _
+      (qual_goes q st t w storage b s ▸ quals_goes qs st t (w ++ annotation u q) storage b s)
 
   pub pointer_words_goes : (words : List PointerWord) (st : State) (t : CType) (w : Words) (storage : List Keyword)
-      (s : Names) → Goes u (pointer_words_tape words) (among_words st t w storage s)
-      (among_words st t (w ++ pointer_annotations u words) storage s)
-  pointer_words_goes [] st t w storage s = no_more st t storage s w
-  pointer_words_goes (pointer_words.Qual q ∷ words) st t w storage s =
-      behind st t storage s w _ _
-      (qual_goes q st t w storage s ▸ pointer_words_goes words st t (w ++ annotation u q) storage s)
-  pointer_words_goes (pointer_words.Attr attr ∷ words) st t w storage s = pointer_words_goes words st t w storage s
+      (b : Bool) (s : Names) → Goes u (pointer_words_tape words) (among_words st t w storage b s)
+      (among_words st t (w ++ pointer_annotations u words) storage b s)
+  pointer_words_goes [] st t w storage b s = no_more st t storage b s w
+  pointer_words_goes (pointer_words.Qual q ∷ words) st t w storage b s =
+      behind st t storage b s w _ _
+      (qual_goes q st t w storage b s ▸ pointer_words_goes words st t (w ++ annotation u q) storage b s)
+  pointer_words_goes (pointer_words.Attr attr ∷ words) st t w storage b s =
+      pointer_words_goes words st t w storage b s
 
   pub array_words_goes : (words : List ArrayWord) (st : State) (t : CType) (w : Words) (storage : List Keyword)
-      (s : Names) → Goes u (array_words_tape words) (among_words st t w storage s)
-      (among_words st t (w ++ array_annotations u words) storage s)
-  array_words_goes [] st t w storage s = no_more st t storage s w
-  array_words_goes (array_words.Qual q ∷ words) st t w storage s =
-      behind st t storage s w _ _
-      (qual_goes q st t w storage s ▸ array_words_goes words st t (w ++ annotation u q) storage s)
-  array_words_goes (array_words.Static token ∷ words) st t w storage s = array_words_goes words st t w storage s
+      (b : Bool) (s : Names) → Goes u (array_words_tape words) (among_words st t w storage b s)
+      (among_words st t (w ++ array_annotations u words) storage b s)
+  array_words_goes [] st t w storage b s = no_more st t storage b s w
+  array_words_goes (array_words.Qual q ∷ words) st t w storage b s =
+      behind st t storage b s w _ _
+      (qual_goes q st t w storage b s ▸ array_words_goes words st t (w ++ annotation u q) storage b s)
+  array_words_goes (array_words.Static token ∷ words) st t w storage b s = array_words_goes words st t w storage b s
 
   -- declarators
 
   abbrev Makes : List Op → List Piece → Type 0
-  Makes tape made = (st : State) (t : CType) (storage : List Keyword) (name : Option Named) (m : CType)
+  Makes tape made = (st : State) (t : CType) (storage : List Keyword) (b : Bool) (name : Option Named) (m : CType)
       (finished : List (List CType)) (s : Names)
-      → Goes u tape (declaring st t storage name m (lists_of made finished) s)
-      (declaring st t storage name (applied made m) finished s)
+      → Goes u tape (declaring st t storage b name m (lists_of made finished) s)
+      (declaring st t storage b name (applied made m) finished s)
 
   makes_none : Makes [] []
-  makes_none st t storage name m finished s = stays u _
+  makes_none st t storage b name m finished s = stays u _
 
   one_more : {first others : List Op} (made : List Piece) (p : Piece) → Makes first (p ∷ []) → Makes others made
       → Makes (first ++ others) (made ++ p ∷ [])
-  one_more made p f g st t storage name m finished s =
+  one_more made p f g st t storage b name m finished s =
       rw (lists_push made p finished, applied_push made p m)
-      (f st t storage name m (lists_of made finished) s ▸ g st t storage name (piece_of p m) finished s)
+      (f st t storage b name m (lists_of made finished) s ▸ g st t storage b name (piece_of p m) finished s)
 
   pointer_makes : (words : List PointerWord)
       → Makes (pointer_words_tape words ++ declr declrs.Pointer) (to_pointer (pointer_annotations u words) ∷ [])
-  pointer_makes words st t storage name m finished s =
-      pointer_words_goes words (declaring st t storage name m finished s) (base []) [] [] s
+  pointer_makes words st t storage b name m finished s =
+      pointer_words_goes words (declaring st t storage b name m finished s) (base []) [] [] false s
       ▸ one u (ops.Declr declrs.Pointer) _
 
   array_makes : (words : List ArrayWord)
       → Makes (array_words_tape words ++ declr declrs.Array) (to_pointer (array_annotations u words) ∷ [])
-  array_makes words st t storage name m finished s =
-      array_words_goes words (declaring st t storage name m finished s) (base []) [] [] s
+  array_makes words st t storage b name m finished s =
+      array_words_goes words (declaring st t storage b name m finished s) (base []) [] [] false s
       ▸ one u (ops.Declr declrs.Array) _
 
   function_makes : (ps : Params) (dots : Option Dots) (ts : CTypes)
       → Makes (dots_tape dots ++ declr (declrs.Function (has_ellipsis ps dots)))
       (to_function ts (ellipsis u ps dots) ∷ [])
-  function_makes ps dots ts st t storage name m finished s = by_form ps dots
+  function_makes ps dots ts st t storage b name m finished s = by_form ps dots
     where
       with_types : (has : Bool) (e : Option Words) (w : Words) → ellipsis_where has w ≡ e
           → Goes u (declr (declrs.Function has))
-          (among_words (declaring st t storage name m (listed_behind [] ts ∷ finished) s) (base []) w [] s)
-          (declaring st t storage name (function [] ts (decayed m) e) finished s)
+          (among_words (declaring st t storage b name m (listed_behind [] ts ∷ finished) s) (base []) w [] false s)
+          (declaring st t storage b name (function [] ts (decayed m) e) finished s)
       with_types has e w is = record { is = rw (types_back ts, is) }
 
       by_form : (ps : Params) (dots : Option Dots)
           → Goes u (dots_tape dots ++ declr (declrs.Function (has_ellipsis ps dots)))
-          (declaring st t storage name m (listed_behind [] ts ∷ finished) s)
-          (declaring st t storage name (function [] ts (decayed m) (ellipsis u ps dots)) finished s)
+          (declaring st t storage b name m (listed_behind [] ts ∷ finished) s)
+          (declaring st t storage b name (function [] ts (decayed m) (ellipsis u ps dots)) finished s)
       by_form ps (Some dots) =
-          quals_goes dots.quals (declaring st t storage name m (listed_behind [] ts ∷ finished) s) (base []) [] [] s
+          quals_goes dots.quals (declaring st t storage b name m (listed_behind [] ts ∷ finished) s) (base []) [] [] false s
           ▸ with_types true _ _ refl
       by_form no_params None = with_types true _ [] refl
       by_form (more_params ws d attrs ps) None = with_types false _ [] refl

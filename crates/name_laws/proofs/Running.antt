@@ -1,5 +1,5 @@
 -- Runs of steps over parts of a tape, one after the other.
-use Rattle.std.proofs.Common.{◌≡◌, List, [], ◌∷◌, ◌++◌, Option, refl, sym, ◌∙◌, ap}
+use Rattle.std.proofs.Common.{◌≡◌, Bool, List, [], ◌∷◌, ◌++◌, Option, refl, sym, ◌∙◌, ap}
 use Rattle.c_words.specs.declared.kinds.Keyword.{Keyword}
 use Rattle.tape_ops.specs.declared.op.Op.{Op}
 use Rattle.type_table.specs.Types.{Words, CType}
@@ -12,19 +12,29 @@ use Rattle.name_steps.specs.Steps.{run, step}
 abbrev pub between : State → Names → State
 between st s = record st { names = s; specifiers = no_specifiers }
 
--- among specifiers: their type, annotation words and storage words so far
-abbrev pub among_words : State → CType → Words → List Keyword → Names → State
-among_words st t ws storage s = record st { names = s; specifiers = record { type = t; words = ws; storage = storage } }
+-- among specifiers: their type, annotation words and storage words so far, and whether a struct without a tag is one
+abbrev pub among_words : State → CType → Words → List Keyword → Bool → Names → State
+among_words st t ws storage untagged s =
+    record st {
+      names = s;
+      specifiers = record { type = t; words = ws; storage = storage; is_untagged = untagged };
+    }
 
 -- in a declaration with these specifiers: the name and the type of its declarator so far, and the lists of parameters
 -- that ended in it
-abbrev pub declaring : State → CType → List Keyword → Option Named → CType → List (List CType) → Names → State
-declaring st t storage name declared finished s =
+abbrev pub declaring : State → CType → List Keyword → Bool → Option Named → CType → List (List CType) → Names → State
+declaring st t storage untagged name declared finished s =
     record st {
       names = s;
       specifiers = no_specifiers;
       finished = finished;
-      declarations = record { type = t; storage = storage; name = name; declared = declared } ∷ st.declarations;
+      declarations = record {
+        type = t;
+        storage = storage;
+        is_untagged = untagged;
+        name = name;
+        declared = declared;
+      } ∷ st.declarations;
     }
 
 pub run_parts : (u : Spelling) (ops others : List Op) (st : State)

@@ -22,8 +22,8 @@ all_sources : (sources : List Source) (s : Names) → All IsSound sources
     → tapes_named (map tape_of_source sources) s ≡ sources_named sources s
 all_sources [] s h = refl
 all_sources (it ∷ sources) s h =
-    ap (tapes_named (map tape_of_source sources)) (one_source it (unit_begun s) (All-head IsSound it sources h))
-    ∙ all_sources sources (items_named it.spelling it.items (unit_begun s)) (All-tail IsSound it sources h)
+    ap (tapes_named (map tape_of_source sources)) (one_source it (unit_begun it.spelling.unit s) (All-head IsSound it sources h))
+    ∙ all_sources sources (items_named it.spelling it.items (unit_begun it.spelling.unit s)) (All-tail IsSound it sources h)
 
 pub names_found : NamesOfTapes
 names_found sources h = all_sources sources no_names h

@@ -1,49 +1,96 @@
--- The storage words of specifiers, as a tape and as a tree have them, say the same of declarations.
-use Rattle.std.proofs.Common.{◌≡◌, Bool, true, false, ◌||◌, List, [], ◌∷◌, ◌++◌, refl, sym, ◌∙◌, ap}
+-- What specifiers have as a tape says it is what the tree says: their storage words with `inline`, and whether a struct
+-- without a tag is one of their words.
+use Rattle.std.proofs.Common.{◌≡◌, Bool, true, false, ◌||◌, List, [], ◌∷◌, ◌++◌, None, Some, refl, sym, ◌∙◌, ap, append_assoc}
+use Rattle.std.proofs.lemmas.List.{append-nil}
 use Rattle.c_words.specs.declared.kinds.Keyword.{Keyword}
 use Rattle.c_words.specs.declared.kinds.Keyword.TheVariants as keywords
-use Rattle.c_tree.specs.Tree.{SpecWords, no_words, more_words, storage, thread, inline_word, noreturn, qualifier, basic, struct_type, enum_type, typedef_name, attribute}
+use Rattle.tape_ops.specs.declared.specifier.TagKind.{TagKind}
+use Rattle.tape_ops.specs.declared.specifier.TagKind.TheVariants as tags
+use Rattle.c_tree.specs.Tree.{SpecWords, no_words, more_words, SpecWord, storage, thread, inline_word, noreturn, qualifier, basic, struct_type, enum_type, typedef_name, attribute, no_body, some_body}
 use Rattle.c_tree.specs.Specifiers.{storage_words}
 use Rattle.name_rules.specs.Declaring.{is_word, has_word}
-use Rattle.name_laws.proofs.Forms.{storage_behind, SaySame}
+use Rattle.name_steps.specs.Steps.{untagged_by}
+use Rattle.type_rules.specs.Naming.{tag_kind, said_words, has_untagged}
+use Rattle.name_laws.proofs.Forms.{storage_behind, untagged_word, untagged_behind}
 
-or_none : (a : Bool) → a || false ≡ a
-or_none true = refl
-or_none false = refl
+said_behind : (ws : SpecWords) (words : List Keyword) → storage_behind ws words ≡ words ++ said_words ws
+said_behind no_words words = sym (append-nil words)
+said_behind (more_words (storage w) ws) words =
+    said_behind ws (words ++ w.keyword ∷ []) ∙ append_assoc words (w.keyword ∷ []) (said_words ws)
+said_behind (more_words (thread token) ws) words = said_behind ws words
+said_behind (more_words (inline_word token) ws) words =
+    said_behind ws (words ++ keywords.Inline ∷ []) ∙ append_assoc words (keywords.Inline ∷ []) (said_words ws)
+said_behind (more_words (noreturn token) ws) words = said_behind ws words
+said_behind (more_words (qualifier q) ws) words = said_behind ws words
+said_behind (more_words (basic w) ws) words = said_behind ws words
+said_behind (more_words (struct_type w attrs tag body) ws) words = said_behind ws words
+said_behind (more_words (enum_type e) ws) words = said_behind ws words
+said_behind (more_words (typedef_name name) ws) words = said_behind ws words
+said_behind (more_words (attribute attr) ws) words = said_behind ws words
 
-or_assoc : (a b c : Bool) → (a || b) || c ≡ a || (b || c)
-or_assoc true b c = refl
-or_assoc false b c = refl
+pub same_said : (ws : SpecWords) → said_words ws ≡ storage_behind ws []
+same_said ws = sym (said_behind ws [])
 
-has_push : (word : Keyword) (words : List Keyword) (w : Keyword)
-    → has_word word (words ++ w ∷ []) ≡ (has_word word words || is_word word w)
-has_push word [] w = or_none (is_word word w)
-has_push word (v ∷ words) w =
-    ap (λ (b : Bool). is_word word v || b) (has_push word words w)
-    ∙ sym (or_assoc (is_word word v) (has_word word words) (is_word word w))
-
-module _ (word : Keyword) (apart : is_word word keywords.Thread ≡ false) where
-  has_behind : (ws : SpecWords) (words : List Keyword)
-      → has_word word (storage_behind ws words) ≡ (has_word word words || has_word word (storage_words ws))
-  has_behind no_words words = sym (or_none (has_word word words))
-  has_behind (more_words (storage w) ws) words =
-      has_behind ws (words ++ w.keyword ∷ [])
-      ∙ ap (λ (b : Bool). b || has_word word (storage_words ws)) (has_push word words w.keyword)
-      ∙ or_assoc (has_word word words) (is_word word w.keyword) (has_word word (storage_words ws))
-  has_behind (more_words (thread token) ws) words = rw apart (has_behind ws words)
-  has_behind (more_words (inline_word token) ws) words = has_behind ws words
-  has_behind (more_words (noreturn token) ws) words = has_behind ws words
-  has_behind (more_words (qualifier q) ws) words = has_behind ws words
-  has_behind (more_words (basic w) ws) words = has_behind ws words
-  has_behind (more_words (struct_type w attrs tag body) ws) words = has_behind ws words
-  has_behind (more_words (enum_type e) ws) words = has_behind ws words
-  has_behind (more_words (typedef_name name) ws) words = has_behind ws words
-  has_behind (more_words (attribute attr) ws) words = has_behind ws words
+said_typedef : (ws : SpecWords) → has_word keywords.Typedef (said_words ws) ≡ has_word keywords.Typedef (storage_words ws)
+said_typedef no_words = refl
+said_typedef (more_words (storage w) ws) =
+    ap (λ (b : Bool). is_word keywords.Typedef w.keyword || b) (said_typedef ws)
+said_typedef (more_words (thread token) ws) = said_typedef ws
+said_typedef (more_words (inline_word token) ws) = said_typedef ws
+said_typedef (more_words (noreturn token) ws) = said_typedef ws
+said_typedef (more_words (qualifier q) ws) = said_typedef ws
+said_typedef (more_words (basic w) ws) = said_typedef ws
+said_typedef (more_words (struct_type w attrs tag body) ws) = said_typedef ws
+said_typedef (more_words (enum_type e) ws) = said_typedef ws
+said_typedef (more_words (typedef_name name) ws) = said_typedef ws
+said_typedef (more_words (attribute attr) ws) = said_typedef ws
 
 pub same_typedef : (ws : SpecWords)
     → has_word keywords.Typedef (storage_behind ws []) ≡ has_word keywords.Typedef (storage_words ws)
-same_typedef ws = has_behind keywords.Typedef refl ws []
+same_typedef ws = ap (has_word keywords.Typedef) (said_behind ws []) ∙ said_typedef ws
 
-pub same_words : (ws : SpecWords) → SaySame (storage_words ws) (storage_behind ws [])
-same_words ws at name t s =
-    rw (same_typedef ws, has_behind keywords.Extern refl ws [], has_behind keywords.Static refl ws [])
+-- structs without a tag
+
+stays_untagged : (kind : TagKind) → untagged_by kind true ≡ true
+stays_untagged tags.Struct = refl
+stays_untagged tags.Union = refl
+stays_untagged tags.Enum = refl
+
+is_untagged : (keyword : Keyword) (b : Bool) → untagged_by (tag_kind keyword) b ≡ true
+is_untagged keywords.Union b = refl
+is_untagged keyword b = refl
+
+word_stays : (word : SpecWord) → untagged_word word true ≡ true
+word_stays (storage w) = refl
+word_stays (thread token) = refl
+word_stays (inline_word token) = refl
+word_stays (noreturn token) = refl
+word_stays (qualifier q) = refl
+word_stays (basic w) = refl
+word_stays (struct_type w attrs tag no_body) = refl
+word_stays (struct_type w attrs None (some_body opening items closing)) = stays_untagged (tag_kind w.keyword)
+word_stays (struct_type w attrs (Some tag) (some_body opening items closing)) = refl
+word_stays (enum_type e) = refl
+word_stays (typedef_name name) = refl
+word_stays (attribute attr) = refl
+
+words_stay : (ws : SpecWords) → untagged_behind ws true ≡ true
+words_stay no_words = refl
+words_stay (more_words word ws) = ap (untagged_behind ws) (word_stays word) ∙ words_stay ws
+
+pub same_untagged : (ws : SpecWords) → has_untagged ws ≡ untagged_behind ws false
+same_untagged no_words = refl
+same_untagged (more_words (storage w) ws) = same_untagged ws
+same_untagged (more_words (thread token) ws) = same_untagged ws
+same_untagged (more_words (inline_word token) ws) = same_untagged ws
+same_untagged (more_words (noreturn token) ws) = same_untagged ws
+same_untagged (more_words (qualifier q) ws) = same_untagged ws
+same_untagged (more_words (basic w) ws) = same_untagged ws
+same_untagged (more_words (struct_type w attrs None no_body) ws) = same_untagged ws
+same_untagged (more_words (struct_type w attrs None (some_body opening items closing)) ws) =
+    sym (ap (untagged_behind ws) (is_untagged w.keyword false) ∙ words_stay ws)
+same_untagged (more_words (struct_type w attrs (Some tag) no_body) ws) = same_untagged ws
+same_untagged (more_words (struct_type w attrs (Some tag) (some_body opening items closing)) ws) = same_untagged ws
+same_untagged (more_words (enum_type e) ws) = same_untagged ws
+same_untagged (more_words (typedef_name name) ws) = same_untagged ws
+same_untagged (more_words (attribute attr) ws) = same_untagged ws

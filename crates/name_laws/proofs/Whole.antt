@@ -1,7 +1,7 @@
 -- The tape of each part of a unit says of names what the part says, by induction on the tree.
 use Rattle.std.proofs.Common.{ℕ, Bool, true, false, if◌then◌else◌, List, [], refl}
 use Rattle.c_tree.specs.Tree.{Expr, operation, cast, prefix, sizeof_value, sizeof_type, extension, index, call, dot, arrow, post, compound, name_use, number_use, char_use, text_use, paren, statement_expr, va_arg, va_start, va_copy, offset, Operator, comma, assign, cond, binary, SomeExpr, no_expr, some_expr, Exprs, no_exprs, more_exprs, SpecWords, no_words, more_words, SpecWord, storage, thread, inline_word, noreturn, qualifier, basic, struct_type, enum_type, typedef_name, attribute, SomeBody, no_body, some_body, StructItems, no_struct_items, more_struct_items, StructItem, member, member_semi, member_assert, MemDeclrs, no_mem_declrs, more_mem_declrs, MemDeclr, named, unnamed, SomeValue, no_value, some_value, EnumType, enum_of, no_enum_body, some_enum_body, Enumerators, no_enumerators, more_enumerators, Declr, pointer, declr_name, declr_paren, array, params, abs_pointer, abs_paren, abs_array, abs_params, SomeDeclr, no_declr, some_declr, SomeSize, no_size, some_size, ArraySize, size_value, size_star, Params, no_params, more_params, Init, init_value, init_braced, InitList, init_list, InitItems, no_init_items, more_init_items, Desigs, no_desigs, more_desigs, Desig, member_desig, index_desig, SomeInit, no_init, some_init, InitDeclrs, no_init_declrs, more_init_declrs, Declaration, declaration, Decl, decl_declaration, decl_assert, BlockItems, no_block_items, more_block_items, BlockItem, block_decl, block_stmt, Stmt, block, expr_stmt, attr_stmt, label, case_stmt, default_stmt, if_stmt, switch_stmt, while_stmt, do_stmt, for_stmt, goto_stmt, continue_stmt, break_stmt, return_stmt, asm_stmt, SomeElse, no_else, some_else, ForStart, start_declaration, start_value}
-use Rattle.c_tree.specs.Specifiers.{storage_words}
+use Rattle.c_words.specs.declared.kinds.Keyword.TheVariants as keywords
 use Rattle.tape_ops.specs.declared.op.Op.TheVariants as ops
 use Rattle.tape_ops.specs.declared.expression.ExprOp.TheVariants as exprs
 use Rattle.tape_ops.specs.declared.form.FormOp.TheVariants as forms
@@ -17,8 +17,8 @@ use Rattle.name_laws.proofs.Running.{◌▸◌, one, stays}
 use Rattle.name_laws.proofs.Saying.{Says, ◌>>◌, nothing, form_says, init_says, expr_says, name_says, stmt_says, in_scope_says, quietly_says}
 use Rattle.name_laws.proofs.Agreeing.{same_alone}
 use Rattle.name_laws.proofs.Pieces.{qual_goes}
-use Rattle.name_laws.proofs.Storage.{same_words}
-use Rattle.name_laws.proofs.Forms.{storage_behind, WordLaw, SpecsLaw, StructLaw, ItemsLaw, ItemLaw, MembersLaw, MemberLaw, EnumLaw, DeclrLaw, SomeDeclrLaw, ParamsLaw, DeclrsLaw, specs_none, specs_more, struct_none, struct_some, word_struct, word_basic, enumerator_says, enum_none, enum_some, type_name_says, declr_params, declr_abs_params, declr_pointer, declr_array, declr_abs_pointer, declr_abs_array, declr_of_name, params_none, params_more, members_none, members_more, member_named, member_unnamed, item_member, declrs_none, declrs_more}
+use Rattle.name_laws.proofs.Storage.{same_said, same_untagged}
+use Rattle.name_laws.proofs.Forms.{storage_behind, untagged_behind, WordLaw, SpecsLaw, StructLaw, ItemsLaw, ItemLaw, MembersLaw, MemberLaw, EnumLaw, DeclrLaw, SomeDeclrLaw, ParamsLaw, DeclrsLaw, specs_none, specs_more, struct_none, struct_some, word_struct, word_basic, enumerator_says, enum_none, enum_some, type_name_says, declr_params, declr_abs_params, declr_pointer, declr_array, declr_abs_pointer, declr_abs_array, declr_of_name, params_none, params_more, members_none, members_more, member_named, member_unnamed, item_member, declrs_none, declrs_more}
 
 module _ (u : Spelling) where
   -- what says nothing of names
@@ -65,8 +65,9 @@ module _ (u : Spelling) where
       → Says u (declaration_tape (declaration exts ws ds semi)) (declaration_named u (declaration exts ws ds semi))
   declaration_says exts ws ds semi p q =
       record {
-        goes = λ st s. rw (same_alone ws ds)
-            (p st (base []) [] [] s ▸ q st _ (storage_words ws) (storage_behind ws []) st.finished _ (same_words ws)
+        goes = λ st s. rw (same_alone ws ds, same_said ws, same_untagged ws)
+            (p st (base []) [] [] false s
+            ▸ q st _ (storage_behind ws []) (untagged_behind ws false) st.finished _
             ▸ one u (ops.Declr declrs.DeclarationEnd) _);
       }
 
@@ -147,16 +148,16 @@ module _ (u : Spelling) where
     specs_law alone (more_words word ws) = specs_more u alone word ws (word_law alone word) (specs_law alone ws)
 
     word_law : (alone : Bool) (word : SpecWord) → WordLaw u alone word
-    word_law alone (storage word) = λ st t w k s. one u (ops.Spec (specs.Storage word.keyword)) _
-    word_law alone (thread token) = λ st t w k s. stays u _
-    word_law alone (inline_word token) = λ st t w k s. stays u _
-    word_law alone (noreturn token) = λ st t w k s. stays u _
-    word_law alone (qualifier q) = λ st t w k s. qual_goes u q st t w k s
+    word_law alone (storage word) = λ st t w k b s. one u (ops.Spec (specs.Storage word.keyword)) _
+    word_law alone (thread token) = λ st t w k b s. stays u _
+    word_law alone (inline_word token) = λ st t w k b s. one u (ops.Spec (specs.Storage keywords.Inline)) _
+    word_law alone (noreturn token) = λ st t w k b s. stays u _
+    word_law alone (qualifier q) = λ st t w k b s. qual_goes u q st t w k b s
     word_law alone (basic word) = word_basic u alone word
     word_law alone (struct_type word attrs tag body) = word_struct u alone word attrs tag body (struct_law alone body)
     word_law alone (enum_type e) = enum_law e
-    word_law alone (typedef_name name) = λ st t w k s. one u (ops.Spec (specs.Typedef name.token name.name)) _
-    word_law alone (attribute attr) = λ st t w k s. stays u _
+    word_law alone (typedef_name name) = λ st t w k b s. one u (ops.Spec (specs.Typedef name.token name.name)) _
+    word_law alone (attribute attr) = λ st t w k b s. stays u _
 
     struct_law : (alone : Bool) (body : SomeBody) → StructLaw u alone body
     struct_law alone no_body = struct_none u alone
@@ -210,7 +211,7 @@ module _ (u : Spelling) where
         declr_abs_params u own d opening ps dots closing (some_declr_law d) (params_law ps)
 
     some_declr_law : (d : SomeDeclr) → SomeDeclrLaw u d
-    some_declr_law no_declr = λ st t k finished s. stays u _
+    some_declr_law no_declr = λ st t k b finished s. stays u _
     some_declr_law (some_declr d) = declr_law false d
 
     some_size_law : (size : SomeSize) → Says u (some_size_tape size) (some_size_named u size)

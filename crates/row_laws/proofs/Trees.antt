@@ -274,7 +274,7 @@ module _ (k : Over) where
         Goes k r (word_tape alone word) as_is as_is (word_demand k.world word)
     word_goes (storage word) r o alone = one [] (λ y c s. refl) (λ c s. refl)
     word_goes (thread token) r o alone = nowhere
-    word_goes (inline_word token) r o alone = nowhere
+    word_goes (inline_word token) r o alone = one [] (λ y c s. refl) (λ c s. refl)
     word_goes (noreturn token) r o alone = nowhere
     word_goes (qualifier q) r o alone = one [] (λ y c s. refl) (λ c s. refl)
     word_goes (basic word) r o alone =

@@ -155,7 +155,7 @@ module _ (k : Over) where
         Goes k (word_tape alone word) as_is as_is (word_faults k.spelling k.names word)
     word_goes (storage word) alone = one [] (λ st. refl)
     word_goes (thread token) alone = nowhere
-    word_goes (inline_word token) alone = nowhere
+    word_goes (inline_word token) alone = one [] (λ st. refl)
     word_goes (noreturn token) alone = nowhere
     word_goes (qualifier q) alone = one [] (λ st. refl)
     word_goes (basic word) alone = either k (is_void word.keyword) (λ e. one [] (λ st. refl)) (λ e. nowhere)

@@ -6,6 +6,7 @@ use Rattle.c_tape.specs.Tape.{expr_tape, item_tape, tape_of}
 use Rattle.name_rules.specs.Spellings.{Spelling}
 use Rattle.name_rules.specs.Faults.{Fault, IsFirst}
 use Rattle.name_rules.specs.Scopes.{Names}
+use Rattle.name_rules.specs.Linking.{body_faults}
 use Rattle.type_rules.specs.Judging.{item_faults, items_faults_of}
 use Rattle.type_rules.specs.Program.{Source, names_of, judged, faults_of}
 use Rattle.shape_steps.specs.State.{nothing}
@@ -91,7 +92,8 @@ found_totals (it ∷ sources) s =
 program_totals : (sources : List Source) → SameTotals (all_found sources) (faults_of sources)
 program_totals sources =
     append_totals (names_of sources).faults (names_of sources).faults _ _ (λ w. refl)
-    (found_totals sources (names_of sources))
+    (append_totals (body_faults (names_of sources)) (body_faults (names_of sources)) _ _ (λ w. refl)
+    (found_totals sources (names_of sources)))
 
 same_first : (fs gs : List Fault) → SameTotals fs gs → (f : Fault) → IsFirst f fs → IsFirst f gs
 same_first fs gs e f first =

@@ -1,6 +1,7 @@
 -- Where skeletons begin along the tape of each part of a tree: by cases on the tree.
 use Rattle.std.proofs.Common.{◌≡◌, ℕ, Bool, true, false, List, [], ◌∷◌, ◌++◌, Option, None, Some, refl, sym, ◌∙◌, ap}
 use Rattle.std.specs.Prelude.{not, ◌&&◌, if◌then◌else◌}
+use Rattle.c_words.specs.declared.kinds.Keyword.TheVariants as keywords
 use Rattle.c_syntax.specs.declared.parts.Identifier.{Identifier}
 use Rattle.tape_ops.specs.declared.op.Op.{Op}
 use Rattle.tape_ops.specs.declared.op.Op.TheVariants as ops
@@ -214,7 +215,7 @@ module _ (k : Over) where
         Finds k h (word_tape alone word) (λ a. word_starts a word)
     word_finds (storage word) alone h = idle (ops.Spec (specs.Storage word.keyword)) (λ st r. refl) (λ ds r. refl)
     word_finds (thread token) alone h = nothing
-    word_finds (inline_word token) alone h = nothing
+    word_finds (inline_word token) alone h = idle (ops.Spec (specs.Storage keywords.Inline)) (λ st r. refl) (λ ds r. refl)
     word_finds (noreturn token) alone h = nothing
     word_finds (qualifier q) alone h = idle (ops.Spec (specs.Word (qual_token q))) (λ st r. refl) (λ ds r. refl)
     word_finds (basic word) alone h = void_finds (is_void word.keyword) h

@@ -212,7 +212,7 @@ module _ {t : Option ℕ} where
     word_passes : (word : SpecWord) → {m : List Mark} (alone : Bool) → Over t m (word_tape alone word)
     word_passes (storage word) alone = one refl
     word_passes (thread token) alone = none
-    word_passes (inline_word token) alone = none
+    word_passes (inline_word token) alone = one refl
     word_passes (noreturn token) alone = none
     word_passes (qualifier q) alone = one refl
     word_passes (basic word) alone = void_passes (is_void word.keyword)

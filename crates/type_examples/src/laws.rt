@@ -1,9 +1,16 @@
 //! What the definitions of names and types say of the examples.
 
 ghost use Rattle.type_examples.specs.Examples.{ExamplesHold};
+ghost use Rattle.type_examples.specs.Several.{SeveralHold};
 
 /// The definitions say of each example what was worked out for it: its first fault, or, where it has none, for each name that
 /// it declares the type, the first declaration and the owner.
 pub fn examples_hold()
     ensures { ExamplesHold }
+{}
+
+/// The definitions say of each program of several sources what was worked out for it: its faults, and of declarations where what
+/// they are of was first declared, in their unit and in all units.
+pub fn examples_of_several_hold()
+    ensures { SeveralHold }
 {}

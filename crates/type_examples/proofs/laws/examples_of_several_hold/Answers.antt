@@ -1,0 +1,15 @@
+use Rattle.std.proofs.Common.{refl}
+use Rattle.type_examples.proofs.laws.examples_of_several_hold.Goals as goal
+
+pub returns : goal.returns
+returns c = (
+  (refl, refl, refl, refl),
+  (refl, refl, refl, refl),
+  (refl, refl, refl),
+  refl,
+  refl,
+  (refl, refl, refl, refl),
+  (refl, refl, refl, refl),
+  (refl, refl, refl, refl),
+  (refl, refl),
+)
