@@ -6,7 +6,6 @@ use Rattle.c_tree.specs.Ends.{first_token, last_token, first_text}
 use Rattle.type_table.specs.Types.{base, pointer}
 use Rattle.qual_types.specs.Skel.{Skel, root, param_at}
 use Rattle.name_rules.specs.Spellings.{Place, Named}
-use Rattle.name_rules.specs.Values.{Shape, is_additive}
 use Rattle.name_rules.specs.Values as shapes
 use Rattle.name_rules.specs.Uses.{text_type, use_at}
 use Rattle.type_rules.specs.Shapes.{is_zero, shape_of}

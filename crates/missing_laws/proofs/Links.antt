@@ -1,12 +1,12 @@
 -- At the link of a declaration a skeleton begins.
-use Rattle.std.proofs.Common.{◌≡◌, ◌⊎◌, inl, inr, ℕ, Bool, true, false, List, [], ◌∷◌, Option, None, Some, refl, ap}
+use Rattle.std.proofs.Common.{◌≡◌, ◌⊎◌, inl, inr, ℕ, Bool, true, false, List, [], ◌∷◌, Option, None, Some, refl}
 use Rattle.std.specs.Prelude.{◌&&◌, nat_eq, option_and_then, if◌then◌else◌}
 use Rattle.type_table.specs.Types.{pointer}
 use Rattle.name_rules.specs.Spellings.{Place}
-use Rattle.name_rules.specs.Scopes.{Aggregate, Body, Known, Names, StructKey, is_place, or_place}
+use Rattle.name_rules.specs.Scopes.{Aggregate, Body, Known, StructKey, is_place, or_place}
 use Rattle.name_rules.specs.Values.{member_in}
 use Rattle.name_rules.specs.Declaring.{or_at}
-use Rattle.name_rules.specs.Linking.{defines, first_external, is_elsewhere, is_external, link_of, linked_in, member_among, member_link, member_where, name_found, place_of, place_where, thing_link, thing_linked}
+use Rattle.name_rules.specs.Linking.{defines, first_external, is_elsewhere, is_external, linked_in, member_among, member_link, member_where, name_found, place_of, place_where, thing_link, thing_linked}
 use Rattle.meaning_laws.specs.Meanings.{Differ, ThingsAre}
 use Rattle.row_rules.specs.Worlds.{World}
 use Rattle.missing_laws.specs.Finding.{IsMet, LinksAreMet}

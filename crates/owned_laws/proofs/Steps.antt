@@ -41,7 +41,7 @@ use Rattle.owned_laws.specs.Around.{BeginsIn, MeantFits, SomeMeantFits, UseFits,
 use Rattle.owned_laws.specs.Tapes.{OpsFit}
 use Rattle.meaning_laws.proofs.Lists.{place_is}
 use Rattle.owned_laws.proofs.Opening.{form_body, spec_body, declr_body}
-use Rattle.owned_laws.proofs.Found.{Setting, sys, owner, In, Begins, none_in, skeleton_in}
+use Rattle.owned_laws.proofs.Found.{Setting, sys, owner, In, none_in, skeleton_in}
 use Rattle.owned_laws.proofs.Stacks.{SomeSkelIn, contents_in, result_in, value_in, further_in, own_in, either_in, branch_in, binary_in, prefix_in, used_in, member_skel_in, initialised_in, function_in, OperandIn, OperandsIn, drop_in, take_in, reverse_in, first_val_in, first_value_in, AllBracesIn, first_braces_in, others_in, changed_in, target_in_in, list_of_in, with_member_in, with_index_in, with_item_in}
 
 -- all skeletons that are kept
