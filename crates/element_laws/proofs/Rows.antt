@@ -26,7 +26,7 @@ use Rattle.row_rules.specs.Worlds.{World, Numbered, skeleton_among, all_lattices
 use Rattle.row_rules.specs.Annotations.{Annotation, entry_of_view, entry_at, signed, links_of_entry, alone, marked, annotation_constraints, annotated, annotating, bounds_of, bounds_from, write_bounds, deref_bounds, uncut, parameters}
 use Rattle.row_rules.specs.Indexing.{Indexed, indexed, value_lattices, is_below, below_each, below_all, indexing}
 use Rattle.row_rules.specs.Vals.{Val, contents, is_empty, is_fun, is_nothing, is_ref, own, result, value}
-use Rattle.row_rules.specs.Rows.{flowing, dereferenced, is_plus_or_minus, assigned, is_logical, computed, branched, chosen, prefixed, passed, formed_here, crossed, instance, some_instance, use_demand, annotating_some, annotating_place, casting, cast_demand, annotating_name, formed_name, plain_name_row, plain_param_row, tied_to_first, name_row, declared_row, some_declared_row, into_param, param_row, RowKind, no_row, row_of_name, row_of_param, row_at, returned, started, taken}
+use Rattle.row_rules.specs.Rows.{flowing, dereferenced, is_plus_or_minus, assigned, is_logical, computed, branched, chosen, prefixed, passed, formed_here, crossed, instance, some_instance, use_demand, annotating_some, annotating_place, casting, cast_demand, annotating_name, formed_name, plain_name_row, plain_param_row, equal_to, tied_to, name_row, declared_row, some_declared_row, into_param, param_row, RowKind, no_row, row_of_name, row_of_param, row_at, returned, started, taken}
 use Rattle.element_laws.proofs.Elements.{AllNamed, lists_named, none_where, some_where, flows_named, calls_named, nobodys}
 
 -- the flow lists of rows are flows, calls and returns alone
@@ -309,11 +309,11 @@ module _ (law : Flows) (w : World) where
   use_named token called = formed_here_named token
   use_named token missing = tt
 
-  tied_named : (d : Declared) → Named (tied_to_first w d)
-  tied_named d =
-      none_where w.lattices (is_place d.first d.at || (is_nothing (skeleton w d.first) || is_nothing (skeleton w d.at))) _
+  tied_named : (d : Declared) (first : Place) → Named (tied_to w d first)
+  tied_named d first =
+      none_where w.lattices (is_place first d.at || (is_nothing (skeleton w first) || is_nothing (skeleton w d.at))) _
       (flows_named w.lattices nobodys Nobody (all_lattices w) (word_span d.at)
-      (equal Flow true (skeleton w d.first) (skeleton w d.at)) (law.made_equal (skeleton w d.first) (skeleton w d.at)))
+      (equal Flow true (skeleton w first) (skeleton w d.at)) (law.made_equal (skeleton w first) (skeleton w d.at)))
 
   name_named : (d : Declared) → Named (name_row w d)
   name_named d =
@@ -321,8 +321,8 @@ module _ (law : Flows) (w : World) where
       let s = skeleton w d.at in
       lists_named w.lattices (formed_name w d) (plain_name_row w d) (formed_named (word_span d.at) s)
       (lists_named w.lattices (annotating_name w d) _ (annotating_named t s)
-      (lists_named w.lattices (indexing w t s) (tied_to_first w d) (all_named (indexed w t s) (indexed w t s))
-      (tied_named d)))
+      (lists_named w.lattices (indexing w t s) (tied_to w d (equal_to w d)) (all_named (indexed w t s) (indexed w t s))
+      (tied_named d (equal_to w d))))
 
   declared_named : (d : Declared) (role : Role) → Named (declared_row w d role)
   declared_named d typedef_role = tt

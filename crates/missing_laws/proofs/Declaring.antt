@@ -10,7 +10,7 @@ use Rattle.row_rules.specs.Worlds.{World, at, span}
 use Rattle.constraint_rules.specs.Starts.{words_starts, word_starts, some_body_starts, struct_items_starts, struct_item_starts, members_starts, mem_declrs_starts, mem_declr_starts, declr_starts, some_declr_starts, params_starts}
 use Rattle.constraint_rules.specs.Demands.{unnamed_word_demand, unnamed_demand, words_demand, word_demand, some_body_demand, struct_items_demand, struct_item_demand, members_demand, mem_declrs_demand, mem_declr_demand, declr_demand, some_declr_demand, params_demand}
 use Rattle.missing_laws.specs.Everywhere.{NamedHas, UnnamedHas, UnnamedHave, WordsHave, WordHas, SomeBodyHas, StructItemsHave, StructItemHas, MembersHave, MemDeclrsHave, MemDeclrHas, DeclrHas, SomeDeclrHas, ParamsHave}
-use Rattle.missing_laws.specs.Finding.{AreFound, Avoids, FirstIsMet, MembersBegin, TokenBegins}
+use Rattle.missing_laws.specs.Finding.{AreFound, Avoids, FirstIsMet, LinksAreMet, MembersBegin, TokenBegins}
 use Rattle.missing_laws.proofs.Found.{Further, world, front, back}
 use Rattle.missing_laws.proofs.Marks.{joined}
 use Rattle.missing_laws.proofs.Rows.{around, formed_same, found_same, param_same, row_same}
@@ -37,7 +37,7 @@ param_fits None bare h i fits = tt
 param_fits (Some own) true h i fits = fits
 param_fits (Some own) false h i fits = tt
 
-module _ (w : World) (members : MembersBegin w) (k l : Further) (ka : Avoids w k.0)
+module _ (w : World) (members : MembersBegin w) (links : LinksAreMet w) (k l : Further) (ka : Avoids w k.0)
     (la : Avoids w l.0) (q : Bool) (f : Option Place) where
   abbrev wk : World
   wk = world w k
@@ -69,8 +69,8 @@ module _ (w : World) (members : MembersBegin w) (k l : Further) (ka : Avoids w k
       RowMet row (Some (record { token = token; name = name })) → AreFound w (had_name h a token) →
       row_at wk row token ≡ row_at wl row token
   name_row_is no_row h token name fits met found = refl
-  name_row_is row_of_name with_skeleton token name fits met found = row_same w members k l ka la q f token met found
-  name_row_is row_of_name (of_function g) token name fits met found = row_same w members k l ka la q g token met found
+  name_row_is row_of_name with_skeleton token name fits met found = row_same w members k l ka la links q f token met found
+  name_row_is row_of_name (of_function g) token name fits met found = row_same w members k l ka la links q g token met found
   name_row_is row_of_name without_skeleton token name fits met found = absurd fits
   name_row_is (row_of_param own i) with_skeleton token name fits met found =
       param_same w members k l ka la q f own i token found

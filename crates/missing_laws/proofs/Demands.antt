@@ -6,7 +6,6 @@ use Rattle.c_tree.specs.Ends.{first_token, last_token, first_text}
 use Rattle.type_table.specs.Types.{base, pointer}
 use Rattle.qual_types.specs.Skel.{Skel, root, param_at}
 use Rattle.name_rules.specs.Spellings.{Place, Named}
-use Rattle.name_rules.specs.Values.{Shape, is_additive}
 use Rattle.name_rules.specs.Values as shapes
 use Rattle.name_rules.specs.Uses.{text_type, use_at}
 use Rattle.type_rules.specs.Shapes.{is_zero, shape_of}
@@ -20,14 +19,14 @@ use Rattle.constraint_rules.specs.Starts.{expr_starts, words_starts, some_declr_
 use Rattle.constraint_rules.specs.Values.{val}
 use Rattle.constraint_rules.specs.Demands.{some_declr_demand, arguments, demand, exprs_demand, init_demand, init_items_demand, init_list_demand, item_skel, items_rule, list_rule, next_behind, rule, some_expr_demand, type_of_name, words_demand, some_init_demand, init_declrs_demand, declaration_demand, decl_demand, block_items_demand, block_item_demand, stmt_demand, some_else_demand, for_start_demand}
 use Rattle.missing_laws.specs.Everywhere.{NamedHas, WordsHave, SomeDeclrHas, ExprHas, ExprsHave, SomeExprHas, InitHas, InitListHas, InitItemsHave, SomeInitHas, InitDeclrsHave, DeclarationHas, DeclHas, BlockItemsHave, BlockItemHas, StmtHas, SomeElseHas, ForStartHas}
-use Rattle.missing_laws.specs.Finding.{AreFound, Avoids, HasType, FirstIsMet, IsSettled, MembersBegin, TokenBegins, loud}
+use Rattle.missing_laws.specs.Finding.{AreFound, Avoids, HasType, FirstIsMet, IsSettled, LinksAreMet, MembersBegin, TokenBegins, loud}
 use Rattle.missing_laws.proofs.Found.{Further, world, front, back}
 use Rattle.missing_laws.proofs.Marks.{ap2, joined}
 use Rattle.missing_laws.proofs.Rows.{chosen_same}
 use Rattle.missing_laws.proofs.Declaring.{declr_is, some_declr_is, words_is}
 use Rattle.missing_laws.proofs.Parts.{v_is, x_is, ref_is, own_is_same, some_own_is, place_own_is, there, formed_is, computed_is, cast_is, prefixed_is, here_is, placing_is, typing_is, use_is, item_is, behind_is, initialised_is, name_found}
 
-module _ (w : World) (members : MembersBegin w) (k l : Further) (ka : Avoids w k.0)
+module _ (w : World) (members : MembersBegin w) (links : LinksAreMet w) (k l : Further) (ka : Avoids w k.0)
     (la : Avoids w l.0) (same_own : k.2 ≡ l.2) (f : Option Place) where
   abbrev u : World
   u = world w k
@@ -51,11 +50,11 @@ module _ (w : World) (members : MembersBegin w) (k l : Further) (ka : Avoids w k
   Typed e = HasType w e
 
   specs_is : (ws : SpecWords) → WordsHave U V ws → AreFound w (words_starts b ws) → words_demand u ws ≡ words_demand v ws
-  specs_is ws h found = words_is w members k l ka la false f ws h found
+  specs_is ws h found = words_is w members links k l ka la false f ws h found
 
   type_is : (d : SomeDeclr) → some_declared_name d ≡ None → SomeDeclrHas U V d → AreFound w (some_declr_starts b with_skeleton d) →
       some_declr_demand u row_of_name d ≡ some_declr_demand v row_of_name d
-  type_is d none h found = some_declr_is w members k l ka la false f row_of_name with_skeleton d tt
+  type_is d none h found = some_declr_is w members links k l ka la false f row_of_name with_skeleton d tt
       (subst (λ (it : Option Named). NamedHas V it) (sym none) tt) h found
 
   passed_is : (z : Bool) (x y c d : Skel) (i : ℕ) (where_ : Span) → x ≡ y → c ≡ d →
@@ -274,7 +273,7 @@ module _ (w : World) (members : MembersBegin w) (k l : Further) (ka : Avoids w k
     init_declrs_is (more_init_declrs attrs d asm_label attrs2 it ds) s t h =
         let hd = front w (declr_starts b with_skeleton without_skeleton d) _ h in
         let behind = back w (declr_starts b with_skeleton without_skeleton d) _ h in
-        joined _ _ _ _ (declr_is w members k l ka la false f row_of_name None with_skeleton without_skeleton d tt tt
+        joined _ _ _ _ (declr_is w members links k l ka la false f row_of_name None with_skeleton without_skeleton d tt tt
         s.0 s.1.0 hd) (joined _ _ _ _
         (some_init_is (declared_name d) it (initialised_is w members k l ka la same_own f (declared_name d)
         (λ name e. name_found w b with_skeleton without_skeleton d name e hd)) s.1.1.0 t.1.1.0

@@ -6,13 +6,12 @@ use Rattle.tape_ops.specs.declared.specifier.TagKind.{TagKind}
 use Rattle.tape_ops.specs.declared.specifier.TagKind.TheVariants as tags
 use Rattle.c_tree.specs.Tree.{Expr, operation, cast, prefix, sizeof_value, sizeof_type, extension, index, call, dot, arrow, post, compound, name_use, number_use, char_use, text_use, paren, statement_expr, va_arg, va_start, va_copy, offset, Operator, comma, assign, cond, binary, SomeExpr, no_expr, some_expr, Exprs, no_exprs, more_exprs, SpecWords, no_words, more_words, SpecWord, storage, thread, inline_word, noreturn, qualifier, basic, struct_type, enum_type, typedef_name, attribute, SomeBody, no_body, some_body, StructItems, no_struct_items, more_struct_items, StructItem, member, member_semi, member_assert, MemDeclrs, no_mem_declrs, more_mem_declrs, MemDeclr, named, unnamed, SomeValue, no_value, some_value, EnumType, enum_of, no_enum_body, some_enum_body, Enumerators, no_enumerators, more_enumerators, Declr, pointer, declr_name, declr_paren, array, params, abs_pointer, abs_paren, abs_array, abs_params, SomeDeclr, no_declr, some_declr, SomeSize, no_size, some_size, ArraySize, size_value, size_star, Params, no_params, more_params, Init, init_value, init_braced, InitList, init_list, InitItems, no_init_items, more_init_items, Desigs, no_desigs, more_desigs, Desig, member_desig, index_desig, SomeInit, no_init, some_init, InitDeclrs, no_init_declrs, more_init_declrs, Declaration, declaration, Decl, decl_declaration, decl_assert, BlockItems, no_block_items, more_block_items, BlockItem, block_decl, block_stmt, Stmt, block, expr_stmt, attr_stmt, label, case_stmt, default_stmt, if_stmt, switch_stmt, while_stmt, do_stmt, for_stmt, goto_stmt, continue_stmt, break_stmt, return_stmt, asm_stmt, SomeElse, no_else, some_else, ForStart, start_declaration, start_value}
 use Rattle.c_tree.specs.Unit.{Item, function_item, decl_item, asm_item, semi_item}
-use Rattle.c_tree.specs.Specifiers.{storage_words}
 use Rattle.type_table.specs.Types.{Words, CType, base}
 use Rattle.name_rules.specs.Spellings.{Spelling, Place, place, Named}
 use Rattle.name_rules.specs.Scopes.{enumerator_role, Names}
-use Rattle.name_rules.specs.Declaring.{tag_used, untagged, own_where}
+use Rattle.name_rules.specs.Declaring.{tag_used, untagged, untagged_number, own_where}
 use Rattle.type_rules.specs.Tokens.{declared_name, some_declared_name, is_bare}
-use Rattle.type_rules.specs.Naming.{tag_kind, tag_named, body_begun, unnamed_by, unnamed_among, is_tag_alone, words_behind, expr_named, operator_named, some_expr_named, exprs_named, words_named, word_named, struct_named, struct_items_named, struct_item_named, unnamed_where, mem_declrs_named, mem_declr_named, some_value_named, enum_named, enumerators_named, declr_named, some_declr_named, some_size_named, array_size_named, params_named, init_named, init_list_named, init_items_named, desigs_named, desig_named, some_init_named, init_declrs_named, declaration_named, decl_named, block_items_named, block_item_named, stmt_named, some_else_named, for_start_named, function_by, item_named, items_named}
+use Rattle.type_rules.specs.Naming.{tag_kind, tag_named, body_begun, unnamed_by, unnamed_among, is_tag_alone, said_words, has_untagged, words_behind, expr_named, operator_named, some_expr_named, exprs_named, words_named, word_named, struct_named, struct_items_named, struct_item_named, unnamed_where, mem_declrs_named, mem_declr_named, some_value_named, enum_named, enumerators_named, declr_named, some_declr_named, some_size_named, array_size_named, params_named, init_named, init_list_named, init_items_named, desigs_named, desig_named, some_init_named, init_declrs_named, declaration_named, decl_named, block_items_named, block_item_named, stmt_named, some_else_named, for_start_named, function_by, item_named, items_named}
 use Rattle.missing_laws.proofs.Growth.{Grows, stays, joins, enter_grows, leave_grows, keep_grows, used_grows, sized_grows, type_grows, tag_grows, alike, body_grows, here_grows, thing_grows, some_grows, param_grows, member_grows, unnamed_grows, entered_grows, left_grows}
 
 module _ (u : Spelling) where
@@ -24,9 +23,9 @@ module _ (u : Spelling) where
   pub body_begun_grows : (kind : TagKind) (keyword : ℕ) (tag : Option Identifier) (s : Names) →
       Grows s (body_begun u kind keyword tag s).names
   body_begun_grows kind keyword None s = joins (alike s (untagged (place u keyword) kind s).names refl refl refl refl)
-      (body_grows (place u keyword) kind (untagged (place u keyword) kind s))
+      (body_grows (place u keyword) kind None (untagged (place u keyword) kind s))
   body_begun_grows kind keyword (Some tag) s = joins (tag_grows u true kind tag.token tag.name s)
-      (body_grows (place u tag.token) kind (tag_used u true kind tag.token tag.name s))
+      (body_grows (place u tag.token) kind (Some (u.key tag.name)) (tag_used u true kind tag.token tag.name s))
 
   unnamed_by_grows : (word : SpecWord) (n : ℕ) (t : CType) (s : Names) → Grows s (unnamed_by u word n t s)
   unnamed_by_grows (struct_type word attrs None body) n t s = unnamed_grows (place u word.token) n t s
@@ -210,15 +209,16 @@ module _ (u : Spelling) where
     some_init_grows no_init s = stays s
     some_init_grows (some_init equal it) s = init_grows it s
 
-    pub init_declrs_grow : (words : List Keyword) (t : CType) (ds : InitDeclrs) (s : Names) →
-        Grows s (init_declrs_named u words t ds s)
-    init_declrs_grow words t no_init_declrs s = stays s
-    init_declrs_grow words t (more_init_declrs attrs d asm_label attrs2 it ds) s = joins (declr_grows None d s)
-        (joins (some_grows u (declared_name d) words _ _) (joins (some_init_grows it _) (init_declrs_grow words t ds _)))
+    pub init_declrs_grow : (words : List Keyword) (is_untagged : Bool) (t : CType) (ds : InitDeclrs) (s : Names) →
+        Grows s (init_declrs_named u words is_untagged t ds s)
+    init_declrs_grow words is_untagged t no_init_declrs s = stays s
+    init_declrs_grow words is_untagged t (more_init_declrs attrs d asm_label attrs2 it ds) s = joins (declr_grows None d s)
+        (joins (some_grows u (untagged_number is_untagged t) (declared_name d) words _ _)
+        (joins (some_init_grows it _) (init_declrs_grow words false t ds _)))
 
     pub declaration_grows : (d : Declaration) (s : Names) → Grows s (declaration_named u d s)
     declaration_grows (declaration exts ws ds semi) s = joins (words_grow (is_tag_alone ws ds) ws (base []) [] s)
-        (init_declrs_grow (storage_words ws) _ ds _)
+        (init_declrs_grow (said_words ws) (has_untagged ws) _ ds _)
 
     pub decl_grows : (d : Decl) (s : Names) → Grows s (decl_named u d s)
     decl_grows (decl_declaration d) s = declaration_grows d s
@@ -269,8 +269,8 @@ module _ (u : Spelling) where
       Grows s (function_by u it ws d items s)
   function_grows None ws d items s = stays s
   function_grows (Some it) ws d items s = joins (words_grow false ws (base []) [] s) (joins (declr_grows _ d _)
-      (joins (sized_grows (place u it.token) _ _) (joins (thing_grows (place u it.token) (u.key it.name) _ _)
-      (joins (entered_grows (place u it.token) _ _) (joins (block_items_grow items _) (left_grows _))))))
+      (joins (sized_grows (place u it.token) _ _) (joins (thing_grows (said_words ws) (place u it.token) (u.key it.name) _ _)
+      (joins (entered_grows (place u it.token) _ _ _) (joins (block_items_grow items _) (left_grows _))))))
 
   pub item_grows : (item : Item) (s : Names) → Grows s (item_named u item s)
   item_grows (function_item exts ws d attrs opening items closing) s = function_grows (declared_name d) ws d items s

@@ -1,14 +1,14 @@
 -- What is known of names grows: declarations, uses, types' names and faults are put behind those that are there.
 use Rattle.std.proofs.Common.{◌≡◌, ℕ, Bool, true, false, List, [], ◌++◌, Option, None, Some, refl, sym, ◌∙◌, ap, append_assoc, append-nil}
-use Rattle.std.specs.Prelude.{◌||◌, if◌then◌else◌}
+use Rattle.std.specs.Prelude.{◌&&◌, ◌||◌, if◌then◌else◌}
 use Rattle.c_words.specs.declared.kinds.Keyword.{Keyword}
 use Rattle.c_words.specs.declared.kinds.Keyword.TheVariants as keywords
 use Rattle.tape_ops.specs.declared.specifier.TagKind.{TagKind}
 use Rattle.type_table.specs.Types.{CType}
 use Rattle.name_rules.specs.Spellings.{Spelling, Place, place, Named}
-use Rattle.name_rules.specs.Scopes.{Names, Role, object_role, enter, leave, sized, is_at_file, has_body, body_of}
+use Rattle.name_rules.specs.Scopes.{Names, Role, object_role, enter, leave, sized, is_at_file, is_place, has_body, body_of, with_key}
 use Rattle.name_rules.specs.Pieces.{is_function}
-use Rattle.name_rules.specs.Declaring.{used, type_named, Numbered, found_or_new, tag_used, begun_in, begun_body, declared_by, declared_here, declared_thing, declared_typedef, declared_some, declared_param, declared_member, unnamed_member, keep, has_word, body_entered, body_left}
+use Rattle.name_rules.specs.Declaring.{used, type_named, Numbered, found_or_new, tag_used, begun_in, begun_body, opened, tag_known, declared_by, declared_here, linked, thing_where, static_where, declared_thing, declared_typedef, typedef_known, declared_some, declared_param, declared_member, unnamed_member, keep, has_word, body_entered, body_left}
 use Rattle.name_rules.specs.Units.{unit_begun}
 
 -- the second list is the first one and others behind it
@@ -100,17 +100,28 @@ pub tag_grows : (u : Spelling) (alone : Bool) (kind : TagKind) (token tag : ℕ)
     Grows s (tag_used u alone kind token tag s).names
 tag_grows u alone kind token tag s = found_grows _ u kind token tag s
 
-pub begun_grows : (b : Bool) (at : Place) (kind : TagKind) (it : Numbered) → Grows it.names (begun_in b at kind it).names
-begun_grows true at kind it = record {
+tag_known_grows : (tag : Option ℕ) (n : ℕ) (s : Names) → Grows s (tag_known tag n s)
+tag_known_grows None n s = stays s
+tag_known_grows (Some tag) n s = by (is_at_file s)
+  where
+    by : (b : Bool) → Grows s (if b then with_key n false tag s else s)
+    by true = alike s (with_key n false tag s) refl refl refl refl
+    by false = stays s
+
+pub begun_grows : (b : Bool) (at : Place) (kind : TagKind) (tag : Option ℕ) (it : Numbered) →
+    Grows it.names (begun_in b at kind tag it).names
+begun_grows true at kind tag it = record {
   declared = same it.names.declared;
   uses = same it.names.uses;
   types = same it.names.type_names;
   faults = more it.names.faults _;
 }
-begun_grows false at kind it = alike it.names _ refl refl refl refl
+begun_grows false at kind tag it = joins (alike it.names (opened it.number it.names) refl refl refl refl)
+    (tag_known_grows tag it.number (opened it.number it.names))
 
-pub body_grows : (at : Place) (kind : TagKind) (it : Numbered) → Grows it.names (begun_body at kind it).names
-body_grows at kind it = begun_grows (has_body (body_of it.names.aggregates it.number)) at kind it
+pub body_grows : (at : Place) (kind : TagKind) (tag : Option ℕ) (it : Numbered) →
+    Grows it.names (begun_body at kind tag it).names
+body_grows at kind tag it = begun_grows (has_body (body_of it.names.aggregates it.number)) at kind tag it
 
 pub here_grows : (at : Place) (name : ℕ) (role : Role) (t : CType) (own : Option Place) (s : Names) →
     Grows s (declared_here at name role t own s)
@@ -121,13 +132,32 @@ here_grows at name role t own s = record {
   faults = same s.faults;
 }
 
-pub thing_grows : (at : Place) (name : ℕ) (t : CType) (s : Names) → Grows s (declared_thing at name t s)
-thing_grows at name t s = record {
-  declared = more s.declared _;
-  uses = same s.uses;
-  types = same s.type_names;
-  faults = same s.faults;
-}
+new_grows : (is_new : Bool) (name : ℕ) (at : Place) (s : Names) → Grows s (thing_where is_new name at s)
+new_grows true name at s = alike s (thing_where true name at s) refl refl refl refl
+new_grows false name at s = stays s
+
+static_grows : (is_static : Bool) (unit name : ℕ) (s : Names) → Grows s (static_where is_static unit name s)
+static_grows true unit name s = alike s (static_where true unit name s) refl refl refl refl
+static_grows false unit name s = stays s
+
+pub thing_grows : (words : List Keyword) (at : Place) (name : ℕ) (t : CType) (s : Names) →
+    Grows s (declared_thing words at name t s)
+thing_grows words at name t s =
+    joins (new_grows is_new name at s) (joins (static_grows is_static at.0 name (thing_where is_new name at s)) (record {
+      declared = more old.declared _;
+      uses = same old.uses;
+      types = same old.type_names;
+      faults = same old.faults;
+    }))
+  where
+    is_new : Bool
+    is_new = is_place (linked name at s) at
+
+    is_static : Bool
+    is_static = has_word keywords.Static words
+
+    old : Names
+    old = static_where is_static at.0 name (thing_where is_new name at s)
 
 pub typedef_grows : (at : Place) (name : ℕ) (t : CType) (s : Names) → Grows s (declared_typedef at name t s)
 typedef_grows at name t s = record {
@@ -143,17 +173,27 @@ by_grows words at name t s =
     by (has_word keywords.Typedef words) (is_at_file s || (is_function t || has_word keywords.Extern words))
   where
     by : (b c : Bool) → Grows s (if b then declared_typedef at name t s
-        else if c then declared_thing at name t s
+        else if c then declared_thing words at name t s
         else declared_here at name object_role t (if has_word keywords.Static words then None else s.enclosing) s)
     by true c = typedef_grows at name t s
-    by false true = thing_grows at name t s
+    by false true = thing_grows words at name t s
     by false false = here_grows at name object_role t _ s
 
-pub some_grows : (u : Spelling) (it : Option Named) (words : List Keyword) (t : CType) (s : Names) →
-    Grows s (declared_some u it words t s)
-some_grows u None words t s = stays s
-some_grows u (Some it) words t s =
-    joins (sized_grows (place u it.token) t s) (by_grows words (place u it.token) (u.key it.name) t _)
+pub known_grows : (words : List Keyword) (name : ℕ) (untagged : Option ℕ) (s : Names) →
+    Grows s (typedef_known words name untagged s)
+known_grows words name None s = stays s
+known_grows words name (Some n) s = by (has_word keywords.Typedef words && is_at_file s)
+  where
+    by : (b : Bool) → Grows s (if b then with_key n true name s else s)
+    by true = alike s (with_key n true name s) refl refl refl refl
+    by false = stays s
+
+pub some_grows : (u : Spelling) (untagged : Option ℕ) (it : Option Named) (words : List Keyword) (t : CType) (s : Names) →
+    Grows s (declared_some u untagged it words t s)
+some_grows u untagged None words t s = stays s
+some_grows u untagged (Some it) words t s =
+    joins (sized_grows (place u it.token) t s) (joins (by_grows words (place u it.token) (u.key it.name) t _)
+    (known_grows words (u.key it.name) untagged _))
 
 pub param_grows : (u : Spelling) (it : Option Named) (i : ℕ) (own : Option Place) (t : CType) (s : Names) →
     Grows s (declared_param u it i own t s)
@@ -179,8 +219,8 @@ unnamed_grows at n t s = record {
   faults = same s.faults;
 }
 
-pub entered_grows : (at first : Place) (s : Names) → Grows s (body_entered at first s)
-entered_grows at first s = record {
+pub entered_grows : (at first : Place) (is_plain : Bool) (s : Names) → Grows s (body_entered at first is_plain s)
+entered_grows at first is_plain s = record {
   declared = same s.declared;
   uses = same s.uses;
   types = same s.type_names;
@@ -190,5 +230,5 @@ entered_grows at first s = record {
 pub left_grows : (s : Names) → Grows s (body_left s)
 left_grows s = alike s (body_left s) refl refl refl refl
 
-pub unit_grows : (s : Names) → Grows s (unit_begun s)
-unit_grows s = alike s (unit_begun s) refl refl refl refl
+pub unit_grows : (unit : ℕ) (s : Names) → Grows s (unit_begun unit s)
+unit_grows unit s = alike s (unit_begun unit s) refl refl refl refl

@@ -13,6 +13,7 @@ mod Having
 mod Growth
 mod Growing
 mod Meant
+mod Links
 mod Uses
 mod Settling
 mod Places

@@ -1,14 +1,14 @@
 -- Names that mean what has a skeleton, through each change of what is known of names.
 use Rattle.std.proofs.Common.{◌≡◌, ◌⊎◌, inl, inr, ℕ, zero, suc, Bool, true, false, List, [], ◌∷◌, ◌++◌, slice_get, length, Option, None, Some, refl, sym, ap, subst, ◌∙◌, append_assoc}
-use Rattle.std.specs.Prelude.{◌||◌, nat_eq, if◌then◌else◌}
+use Rattle.std.specs.Prelude.{◌&&◌, ◌||◌, nat_eq, if◌then◌else◌}
 use Rattle.c_words.specs.declared.kinds.Keyword.{Keyword}
 use Rattle.c_words.specs.declared.kinds.Keyword.TheVariants as keywords
 use Rattle.tape_ops.specs.declared.specifier.TagKind.{TagKind}
 use Rattle.type_table.specs.Types.{CType, pointer}
 use Rattle.name_rules.specs.Spellings.{Spelling, Place, place, Named}
-use Rattle.name_rules.specs.Scopes.{Aggregate, Body, Declared, Known, Meaning, means_type, means_thing, Names, Own, Role, Scope, Tagged, typedef_role, object_role, function_role, parameter_role, field_role, enumerator_role, body_of, bound, changed_at, declared_at, enter, inner_meaning, innermost, is_at_file, is_place, leave, lying_in, meaning_in, meaning_through, or_no_body, or_outer, outer_scopes, some_thing, thing_named, with_member, has_body, sized}
+use Rattle.name_rules.specs.Scopes.{Aggregate, Body, Declared, Known, Meaning, means_type, means_thing, Names, Own, Role, Scope, Tagged, typedef_role, object_role, function_role, parameter_role, field_role, enumerator_role, body_of, bound, changed_at, declared_at, enter, inner_meaning, innermost, is_at_file, is_place, leave, lying_in, meaning_in, meaning_through, or_no_body, or_outer, or_place, outer_scopes, some_thing, thing_named, thing_of, with_key, with_member, has_body, sized}
 use Rattle.name_rules.specs.Pieces.{is_function}
-use Rattle.name_rules.specs.Declaring.{Numbered, begun_body, begun_in, body_entered, body_left, declared_here, declared_member, declared_param, declared_some, declared_thing, declared_typedef, declaring, found_or_new, has_word, keep, linked, or_at, owner_where, scope_kept, struct_number, the_thing, type_named, unnamed_member, untagged, used}
+use Rattle.name_rules.specs.Declaring.{Numbered, begun_body, begun_in, body_entered, body_left, declared_here, declared_member, declared_param, declared_some, declared_thing, declared_typedef, declaring, found_or_new, has_word, keep, linked, opened, or_at, owner_where, scope_kept, static_where, struct_number, tag_known, the_thing, thing_where, type_named, typedef_known, unnamed_member, untagged, used}
 use Rattle.name_rules.specs.Units.{is_shared, no_names, shared, shared_name, unit_begun}
 use Rattle.name_rules.specs.Values.{known_named, member_in, own_of}
 use Rattle.meaning_laws.specs.Meanings.{Differ, KeptIs, MeaningIs, NamesAre, ThingsAre}
@@ -17,7 +17,7 @@ use Rattle.row_rules.specs.Starting.{declared_start, name_start, some_declared_s
 use Rattle.row_rules.specs.Worlds.{World, at}
 use Rattle.missing_laws.specs.Everywhere.{NamedHas}
 use Rattle.missing_laws.specs.Finding.{AreFound, Begins, FirstIsMet, IsMet, MembersBegin, NameBegins, TokenBegins, has_skeleton}
-use Rattle.missing_laws.proofs.Growth.{Behind, Grows}
+use Rattle.missing_laws.proofs.Growth.{Behind, Grows, joins, known_grows}
 use Rattle.missing_laws.proofs.Rows.{around, declared_there}
 
 abbrev own_list : Option Body → List Own
@@ -135,6 +135,17 @@ module _ (w : World) (differ : Differ w.names.declared) where
   in_things (it ∷ things) name h = picked SomeThing (nat_eq it.0 name) (Some it.1) (thing_named things name) h.0
       (in_things things name h.1)
 
+  in_things_of : (unit : ℕ) (things : List (ℕ × Place)) (name : ℕ) → ThingsAre Meant things →
+      SomeThing (thing_of unit things name)
+  in_things_of unit [] name h = tt
+  in_things_of unit (it ∷ things) name h =
+      picked SomeThing (nat_eq it.0 name && nat_eq it.1.0 unit) (Some it.1) (thing_of unit things name) h.0
+      (in_things_of unit things name h.1)
+
+  or_thing : (o p : Option Place) → SomeThing o → SomeThing p → SomeThing (or_place o p)
+  or_thing None p h k = k
+  or_thing (Some at) p h k = h
+
   or_meaning : (o p : Option Meaning) → SomeMeaning o → SomeMeaning p → SomeMeaning (or_outer o p)
   or_meaning None p h k = k
   or_meaning (Some it) p h k = h
@@ -219,6 +230,38 @@ module _ (w : World) (differ : Differ w.names.declared) where
   changed_good (x ∷ xs) zero change h g = (g (or_no_body x.body) (or_good x.body h.0), h.1)
   changed_good (x ∷ xs) (suc n) change h g = (h.0, changed_good xs n change h.1 g)
 
+  -- what a struct is known by says nothing of its members
+  keyed_good : (xs : List Aggregate) (n : ℕ) (change : Aggregate → Aggregate) →
+      ((it : Aggregate) → BodyGood it.body → BodyGood (change it).body) → AllGood xs → AllGood (changed_at xs n change)
+  keyed_good [] n change g h = tt
+  keyed_good (x ∷ xs) zero change g h = (g x h.0, h.1)
+  keyed_good (x ∷ xs) (suc n) change g h = (h.0, keyed_good xs n change g h.1)
+
+  good_key : (bs : List Bool) (n : ℕ) (by_typedef : Bool) (name : ℕ) (s : Names) → Good bs s →
+      Good bs (with_key n by_typedef name s)
+  good_key bs n by_typedef name s h = record {
+    scopes = h.scopes;
+    things = h.things;
+    round = h.round;
+    kept = h.kept;
+    members = keyed_good s.aggregates n _ (λ it good. good) h.members;
+  }
+
+  good_key_where : (b : Bool) (bs : List Bool) (n : ℕ) (by_typedef : Bool) (name : ℕ) (s : Names) → Good bs s →
+      Good bs (if b then with_key n by_typedef name s else s)
+  good_key_where true bs n by_typedef name s h = good_key bs n by_typedef name s h
+  good_key_where false bs n by_typedef name s h = h
+
+  good_tag : (bs : List Bool) (tag : Option ℕ) (n : ℕ) (s : Names) → Good bs s → Good bs (tag_known tag n s)
+  good_tag bs None n s h = h
+  good_tag bs (Some tag) n s h = good_key_where (is_at_file s) bs n false tag s h
+
+  good_known : (bs : List Bool) (words : List Keyword) (name : ℕ) (untagged : Option ℕ) (s : Names) → Good bs s →
+      Good bs (typedef_known words name untagged s)
+  good_known bs words name None s h = h
+  good_known bs words name (Some n) s h =
+      good_key_where (has_word keywords.Typedef words && is_at_file s) bs n true name s h
+
   own_more : (xs : List Own) (it : Own) → OwnGood xs → Begins w it.at (pointer [] it.type) → OwnGood (xs ++ it ∷ [])
   own_more [] it h k = (k, tt)
   own_more (x ∷ xs) it h k = (h.0, own_more xs it h.1 k)
@@ -258,9 +301,18 @@ module _ (w : World) (differ : Differ w.names.declared) where
     members = all_more s.aggregates _ h.members tt;
   }
 
-  pub good_begun : (bs : List Bool) (b : Bool) (at : Place) (kind : TagKind) (it : Numbered) → Good bs it.names →
-      Good bs (begun_in b at kind it).names
-  good_begun bs true at kind it h = record {
+  good_opened : (bs : List Bool) (n : ℕ) (s : Names) → Good bs s → Good bs (opened n s)
+  good_opened bs n s h = record {
+    scopes = h.scopes;
+    things = h.things;
+    round = h.round;
+    kept = h.kept;
+    members = changed_good s.aggregates n (λ body. body) h.members (λ body good. good);
+  }
+
+  pub good_begun : (bs : List Bool) (b : Bool) (at : Place) (kind : TagKind) (tag : Option ℕ) (it : Numbered) →
+      Good bs it.names → Good bs (begun_in b at kind tag it).names
+  good_begun bs true at kind tag it h = record {
     scopes = h.scopes;
     things = h.things;
     round = h.round;
@@ -268,17 +320,12 @@ module _ (w : World) (differ : Differ w.names.declared) where
     members = changed_good _ (length it.names.aggregates) (λ body. body) (all_more it.names.aggregates _ h.members tt)
         (λ body good. good);
   }
-  good_begun bs false at kind it h = record {
-    scopes = h.scopes;
-    things = h.things;
-    round = h.round;
-    kept = h.kept;
-    members = changed_good it.names.aggregates it.number (λ body. body) h.members (λ body good. good);
-  }
+  good_begun bs false at kind tag it h =
+      good_tag bs tag it.number (opened it.number it.names) (good_opened bs it.number it.names h)
 
-  pub good_body : (bs : List Bool) (at : Place) (kind : TagKind) (it : Numbered) → Good bs it.names →
-      Good bs (begun_body at kind it).names
-  good_body bs at kind it h = good_begun bs (has_body (body_of it.names.aggregates it.number)) at kind it h
+  pub good_body : (bs : List Bool) (at : Place) (kind : TagKind) (tag : Option ℕ) (it : Numbered) → Good bs it.names →
+      Good bs (begun_body at kind tag it).names
+  good_body bs at kind tag it h = good_begun bs (has_body (body_of it.names.aggregates it.number)) at kind tag it h
 
   -- other changes
 
@@ -338,17 +385,53 @@ module _ (w : World) (differ : Differ w.names.declared) where
 
   pub linked_meant : (bs : List Bool) (at : Place) (name : ℕ) (s : Names) → Good bs s → Meant at →
       Meant (linked name at s)
-  linked_meant bs at name s h k = linked_at (thing_named s.things name) at (in_things s.things name h.things) k
+  linked_meant bs at name s h k =
+      linked_at (or_place (thing_of at.0 s.things name) (thing_of 0 s.things name)) at
+      (or_thing (thing_of at.0 s.things name) (thing_of 0 s.things name) (in_things_of at.0 s.things name h.things)
+      (in_things_of 0 s.things name h.things)) k
 
-  pub good_thing : (b : Bool) (bs : List Bool) (at : Place) (name : ℕ) (t : CType) (s : Names) → Meant at →
-      Good (b ∷ bs) s → Good (b ∷ bs) (declared_thing at name t s)
-  good_thing b bs at name t s k h =
+  good_new : (bs : List Bool) (is_new : Bool) (name : ℕ) (at : Place) (s : Names) → Meant at → Good bs s →
+      Good bs (thing_where is_new name at s)
+  good_new bs false name at s k h = h
+  good_new bs true name at s k h = record {
+    scopes = h.scopes;
+    things = (k, h.things);
+    round = h.round;
+    kept = h.kept;
+    members = h.members;
+  }
+
+  good_static : (bs : List Bool) (is_static : Bool) (unit name : ℕ) (s : Names) → Good bs s →
+      Good bs (static_where is_static unit name s)
+  good_static bs false unit name s h = h
+  good_static bs true unit name s h = record {
+    scopes = h.scopes;
+    things = h.things;
+    round = h.round;
+    kept = h.kept;
+    members = h.members;
+  }
+
+  -- before an object or function of the file is declared
+  abbrev pub with_thing : List Keyword → Place → ℕ → Names → Names
+  with_thing words at name s =
+      static_where (has_word keywords.Static words) at.0 name (thing_where (is_place (linked name at s) at) name at s)
+
+  good_with_thing : (bs : List Bool) (words : List Keyword) (at : Place) (name : ℕ) (s : Names) → Meant at →
+      Good bs s → Good bs (with_thing words at name s)
+  good_with_thing bs words at name s k h =
+      good_static bs (has_word keywords.Static words) at.0 name _ (good_new bs (is_place (linked name at s) at) name at s k h)
+
+  pub good_thing : (b : Bool) (bs : List Bool) (words : List Keyword) (at : Place) (name : ℕ) (t : CType) (s : Names) →
+      Meant at → Good (b ∷ bs) s → Good (b ∷ bs) (declared_thing words at name t s)
+  good_thing b bs words at name t s k h =
+      let old = good_with_thing (b ∷ bs) words at name s k h in
       good_bound b bs name (means_thing (linked name at s)) _ (λ e. linked_meant (b ∷ bs) at name s h k) (record {
-        scopes = h.scopes;
-        things = (linked_meant (b ∷ bs) at name s h k, h.things);
-        round = h.round;
-        kept = h.kept;
-        members = h.members;
+        scopes = old.scopes;
+        things = old.things;
+        round = old.round;
+        kept = old.kept;
+        members = old.members;
       })
 
   pub good_typedef : (b : Bool) (bs : List Bool) (at : Place) (name : ℕ) (t : CType) (s : Names) →
@@ -408,9 +491,9 @@ module _ (w : World) (differ : Differ w.names.declared) where
   kept_are None scopes k h = one_is scopes h
   kept_are (Some scope) scopes k h = (λ e. k, h)
 
-  pub good_entered : (at first : Place) (s : Names) → Good (true ∷ []) s →
-      Good (true ∷ true ∷ []) (body_entered at first s)
-  good_entered at first s h = record {
+  pub good_entered : (at first : Place) (is_plain : Bool) (s : Names) → Good (true ∷ []) s →
+      Good (true ∷ true ∷ []) (body_entered at first is_plain s)
+  good_entered at first is_plain s h = record {
     scopes = kept_are s.kept s.scopes h.kept h.scopes;
     things = h.things;
     round = h.round;
@@ -444,7 +527,7 @@ module _ (w : World) (differ : Differ w.names.declared) where
   own_at (x ∷ xs) zero it h e = let same : x ≡ it = cc in subst (λ (y : Own). Begins w y.at (pointer [] y.type)) same h.0
   own_at (x ∷ xs) (suc i) it h e = own_at xs i it h.1 e
 
-  body_known : (o : Option Body) (name : ℕ) (it : Known) → BodyGood o → member_in o name ≡ Some it →
+  pub body_known : (o : Option Body) (name : ℕ) (it : Known) → BodyGood o → member_in o name ≡ Some it →
       Begins w it.at (pointer [] it.type)
   body_known None name it h e = absurd cc
   body_known (Some body) name it h e = known_at body.known name it h.1 e
@@ -481,13 +564,13 @@ module _ (w : World) (differ : Differ w.names.declared) where
   all_shared s (it ∷ names) h = no_scopes (shared_name s it.0 it.1) _ (name_shared s it.0 it.1 h.0)
       (all_shared s names h.1)
 
-  pub good_unit : (s : Names) → Good (true ∷ []) s → Good (true ∷ []) (unit_begun s)
-  good_unit s h = record {
+  pub good_unit : (unit : ℕ) (s : Names) → Good (true ∷ []) s → Good (true ∷ []) (unit_begun unit s)
+  good_unit unit s h = record {
     scopes = (λ e. tt, tt);
     things = h.things;
     kept = h.kept;
     members = h.members;
-    round = no_scopes (shared s (innermost s.scopes).names) s.round
+    round = picked (ThingsAre Meant) (nat_eq unit 1) (shared s (innermost s.scopes).names) s.round
         (all_shared s (innermost s.scopes).names (innermost_are true [] s.scopes refl h.scopes)) h.round;
   }
 
@@ -541,14 +624,13 @@ module _ (w : World) (differ : Differ w.names.declared) where
       AreFound w (name_start (around w q f) token) → Meant (at w token)
   meant_there q f token d there is h = (d, there, named_as d d.role refl is (begins_there q f token d there is h))
 
-  abbrev pub thing_d : Place → ℕ → CType → Names → Declared
-  thing_d at name t s = record {
+  abbrev pub thing_d : List Keyword → Place → ℕ → CType → Names → Declared
+  thing_d words at name t s = record {
     at = at;
     role = if is_function t then function_role else object_role;
     first = linked name at s;
     type = t;
-    owner = owner_where (record s { things = (name, linked name at s) ∷ s.things }) (linked name at s) at
-        (if is_function t then Some at else None);
+    owner = owner_where (with_thing words at name s) (linked name at s) at (if is_function t then Some at else None);
   }
 
   abbrev pub here_d : Place → ℕ → Role → CType → Option Place → Names → Declared
@@ -560,23 +642,25 @@ module _ (w : World) (differ : Differ w.names.declared) where
     owner = owner_where s (the_thing (inner_meaning s name) at) at own;
   }
 
-  pub thing_there : (at : Place) (name : ℕ) (t : CType) (s : Names) → Grows (declared_thing at name t s) S →
-      declared_at S.declared at ≡ Some (thing_d at name t s)
-  thing_there at name t s g = found_there s.declared _ (thing_d at name t s) refl g.declared
+  pub thing_there : (words : List Keyword) (at : Place) (name : ℕ) (t : CType) (s : Names) →
+      Grows (declared_thing words at name t s) S → declared_at S.declared at ≡ Some (thing_d words at name t s)
+  thing_there words at name t s g =
+      found_there (with_thing words at name s).declared _ (thing_d words at name t s) refl g.declared
 
   pub here_there : (at : Place) (name : ℕ) (role : Role) (t : CType) (own : Option Place) (s : Names) →
       Grows (declared_here at name role t own s) S → declared_at S.declared at ≡ Some (here_d at name role t own s)
   here_there at name role t own s g = found_there s.declared _ (here_d at name role t own s) refl g.declared
 
   -- an object or function of the file
-  pub thing_good : (q : Bool) (f : Option Place) (b : Bool) (bs : List Bool) (token name : ℕ) (t : CType) (s : Names) →
-      Grows (declared_thing (at w token) name t s) S → AreFound w (name_start (around w q f) token) → Good (b ∷ bs) s →
-      Good (b ∷ bs) (declared_thing (at w token) name t s) × (FirstIsMet w token × TokenBegins w token)
-  thing_good q f b bs token name t s g found h =
-      let there = thing_there (at w token) name t s g in
-      let d = thing_d (at w token) name t s in
+  pub thing_good : (q : Bool) (f : Option Place) (b : Bool) (bs : List Bool) (words : List Keyword) (token name : ℕ)
+      (t : CType) (s : Names) → Grows (declared_thing words (at w token) name t s) S →
+      AreFound w (name_start (around w q f) token) → Good (b ∷ bs) s →
+      Good (b ∷ bs) (declared_thing words (at w token) name t s) × (FirstIsMet w token × TokenBegins w token)
+  thing_good q f b bs words token name t s g found h =
+      let there = thing_there words (at w token) name t s g in
+      let d = thing_d words (at w token) name t s in
       let means_it = meant_there q f token d there (thing_has (is_function t)) found in (
-        good_thing b bs (at w token) name t s means_it h,
+        good_thing b bs words (at w token) name t s means_it h,
         (
           first_met token d there (λ is. met d.first (linked_meant (b ∷ bs) (at w token) name s h means_it)),
           (pointer [] t, begins_there q f token d there (thing_has (is_function t)) found),
@@ -634,13 +718,15 @@ module _ (w : World) (differ : Differ w.names.declared) where
       (good_sized (c ∷ bs) (at w it.token) t s h)
 
   -- a name of a declaration
-  pub some_good : (q : Bool) (f : Option Place) (bs : List Bool) (it : Option Named) (words : List Keyword) (t : CType)
-      (s : Names) → Grows (declared_some w.spelling it words t s) S →
+  pub some_good : (q : Bool) (f : Option Place) (bs : List Bool) (untagged : Option ℕ) (it : Option Named)
+      (words : List Keyword) (t : CType) (s : Names) → Grows (declared_some w.spelling untagged it words t s) S →
       ((name : Named) → it ≡ Some name → AreFound w (name_start (around w q f) name.token)) → Good (true ∷ bs) s →
-      Good (true ∷ bs) (declared_some w.spelling it words t s) × NamedHas (FirstIsMet w) it
-  some_good q f bs None words t s g found h = (h, tt)
-  some_good q f bs (Some it) words t s g found h =
-      by (has_word keywords.Typedef words) (is_at_file old || (is_function t || has_word keywords.Extern words)) g
+      Good (true ∷ bs) (declared_some w.spelling untagged it words t s) × NamedHas (FirstIsMet w) it
+  some_good q f bs untagged None words t s g found h = (h, tt)
+  some_good q f bs untagged (Some it) words t s g found h =
+      let one = by (has_word keywords.Typedef words) (is_at_file old || (is_function t || has_word keywords.Extern words))
+      (joins (known_grows words key untagged _) g) in
+      (good_known (true ∷ bs) words key untagged _ one.0, one.1)
     where
       old : Names
       old = sized (at w it.token) t s
@@ -654,18 +740,15 @@ module _ (w : World) (differ : Differ w.names.declared) where
       before : Good (true ∷ bs) old
       before = good_sized (true ∷ bs) (at w it.token) t s h
 
-      new : Bool → Bool → Names
-      new b c = if b then declared_typedef (at w it.token) key t old else if c then declared_thing (at w it.token) key t old
-          else declared_here (at w it.token) key object_role t own old
-
       by : (b c : Bool) → Grows (if b then declared_typedef (at w it.token) key t old
-          else if c then declared_thing (at w it.token) key t old
+          else if c then declared_thing words (at w it.token) key t old
           else declared_here (at w it.token) key object_role t own old) S →
           Good (true ∷ bs) (if b then declared_typedef (at w it.token) key t old
-          else if c then declared_thing (at w it.token) key t old
+          else if c then declared_thing words (at w it.token) key t old
           else declared_here (at w it.token) key object_role t own old) × FirstIsMet w it.token
       by true c g = typedef_good true bs it.token key t old g before
-      by false true g = let one = thing_good q f true bs it.token key t old g (found it refl) before in (one.0, one.1.0)
+      by false true g =
+          let one = thing_good q f true bs words it.token key t old g (found it refl) before in (one.0, one.1.0)
       by false false g = object_good q f bs it.token key t own old g (found it refl) before
 
   -- members

@@ -8,10 +8,11 @@ use Rattle.c_tree.specs.WellFormed.{AreBlockItems}
 use Rattle.type_table.specs.Types.{base}
 use Rattle.name_rules.specs.Spellings.{Named, Place, Spelling, place}
 use Rattle.name_rules.specs.Scopes.{Names}
+use Rattle.name_rules.specs.Linking.{body_faults}
 use Rattle.name_rules.specs.Units.{no_names, unit_begun}
 use Rattle.meaning_laws.specs.Meanings.{Differ}
 use Rattle.type_rules.specs.Tokens.{declared_name}
-use Rattle.type_rules.specs.Naming.{function_by, item_named, items_named}
+use Rattle.type_rules.specs.Naming.{said_words, function_by, item_named, items_named}
 use Rattle.type_rules.specs.Judging.{items_faults_of}
 use Rattle.type_rules.specs.Program.{HasNoFault, Source, judged, names_of, sources_named}
 use Rattle.row_rules.specs.Starting.{Start, declared_function, of_function, with_skeleton}
@@ -30,6 +31,7 @@ use Rattle.missing_laws.proofs.Parts.{name_found}
 use Rattle.missing_laws.proofs.Growth.{Grows, stays, joins, sized_grows, thing_grows, entered_grows, left_grows, unit_grows}
 use Rattle.missing_laws.proofs.Growing.{block_items_grow, declr_grows, items_grow}
 use Rattle.missing_laws.proofs.Meant.{Good, good_entered, good_left, good_none, good_sized, good_unit, members_begin, thing_good}
+use Rattle.missing_laws.proofs.Links.{links_met}
 use Rattle.missing_laws.proofs.Uses.{UsesDiffer, named_round}
 use Rattle.missing_laws.proofs.Settling.{block_items_ok, decl_ok, declr_ok, words_ok}
 use Rattle.missing_laws.proofs.Places.{all_found, declared_differ, uses_differ}
@@ -66,17 +68,17 @@ module _ (w : World) (differ : Differ w.names.declared) (uses : UsesDiffer w.nam
       never e = absurd cc
   function_ok ws d items f (Some it) s e some wf fw fd fi g h =
       let gl = joins (left_grows _) g in
-      let gt = joins (entered_grows (place u it.token) _ _) (joins (block_items_grow u items _) gl) in
+      let gt = joins (entered_grows (place u it.token) _ _ _) (joins (block_items_grow u items _) gl) in
       let gd = joins (sized_grows (place u it.token) _ _)
-      (joins (thing_grows (place u it.token) (u.key it.name) _ _) gt) in
+      (joins (thing_grows (said_words ws) (place u it.token) (u.key it.name) _ _) gt) in
       let one = words_ok w differ uses clean all None false false ws (base []) [] true [] s fw
       (joins (declr_grows u _ d _) gd) h in
       let two = declr_ok w differ uses clean all None false _ with_skeleton (of_function f) d true [] _ tt fd gd one.0 in
-      let three = thing_good w differ false None true [] it.token (u.key it.name) _ _ gt
+      let three = thing_good w differ false None true [] (said_words ws) it.token (u.key it.name) _ _ gt
       (name_found w (loud w None) with_skeleton (of_function f) d it e fd)
       (good_sized w differ (true ∷ []) (place u it.token) _ _ two.0) in
       let four = block_items_ok w differ uses clean all f false items (true ∷ []) _ (λ is. (refl, tt)) (λ is. wf) fi gl
-      (good_entered w differ (place u it.token) _ _ three.0) in
+      (good_entered w differ (place u it.token) _ _ _ three.0) in
       (good_left w differ true (true ∷ []) _ four.0, (three.1.1, (three.1.0, (one.1, (two.1, four.1 refl)))))
 
   item_ok : (item : Item) (s : Names) → IsItem all item → AreFound w (item_starts u w.names item) →
@@ -105,7 +107,7 @@ module _ (w : World) (differ : Differ w.names.declared) (uses : UsesDiffer w.nam
 
 sources_grow : (sources : List Source) (s : Names) → Grows s (sources_named sources s)
 sources_grow [] s = stays s
-sources_grow (it ∷ sources) s = joins (unit_grows s) (joins (items_grow it.spelling it.items _) (sources_grow sources _))
+sources_grow (it ∷ sources) s = joins (unit_grows it.spelling.unit s) (joins (items_grow it.spelling it.items _) (sources_grow sources _))
 
 module _ (p : Program) (formed : AreFormed p.sources) (no_fault : HasNoFault p.sources)
     (places : PlacesDiffer p.sources) where
@@ -119,7 +121,7 @@ module _ (p : Program) (formed : AreFormed p.sources) (no_fault : HasNoFault p.s
   uses = uses_differ S.uses places.uses
 
   clean : S.faults ≡ []
-  clean = first_none S.faults (judged p.sources S) no_fault
+  clean = first_none S.faults (body_faults S ++ judged p.sources S) no_fault
 
   -- names are good for each unit alike
   abbrev GoodFor : Source → Names → Type 0
@@ -153,10 +155,10 @@ module _ (p : Program) (formed : AreFormed p.sources) (no_fault : HasNoFault p.s
   run [] last xs s wf e is h = (subst (GoodFor last) is h, tt)
   run (it ∷ sources) last xs s wf e is h =
       let w = world_of p it in
-      let next = items_named it.spelling it.items (unit_begun s) in
+      let next = items_named it.spelling it.items (unit_begun it.spelling.unit s) in
       let grown = subst (Grows next) is (sources_grow sources next) in
-      let one = items_ok w differ uses clean wf.0.0 it.items (unit_begun s) wf.0.1.parts (found_of xs it sources e) grown
-      (good_unit w differ s (moved last it s h)) in
+      let one = items_ok w differ uses clean wf.0.0 it.items (unit_begun it.spelling.unit s) wf.0.1.parts
+      (found_of xs it sources e) grown (good_unit w differ it.spelling.unit s (moved last it s h)) in
       let two = run sources last (xs ++ items_starts it.spelling S it.items) next wf.1
       (e ∙ sym (append_assoc xs (items_starts it.spelling S it.items) (starts_among S sources))) is
       (moved it last next one.0) in
@@ -172,6 +174,7 @@ module _ (p : Program) (formed : AreFormed p.sources) (no_fault : HasNoFault p.s
       settled = has.0;
       starts = found_of xs it sources e;
       members = members_begin (world_of p it) differ (moved last it S h).members;
+      links = links_met (world_of p it) differ (moved last it S h).things (moved last it S h).members;
     },
     settle last sources (xs ++ items_starts it.spelling S it.items)
         (e ∙ sym (append_assoc xs (items_starts it.spelling S it.items) (starts_among S sources)))
@@ -182,7 +185,9 @@ module _ (p : Program) (formed : AreFormed p.sources) (no_fault : HasNoFault p.s
   whole [] e = subst (EachSettled p) (sym e) tt
   whole (it ∷ sources) e =
       let done = run p.sources it [] no_names formed refl refl (good_none (world_of p it) differ) in
-      settle it p.sources [] refl (last_none S.faults (judged p.sources S) no_fault) done.1 done.0
+      settle it p.sources [] refl
+      (last_none (body_faults S) (judged p.sources S) (last_none S.faults (body_faults S ++ judged p.sources S) no_fault))
+      done.1 done.0
 
 pub programs_are_settled : (p : Program) → IsAccepted p → EachSettled p p.sources
 programs_are_settled p h = whole p h.0 h.1 h.2 p.sources refl
@@ -203,7 +208,7 @@ each_misses : (p : Program) (sources : List Source) → EachSettled p sources �
 each_misses p [] h = tt
 each_misses p (it ∷ sources) h =
     let w = world_of p it in (
-      missing_nothing w it.items h.0.members h.0.settled
+      missing_nothing w it.items h.0.members h.0.links h.0.settled
           (items_typed_of w (TokenBegins w) (FirstIsMet w) it.items h.0.settled h.0.clean) h.0.starts,
       each_misses p sources h.1,
     )

@@ -1,5 +1,5 @@
 -- Rows that are the same whatever stands behind the skeletons of a world.
-use Rattle.std.proofs.Common.{◌≡◌, inl, inr, ℕ, zero, suc, Bool, true, false, List, [], ◌∷◌, ◌++◌, slice_get, Option, None, Some, refl, sym, ap, subst, ◌∙◌}
+use Rattle.std.proofs.Common.{◌≡◌, ◌⊎◌, inl, inr, ℕ, zero, suc, Bool, true, false, List, [], ◌∷◌, ◌++◌, slice_get, Option, None, Some, refl, sym, ap, subst, ◌∙◌}
 use Rattle.std.specs.Prelude.{◌&&◌, ◌||◌, not, if◌then◌else◌}
 use Rattle.qual_base.specs.declared.places.Span.{Span}
 use Rattle.flow_graph.specs.declared.constraint.Constraint.{Constraint}
@@ -11,16 +11,17 @@ use Rattle.flow_rules.specs.Lists.{equal, flow}
 use Rattle.flow_rules.specs.declared.arrow.Arrow.TheVariants.{Flow}
 use Rattle.name_rules.specs.Spellings.{Place}
 use Rattle.name_rules.specs.Scopes.{Role, typedef_role, object_role, function_role, parameter_role, field_role, enumerator_role, Declared, declared_at, Known, Own, body_of, is_place}
+use Rattle.name_rules.specs.Linking.{link_of}
 use Rattle.name_rules.specs.Values.{member_in, own_of, own_number}
 use Rattle.meaning_laws.proofs.Lists.{place_is}
 use Rattle.row_rules.specs.Annotations.{annotating, parameters}
 use Rattle.row_rules.specs.Forming.{Ways, ways_in, into_member, into_members, into_fields, formed_in, all_formed_in, formed}
-use Rattle.row_rules.specs.Rows.{annotating_name, branched, chosen, declared_row, formed_name, into_param, name_row, next_of_struct, own_skel, param_row, some_declared_row, tied_to_first}
+use Rattle.row_rules.specs.Rows.{annotating_name, branched, chosen, declared_row, formed_name, into_param, name_row, next_of_struct, own_skel, param_row, some_declared_row, equal_to, tied_to_first}
 use Rattle.row_rules.specs.Indexing.{indexing}
 use Rattle.row_rules.specs.Starting.{is_some_function, Around, name_start, declared_start, some_declared_start}
 use Rattle.row_rules.specs.Vals.{contents, is_nothing, known_skeleton, member_of, member_skel, own}
 use Rattle.row_rules.specs.Worlds.{World, Numbered, at, in_all, skeleton, skeleton_among, word_span}
-use Rattle.missing_laws.specs.Finding.{AreFound, Avoids, Begins, FirstIsMet, IsMet, MembersBegin, has_skeleton}
+use Rattle.missing_laws.specs.Finding.{AreFound, Avoids, Begins, FirstIsMet, IsMet, LinksAreMet, MembersBegin, has_skeleton}
 use Rattle.missing_laws.proofs.Found.{Further, world, begins}
 use Rattle.missing_laws.proofs.Marks.{ap2, joined, annotating_is, indexing_is}
 
@@ -141,43 +142,56 @@ module _ (w : World) (members : MembersBegin w) (k l : Further) (ka : Avoids w k
 
   abbrev tied : Declared → Skel → Skel → List Constraint
   tied d s t =
-      if is_place d.first d.at || (is_nothing s || is_nothing t) then []
+      if is_place (equal_to w d) d.at || (is_nothing s || is_nothing t) then []
       else in_all w (word_span d.at) (equal Flow true s t)
 
-  tied_same : (d : Declared) → skeleton wk d.at ≡ skeleton wl d.at → skeleton wk d.first ≡ skeleton wl d.first →
-      tied_to_first wk d ≡ tied_to_first wl d
+  tied_same : (d : Declared) → skeleton wk d.at ≡ skeleton wl d.at →
+      skeleton wk (equal_to w d) ≡ skeleton wl (equal_to w d) → tied_to_first wk d ≡ tied_to_first wl d
   tied_same d e is = ap2 (tied d) _ _ _ _ is e
+
+  -- what a declaration is as
+  equal_met : LinksAreMet w → (d : Declared) → IsMet w d.first → IsMet w d.at → IsMet w (equal_to w d)
+  equal_met links d first here = by (is_place d.first d.at)
+    where
+      linked : (link_of w.names d.at ≡ d.at) ⊎ IsMet w (link_of w.names d.at) → IsMet w (link_of w.names d.at)
+      linked (inl e) = subst (λ (p : Place). IsMet w p) (sym e) here
+      linked (inr h) = h
+
+      by : (b : Bool) → IsMet w (if b then link_of w.names d.at else d.first)
+      by true = linked (links d.at)
+      by false = first
 
   formed_name_same : (d : Declared) → skeleton wk d.at ≡ skeleton wl d.at → formed_name wk d ≡ formed_name wl d
   formed_name_same d e = formed_same (word_span d.at) _ _ e
 
-  name_row_same : (d : Declared) → IsMet w d.first → Begins w d.at (pointer [] d.type) → name_row wk d ≡ name_row wl d
-  name_row_same d met h =
+  name_row_same : LinksAreMet w → (d : Declared) → IsMet w d.first → Begins w d.at (pointer [] d.type) →
+      name_row wk d ≡ name_row wl d
+  name_row_same links d met h =
       let e = found_same d.at (pointer [] d.type) h in
       joined _ _ _ _ (formed_name_same d e) (joined _ _ _ _ (annotating_same d e) (joined _ _ _ _
       (ap (λ s. indexing wk (pointer [] d.type) s) e ∙ indexing_is w k l (pointer [] d.type) (skeleton wl d.at))
-      (tied_same d e (met_same d.first met))))
+      (tied_same d e (met_same (equal_to w d) (equal_met links d met (inl (pointer [] d.type, h)))))))
 
-  declared_same : (f : Option Place) (d : Declared) (role : Role) → d.role ≡ role →
+  declared_same : LinksAreMet w → (f : Option Place) (d : Declared) (role : Role) → d.role ≡ role →
       (has_skeleton d.role ≡ true → IsMet w d.first) → AreFound w (declared_start w.names f d role) →
       declared_row wk d role ≡ declared_row wl d role
-  declared_same f d typedef_role is met h = refl
-  declared_same f d enumerator_role is met h = refl
-  declared_same f d object_role is met h = name_row_same d (met (ap has_skeleton is)) h.0.0
-  declared_same f d function_role is met h = name_row_same d (met (ap has_skeleton is)) h.0.0
-  declared_same f d (parameter_role i) is met h = name_row_same d (met (ap has_skeleton is)) h.0.0
-  declared_same f d (field_role n i) is met h = name_row_same d (met (ap has_skeleton is)) h.0.0
+  declared_same links f d typedef_role is met h = refl
+  declared_same links f d enumerator_role is met h = refl
+  declared_same links f d object_role is met h = name_row_same links d (met (ap has_skeleton is)) h.0.0
+  declared_same links f d function_role is met h = name_row_same links d (met (ap has_skeleton is)) h.0.0
+  declared_same links f d (parameter_role i) is met h = name_row_same links d (met (ap has_skeleton is)) h.0.0
+  declared_same links f d (field_role n i) is met h = name_row_same links d (met (ap has_skeleton is)) h.0.0
 
-  pub row_same : (q : Bool) (f : Option Place) (token : ℕ) → FirstIsMet w token →
+  pub row_same : LinksAreMet w → (q : Bool) (f : Option Place) (token : ℕ) → FirstIsMet w token →
       AreFound w (name_start (around w q f) token) →
       some_declared_row wk (declared_at w.names.declared (at w token))
       ≡ some_declared_row wl (declared_at w.names.declared (at w token))
-  row_same q f token met h = by (declared_at w.names.declared (at w token)) refl h
+  row_same links q f token met h = by (declared_at w.names.declared (at w token)) refl h
     where
       by : (o : Option Declared) → declared_at w.names.declared (at w token) ≡ o →
           AreFound w (some_declared_start w.names f o) → some_declared_row wk o ≡ some_declared_row wl o
       by None there h = refl
-      by (Some d) there h = declared_same f d d.role refl (met d there) h
+      by (Some d) there h = declared_same links f d d.role refl (met d there) h
 
   at_role : (p : Place) (f : Option Place) (d : Declared) (role : Role) → d.role ≡ role →
       declared_at w.names.declared p ≡ Some d → AreFound w (declared_start w.names f d role) →

@@ -5,14 +5,12 @@ use Rattle.c_syntax.specs.declared.parts.Identifier.{Identifier}
 use Rattle.tape_ops.specs.declared.specifier.TagKind.{TagKind}
 use Rattle.tape_ops.specs.declared.specifier.TagKind.TheVariants as tags
 use Rattle.c_tree.specs.Tree.{Expr, operation, cast, prefix, sizeof_value, sizeof_type, extension, index, call, dot, arrow, post, compound, name_use, number_use, char_use, text_use, paren, statement_expr, va_arg, va_start, va_copy, offset, comma, assign, cond, binary, SomeExpr, no_expr, some_expr, Exprs, no_exprs, more_exprs, SpecWords, no_words, more_words, SpecWord, storage, thread, inline_word, noreturn, qualifier, basic, struct_type, enum_type, typedef_name, attribute, SomeBody, no_body, some_body, StructItems, no_struct_items, more_struct_items, StructItem, member, member_semi, member_assert, MemDeclrs, no_mem_declrs, more_mem_declrs, MemDeclr, named, unnamed, SomeValue, no_value, some_value, EnumType, enum_of, no_enum_body, some_enum_body, Enumerators, no_enumerators, more_enumerators, Declr, pointer, declr_name, declr_paren, array, params, abs_pointer, abs_paren, abs_array, abs_params, SomeDeclr, no_declr, some_declr, SomeSize, no_size, some_size, size_value, size_star, Params, no_params, more_params, Init, init_value, init_braced, InitList, init_list, InitItems, no_init_items, more_init_items, Desigs, no_desigs, more_desigs, member_desig, index_desig, SomeInit, no_init, some_init, InitDeclrs, no_init_declrs, more_init_declrs, Declaration, declaration, Decl, decl_declaration, decl_assert, BlockItems, no_block_items, more_block_items, BlockItem, block_decl, block_stmt, Stmt, block, expr_stmt, attr_stmt, label, case_stmt, default_stmt, if_stmt, switch_stmt, while_stmt, do_stmt, for_stmt, goto_stmt, continue_stmt, break_stmt, return_stmt, asm_stmt, SomeElse, no_else, some_else, ForStart, start_declaration, start_value}
-use Rattle.c_tree.specs.Specifiers.{storage_words}
 use Rattle.type_table.specs.Types.{Words, CType, base}
 use Rattle.name_rules.specs.Spellings.{Spelling, Place, place}
 use Rattle.name_rules.specs.Scopes.{enumerator_role, Names, meaning}
-use Rattle.name_rules.specs.Declaring.{used, type_named, own_where}
+use Rattle.name_rules.specs.Declaring.{used, type_named, untagged_number, own_where}
 use Rattle.type_rules.specs.Tokens.{first_word, declared_name, some_declared_name, is_bare}
-use Rattle.type_rules.specs.Naming.{tag_kind, tag_named, body_begun, unnamed_by, unnamed_among, is_tag_alone, words_behind, expr_named, some_expr_named, exprs_named, words_named, word_named, struct_named, struct_items_named, struct_item_named, unnamed_where, mem_declrs_named, mem_declr_named, some_value_named, enum_named, enumerators_named, declr_named, some_declr_named, some_size_named, params_named, init_named, init_list_named, init_items_named, desigs_named, some_init_named, init_declrs_named, declaration_named, decl_named, block_items_named, block_item_named, stmt_named, some_else_named, for_start_named}
-use Rattle.std.specs.Prelude.{◌+◌}
+use Rattle.type_rules.specs.Naming.{tag_kind, tag_named, body_begun, unnamed_by, unnamed_among, is_tag_alone, said_words, has_untagged, words_behind, expr_named, some_expr_named, exprs_named, words_named, word_named, struct_named, struct_items_named, struct_item_named, unnamed_where, mem_declrs_named, mem_declr_named, some_value_named, enum_named, enumerators_named, declr_named, some_declr_named, some_size_named, params_named, init_named, init_list_named, init_items_named, desigs_named, some_init_named, init_declrs_named, declaration_named, decl_named, block_items_named, block_item_named, stmt_named, some_else_named, for_start_named}
 use Rattle.c_tree.specs.declared.lexeme.Lexeme.{Lexeme}
 use Rattle.c_tree.specs.WellFormed.{IsExpr, IsSomeExpr, AreArguments, IsInit, IsInitList, AreInitItems, IsSomeInit, AreInitDeclrs, IsDeclaration, IsDecl, AreBlockItems, IsBlockItem, IsStmt, IsOther, IsStart}
 use Rattle.type_table.specs.Types.{pointer}
@@ -144,9 +142,10 @@ module _ (w : World) (differ : Differ w.names.declared) (uses_differ : UsesDiffe
 
   begun_good : (b : Bool) (bs : List Bool) (kind : TagKind) (keyword : ℕ) (tag : Option Identifier) (s : Names) →
       G (b ∷ bs) s → G (b ∷ bs) (body_begun u kind keyword tag s).names
-  begun_good b bs kind keyword None s h = good_body w differ (b ∷ bs) (place u keyword) kind _
+  begun_good b bs kind keyword None s h = good_body w differ (b ∷ bs) (place u keyword) kind None _
       (good_untagged w differ (b ∷ bs) (place u keyword) kind s h)
-  begun_good b bs kind keyword (Some tag) s h = good_body w differ (b ∷ bs) (place u tag.token) kind _
+  begun_good b bs kind keyword (Some tag) s h = good_body w differ (b ∷ bs) (place u tag.token) kind
+      (Some (u.key tag.name)) _
       (good_found w differ b bs _ u kind tag.token tag.name s h)
 
   module _ (f : Option Place) where
@@ -563,23 +562,24 @@ module _ (w : World) (differ : Differ w.names.declared) (uses_differ : UsesDiffe
       some_init_ok q no_init b bs s l wf found g h = (h, λ is. tt)
       some_init_ok q (some_init equal it) b bs s l wf found g h = init_ok q it b bs s l wf found g h
 
-      init_declrs_ok : (q : Bool) (words : List Keyword) (t : CType) (ds : InitDeclrs) (bs : List Bool) (s : Names) →
-          Loud q bs → (q ≡ false → AreInitDeclrs all ds) → AreFound w (init_declrs_starts (a q) ds) →
-          Grows (init_declrs_named u words t ds s) S → G (true ∷ bs) s →
-          G (true ∷ bs) (init_declrs_named u words t ds s) × (q ≡ false → InitDeclrsHave P U V ds)
-      init_declrs_ok q words t no_init_declrs bs s l wf found g h = (h, λ is. tt)
-      init_declrs_ok q words t (more_init_declrs attrs d asm_label attrs2 it ds) bs s l wf found g h =
+      init_declrs_ok : (q : Bool) (words : List Keyword) (is_untagged : Bool) (t : CType) (ds : InitDeclrs)
+          (bs : List Bool) (s : Names) → Loud q bs → (q ≡ false → AreInitDeclrs all ds) →
+          AreFound w (init_declrs_starts (a q) ds) → Grows (init_declrs_named u words is_untagged t ds s) S →
+          G (true ∷ bs) s →
+          G (true ∷ bs) (init_declrs_named u words is_untagged t ds s) × (q ≡ false → InitDeclrsHave P U V ds)
+      init_declrs_ok q words is_untagged t no_init_declrs bs s l wf found g h = (h, λ is. tt)
+      init_declrs_ok q words is_untagged t (more_init_declrs attrs d asm_label attrs2 it ds) bs s l wf found g h =
           let fd = front w (declr_starts (a q) with_skeleton without_skeleton d) _ found in
           let behind = back w (declr_starts (a q) with_skeleton without_skeleton d) _ found in
-          let gr = joins (init_declrs_grow u words t ds _) g in
+          let gr = joins (init_declrs_grow u words false t ds _) g in
           let gi = joins (some_init_grows u it _) gr in
           let one = declr_ok q None with_skeleton without_skeleton d true bs s tt fd
-          (joins (some_grows u (declared_name d) words _ _) gi) h in
-          let two = some_good w differ q f bs (declared_name d) words _ _ gi
+          (joins (some_grows u (untagged_number is_untagged t) (declared_name d) words _ _) gi) h in
+          let two = some_good w differ q f bs (untagged_number is_untagged t) (declared_name d) words _ _ gi
           (λ name e. name_found w (a q) with_skeleton without_skeleton d name e fd) one.0 in
           let three = some_init_ok q it true bs _ (λ is. (refl, l is)) (λ is. (wf is).5)
           (front w (some_init_starts (a q) it) _ behind) gr two.0 in
-          let four = init_declrs_ok q words t ds bs _ l (λ is. (wf is).6) (back w (some_init_starts (a q) it) _ behind) g
+          let four = init_declrs_ok q words false t ds bs _ l (λ is. (wf is).6) (back w (some_init_starts (a q) it) _ behind) g
           three.0 in
           (four.0, λ is. (two.1, (one.1, (three.1 is, four.1 is))))
 
@@ -589,8 +589,8 @@ module _ (w : World) (differ : Differ w.names.declared) (uses_differ : UsesDiffe
           G (true ∷ bs) (declaration_named u d s) × (q ≡ false → DeclarationHas P U V d)
       declaration_ok q (declaration exts ws ds semi) bs s l wf found g h =
           let one = words_ok q (is_tag_alone ws ds) ws (base []) [] true bs s (front w (words_starts (a q) ws) _ found)
-          (joins (init_declrs_grow u (storage_words ws) _ ds _) g) h in
-          let two = init_declrs_ok q (storage_words ws) _ ds bs _ l (λ is. (wf is).3)
+          (joins (init_declrs_grow u (said_words ws) (has_untagged ws) _ ds _) g) h in
+          let two = init_declrs_ok q (said_words ws) (has_untagged ws) _ ds bs _ l (λ is. (wf is).3)
           (back w (words_starts (a q) ws) _ found) g one.0 in
           (two.0, λ is. (one.1, two.1 is))
 

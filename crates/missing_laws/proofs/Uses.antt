@@ -20,7 +20,6 @@ use Rattle.name_rules.specs.Scopes.{NameUse, TypeNamed, Use, is_place}
 use Rattle.name_rules.specs.Uses.{type_named_at, use_at}
 use Rattle.meaning_laws.proofs.Lists.{place_is, place_itself}
 use Rattle.row_rules.specs.Starting.{Having, having_where, of_function, with_skeleton, without_skeleton}
-use Rattle.row_rules.specs.Worlds.{at}
 use Rattle.missing_laws.specs.Finding.{IsPrefix}
 
 -- uses of names are at different places

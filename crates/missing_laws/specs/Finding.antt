@@ -7,6 +7,7 @@ use Rattle.type_table.specs.Types.{CType, pointer}
 use Rattle.qual_types.specs.Skel.{no_skeleton, numbered, within}
 use Rattle.name_rules.specs.Spellings.{Place}
 use Rattle.name_rules.specs.Scopes.{Role, typedef_role, object_role, function_role, parameter_role, field_role, enumerator_role, Declared, declared_at, means, Known, Own, body_of}
+use Rattle.name_rules.specs.Linking.{link_of}
 use Rattle.name_rules.specs.Uses.{type_named_at, use_at, use_shape}
 use Rattle.name_rules.specs.Values.{Shape, member_in, own_of}
 use Rattle.type_rules.specs.Tokens.{first_word, some_declared_name}
@@ -152,6 +153,10 @@ IsMet w p = ((t : CType) × Begins w p t)
 abbrev pub FirstIsMet : World → ℕ → Type 0
 FirstIsMet w token =
     (d : Declared) → declared_at w.names.declared (at w token) ≡ Some d → has_skeleton d.role ≡ true → IsMet w d.first
+
+-- Where a declaration is linked with another, a skeleton begins at that too, or it is that of an enumerator.
+abbrev pub LinksAreMet : World → Type 0
+LinksAreMet w = (p : Place) → (link_of w.names p ≡ p) ⊎ IsMet w (link_of w.names p)
 
 -- a skeleton begins at a token
 abbrev pub TokenBegins : World → ℕ → Type 0

@@ -10,15 +10,16 @@ use Rattle.row_rules.specs.Worlds.{World, Numbered}
 use Rattle.constraint_rules.specs.Starts.{expr_starts, items_starts}
 use Rattle.constraint_rules.specs.Demands.{items_demand}
 use Rattle.missing_laws.specs.Everywhere.{ExprHas, ItemsHave}
-use Rattle.missing_laws.specs.Finding.{AreFound, Avoids, FirstIsMet, HasItsSkeleton, HasType, IsSettled, MembersBegin, TokenBegins, loud, more}
+use Rattle.missing_laws.specs.Finding.{AreFound, Avoids, FirstIsMet, HasItsSkeleton, HasType, IsSettled, LinksAreMet, MembersBegin, TokenBegins, loud, more}
 
 -- The items of a unit in a world: names and types' names in them are known, their expressions have no faults, and what they
--- declare and what is fresh in them begins where it is looked for.
+-- declare, what that is linked with and what is fresh in them begins where it is looked for.
 pub record AreSettled (w : World) (items : List Item) : Type 0 where
   pub clean : items_faults_of w.spelling w.names items ≡ []
   pub settled : ItemsHave (IsSettled w) (TokenBegins w) (FirstIsMet w) items
   pub starts : AreFound w (items_starts w.spelling w.names items)
   pub members : MembersBegin w
+  pub links : LinksAreMet w
 
 -- each expression has a type
 abbrev pub ExpressionsHaveTypes : Type 0

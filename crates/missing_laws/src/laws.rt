@@ -36,7 +36,7 @@ pub fn nothing_is_missing()
 {}
 
 /// What each unit of an accepted program looks up is there: names and types' names are known, and what names mean, members,
-/// declarations, call sites and all that is fresh have skeletons, each of its type.
+/// declarations, what they are linked with, call sites and all that is fresh have skeletons, each of its type.
 pub fn programs_are_settled()
     ensures { ProgramsAreSettled }
 {}

@@ -16,6 +16,7 @@ use Rattle.tape_ops.specs.declared.declarator.DeclrOp.TheVariants as declrs
 use Rattle.type_table.specs.Types.{CType, base, void, pointer}
 use Rattle.name_rules.specs.Spellings.{Spelling, Place, place}
 use Rattle.name_rules.specs.Scopes.{Role, typedef_role, object_role, function_role, parameter_role, field_role, enumerator_role, Declared, declared_at, Use, means, called, missing, Names, is_place}
+use Rattle.name_rules.specs.Linking.{link_of}
 use Rattle.name_rules.specs.Uses.{use_at, text_type}
 use Rattle.name_rules.specs.Values.{undeclared_function}
 use Rattle.shape_steps.specs.State.{State, value_at, is_zero_at, type_at, shape_at, type_of_operand, first_operand, operands_below}
@@ -152,7 +153,7 @@ module _ (a : Around) (token : ℕ) where
   instance_is p t = by a.is_quiet
     where
       by : (b : Bool) → Fresh (if b then [] else
-          record { at = place a.spelling token; type = pointer [] t; owner = a.enclosing; calls = Some p } ∷ [])
+          record { at = place a.spelling token; type = pointer [] t; owner = a.enclosing; calls = Some (link_of a.names p) } ∷ [])
       by true = tt
       by false = (refl, refl)
 

@@ -18,8 +18,9 @@ use Rattle.tape_ops.specs.declared.statement.StmtOp.TheVariants as stmts
 use Rattle.type_table.specs.Types.{pointer}
 use Rattle.name_rules.specs.Spellings.{Spelling, Place, place}
 use Rattle.name_rules.specs.Scopes.{Role, typedef_role, object_role, function_role, parameter_role, field_role, enumerator_role, Declared, declared_at, Use, means, called, missing, Names, is_place}
+use Rattle.name_rules.specs.Linking.{link_of}
 use Rattle.name_rules.specs.Uses.{use_at}
-use Rattle.meaning_laws.specs.Meanings.{HasFirst, IsNobodys, NamesAreFirst}
+use Rattle.meaning_laws.specs.Meanings.{HasFirst, HasLink, IsNobodys, NamesAreFirst}
 use Rattle.shape_steps.specs.State as shapes
 use Rattle.shape_steps.specs.Steps as shape_steps
 use Rattle.shape_steps.specs.State.{OpenDeclaration, declared_last, changed}
@@ -100,14 +101,18 @@ module _ (k : Scene) where
       let it = k.placed p x is in let found = named_there p x it.0 it.1 is d e in
       inl (found.2 ∙ owned_none d.owner _ none)
 
-  -- what was first declared as a function belongs to that
+  -- the function that a declaration is of
+  abbrev its_link : Declared → Option Place
+  its_link d = Some (link_of s d.first)
+
+  -- what was first declared as a function belongs to that, by its link
   functions_begin : (p : Place) (d : Declared) → declared_at s.declared p ≡ Some d →
-      is_some_function (declared_at s.declared d.first) ≡ true → BeginsIn k.starts (Some d.first) p
+      is_some_function (declared_at s.declared d.first) ≡ true → BeginsIn k.starts (its_link d) p
   functions_begin p d e fun x is =
       let it = k.placed p x is in let found = named_there p x it.0 it.1 is d e in
-      subst (IsOwn (Some d.first)) (sym (found.2
-      ∙ ap (λ (b : Bool). owned_there d.owner (if b then Some d.first else found.0)) fun))
-      (owned_own (Some d.first) (Some d.first) d.owner (inr refl))
+      subst (IsOwn (its_link d)) (sym (found.2
+      ∙ ap (λ (b : Bool). owned_there d.owner (if b then its_link d else found.0)) fun))
+      (owned_own (its_link d) (its_link d) d.owner (inr refl))
 
   nobodys_there : (g : Option Place) (p : Place) → IsNobodys s.declared p → BeginsIn k.starts g p
   nobodys_there g p h = nobodys_begin g p h.it h.there h.none
@@ -125,22 +130,46 @@ module _ (k : Scene) where
 
   function_there : (p : Place) (d : Declared) → declared_at s.declared p ≡ Some d → d.role ≡ function_role →
       d.first ≡ p → d.owner ≡ Some d.at →
-      (there : Start) × (start_at k.starts d.at ≡ Some there) × (there.owner ≡ Some d.at)
+      (there : Start) × (start_at k.starts d.at ≡ Some there) × (there.owner ≡ Some (link_of s d.at))
   function_there p d e role first own = by (start_at k.starts d.at) refl
     where
       by : (found : Option Start) → start_at k.starts d.at ≡ found →
-          (there : Start) × (start_at k.starts d.at ≡ Some there) × (there.owner ≡ Some d.at)
+          (there : Start) × (start_at k.starts d.at ≡ Some there) × (there.owner ≡ Some (link_of s d.at))
       by None is = absurd (k.functions p d e role own is)
       by (Some there) is =
           let it = k.placed d.at there is in let found = named_there d.at there it.0 it.1 is d (itself p d e) in (
             there,
             is,
             found.2
-                ∙ (ap (λ (b : Bool). owned_there d.owner (if b then Some d.first else found.0))
+                ∙ (ap (λ (b : Bool). owned_there d.owner (if b then its_link d else found.0))
                 (first_is_function p d e first ∙ ap is_function_role role)
-                ∙ (ap (λ (o : Option Place). owned_there o (Some d.first)) own
-                ∙ ap (λ (q : Place). Some q) (first ∙ sym (declared_place s.declared p d e)))),
+                ∙ (ap (λ (o : Option Place). owned_there o (its_link d)) own
+                ∙ ap (λ (q : Place). Some (link_of s q)) (first ∙ sym (declared_place s.declared p d e)))),
           )
+
+  -- linked declarations
+
+  abbrev Linked : Declared → Type 0
+  Linked d = (d.role ≡ function_role) ⊎ (d.owner ≡ None)
+
+  -- at a link a function is declared for the first time, which is its own link, or what is nobody's
+  link_begins : (p : Place) (it : Declared) → declared_at s.declared p ≡ Some it → Linked it →
+      (it.role ≡ function_role → it.first ≡ it.at) → (it.role ≡ function_role → link_of s it.at ≡ it.at) →
+      BeginsIn k.starts (Some p) p
+  link_begins p it e (inl role) first last =
+      subst (λ (q : Place). BeginsIn k.starts (Some q) p)
+      (ap (link_of s) (first role) ∙ (last role ∙ declared_place s.declared p it e))
+      (functions_begin p it e (first_is_function p it e (first role ∙ declared_place s.declared p it e)
+      ∙ ap is_function_role role))
+  link_begins p it e (inr none) first last = nobodys_begin (Some p) p it e none
+
+  -- a declaration of what is linked
+  further_begins : (p : Place) (d first : Declared) → declared_at s.declared p ≡ Some d →
+      declared_at s.declared d.first ≡ Some first → first.owner ≡ d.owner → Linked first →
+      BeginsIn k.starts (its_link d) p
+  further_begins p d first e there owner (inl role) =
+      functions_begin p d e (ap is_some_function there ∙ ap is_function_role role)
+  further_begins p d first e there owner (inr none) = nobodys_begin (its_link d) p d e (sym owner ∙ none)
 
   module _ (i : Item k) where
     abbrev t : Option ℕ
@@ -159,7 +188,7 @@ module _ (k : Scene) where
         is_some_function (declared_at s.declared d.first) ≡ false → BeginsIn k.starts f p
     keyed_begins p d keyed e fun x is =
         let found = named_there p x f (i.placed p x keyed is) is d e in
-        subst (IsOwn f) (sym (found.2 ∙ ap (λ (b : Bool). owned_there d.owner (if b then Some d.first else found.0)) fun))
+        subst (IsOwn f) (sym (found.2 ∙ ap (λ (b : Bool). owned_there d.owner (if b then its_link d else found.0)) fun))
         (owned_own f found.0 d.owner found.1)
 
     within_begins : (p : Place) (d : Declared) → IsWithin s i.keys p → declared_at s.declared p ≡ Some d →
@@ -181,20 +210,26 @@ module _ (k : Scene) where
 
     -- names
 
-    instance_fits : (token : ℕ) (a : Around) (p : Place) (d : Declared) → a.spelling ≡ u → a.is_quiet ≡ false →
-        declared_at s.declared p ≡ Some d → d.role ≡ function_role → d.first ≡ p → d.owner ≡ Some d.at →
+    instance_fits : (token : ℕ) (a : Around) (p : Place) (d : Declared) → a.spelling ≡ u → a.names ≡ s →
+        a.is_quiet ≡ false → declared_at s.declared p ≡ Some d → d.role ≡ function_role → d.first ≡ p →
+        d.owner ≡ Some d.at →
         start_at k.starts (place u token) ≡ start_at (instance a token d.at d.type) (place u token) →
-        IsInstance w k.starts token d.at
-    instance_fits token a p d spelled loud e role first own exact = record {
+        IsInstance w k.starts token d.at (link_of s d.at)
+    instance_fits token a p d spelled named loud e role first own exact = record {
       here = here;
       begins_here = exact ∙ found;
-      calls = refl;
+      calls = ap (λ (names : Names). Some (link_of names d.at)) named;
       there = (function_there p d e role first own).0;
       begins_there = (function_there p d e role first own).1;
       is_own = (function_there p d e role first own).2;
     } where
       here : Start
-      here = record { at = place a.spelling token; type = pointer [] d.type; owner = a.enclosing; calls = Some d.at }
+      here = record {
+        at = place a.spelling token;
+        type = pointer [] d.type;
+        owner = a.enclosing;
+        calls = Some (link_of a.names d.at);
+      }
 
       found : start_at (instance a token d.at d.type) (place u token) ≡ Some here
       found =
@@ -228,7 +263,7 @@ module _ (k : Scene) where
           start_at k.starts (place u token) ≡ start_at (use_by_role (around u s r) token d role) (place u token) →
           MeantFits w k.starts f (is_quiet r) token d role
       role_fits d function_role e role here exact =
-          (here, λ loud. instance_fits token (around u s r) p d refl loud e role (it_is d e).0 ((it_is d e).1 role) exact)
+          (here, λ loud. instance_fits token (around u s r) p d refl refl loud e role (it_is d e).0 ((it_is d e).1 role) exact)
       role_fits d enumerator_role e role here exact = here
       role_fits d typedef_role e role here exact = object_fits d e (ap is_function_role role)
       role_fits d object_role e role here exact = object_fits d e (ap is_function_role role)
@@ -252,29 +287,56 @@ module _ (k : Scene) where
 
     -- declared names
 
+    -- of what is its own link
+    alone : (g : Option Place) (d : Declared) → link_of s d.first ≡ d.first → BeginsIn k.starts g d.first →
+        BeginsIn k.starts g d.at → DeclaredFits w k.starts (Some d)
+    alone g d own first here = (g, first, subst (BeginsIn k.starts g) (sym own) first, here)
+
     name_by : (p : Place) (d : Declared) → has_place i.keys p ≡ true → declared_at s.declared p ≡ Some d →
         (b : Bool) → is_some_function (declared_at s.declared d.first) ≡ b → HasFirst s.declared d →
-        DeclaredFits k.starts (Some d)
-    name_by p d keyed e true fun first = (
-      Some d.first,
-      subst (λ (q : Place). BeginsIn k.starts (Some q) d.first) first.is_first
-          (functions_begin d.first first.first first.there
-          (ap (λ (q : Place). is_some_function (declared_at s.declared q)) first.is_first ∙ fun)),
-      functions_begin d.at d (itself p d e) fun,
-    )
-    name_by p d keyed e false fun first = (
-      f,
-      within_begins d.first first.first (i.stays.firsts p d keyed e) first.there
-          (ap (λ (q : Place). is_some_function (declared_at s.declared q)) first.is_first ∙ fun)
-          (ap is_some_function (sym first.there) ∙ fun),
-      subst (BeginsIn k.starts f) (sym (declared_place s.declared p d e)) (keyed_begins p d keyed e fun),
-    )
+        link_of s d.first ≡ d.first → DeclaredFits w k.starts (Some d)
+    name_by p d keyed e true fun first own =
+        alone (its_link d) d own (subst (λ (q : Place). BeginsIn k.starts (Some (link_of s q)) d.first) first.is_first
+        (functions_begin d.first first.first first.there
+        (ap (λ (q : Place). is_some_function (declared_at s.declared q)) first.is_first ∙ fun)))
+        (functions_begin d.at d (itself p d e) fun)
+    name_by p d keyed e false fun first own =
+        alone f d own (within_begins d.first first.first (i.stays.firsts p d keyed e) first.there
+        (ap (λ (q : Place). is_some_function (declared_at s.declared q)) first.is_first ∙ fun)
+        (ap is_some_function (sym first.there) ∙ fun))
+        (subst (BeginsIn k.starts f) (sym (declared_place s.declared p d e)) (keyed_begins p d keyed e fun))
+
+    -- by the link of the first declaration
+    link_by : (p : Place) (d : Declared) → has_place i.keys p ≡ true → declared_at s.declared p ≡ Some d →
+        (first : HasFirst s.declared d) → HasLink s first.first → DeclaredFits w k.starts (Some d)
+    link_by p d keyed e first link = by link.of_file
+      where
+        there : first.first.at ≡ d.first
+        there = declared_place s.declared d.first first.first first.there
+
+        linked : declared_at s.declared (link_of s d.first) ≡ Some link.it
+        linked = subst (λ (q : Place). declared_at s.declared (link_of s q) ≡ Some link.it) there link.there
+
+        by : (link_of s first.first.at ≡ first.first.at) ⊎ (Linked first.first × Linked link.it) →
+            DeclaredFits w k.starts (Some d)
+        by (inl own) =
+            name_by p d keyed e (is_some_function (declared_at s.declared d.first)) refl first
+            (ap (link_of s) (sym there) ∙ (own ∙ there))
+        by (inr both) = (
+          its_link d,
+          subst (λ (q : Place). BeginsIn k.starts (Some (link_of s q)) d.first) first.is_first
+              (further_begins d.first first.first first.first first.there
+              (ap (declared_at s.declared) first.is_first ∙ first.there) refl both.0),
+          link_begins (link_of s d.first) link.it linked both.1 link.is_first link.is_last,
+          further_begins d.at d first.first (itself p d e) first.there first.same_owner both.0,
+        )
 
     declared_fits : (p : Place) (d : Option Declared) → has_place i.keys p ≡ true → declared_at s.declared p ≡ d →
-        DeclaredFits k.starts d
+        DeclaredFits w k.starts d
     declared_fits p None keyed e = tt
     declared_fits p (Some d) keyed e =
-        name_by p d keyed e (is_some_function (declared_at s.declared d.first)) refl (k.first.firsts p d e)
+        let first = k.first.firsts p d e in
+        link_by p d keyed e first (k.first.links d.first first.first first.there first.is_first)
 
     param_by : (p : Place) (d : Declared) → has_place i.keys p ≡ true → declared_at s.declared p ≡ Some d → (b : Bool) →
         is_some_function (declared_at s.declared d.first) ≡ b → ParamFits w k.starts f (Some d)
@@ -296,8 +358,8 @@ module _ (k : Scene) where
         (subst (λ (q : Place). declared_at s.declared q ≡ None) (sym (begins_at k.starts (place u token) x there)) e)
     function_by token is keyed (Some d) e = by (is_some_function (declared_at s.declared d.first)) refl
       where
-        its : f ≡ Some d.first
-        its = ap (function_at u s) is ∙ ap first_of e
+        its : f ≡ its_link d
+        its = ap (function_at u s) is ∙ ap (first_of s) e
 
         by : (b : Bool) → is_some_function (declared_at s.declared d.first) ≡ b → BeginsIn k.starts f (at w token)
         by true fun =

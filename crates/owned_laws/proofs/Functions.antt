@@ -18,10 +18,10 @@ use Rattle.type_table.specs.Types.{CType, pointer}
 use Rattle.name_rules.specs.Spellings.{Spelling, Place, place, Named}
 use Rattle.name_rules.specs.Scopes.{function_role, Declared, declared_at, Names, is_place}
 use Rattle.name_rules.specs.Pieces.{decayed}
-use Rattle.name_rules.specs.Declaring.{declared_some, declared_param, declared_member}
+use Rattle.name_rules.specs.Declaring.{untagged_number, declared_some, declared_param, declared_member}
 use Rattle.name_rules.specs.Units.{no_names, unit_begun}
 use Rattle.name_steps.specs.State.{OpenDeclaration, State, no_declaration, innermost_or, with_innermost, without_innermost, with_names}
-use Rattle.name_steps.specs.Steps.{declaration, body, parameters, specifier_step, declarator_step, statement_step, step, run}
+use Rattle.name_steps.specs.Steps.{declaration, body, parameters, is_plain, specifier_step, declarator_step, statement_step, step, run}
 use Rattle.name_steps.specs.Units.{tapes_named}
 use Rattle.name_laws.specs.NameLaws.{tape_of_source, IsSound}
 use Rattle.std.specs.List.{last_or}
@@ -220,7 +220,7 @@ module _ (s : Names) (starts : List Start) where
     declr_names declrs.Declare e begins =
         let was = declared_was m n e in
         named_now was.0 None was.0.name
-        (record (declaration st) { name = None; declared = (declaration st).type }) was.1 tt
+        (record (declaration st) { is_untagged = false; name = None; declared = (declaration st).type }) was.1 tt
     declr_names declrs.Member e begins =
         let was = member_was m n e in
         named_now was.0 None was.0.last
@@ -272,11 +272,12 @@ module _ (s : Names) (starts : List Start) where
     top_begins x c own outer [] k = absurd k
     top_begins x c own outer (d ∷ xs) k = k.0
 
-    some_begun : (outer : List Mark) (it : Option Named) (words : List Keyword) (t : CType) → is_open outer ≡ true →
-        NameBegins u outer it → AllBegun st.names.declared → AllBegun (declared_some u it words t st.names).declared
-    some_begun outer None words t o begins k = k
-    some_begun outer (Some it) words t o begins k =
-        let adds = adds_some u (Some it) words t st.names in
+    some_begun : (outer : List Mark) (untagged : Option ℕ) (it : Option Named) (words : List Keyword) (t : CType) →
+        is_open outer ≡ true → NameBegins u outer it → AllBegun st.names.declared →
+        AllBegun (declared_some u untagged it words t st.names).declared
+    some_begun outer untagged None words t o begins k = k
+    some_begun outer untagged (Some it) words t o begins k =
+        let adds = adds_some u untagged (Some it) words t st.names in
         subst AllBegun (sym adds.2)
         (one_more st.names.declared adds.0 k (λ role. subst Begun (sym adds.1) (begins o)))
 
@@ -307,14 +308,16 @@ module _ (s : Names) (starts : List Start) where
     declr_begun declrs.ParamsEnd e k = same_begun _ (keep_same (parameters st).own st.names) k
     declr_begun declrs.Declare e k =
         let was = declared_was m n e in
-        some_begun was.0.outer (declaration st).name (declaration st).storage (declaration st).declared was.2
+        some_begun was.0.outer (untagged_number (declaration st).is_untagged (declaration st).type) (declaration st).name
+        (declaration st).storage (declaration st).declared was.2
         (top_begins was.0.name was.0.last was.0.own was.0.outer ds (here was.0)) k
     declr_begun declrs.Member e k =
         member_begun (declaration st).name (body st).members_of (declaration st).declared k
     declr_begun op e k = k
 
     stmt_begun : (op : StmtOp) → AllBegun st.names.declared → AllBegun (statement_step u st op).names.declared
-    stmt_begun stmts.FunctionBody k = same_begun _ (entered_same (last_or None st.names.declared) st.names) k
+    stmt_begun stmts.FunctionBody k =
+        same_begun _ (entered_same (is_plain st) (last_or None st.names.declared) st.names) k
     stmt_begun op k = k
 
     all_begun : (op : Op) → turn t m op ≡ Some n → AllBegun st.names.declared → AllBegun (step u st op).names.declared
@@ -367,7 +370,8 @@ module _ (s : Names) (starts : List Start) where
     sources_begun (it ∷ sources) old sound k inside =
         let unit = All-head IsSound it sources sound in
         sources_begun sources _ (All-tail IsSound it sources sound)
-        (items_begun it.spelling unit.0 it.items unit.1.parts (with_names (unit_begun old)) shapes.nothing file refl k
+        (items_begun it.spelling unit.0 it.items unit.1.parts (with_names (unit_begun it.spelling.unit old)) shapes.nothing
+        file refl k
         (subst (λ (xs : List Start). (p : Place) → Has xs p → Has starts p)
         (sym (begins it.spelling s it.items))
         (λ p has. inside p (has_left (items_starts it.spelling s it.items) (starts_among s sources) p has))))

@@ -19,7 +19,8 @@ use Rattle.tape_ops.specs.declared.statement.StmtOp.TheVariants as stmts
 use Rattle.type_table.specs.Types.{CType, pointer}
 use Rattle.qual_types.specs.Skel.{Skel, root, param_at}
 use Rattle.name_rules.specs.Spellings.{Place}
-use Rattle.name_rules.specs.Scopes.{Role, typedef_role, object_role, function_role, parameter_role, field_role, enumerator_role, Declared, declared_at, Use, means, called, missing}
+use Rattle.name_rules.specs.Scopes.{Role, typedef_role, object_role, function_role, parameter_role, field_role, enumerator_role, Declared, declared_at, Use, means, called, missing, is_place}
+use Rattle.name_rules.specs.Linking.{link_of}
 use Rattle.name_rules.specs.Uses.{use_at}
 use Rattle.shape_steps.specs.State.{declared_last, without_innermost}
 use Rattle.row_rules.specs.Starting.{Start}
@@ -28,7 +29,7 @@ use Rattle.row_rules.specs.Forming.{formed}
 use Rattle.row_rules.specs.Annotations.{parameters, further}
 use Rattle.row_rules.specs.Vals.{contents, is_ref, own}
 use Rattle.row_rules.specs.Vals as vals
-use Rattle.row_rules.specs.Rows.{crossed, formed_here, instance, some_instance, use_demand, annotating_some, annotating_place, name_row, declared_row, some_declared_row, param_row, row_at}
+use Rattle.row_rules.specs.Rows.{crossed, formed_here, instance, some_instance, use_demand, annotating_some, annotating_place, equal_to, name_row, declared_row, some_declared_row, param_row, row_at}
 use Rattle.row_steps.specs.Rounds.{Naming, a_name, own_param, other_param, naming, is_quiet, Rounds, round_step, stmt_round}
 use Rattle.row_steps.specs.State.{Operand, Braces, State, nothing, first_operand, val_of_operand, is_zero_operand, type_of_operand, val_at, value_at, is_zero_at, type_at, operand_put, dropped, depth_below, operands_below, operands_within, first_braces}
 use Rattle.row_steps.specs.Steps.{target_in, with_member, with_index, with_item, initialised_by, expr_step, form_step, init_step, spec_step, declr_step, stmt_step, step}
@@ -36,10 +37,11 @@ use Rattle.row_steps.specs.OpRows.{function_skeleton, some_param_row, naming_row
 use Rattle.row_steps.specs.Found.{rows_found}
 use Rattle.owner_laws.specs.Fitting.{AllFit, start_at}
 use Rattle.owner_laws.specs.Rows.{MembersInside, RowsOf}
-use Rattle.owned_laws.specs.Around.{MeantFits, SomeMeantFits, UseFits, DeclaredFits, ParamFits, FunctionFits, NamingFits, ExprFits, FormFits, InitOpFits, DeclrFits, StmtFits, OpFits}
+use Rattle.owned_laws.specs.Around.{BeginsIn, MeantFits, SomeMeantFits, UseFits, DeclaredFits, ParamFits, FunctionFits, NamingFits, ExprFits, FormFits, InitOpFits, DeclrFits, StmtFits, OpFits}
 use Rattle.owned_laws.specs.Tapes.{OpsFit}
+use Rattle.meaning_laws.proofs.Lists.{place_is}
 use Rattle.owned_laws.proofs.Opening.{form_body, spec_body, declr_body}
-use Rattle.owned_laws.proofs.Found.{Setting, sys, owner, In, Begins, none_in, skeleton_in}
+use Rattle.owned_laws.proofs.Found.{Setting, sys, owner, In, none_in, skeleton_in}
 use Rattle.owned_laws.proofs.Stacks.{SomeSkelIn, contents_in, result_in, value_in, further_in, own_in, either_in, branch_in, binary_in, prefix_in, used_in, member_skel_in, initialised_in, function_in, OperandIn, OperandsIn, drop_in, take_in, reverse_in, first_val_in, first_value_in, AllBracesIn, first_braces_in, others_in, changed_in, target_in_in, list_of_in, with_member_in, with_index_in, with_item_in}
 
 -- all skeletons that are kept
@@ -274,7 +276,8 @@ module _ (k : Setting) where
       AllFit (sys k) (instance w token d.at role)
   role_row token d function_role h =
       k.law.lists (sys k) (formed_here w token) (crossed w token d.at) (form_here token)
-      (k.law.instances k.functions k.starts k.constraints w token d.at k.settled.sites_differ k.settled.knows (h.1 refl))
+      (k.law.instances k.functions k.starts k.constraints w token d.at (link_of w.names d.at) k.settled.sites_differ
+      k.settled.knows (h.1 refl))
   role_row token d typedef_role h = tt
   role_row token d object_role h = tt
   role_row token d (parameter_role i) h = tt
@@ -376,11 +379,21 @@ module _ (k : Setting) where
 
   -- declared names
 
-  name_fits : (d : Declared) (g : Option Place) → Begins (record k { function = g }) d.first →
-      Begins (record k { function = g }) d.at → AllFit (sys k) (name_row w d)
+  -- what a declaration is as begins where its first one does
+  equal_begins : (d : Declared) (g : Option Place) → BeginsIn k.starts g d.first →
+      BeginsIn k.starts g (link_of w.names d.first) → BeginsIn k.starts g (equal_to w d)
+  equal_begins d g first linked = by (is_place d.first d.at) refl
+    where
+      by : (b : Bool) → is_place d.first d.at ≡ b → BeginsIn k.starts g (if b then link_of w.names d.at else d.first)
+      by true is =
+          subst (λ (p : Place). BeginsIn k.starts g (link_of w.names p)) (place_is d.first d.at is) linked
+      by false is = first
+
+  name_fits : (d : Declared) (g : Option Place) → BeginsIn k.starts g (equal_to w d) → BeginsIn k.starts g d.at →
+      AllFit (sys k) (name_row w d)
   name_fits d g first here =
       (k.law.rows (sys k) (owner (record k { function = g })) w).name d (form_at d.at (word_span d.at))
-      (skeleton_in (record k { function = g }) d.first first) (skeleton_in (record k { function = g }) d.at here)
+      (skeleton_in (record k { function = g }) (equal_to w d) first) (skeleton_in (record k { function = g }) d.at here)
 
   declared_fits : (d : Declared) (role : Role) → AllFit (sys k) (name_row w d) →
       AllFit (sys k) (declared_row w d role)
@@ -391,9 +404,9 @@ module _ (k : Setting) where
   declared_fits d (field_role n i) h = h
   declared_fits d enumerator_role h = tt
 
-  some_declared_fits : (d : Option Declared) → DeclaredFits k.starts d → AllFit (sys k) (some_declared_row w d)
+  some_declared_fits : (d : Option Declared) → DeclaredFits w k.starts d → AllFit (sys k) (some_declared_row w d)
   some_declared_fits None h = tt
-  some_declared_fits (Some d) h = declared_fits d d.role (name_fits d h.0 h.1 h.2)
+  some_declared_fits (Some d) h = declared_fits d d.role (name_fits d h.0 (equal_begins d h.0 h.1 h.2) h.3)
 
   param_fits : (f : Skel) (n : ℕ) (d : Option Declared) → In k f → ParamFits w k.starts k.function d →
       AllFit (sys k) (param_row w f n d)

@@ -27,7 +27,7 @@ begins_at (head ∷ starts) p start e = by (is_place head.at p) (place_is head.a
     by true is e more = let same : head ≡ start = cc in subst (λ (it : Start). it.at ≡ p) same (is refl)
     by false is e more = more e
 
--- the flows of an by the place that its token has
+-- the flows of an instance, by the place that its token has
 crossing : (functions : List Place) (starts : List Start) (cs : List Constraint) (w : World) (token : ℕ) (f : Place)
     (it of : Numbered) → it.start.at ≡ at w token → Leads functions starts it of f →
     AllFit (system_with functions starts cs)
@@ -50,28 +50,29 @@ crossing functions starts cs w token f it of is leads =
     }
 
 -- said of the skeletons and the sites that a world knows
-known : (functions : List Place) (starts : List Start) (cs : List Constraint) (w : World) (token : ℕ) (f : Place) →
+known : (functions : List Place) (starts : List Start) (cs : List Constraint) (w : World) (token : ℕ) (first : Place) →
     KnowsStarts w starts →
     AllFit (system_with functions starts cs)
     (constraints (all_lattices w) (span w token token)
-    (cross (number_among 0 (site_places starts) (at w token)) (skeleton_among (numbered_from 0 starts) f)
+    (cross (number_among 0 (site_places starts) (at w token)) (skeleton_among (numbered_from 0 starts) first)
     (skeleton_among (numbered_from 0 starts) (at w token)))) →
-    AllFit (system_with functions starts cs) (crossed w token f)
-known functions starts cs w token f knows h =
+    AllFit (system_with functions starts cs) (crossed w token first)
+known functions starts cs w token first knows h =
     subst (λ (all : List Numbered). AllFit (system_with functions starts cs)
     (constraints (all_lattices w) (span w token token)
-    (cross (number_among 0 w.sites (at w token)) (skeleton_among all f) (skeleton_among all (at w token)))))
+    (cross (number_among 0 w.sites (at w token)) (skeleton_among all first) (skeleton_among all (at w token)))))
     (sym knows.skeletons_are)
     (subst (λ (sites : List Place). AllFit (system_with functions starts cs)
     (constraints (all_lattices w) (span w token token)
-    (cross (number_among 0 sites (at w token)) (skeleton_among (numbered_from 0 starts) f)
+    (cross (number_among 0 sites (at w token)) (skeleton_among (numbered_from 0 starts) first)
     (skeleton_among (numbered_from 0 starts) (at w token))))) (sym knows.sites_are) h)
 
+-- the skeleton of the function's declaration in the unit is crossed, the site calls its link
 pub instances_fit : CallsLead → InstancesFit
-instances_fit law functions starts cs w token f different knows it =
+instances_fit law functions starts cs w token first f different knows it =
     let here = found_at starts 0 (at w token) it.here it.begins_here in
-    let there = found_at starts 0 f it.there it.begins_there in
-    known functions starts cs w token f knows
+    let there = found_at starts 0 first it.there it.begins_there in
+    known functions starts cs w token first knows
     (subst (λ (s : Skel). AllFit (system_with functions starts cs)
     (constraints (all_lattices w) (span w token token)
     (cross (number_among 0 (site_places starts) (at w token)) s

@@ -19,13 +19,14 @@ use Rattle.qual_types.specs.Skel.{Skel, Skels, nodes, root, flat, ref, fun, no_s
 use Rattle.flow_rules.specs.declared.arrow.Arrow.TheVariants.{Flow}
 use Rattle.flow_rules.specs.Lists.{flow, smash, unsmash, equal}
 use Rattle.flow_rules.specs.Owners.{IsIn, AllIn, AllStay}
+use Rattle.name_rules.specs.Spellings.{Place}
 use Rattle.name_rules.specs.Values.{own_of}
 use Rattle.row_rules.specs.Starting.{is_some_function}
 use Rattle.row_rules.specs.Forming.{Ways, ways_in, in_some, pointing, into_member, into_members, formed_in, all_formed_in, formed}
 use Rattle.row_rules.specs.Worlds.{World, all_lattices, constraint, constraints, word_span, skeleton}
 use Rattle.row_rules.specs.Annotations.{Annotation, entry_at, signed, links_of_entry, alone, marked, annotation_constraints, annotated, annotating, bounds_of, bounds_from, write_bounds, deref_bounds, uncut, parameters}
 use Rattle.row_rules.specs.Vals.{Val, contents, is_empty, is_fun, is_nothing, is_ref, result, value, read}
-use Rattle.row_rules.specs.Rows.{flowing, dereferenced, is_plus_or_minus, assigned, is_logical, prefixed, passed, cast_demand, returned, annotating_name, branched, casting, formed_name, plain_name_row, plain_param_row, name_row, into_param, param_row, started, taken, tied_to_first}
+use Rattle.row_rules.specs.Rows.{flowing, dereferenced, is_plus_or_minus, assigned, is_logical, prefixed, passed, cast_demand, returned, annotating_name, branched, casting, formed_name, plain_name_row, plain_param_row, name_row, into_param, param_row, started, taken, equal_to, tied_to}
 use Rattle.row_rules.specs.Indexing.{indexing}
 use Rattle.name_rules.specs.Values.{is_additive}
 use Rattle.name_rules.specs.Scopes.{Declared, Own, declared_at, is_place}
@@ -300,32 +301,32 @@ module _ (law : Flows) (sys : System) (owner : Owner) (w : World) where
   indexed_fit t s (inl e) = indexed_nothing_fit t s e
   indexed_fit t s (inr h) = indexing_fits sys owner w t s h
 
-  tied_fit : (d : Declared) → Inside sys owner (skeleton w d.first) → Inside sys owner (skeleton w d.at) →
-      AllFit sys (tied_to_first w d)
-  tied_fit d h k =
-      none_or sys (is_place d.first d.at || (is_nothing (skeleton w d.first) || is_nothing (skeleton w d.at)))
-      (constraints (all_lattices w) (word_span d.at) (equal Flow true (skeleton w d.first) (skeleton w d.at))) (by h k)
+  tied_fit : (d : Declared) (first : Place) → Inside sys owner (skeleton w first) → Inside sys owner (skeleton w d.at) →
+      AllFit sys (tied_to w d first)
+  tied_fit d first h k =
+      none_or sys (is_place first d.at || (is_nothing (skeleton w first) || is_nothing (skeleton w d.at)))
+      (constraints (all_lattices w) (word_span d.at) (equal Flow true (skeleton w first) (skeleton w d.at))) (by h k)
     where
-      by : Inside sys owner (skeleton w d.first) → Inside sys owner (skeleton w d.at) →
-          ((is_place d.first d.at || (is_nothing (skeleton w d.first) || is_nothing (skeleton w d.at))) ≡ true)
+      by : Inside sys owner (skeleton w first) → Inside sys owner (skeleton w d.at) →
+          ((is_place first d.at || (is_nothing (skeleton w first) || is_nothing (skeleton w d.at))) ≡ true)
           ⊎ AllFit sys
-          (constraints (all_lattices w) (word_span d.at) (equal Flow true (skeleton w d.first) (skeleton w d.at)))
+          (constraints (all_lattices w) (word_span d.at) (equal Flow true (skeleton w first) (skeleton w d.at)))
       by (inl e) k =
-          inl (either_true (is_place d.first d.at) (is_nothing (skeleton w d.first)) (is_nothing (skeleton w d.at)) (inl e))
+          inl (either_true (is_place first d.at) (is_nothing (skeleton w first)) (is_nothing (skeleton w d.at)) (inl e))
       by (inr h) (inl e) =
-          inl (either_true (is_place d.first d.at) (is_nothing (skeleton w d.first)) (is_nothing (skeleton w d.at)) (inr e))
+          inl (either_true (is_place first d.at) (is_nothing (skeleton w first)) (is_nothing (skeleton w d.at)) (inr e))
       by (inr h) (inr k) =
           inr (staying_fits sys owner (all_lattices w) (word_span d.at)
-          (equal Flow true (skeleton w d.first) (skeleton w d.at))
-          (law.made_equal (owner_of sys) owner (skeleton w d.first) (skeleton w d.at) h k))
+          (equal Flow true (skeleton w first) (skeleton w d.at))
+          (law.made_equal (owner_of sys) owner (skeleton w first) (skeleton w d.at) h k))
 
-  name_fits : (d : Declared) → AllFit sys (formed_name w d) → Inside sys owner (skeleton w d.first) →
+  name_fits : (d : Declared) → AllFit sys (formed_name w d) → Inside sys owner (skeleton w (equal_to w d)) →
       Inside sys owner (skeleton w d.at) → AllFit sys (name_row w d)
   name_fits d f h k =
       lists_fit sys (formed_name w d) (plain_name_row w d) f
       (lists_fit sys (annotating_name w d) _ (annotations_fit sys w (annotated w (pointer [] d.type) (skeleton w d.at)))
-      (lists_fit sys (indexing w (pointer [] d.type) (skeleton w d.at)) (tied_to_first w d)
-      (indexed_fit (pointer [] d.type) (skeleton w d.at) k) (tied_fit d h k)))
+      (lists_fit sys (indexing w (pointer [] d.type) (skeleton w d.at)) (tied_to w d (equal_to w d))
+      (indexed_fit (pointer [] d.type) (skeleton w d.at) k) (tied_fit d (equal_to w d) h k)))
 
   abbrev HasPlace : Declared → Type 0
   HasPlace d = (is_some_function (declared_at w.names.declared d.first) ≡ true) ⊎ Inside sys owner (skeleton w d.at)

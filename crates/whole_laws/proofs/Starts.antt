@@ -17,6 +17,7 @@ use Rattle.type_table.specs.Types.{CType, base, void, pointer}
 use Rattle.c_tape.specs.Tape.{tape_of}
 use Rattle.name_rules.specs.Spellings.{Spelling, Place, place}
 use Rattle.name_rules.specs.Scopes.{Role, typedef_role, object_role, function_role, parameter_role, field_role, enumerator_role, Declared, declared_at, Use, means, called, missing, Names}
+use Rattle.name_rules.specs.Linking.{link_of}
 use Rattle.name_rules.specs.Uses.{use_at, text_type}
 use Rattle.name_rules.specs.Values.{undeclared_function}
 use Rattle.type_rules.specs.Program.{Source, names_of}
@@ -68,7 +69,7 @@ module _ (a : Around) (token : ℕ) where
   instance_at p t = by a.is_quiet
     where
       by : (b : Bool) → AtToken (if b then [] else
-          record { at = place a.spelling token; type = pointer [] t; owner = a.enclosing; calls = Some p } ∷ [])
+          record { at = place a.spelling token; type = pointer [] t; owner = a.enclosing; calls = Some (link_of a.names p) } ∷ [])
       by true = nothing_at
       by false = same_part (place a.spelling token)
 

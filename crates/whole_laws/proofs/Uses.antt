@@ -1,6 +1,6 @@
 -- Names are used along tapes at the places of their ops, and nowhere else.
 use Rattle.std.proofs.Common.{◌≡◌, ℕ, Bool, true, false, List, [], ◌∷◌, ◌++◌, map, length, Option, None, Some, refl, sym, ◌∙◌, ap, subst, append_assoc}
-use Rattle.std.specs.Prelude.{All, ◌||◌, if◌then◌else◌}
+use Rattle.std.specs.Prelude.{All, ◌&&◌, ◌||◌, if◌then◌else◌}
 use Rattle.std.specs.List.{last_or}
 use Rattle.c_words.specs.declared.kinds.Keyword.{Keyword}
 use Rattle.c_words.specs.declared.kinds.Keyword.TheVariants as keywords
@@ -18,12 +18,12 @@ use Rattle.tape_ops.specs.declared.statement.StmtOp.TheVariants as stmts
 use Rattle.type_table.specs.Types.{CType}
 use Rattle.c_tape.specs.Tape.{tape_of}
 use Rattle.name_rules.specs.Spellings.{Spelling, Place, place, Named}
-use Rattle.name_rules.specs.Scopes.{object_role, Declared, NameUse, Names, is_at_file, innermost, tag_in, tag_through, body_of, has_body, sized}
+use Rattle.name_rules.specs.Scopes.{object_role, Declared, NameUse, Names, is_at_file, innermost, tag_in, tag_through, body_of, has_body, sized, is_place, with_key}
 use Rattle.name_rules.specs.Pieces.{is_function, decayed}
-use Rattle.name_rules.specs.Declaring.{Numbered, found_or_new, tag_used, untagged, begun_in, declared_here, declared_thing, declared_typedef, declared_some, declared_param, declared_member, has_word, keep}
+use Rattle.name_rules.specs.Declaring.{Numbered, found_or_new, tag_used, untagged, untagged_number, opened, tag_known, begun_in, linked, thing_where, static_where, declared_by, declared_here, declared_thing, declared_typedef, typedef_known, declared_some, declared_param, declared_member, has_word, keep}
 use Rattle.name_rules.specs.Units.{no_names, unit_begun}
 use Rattle.name_steps.specs.State.{State, with_names}
-use Rattle.name_steps.specs.Steps.{declaration, body, parameters, expression_step, specifier_step, declarator_step, body_entered_by, statement_step, step, run}
+use Rattle.name_steps.specs.Steps.{declaration, body, parameters, expression_step, specifier_step, declarator_step, body_entered_by, is_plain, statement_step, step, run}
 use Rattle.name_steps.specs.Units.{tapes_named}
 use Rattle.type_rules.specs.Program.{Source, names_of}
 use Rattle.name_laws.specs.NameLaws.{IsSound, NamesOfTapes, tape_of_source}
@@ -39,11 +39,28 @@ uses_joined (x ∷ xs) ys = ap (λ (ps : List Place). x.at ∷ ps) (uses_joined 
 
 -- what declares nothing but names and tags uses none
 
-some_same : (u : Spelling) (it : Option Named) (words : List Keyword) (t : CType) (s : Names) →
-    (declared_some u it words t s).uses ≡ s.uses
-some_same u None words t s = refl
-some_same u (Some it) words t s =
-    by (has_word keywords.Typedef words) (is_at_file old || (is_function t || has_word keywords.Extern words))
+known_same : (words : List Keyword) (name : ℕ) (untagged : Option ℕ) (s : Names) →
+    (typedef_known words name untagged s).uses ≡ s.uses
+known_same words name None s = refl
+known_same words name (Some n) s = by (has_word keywords.Typedef words && is_at_file s)
+  where
+    by : (b : Bool) → (if b then with_key n true name s else s).uses ≡ s.uses
+    by true = refl
+    by false = refl
+
+thing_same : (b c : Bool) (unit name : ℕ) (at : Place) (s : Names) →
+    (static_where b unit name (thing_where c name at s)).uses ≡ s.uses
+thing_same true true unit name at s = refl
+thing_same true false unit name at s = refl
+thing_same false true unit name at s = refl
+thing_same false false unit name at s = refl
+
+some_same : (u : Spelling) (untagged : Option ℕ) (it : Option Named) (words : List Keyword) (t : CType) (s : Names) →
+    (declared_some u untagged it words t s).uses ≡ s.uses
+some_same u untagged None words t s = refl
+some_same u untagged (Some it) words t s =
+    known_same words (u.key it.name) untagged (declared_by words (place u it.token) (u.key it.name) t old)
+    ∙ by (has_word keywords.Typedef words) (is_at_file old || (is_function t || has_word keywords.Extern words))
   where
     old : Names
     old = sized (place u it.token) t s
@@ -52,10 +69,12 @@ some_same u (Some it) words t s =
     own = if has_word keywords.Static words then None else old.enclosing
 
     by : (b c : Bool) → (if b then declared_typedef (place u it.token) (u.key it.name) t old
-        else if c then declared_thing (place u it.token) (u.key it.name) t old
+        else if c then declared_thing words (place u it.token) (u.key it.name) t old
         else declared_here (place u it.token) (u.key it.name) object_role t own old).uses ≡ s.uses
     by true c = refl
-    by false true = refl
+    by false true =
+        thing_same (has_word keywords.Static words) (is_place (linked (u.key it.name) (place u it.token) old)
+        (place u it.token)) (place u it.token).0 (u.key it.name) (place u it.token) old
     by false false = refl
 
 param_same : (u : Spelling) (it : Option Named) (i : ℕ) (own : Option Place) (t : CType) (s : Names) →
@@ -79,18 +98,26 @@ tag_used_same u alone kind token tag s =
     tag_same (if alone then tag_in (innermost s.scopes).tags kind (u.key tag) else tag_through s.scopes kind (u.key tag))
     u kind token tag s
 
-begun_same : (b : Bool) (at : Place) (kind : TagKind) (it : Numbered) →
-    (begun_in b at kind it).names.uses ≡ it.names.uses
-begun_same true at kind it = refl
-begun_same false at kind it = refl
+tag_known_same : (tag : Option ℕ) (n : ℕ) (s : Names) → (tag_known tag n s).uses ≡ s.uses
+tag_known_same None n s = refl
+tag_known_same (Some tag) n s = by (is_at_file s)
+  where
+    by : (b : Bool) → (if b then with_key n false tag s else s).uses ≡ s.uses
+    by true = refl
+    by false = refl
+
+begun_same : (b : Bool) (at : Place) (kind : TagKind) (tag : Option ℕ) (it : Numbered) →
+    (begun_in b at kind tag it).names.uses ≡ it.names.uses
+begun_same true at kind tag it = refl
+begun_same false at kind tag it = tag_known_same tag it.number (opened it.number it.names)
 
 keep_same : (own : Option Place) (s : Names) → (keep own s).uses ≡ s.uses
 keep_same None s = refl
 keep_same (Some own) s = refl
 
-entered_same : (d : Option Declared) (s : Names) → (body_entered_by d s).uses ≡ s.uses
-entered_same None s = refl
-entered_same (Some d) s = refl
+entered_same : (is_plain : Bool) (d : Option Declared) (s : Names) → (body_entered_by is_plain d s).uses ≡ s.uses
+entered_same is_plain None s = refl
+entered_same is_plain (Some d) s = refl
 
 -- steps
 
@@ -100,11 +127,11 @@ module _ (u : Spelling) where
   spec_same st (specs.TagAlone kind token name) = tag_used_same u true kind token name st.names
   spec_same st (specs.TagBody kind token name) =
       let it = tag_used u true kind token name st.names in
-      begun_same (has_body (body_of it.names.aggregates it.number)) (place u token) kind it
+      begun_same (has_body (body_of it.names.aggregates it.number)) (place u token) kind (Some (u.key name)) it
       ∙ tag_used_same u true kind token name st.names
   spec_same st (specs.Untagged kind token) =
       let it = untagged (place u token) kind st.names in
-      begun_same (has_body (body_of it.names.aggregates it.number)) (place u token) kind it
+      begun_same (has_body (body_of it.names.aggregates it.number)) (place u token) kind None it
   spec_same st op = refl
 
   declr_same : (st : State) (op : DeclrOp) → (declarator_step u st op).names.uses ≡ st.names.uses
@@ -113,13 +140,14 @@ module _ (u : Spelling) where
       (decayed (declaration st).declared) st.names
   declr_same st declrs.ParamsEnd = keep_same (parameters st).own st.names
   declr_same st declrs.Declare =
-      some_same u (declaration st).name (declaration st).storage (declaration st).declared st.names
+      some_same u (untagged_number (declaration st).is_untagged (declaration st).type) (declaration st).name
+      (declaration st).storage (declaration st).declared st.names
   declr_same st declrs.Member =
       member_same u (declaration st).name (body st).members_of (declaration st).declared st.names
   declr_same st op = refl
 
   stmt_same : (st : State) (op : StmtOp) → (statement_step u st op).names.uses ≡ st.names.uses
-  stmt_same st stmts.FunctionBody = entered_same (last_or None st.names.declared) st.names
+  stmt_same st stmts.FunctionBody = entered_same (is_plain st) (last_or None st.names.declared) st.names
   stmt_same st op = refl
 
   module _ (st : State) (keys : List Place) (h : IsPart (use_places st.names.uses) keys) where
@@ -160,10 +188,10 @@ sources_part (it ∷ sources) s keys h =
     subst (IsPart (use_places (tapes_named (map tape_of_source sources) next).uses))
     (append_assoc keys (key_places it.spelling (tape_of it.items)) (keys_among sources))
     (sources_part sources next (keys ++ key_places it.spelling (tape_of it.items))
-    (tape_part it.spelling (tape_of it.items) (with_names (unit_begun s)) keys h))
+    (tape_part it.spelling (tape_of it.items) (with_names (unit_begun it.spelling.unit s)) keys h))
   where
     next : Names
-    next = (run it.spelling (tape_of it.items) (with_names (unit_begun s))).names
+    next = (run it.spelling (tape_of it.items) (with_names (unit_begun it.spelling.unit s))).names
 
 pub uses_differ : NamesOfTapes → (sources : List Source) → All IsSound sources → AreDifferent (keys_among sources) →
     AreDifferent (use_places (names_of sources).uses)

@@ -4,5 +4,5 @@ use Rattle.missing_laws.proofs.Items.{missing_nothing}
 use Rattle.missing_laws.proofs.laws.nothing_is_missing.Goals as goal
 
 pub returns : goal.returns
-returns c w items it = missing_nothing w items it.members it.settled
+returns c w items it = missing_nothing w items it.members it.links it.settled
     (items_typed_of w (TokenBegins w) (FirstIsMet w) items it.settled it.clean) it.starts
