@@ -1,13 +1,14 @@
 #!/usr/bin/env python3
 """Writes a C source of a wanted size to standard output, the same for the same arguments.
 
-usage: source.py KIND BYTES
+usage: source.py KIND BYTES [FIRST]
 
 KIND is `preprocessed` for one part again and again with linemarkers, structs, functions with bodies, strings and comments,
 as a preprocessor writes them; `ordinary` for parts of six forms in turn, with lists, tables, unions, pointers to functions,
 initialisers, every statement, and calls of earlier parts; `nested` for functions of which each has 400 blocks and statements
 inside one another, and an expression with 400 parentheses; or `objects` for global ints and functions that assign them (the
-tool analyses it). All are C of gcc too: `gcc -fsyntax-only` takes them.
+tool analyses it). All are C of gcc too: `gcc -fsyntax-only` takes them. Parts are numbered from FIRST on, a multiple of 6, or from 0: sources
+of different numbers have no name in common but those of the library.
 
 usage: source.py errors COUNT
 
@@ -285,10 +286,11 @@ def main():
     if len(sys.argv) == 3 and sys.argv[1] in COUNTED and sys.argv[2].isdigit():
         sys.stdout.write(COUNTED[sys.argv[1]](int(sys.argv[2])))
         return 0
+    first = sys.argv.pop(3) if len(sys.argv) == 4 and sys.argv[3].isdigit() else "0"
     if len(sys.argv) != 3 or sys.argv[1] not in ("preprocessed", "ordinary", "nested", "objects") or not sys.argv[2].isdigit():
         print(__doc__, file=sys.stderr)
         return 2
-    room, n, line = int(sys.argv[2]), 0, 1
+    room, n, line = int(sys.argv[2]), int(first), 1
     if sys.argv[1] == "ordinary":
         sys.stdout.write(HEAD)
         room -= len(HEAD)
