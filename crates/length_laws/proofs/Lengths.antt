@@ -19,7 +19,7 @@ pub one : {op : Op} {k : List Lexeme} → Fits 1 0 (op ∷ []) k k
 one = record { most = omega arith }
 
 module _ {m l n o : ℕ} where
-  -- the same in other numbers
+  -- spare ops make up for those over
   pub so : {xs : List Op} {t k : List Lexeme} → Fits m l xs t k → o + m ≤ l + n → Fits n o xs t k
   so p h = record { most = (let a = p.most in omega (arith, a, h)) }
 
