@@ -1,18 +1,24 @@
 -- What tables have of names and of keys, and what several sources know by them.
-use Rattle.std.specs.Prelude.{◌≡◌, ℕ, suc, nat_eq, nat_lt, Bool, true, false, not, ◌&&◌, ◌||◌, List, [], ◌∷◌, slice_get, Option, Some, None, is_some, option_and_then, if◌then◌else◌}
+use Rattle.std.specs.Prelude.{◌≡◌, ℕ, suc, nat_eq, nat_lt, Bool, false, not, ◌&&◌, ◌||◌, List, [], ◌∷◌, ◌++◌, Option, Some, None, is_some, if◌then◌else◌}
 use Rattle.std.specs.declared.hash.FoldHasher.{FoldHasher}
 use Rattle.std.specs.declared.hash.BuildHasherDefault.{BuildHasherDefault}
 use Rattle.std.specs.HashMap.{get, HashMap}
 use Rattle.tape_ops.specs.declared.specifier.TagKind.{TagKind}
 use Rattle.tape_ops.specs.declared.specifier.TagKind.TheVariants as kinds
 use Rattle.name_rules.specs.Spellings.{Place}
-use Rattle.name_rules.specs.Scopes.{StructKey, Aggregate, Bodied, is_place, has_body}
-use Rattle.name_rules.specs.Values.{member_in}
+use Rattle.name_rules.specs.Faults.{Fault, defined_twice, fault_where}
+use Rattle.name_rules.specs.Scopes.{is_place}
+use Rattle.name_rules.specs.Scopes as rules
 use Rattle.name_rules.specs.Declaring.{or_at}
-use Rattle.name_rules.specs.Linking.{is_internal, first_external, is_same_key, defines, is_elsewhere, place_of, member_among}
+use Rattle.name_rules.specs.Linking.{is_internal, first_external, is_same_key}
+use Rattle.name_records.specs.Bodies.{OneBody}
 use Rattle.name_records.specs.declared.body.Known.{Known}
+use Rattle.name_records.specs.declared.aggregates.StructKey.{StructKey}
+use Rattle.name_records.specs.declared.aggregates.Aggregate.{Aggregate}
+use Rattle.name_records.specs.declared.bodies.Bodied.{Bodied}
 use Rattle.place_map.specs.declared.map.PlaceMap.{PlaceMap}
 use Rattle.place_map.specs.Values.{value_at, or_else, there}
+use Rattle.unit_names.specs.Shown.{key_of}
 use Rattle.name_links.specs.declared.keys.Shared.{Shared}
 use Rattle.name_links.specs.declared.keys.ByKind.{ByKind}
 use Rattle.name_links.specs.declared.keys.Keys.{Keys}
@@ -49,48 +55,59 @@ linked_by links p = or_at (value_at links p) p
 abbrev pub SharedTable : Type 0
 SharedTable = HashMap ℕ Shared (BuildHasherDefault FoldHasher)
 
+abbrev pub shared_at : SharedTable → ℕ → Option Shared
+shared_at table name = get nat_eq table name
+
 abbrev pub table_of : ByKind → TagKind → SharedTable
 table_of it kinds.Struct = it.structs
 table_of it kinds.Union = it.unions
 table_of it kinds.Enum = it.enums
 
 abbrev pub shared_there : ByKind → TagKind → ℕ → Option Shared
-shared_there it kind name = get nat_eq (table_of it kind) name
+shared_there it kind name = shared_at (table_of it kind) name
 
 -- what is known by a key
-abbrev pub keyed : Keys → StructKey → Option Shared
+abbrev pub keyed : Keys → rules.StructKey → Option Shared
 keyed keys key = shared_there (if key.by_typedef then keys.typedefs else keys.tags) key.kind key.name
 
 -- a key has this, and the others have theirs
-abbrev pub IsKeyed : Keys → Keys → StructKey → Shared → Type 0
-IsKeyed old new key shared = (other : StructKey) → keyed new other ≡ (if is_same_key key other then Some shared else keyed old other)
+abbrev pub IsKeyed : Keys → Keys → rules.StructKey → Shared → Type 0
+IsKeyed old new key shared = (other : rules.StructKey) → keyed new other ≡ (if is_same_key key other then Some shared else keyed old other)
 
 -- what is known by a key behind one more definition, of this number in this unit
 abbrev pub with_unit : Option Shared → ℕ → ℕ → Shared
 with_unit None number unit = record { first = number; unit = unit; is_elsewhere = false }
 with_unit (Some shared) number unit = record shared { is_elsewhere = shared.is_elsewhere || not (nat_eq shared.unit unit) }
 
--- the definitions that are known by a key, by the first one: of structs that are numbered from this number on
-abbrev pub first_shared : List Aggregate → StructKey → ℕ → List Aggregate → Option Shared
-first_shared all key n [] = None
-first_shared all key n (it ∷ others) =
-    if defines key it then Some (record { first = n; unit = it.at.0; is_elsewhere = is_elsewhere it.at.0 key all })
-    else first_shared all key (suc n) others
-
--- each key has its definitions
-abbrev pub AreKeyed : List Aggregate → Keys → Type 0
-AreKeyed all keys = (key : StructKey) → keyed keys key ≡ first_shared all key 0 all
-
 -- what a definition of a source is known by
-abbrev pub key_in_source : Aggregate → Option StructKey
-key_in_source it = if has_body it.body && not (nat_eq it.at.0 0) then it.key else None
+abbrev pub key_held : Aggregate → Option StructKey
+key_held it = if is_some it.body && not (nat_eq it.at.0 0) then it.key else None
 
-abbrev pub if_elsewhere : Shared → Option Shared
-if_elsewhere shared = if shared.is_elsewhere then Some shared else None
+abbrev pub is_keyed_by : rules.StructKey → Option StructKey → Bool
+is_keyed_by key None = false
+is_keyed_by key (Some other) = is_same_key (key_of other) key
+
+-- what is known by a key, behind structs that are numbered from this number on
+abbrev pub known_behind : rules.StructKey → Option Shared → ℕ → List Aggregate → Option Shared
+known_behind key known n [] = known
+known_behind key known n (it ∷ all) =
+    known_behind key (if is_keyed_by key (key_held it) then Some (with_unit known n it.at.0) else known) (suc n) all
+
+-- each key has the definitions of sources that are known by it
+abbrev pub AreKeyed : List Aggregate → Keys → Type 0
+AreKeyed all keys = (key : rules.StructKey) → keyed keys key ≡ known_behind key None 0 all
+
+abbrev pub if_elsewhere : Option Shared → Option Shared
+if_elsewhere None = None
+if_elsewhere (Some shared) = if shared.is_elsewhere then Some shared else None
+
+abbrev pub keyed_by : Keys → Option StructKey → Option Shared
+keyed_by keys None = None
+keyed_by keys (Some key) = keyed keys (key_of key)
 
 -- what several sources know a definition by
-abbrev pub shared_by : List Aggregate → Aggregate → Option Shared
-shared_by all it = option_and_then (λ key. option_and_then if_elsewhere (first_shared all key 0 all)) (key_in_source it)
+abbrev pub shared_by : Keys → Aggregate → Option Shared
+shared_by keys it = if_elsewhere (keyed_by keys (key_held it))
 
 -- members
 
@@ -101,10 +118,32 @@ PlaceTable = HashMap Place Place (BuildHasherDefault FoldHasher)
 abbrev pub member_there : PlaceTable → Place → Option Place
 member_there table at = get is_place table at
 
+abbrev pub known_in : Option OneBody → List Known
+known_in None = []
+known_in (Some body) = body.known
+
 -- of some members with a struct's number the first of each name
 abbrev pub first_known : ℕ → List Known → Place → Option Place
 first_known number [] p = None
 first_known number (it ∷ known) p = or_else (there (number, it.name) it.at p) (first_known number known p)
+
+-- the members of a definition that several sources have, by its number, and by that of the first one of its key
+abbrev pub own_members : Option Shared → ℕ → List Known → Place → Option Place
+own_members None number known p = None
+own_members (Some shared) number known p = first_known number known p
+
+abbrev pub key_members : Option Shared → List Known → Place → Option Place
+key_members None known p = None
+key_members (Some shared) known p = first_known shared.first known p
+
+-- of structs that are numbered from this number on
+abbrev pub first_own : Keys → ℕ → List Aggregate → Place → Option Place
+first_own keys n [] p = None
+first_own keys n (it ∷ all) p = or_else (own_members (shared_by keys it) n (known_in it.body) p) (first_own keys (suc n) all p)
+
+abbrev pub first_among : Keys → List Aggregate → Place → Option Place
+first_among keys [] p = None
+first_among keys (it ∷ all) p = or_else (key_members (shared_by keys it) (known_in it.body) p) (first_among keys all p)
 
 abbrev pub link_where : PlaceTable → Shared → Known → Option Place → Option Place
 link_where among shared it None = None
@@ -123,12 +162,15 @@ first_link own among number shared [] p = None
 first_link own among number shared (it ∷ known) p =
     or_else (link_there (link_in own among number shared it) it.at p) (first_link own among number shared known p)
 
--- the tables of the members of definitions that several sources have
-pub record AreMembers (all : List Aggregate) (own among : PlaceTable) : Type 0 where
-  pub finds : (n name : ℕ) (it : Aggregate) (shared : Shared) → slice_get all n ≡ Some it → shared_by all it ≡ Some shared →
-      member_there own (n, name) ≡ place_of (member_in it.body name)
-  pub firsts : (key : StructKey) (name : ℕ) (shared : Shared) → first_shared all key 0 all ≡ Some shared →
-      shared.is_elsewhere ≡ true → member_there among (shared.first, name) ≡ member_among key name all
+abbrev pub shared_links : PlaceTable → PlaceTable → ℕ → Option Shared → List Known → Place → Option Place
+shared_links own among number None known p = None
+shared_links own among number (Some shared) known p = first_link own among number shared known p
+
+-- of structs that are numbered from this number on
+abbrev pub all_links : PlaceTable → PlaceTable → Keys → ℕ → List Aggregate → Place → Option Place
+all_links own among keys n [] p = None
+all_links own among keys n (it ∷ all) p =
+    or_else (shared_links own among n (shared_by keys it) (known_in it.body) p) (all_links own among keys (suc n) all p)
 
 -- bodies
 
@@ -148,3 +190,13 @@ earliest_plain links (it ∷ bodies) p = earlier_unit (earliest_plain links bodi
 abbrev pub is_earlier : Option ℕ → ℕ → Bool
 is_earlier None unit = false
 is_earlier (Some earliest) unit = nat_lt earliest unit
+
+-- a body without `inline` where an earlier unit has one
+abbrev pub is_second : PlaceMap Place → PlaceMap ℕ → Bodied → Bool
+is_second links units it = it.is_plain && is_earlier (value_at units (linked_by links it.first)) it.at.0
+
+-- of bodies of which the newest is first, in the order of the text
+abbrev pub second_faults : PlaceMap Place → PlaceMap ℕ → List Bodied → List Fault
+second_faults links units [] = []
+second_faults links units (it ∷ bodies) =
+    second_faults links units bodies ++ fault_where (is_second links units it) it.at defined_twice

@@ -1,9 +1,10 @@
 //! The objects and functions of several sources that are one.
 
-ghost use Rattle.std.specs.Prelude.{◌≡◌, ℕ, List, reverse, IfOk, OnOk};
+ghost use Rattle.std.specs.Prelude.{◌≡◌, ◌&&◌, ℕ, nat_eq, List, reverse, IfOk, OnOk};
 ghost use Rattle.type_table.specs.Types.{CType};
 ghost use Rattle.name_rules.specs.Spellings.{Place};
-ghost use Rattle.name_rules.specs.Linking.{is_external, first_external, thing_linked, thing_link};
+ghost use Rattle.name_rules.specs.Linking.{is_external, place_where, thing_linked, thing_link};
+ghost use Rattle.name_rules.specs.Scopes.{or_place};
 ghost use Rattle.place_map.specs.Values.{value_at, or_else};
 ghost use Rattle.unit_names.specs.Shown.{names_of};
 ghost use Rattle.name_links.specs.Tables.{AreStatics, AreFirsts, first_by, name_there};
@@ -32,6 +33,7 @@ impl Statics {
 }
 
 /// Finds them. Linear in them, but for growth.
+#[tactic(auto, using(crate::proofs::Lists::one_reversed, crate::proofs::Lists::all_reversed))]
 fn find_statics(alloc: Global, statics: &[(UnitNo, NameId)]) -> Result<Statics, NoMemory>
     ensures { IfOk result (λ it. AreStatics (reverse statics.now) it.known) }
 {
@@ -53,6 +55,7 @@ struct Firsts {
 
 impl Firsts {
     /// Has this be the one of a name that has none. Constant time but for growth.
+    #[tactic(auto, using(crate::proofs::Adding::name_stays, crate::proofs::Adding::name_comes))]
     fn add(&mut self, name: NameId, at: &Place) -> Result<(), NoMemory>
         ensures { OnOk result ((n : ℕ) → name_there self.new.map n
             ≡ or_else (name_there self.old.map n) (first_by name at.now n)) }
@@ -65,9 +68,23 @@ impl Firsts {
             Err(_) => Err(NoMemory),
         }
     }
+
+    /// Has a thing be the one of its name, where it is external and the name has none. Constant time but for growth.
+    fn add_external(&mut self, statics: &Statics, thing: &(NameId, Place)) -> Result<(), NoMemory>
+        ensures { (all : List (ℕ × ℕ)) → AreStatics all statics.now.known →
+            OnOk result ((n : ℕ) → name_there self.new.map n ≡ or_place (name_there self.old.map n)
+            (place_where (nat_eq thing.now.0 n && is_external all thing.now.0 thing.now.1) thing.now.1)) }
+    {
+        if statics.is_external(thing.0, &thing.1) {
+            self.add(thing.0, &thing.1)
+        } else {
+            Ok(())
+        }
+    }
 }
 
 /// Finds them. Linear in the things, which are the oldest first, but for growth.
+#[tactic(auto, using(crate::proofs::Lists::one_reversed, crate::proofs::Lists::all_reversed))]
 fn find_firsts(
     alloc: Global,
     statics: &Statics,
@@ -80,14 +97,12 @@ fn find_firsts(
         map: HashMap::new(alloc),
     };
     for it in things {
-        if statics.is_external(it.0, &it.1) {
-            found.add(it.0, &it.1)?;
-        }
+        found.add_external(statics, it)?;
     }
     Ok(found)
 }
 
-/// The link of one thing, where it is external. Constant time but for growth.
+/// The link of one thing, where it is external; of several at one place the last one counts. Constant time but for growth.
 fn add_thing(
     links: &mut PlaceMap<Place>,
     statics: &Statics,
@@ -97,16 +112,35 @@ fn add_thing(
     ensures { (all : List (ℕ × ℕ)) (things : List (ℕ × Place)) →
         AreStatics all statics.now.known → AreFirsts all things firsts.now.map →
         OnOk result ((p : Place) → value_at links.new p
-        ≡ or_else (value_at links.old p) (thing_linked all things p thing.now)) }
+        ≡ or_place (thing_linked all things p thing.now) (value_at links.old p)) }
 {
-    let (name, at) = *thing;
-    if !statics.is_external(name, &at) {
+    if !statics.is_external(thing.0, &thing.1) {
         return Ok(());
     }
-    match firsts.map.get(&name) {
-        Some(first) => links.add(&at, first),
+    match firsts.map.get(&thing.0) {
+        Some(first) => links.set(&thing.1, first),
         None => Ok(()),
     }
+}
+
+/// The links of things, which are the oldest first. Linear in them, but for growth.
+#[tactic(auto, using(crate::proofs::Lists::one_reversed, crate::proofs::Lists::all_reversed))]
+fn add_things(
+    alloc: Global,
+    statics: &Statics,
+    firsts: &Firsts,
+    things: &[(NameId, Place)],
+) -> Result<PlaceMap<Place>, NoMemory>
+    ensures { (all : List (ℕ × ℕ)) (others : List (ℕ × Place)) →
+        AreStatics all statics.now.known → AreFirsts all others firsts.now.map →
+        IfOk result (λ it. (p : Place) → value_at it p
+        ≡ thing_link all others (reverse things.now) p) }
+{
+    let mut links = PlaceMap::new(alloc);
+    for it in things {
+        add_thing(&mut links, statics, firsts, it)?;
+    }
+    Ok(links)
 }
 
 /// The links of objects and functions of sources. Linear in them, but for growth.
@@ -118,10 +152,5 @@ pub(crate) fn link_things(alloc: Global, names: &Names) -> Result<PlaceMap<Place
     let things = names.things();
     let statics = find_statics(alloc, names.statics())?;
     let firsts = find_firsts(alloc, &statics, things)?;
-    let mut links = PlaceMap::new(alloc);
-    // of several things at one place the newest counts
-    for i in (0..things.len()).rev() {
-        add_thing(&mut links, &statics, &firsts, &things[i])?;
-    }
-    Ok(links)
+    add_things(alloc, &statics, &firsts, things)
 }

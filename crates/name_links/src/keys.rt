@@ -1,10 +1,11 @@
 //! What definitions of structs and unions are known by, and in which sources they are.
 
-ghost use Rattle.std.specs.Prelude.{◌≡◌, ℕ, nat_eq, ◌&&◌, [], None, Some, OnOk, if◌then◌else◌};
+ghost use Rattle.std.specs.Prelude.{◌≡◌, ℕ, nat_eq, ◌&&◌, None, Some, OnOk, if◌then◌else◌};
 ghost use Rattle.tape_ops.specs.declared.specifier.TagKind.{TagKind};
 ghost use Rattle.name_rules.specs.Scopes.{is_kind};
+ghost use Rattle.name_rules.specs.Scopes as rules;
 ghost use Rattle.unit_names.specs.Shown.{key_of};
-ghost use Rattle.name_links.specs.Tables.{shared_there, keyed, IsKeyed, with_unit, AreKeyed};
+ghost use Rattle.name_links.specs.Tables.{shared_at, shared_there, keyed, IsKeyed, with_unit};
 
 use name_records::StructKey;
 use qual_base::{NameId, NoMemory, StructId, UnitNo};
@@ -35,6 +36,17 @@ pub(crate) struct Keys {
     typedefs: ByKind,
 }
 
+/// Has this be known by a name. Constant time but for growth.
+fn put(table: &mut HashMap<NameId, Shared>, name: NameId, shared: &Shared) -> Result<(), NoMemory>
+    ensures { OnOk result ((n : ℕ) → shared_at table.new n
+        ≡ (if nat_eq name n then Some shared.now else shared_at table.old n)) }
+{
+    match table.insert(name, *shared) {
+        Ok(_) => Ok(()),
+        Err(_) => Err(NoMemory),
+    }
+}
+
 impl ByKind {
     /// None. Takes no memory.
     fn new(alloc: Global) -> Self
@@ -63,14 +75,10 @@ impl ByKind {
         ensures { OnOk result ((k : TagKind) (n : ℕ) → shared_there self.new k n
             ≡ (if is_kind kind k && nat_eq name n then Some shared.now else shared_there self.old k n)) }
     {
-        let set = match kind {
-            TagKind::Struct => self.structs.insert(name, *shared),
-            TagKind::Union => self.unions.insert(name, *shared),
-            TagKind::Enum => self.enums.insert(name, *shared),
-        };
-        match set {
-            Ok(_) => Ok(()),
-            Err(_) => Err(NoMemory),
+        match kind {
+            TagKind::Struct => put(&mut self.structs, name, shared),
+            TagKind::Union => put(&mut self.unions, name, shared),
+            TagKind::Enum => put(&mut self.enums, name, shared),
         }
     }
 }
@@ -78,7 +86,7 @@ impl ByKind {
 impl Keys {
     /// None. Takes no memory.
     pub(crate) fn new(alloc: Global) -> Self
-        ensures { AreKeyed [] result }
+        ensures { (key : rules.StructKey) → keyed result key ≡ None }
     {
         Keys {
             tags: ByKind::new(alloc),

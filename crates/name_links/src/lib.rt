@@ -5,8 +5,8 @@
 mod bodies;
 mod externals;
 mod keys;
-mod links;
+mod linking;
 mod members;
 
 pub use bodies::body_faults;
-pub use links::{link, links};
+pub use linking::{link, links};

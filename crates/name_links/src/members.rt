@@ -1,13 +1,13 @@
 //! The members of structs and unions of several sources that are one.
 
-ghost use Rattle.std.specs.Prelude.{◌≡◌, ◌+◌, ℕ, List, None, map, IfOk, OnOk, option_map};
+ghost use Rattle.std.specs.Prelude.{◌≡◌, ◌+◌, ℕ, Some, None, IfOk, OnOk, if◌then◌else◌};
 ghost use Rattle.type_table.specs.Types.{CType};
 ghost use Rattle.name_rules.specs.Spellings.{Place};
 ghost use Rattle.name_rules.specs.Scopes as rules;
 ghost use Rattle.name_rules.specs.Linking.{member_link};
 ghost use Rattle.place_map.specs.Values.{value_at, or_else, there};
-ghost use Rattle.unit_names.specs.Shown.{names_of, aggregate_of, key_of};
-ghost use Rattle.name_links.specs.Tables.{key_in_source, AreKeyed, shared_by, member_there, first_known, link_in, first_link, AreMembers};
+ghost use Rattle.unit_names.specs.Shown.{names_of};
+ghost use Rattle.name_links.specs.Tables.{keyed, with_unit, key_held, is_keyed_by, AreKeyed, shared_by, member_there, known_in, first_known, own_members, key_members, first_own, first_among, link_in, first_link, shared_links, all_links};
 
 use crate::keys::{Keys, Shared};
 use name_records::{Aggregate, Known, StructKey};
@@ -19,9 +19,8 @@ use std::collections::HashMap;
 use unit_names::Names;
 
 /// What a definition of a source is known by. Constant time.
-fn key_in_source(it: &Aggregate) -> Option<StructKey>
-    ensures { (t : ℕ → CType) → option_map key_of result
-        ≡ key_in_source (aggregate_of t it.now) }
+fn key_held(it: &Aggregate) -> Option<StructKey>
+    ensures { result ≡ key_held it.now }
 {
     if it.body.is_some() && it.at.0.number() != 0 {
         it.key
@@ -40,17 +39,26 @@ fn next(number: u32) -> Result<u32, NoMemory>
     }
 }
 
+/// One more definition, where it is one of a source that is known by something. Constant time but for growth.
+fn add_key(keys: &mut Keys, number: StructId, it: &Aggregate) -> Result<(), NoMemory>
+    ensures { OnOk result ((key : rules.StructKey) → keyed keys.new key
+        ≡ (if is_keyed_by key (key_held it.now)
+        then Some (with_unit (keyed keys.old key) number it.now.at.0) else keyed keys.old key)) }
+{
+    match key_held(it) {
+        Some(key) => keys.add(&key, number, it.at.0),
+        None => Ok(()),
+    }
+}
+
 /// The definitions of sources by what they are known by. Linear in the structs, but for growth.
 fn find_keys(alloc: Global, all: &[Aggregate]) -> Result<Keys, NoMemory>
-    ensures { IfOk result
-        (λ keys. (t : ℕ → CType) → AreKeyed (map (aggregate_of t) all.now) keys) }
+    ensures { IfOk result (λ keys. AreKeyed all.now keys) }
 {
     let mut keys = Keys::new(alloc);
     let mut number = 0u32;
     for it in all {
-        if let Some(key) = key_in_source(it) {
-            keys.add(&key, StructId::new(number), it.at.0)?;
-        }
+        add_key(&mut keys, StructId::new(number), it)?;
         number = next(number)?;
     }
     Ok(keys)
@@ -80,6 +88,7 @@ impl MemberPlaces {
     }
 
     /// Has this be the first of a struct and a name that have none. Constant time but for growth.
+    #[tactic(auto, using(crate::proofs::Adding::stays, crate::proofs::Adding::comes))]
     fn add(&mut self, number: StructId, name: NameId, at: &Place) -> Result<(), NoMemory>
         ensures { OnOk result ((p : Place) → member_there self.new.map p
             ≡ or_else (member_there self.old.map p) (there (number, name) at.now p)) }
@@ -153,10 +162,9 @@ impl Members {
 
 /// What several sources know a definition by. Constant time.
 fn shared_by(keys: &Keys, it: &Aggregate) -> Option<Shared>
-    ensures { (t : ℕ → CType) (all : List rules.Aggregate) → AreKeyed all keys.now
-        → result ≡ shared_by all (aggregate_of t it.now) }
+    ensures { result ≡ shared_by keys.now it.now }
 {
-    let key = key_in_source(it)?;
+    let key = key_held(it)?;
     let shared = keys.get(&key)?;
     if shared.is_elsewhere {
         Some(shared)
@@ -165,10 +173,78 @@ fn shared_by(keys: &Keys, it: &Aggregate) -> Option<Shared>
     }
 }
 
+/// The members that a struct has by names, where it has a body. Constant time.
+fn known_in(it: &Aggregate) -> &[Known]
+    ensures { result.now ≡ known_in it.now.body }
+{
+    match &it.body {
+        Some(body) => body.known(),
+        None => &[],
+    }
+}
+
+impl Members {
+    /// Adds the members of a definition, where several sources have it. Linear in them, but for growth.
+    fn add_shared(&mut self, keys: &Keys, number: StructId, it: &Aggregate) -> Result<(), NoMemory>
+        ensures own { OnOk result ((p : Place) → member_there self.new.own.map p
+            ≡ or_else (member_there self.old.own.map p)
+            (own_members (shared_by keys.now it.now) number (known_in it.now.body) p)) }
+        ensures among { OnOk result ((p : Place) → member_there self.new.among.map p
+            ≡ or_else (member_there self.old.among.map p)
+            (key_members (shared_by keys.now it.now) (known_in it.now.body) p)) }
+    {
+        match shared_by(keys, it) {
+            Some(shared) => self.add(number, &shared, known_in(it)),
+            None => Ok(()),
+        }
+    }
+
+    /// Adds the links of the members of a definition, where several sources have it. Linear in them, but for growth.
+    fn link_shared(
+        &self,
+        links: &mut PlaceMap<Place>,
+        keys: &Keys,
+        number: StructId,
+        it: &Aggregate,
+    ) -> Result<(), NoMemory>
+        ensures { OnOk result ((p : Place) → value_at links.new p
+            ≡ or_else (value_at links.old p)
+            (shared_links self.now.own.map self.now.among.map number (shared_by keys.now it.now)
+            (known_in it.now.body) p)) }
+    {
+        match shared_by(keys, it) {
+            Some(shared) => self.add_links(links, number, &shared, known_in(it)),
+            None => Ok(()),
+        }
+    }
+
+    /// Adds the links of members of structs and unions that several sources have. Linear in the structs and in these members, but for
+    /// growth.
+    fn link_all(
+        &self,
+        links: &mut PlaceMap<Place>,
+        keys: &Keys,
+        all: &[Aggregate],
+    ) -> Result<(), NoMemory>
+        ensures { OnOk result ((p : Place) → value_at links.new p
+            ≡ or_else (value_at links.old p)
+            (all_links self.now.own.map self.now.among.map keys.now 0 all.now p)) }
+    {
+        let mut number = 0u32;
+        for it in all {
+            self.link_shared(links, keys, StructId::new(number), it)?;
+            number = next(number)?;
+        }
+        Ok(())
+    }
+}
+
 /// The members of definitions that several sources have. Linear in the structs and in these members, but for growth.
 fn find_members(alloc: Global, keys: &Keys, all: &[Aggregate]) -> Result<Members, NoMemory>
-    ensures { (t : ℕ → CType) → AreKeyed (map (aggregate_of t) all.now) keys.now → IfOk result
-        (λ it. AreMembers (map (aggregate_of t) all.now) it.own.map it.among.map) }
+    ensures own { IfOk result
+        (λ it. (p : Place) → member_there it.own.map p ≡ first_own keys.now 0 all.now p) }
+    ensures among { IfOk result
+        (λ it. (p : Place) → member_there it.among.map p ≡ first_among keys.now all.now p) }
 {
     let mut members = Members {
         own: MemberPlaces::new(alloc),
@@ -176,9 +252,7 @@ fn find_members(alloc: Global, keys: &Keys, all: &[Aggregate]) -> Result<Members
     };
     let mut number = 0u32;
     for it in all {
-        if let (Some(shared), Some(body)) = (shared_by(keys, it), &it.body) {
-            members.add(StructId::new(number), &shared, body.known())?;
-        }
+        members.add_shared(keys, StructId::new(number), it)?;
         number = next(number)?;
     }
     Ok(members)
@@ -198,12 +272,5 @@ pub(crate) fn link_members(
     let all = names.aggregates();
     let keys = find_keys(alloc, all)?;
     let members = find_members(alloc, &keys, all)?;
-    let mut number = 0u32;
-    for it in all {
-        if let (Some(shared), Some(body)) = (shared_by(&keys, it), &it.body) {
-            members.add_links(links, StructId::new(number), &shared, body.known())?;
-        }
-        number = next(number)?;
-    }
-    Ok(())
+    members.link_all(links, &keys, all)
 }

@@ -1,0 +1,26 @@
+-- Lists of which the newest is last, gone through from the oldest on.
+use Rattle.std.proofs.Common.{◌≡◌, ℕ, zero, suc, ◌+◌, ◌<◌, ◌≤◌, arith, List, [], ◌∷◌, ◌++◌, length, take, reverse, slice_index_or, refl, sym, ◌∙◌, ap}
+use Rattle.std.proofs.lemmas.List.{reverse-append}
+
+module _ {A : Type 0} where
+  whole : (xs : List A) (i : ℕ) → length xs ≤ i → take i xs ≡ xs
+  whole [] zero le = refl
+  whole [] (suc i) le = refl
+  whole (x ∷ xs) zero le = absurd (omega arith)
+  whole (x ∷ xs) (suc i) le = ap (λ ys. x ∷ ys) (whole xs i (omega arith))
+
+  -- all of them
+  pub all_reversed : (xs : List A) (i : ℕ) → length xs ≤ i → reverse (take i xs) ≡ reverse xs
+  all_reversed xs i le = ap reverse (whole xs i le)
+
+  taken_more : (xs : List A) (i : ℕ) (x : A) → x ≡ slice_index_or xs i x → i < length xs → take (i + 1) xs ≡ take i xs ++ x ∷ []
+  taken_more [] i x is lt = absurd (omega arith)
+  taken_more (y ∷ xs) zero x is lt = ap (λ z. z ∷ []) (sym is)
+  taken_more (y ∷ xs) (suc i) x is lt =
+      let e : suc i + 1 ≡ suc (i + 1) = omega arith in
+      rw e (ap (λ ys. y ∷ ys) (taken_more xs i x is (omega arith)))
+
+  -- the next one is the newest
+  pub one_reversed : (xs : List A) (i : ℕ) (x : A) → x ≡ slice_index_or xs i x → i < length xs
+      → reverse (take (i + 1) xs) ≡ x ∷ reverse (take i xs)
+  one_reversed xs i x is lt = ap reverse (taken_more xs i x is lt) ∙ reverse-append (take i xs) (x ∷ [])
