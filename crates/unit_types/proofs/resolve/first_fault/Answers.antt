@@ -1,11 +1,9 @@
-use Rattle.std.proofs.Common.{arith, ◌<◌, ◌≤◌, ◌++◌, List, length, map, sym, ◌∙◌, ap, subst, append_assoc, append-nil}
+use Rattle.std.proofs.Common.{arith, ◌<◌, ◌≤◌, ◌++◌, List, length, sym, ◌∙◌, ap, subst, append_assoc, append-nil}
 use Rattle.std.proofs.lemmas.List.{drop_all}
 use Rattle.type_table.specs.Rows.{type_of}
 use Rattle.tape_ops.specs.declared.op.Op.{Op}
 use Rattle.name_rules.specs.Faults.{Fault}
 use Rattle.name_rules.specs.Linking.{body_faults}
-use Rattle.name_records.specs.declared.records.Fault as records
-use Rattle.unit_names.specs.Shown.{fault_of}
 use Rattle.shape_steps.specs.State.{nothing}
 use Rattle.shape_steps.specs.Found.{faults_found}
 use Rattle.unit_spelling.specs.Spelled.{spelling_of}
@@ -18,15 +16,10 @@ use Rattle.unit_types.proofs.resolve.first_fault.Goals as goal
 
 pub loop-unit-init : goal.loop-unit-init
 loop-unit-init c =
-    let t = type_of c.args.types.now in
     let s = names_in c.args.types.now c.args.names.now in
-    let of_bodies = ap (λ (all : List records.Fault). map fault_of all) (sym c.deref-in_ok-bodies.ensures.value)
-    ∙ c.in_ok-bodies.ensures t in
     record {
       so_far = s.faults ++ body_faults s;
-      first =
-          subst (λ (fs : List Fault). IsFirstOf (some_fault_of c.keep_of_names.new.best) (s.faults ++ fs)) of_bodies
-          (c.keep_of_names.ensures s.faults (c.first_of_names-best.ensures t));
+      first = c.in_ok-best.ensures (type_of c.args.types.now);
       rest = append_assoc s.faults (body_faults s) (faults_among s (tapes_of c.args.units.now));
     }
 
