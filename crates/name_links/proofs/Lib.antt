@@ -1,2 +1,7 @@
 mod Adding
+mod Earliest
+mod Found
+mod Known
 mod Lists
+mod Tests
+mod Things

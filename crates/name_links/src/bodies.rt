@@ -51,7 +51,6 @@ fn add_plain(
 }
 
 /// The earliest unit that has a body without `inline` of each function, by its link. Linear in the bodies, but for growth.
-#[tactic(auto, using(crate::proofs::Lists::one_reversed, crate::proofs::Lists::all_reversed))]
 fn plain_units(
     alloc: Global,
     links: &PlaceMap<Place>,
@@ -100,7 +99,6 @@ fn note_second(
 }
 
 /// The second bodies, in the order of the text. Linear in the bodies, but for growth.
-#[tactic(auto, using(crate::proofs::Lists::one_reversed, crate::proofs::Lists::all_reversed))]
 fn second_bodies(
     alloc: Global,
     links: &PlaceMap<Place>,

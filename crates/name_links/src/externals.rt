@@ -33,7 +33,6 @@ impl Statics {
 }
 
 /// Finds them. Linear in them, but for growth.
-#[tactic(auto, using(crate::proofs::Lists::one_reversed, crate::proofs::Lists::all_reversed))]
 fn find_statics(alloc: Global, statics: &[(UnitNo, NameId)]) -> Result<Statics, NoMemory>
     ensures { IfOk result (λ it. AreStatics (reverse statics.now) it.known) }
 {
@@ -84,7 +83,6 @@ impl Firsts {
 }
 
 /// Finds them. Linear in the things, which are the oldest first, but for growth.
-#[tactic(auto, using(crate::proofs::Lists::one_reversed, crate::proofs::Lists::all_reversed))]
 fn find_firsts(
     alloc: Global,
     statics: &Statics,
@@ -124,7 +122,6 @@ fn add_thing(
 }
 
 /// The links of things, which are the oldest first. Linear in them, but for growth.
-#[tactic(auto, using(crate::proofs::Lists::one_reversed, crate::proofs::Lists::all_reversed))]
 fn add_things(
     alloc: Global,
     statics: &Statics,

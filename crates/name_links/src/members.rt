@@ -112,6 +112,17 @@ struct Members {
 }
 
 impl Members {
+    /// None. Takes no memory.
+    fn new(alloc: Global) -> Self
+        ensures own { (at : Place) → member_there result.own.map at ≡ None }
+        ensures among { (at : Place) → member_there result.among.map at ≡ None }
+    {
+        Members {
+            own: MemberPlaces::new(alloc),
+            among: MemberPlaces::new(alloc),
+        }
+    }
+
     /// Adds the members of a definition. Linear in them, but for growth.
     fn add(&mut self, number: StructId, shared: &Shared, known: &[Known]) -> Result<(), NoMemory>
         ensures own { OnOk result ((p : Place) → member_there self.new.own.map p
@@ -246,10 +257,7 @@ fn find_members(alloc: Global, keys: &Keys, all: &[Aggregate]) -> Result<Members
     ensures among { IfOk result
         (λ it. (p : Place) → member_there it.among.map p ≡ first_among keys.now all.now p) }
 {
-    let mut members = Members {
-        own: MemberPlaces::new(alloc),
-        among: MemberPlaces::new(alloc),
-    };
+    let mut members = Members::new(alloc);
     let mut number = 0u32;
     for it in all {
         members.add_shared(keys, StructId::new(number), it)?;

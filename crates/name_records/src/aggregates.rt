@@ -68,7 +68,8 @@ impl Aggregates {
     pub fn push(&mut self, kind: TagKind, at: &Place) -> Result<StructId, NoMemory>
         ensures number { IfOk result (λ n. n ≡ length self.old) }
         ensures pushed { OnOk result
-            (self.new ≡ self.old ++ record { kind = kind; at = at.now; body = None; key = None } ∷ []) }
+            (self.new
+            ≡ self.old ++ record { kind = kind; at = at.now; body = None; key = None } ∷ []) }
     {
         let count = self.all.len();
         if count >= 4_294_967_295 {

@@ -7,12 +7,12 @@ use Rattle.unit_names.specs.declared.names.Names.{Names}
 use Rattle.unit_names.specs.Shown.{names_of}
 
 pub begun : (t : ℕ → CType) (s : Names) → s.declared ≡ [] → s.scopes ≡ no_scope ∷ [] → s.aggregates ≡ [] → s.things
-    ≡ [] → s.round ≡ []
+    ≡ [] → s.statics.items ≡ [] → s.round ≡ []
     → s.uses.items ≡ [] → s.type_names.items ≡ [] → s.faults.items ≡ [] → s.bodies ≡ [] → s.enclosing ≡ None → s.kept
     ≡ None → names_of t s ≡ no_names
 unfolding names_of
-begun t s declared scopes aggregates things round uses type_names faults bodies enclosing kept =
+begun t s declared scopes aggregates things statics round uses type_names faults bodies enclosing kept =
     rw declared
     (rw scopes
     (rw aggregates
-    (rw things (rw round (rw uses (rw type_names (rw faults (rw bodies (rw enclosing (rw kept refl))))))))))
+    (rw things (rw statics (rw round (rw uses (rw type_names (rw faults (rw bodies (rw enclosing (rw kept refl)))))))))))

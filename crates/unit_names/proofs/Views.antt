@@ -15,7 +15,7 @@ use Rattle.name_records.specs.declared.aggregates.Aggregate.{Aggregate}
 use Rattle.name_records.specs.Records.{first_declared}
 use Rattle.name_records.specs.Bodies as bodies
 use Rattle.name_records.specs.Aggregates as aggregates
-use Rattle.unit_names.specs.Shown.{tagged_of, meaning_of, entry_of, scope_of, declared_of, own_of, known_of, body_of, aggregate_of}
+use Rattle.unit_names.specs.Shown.{tagged_of, meaning_of, entry_of, scope_of, declared_of, own_of, known_of, body_of, key_of, aggregate_of}
 
 pub map_more : {A B : Type 0} (f : A → B) (xs ys : List A) → map f (xs ++ ys) ≡ map f xs ++ map f ys
 map_more f [] ys = refl
@@ -138,8 +138,18 @@ module _ (t : ℕ → CType) where
   changed_is change after same all n =
       map_changed (aggregate_of t) (aggregates.with_body change)
       (λ it. record it { body = Some (after (rules.or_no_body it.body)) })
-      (λ it. ap (λ b. let a : rules.Aggregate = record { kind = it.kind; at = it.at; body = Some b } in a)
+      (λ it. ap
+      (λ b. let a : rules.Aggregate = record { kind = it.kind; at = it.at; body = Some b; key = option_map key_of it.key } in a)
       (same (bodies.or_empty it.body) ∙ ap after (sym (some_body it.body)))) all n
+
+  -- what one of them is known by is set
+  pub keyed_is : (by_typedef : Bool) (name : ℕ) (all : List Aggregate) (n : ℕ)
+      → map (aggregate_of t) (rules.changed_at all n (aggregates.with_key by_typedef name))
+      ≡ rules.changed_at (map (aggregate_of t) all) n
+      (λ it. record it { key = Some (record { kind = it.kind; by_typedef = by_typedef; name = name }) })
+  keyed_is by_typedef name all n =
+      map_changed (aggregate_of t) (aggregates.with_key by_typedef name)
+      (λ it. record it { key = Some (record { kind = it.kind; by_typedef = by_typedef; name = name }) }) (λ it. refl) all n
 
   pub member_is : (name : ℕ) (at : Place) (ty : ℕ) (b : bodies.OneBody) → body_of t (bodies.with_member name at ty b)
       ≡ rules.with_member name at (t ty) (body_of t b)

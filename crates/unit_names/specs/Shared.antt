@@ -1,4 +1,4 @@
--- What later units see of a unit, types by their numbers.
+-- What sources see of the prelude, types by their numbers.
 use Rattle.std.specs.Prelude.{ℕ, Bool, true, false, List, [], ◌∷◌, ◌++◌, Option, None, Some, if◌then◌else◌}
 use Rattle.name_rules.specs.Spellings.{Place}
 use Rattle.name_scopes.specs.declared.meant.Meant.{Meant}

@@ -134,23 +134,25 @@ impl Names {
         self.enclosing = None;
         self.scopes.leave();
     }
+
     /// What of the prelude is visible round the file scope of each source: the objects and functions of the innermost scope, behind a
     /// whole prelude that of its file. The scope ends. Linear in its declarations.
-    #[tactic(auto, using(crate::proofs::Sharing::begun_is), unfolding(crate::specs::Shown::names_of))]
     fn share(&mut self) -> Result<(), NoMemory>
         ensures { OnOk result ((t : ℕ → CType) → names_of t self.new
-            ≡ record (leave (names_of t self.old))
-            { round = shared (names_of t self.old) (innermost (names_of t self.old).scopes).names }) }
+            ≡ record (leave (names_of t self.old)) {
+              round = shared (names_of t self.old)
+                  (innermost (names_of t self.old).scopes).names;
+            }) }
     {
         let file = self.scopes.close();
         self.round = NameList::new(self.alloc);
-        share_all(&mut self.round, &self.declared, file.names())
+        share_all(&mut self.round, &self.declared, file.names())?;
+        Ok(())
     }
 
     /// A unit begins, with a file scope of its own: the first source sees the objects and functions of the scope that is innermost
     /// then, behind a whole prelude that of its file, and so do the later ones. The scopes that are open are let go. Linear in their
     /// declarations.
-    #[tactic(auto, using(crate::proofs::Sharing::begun_is), unfolding(crate::specs::Shown::names_of))]
     pub fn begin_unit(&mut self, unit: UnitNo) -> Result<(), NoMemory>
         ensures { OnOk result ((t : ℕ → CType) → names_of t self.new
             ≡ unit_begun unit (names_of t self.old)) }

@@ -1,4 +1,4 @@
-//! What later units see of a unit.
+//! What sources see of the prelude.
 
 ghost use Rattle.std.specs.Prelude.{◌≡◌, ◌++◌, reverse, OnOk};
 ghost use Rattle.unit_names.specs.Shared.{is_shared, shared_name, shared};
@@ -8,7 +8,7 @@ use name_records::{Declarations, Declared, Role};
 use name_scopes::{Meant, Place};
 use qual_base::{NameId, NoMemory};
 
-/// Whether later units see what a declaration declares: an object or function.
+/// Whether sources see what a declaration of the prelude declares: an object or function.
 fn is_shared(declared: &Option<Declared>) -> bool
     ensures { result ≡ is_shared declared.now }
 {
@@ -21,7 +21,7 @@ fn is_shared(declared: &Option<Declared>) -> bool
     }
 }
 
-/// One more name for later units, where it is an object or function. Constant time but for growth.
+/// One more name for sources, where it is an object or function. Constant time but for growth.
 fn share(
     round: &mut NameList<Place>,
     declared: &Declarations,
@@ -43,7 +43,7 @@ fn share(
     }
 }
 
-/// The names of a scope for later units, the oldest first. Linear in them.
+/// The names of a scope for sources, the oldest first. Linear in them.
 pub(crate) fn share_all(
     round: &mut NameList<Place>,
     declared: &Declarations,
