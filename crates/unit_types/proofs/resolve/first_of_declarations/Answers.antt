@@ -1,4 +1,4 @@
-use Rattle.std.proofs.Common.{◌++◌, List, map, sym, ◌∙◌, ap, subst}
+use Rattle.std.proofs.Common.{◌++◌, List, map, ◌∙◌, ap, subst}
 use Rattle.name_rules.specs.Faults.{Fault}
 use Rattle.name_records.specs.declared.records.Fault as records
 use Rattle.unit_names.specs.Shown.{names_of, fault_of}
