@@ -1,5 +1,5 @@
 -- Second bodies by the earliest units, against the rules.
-use Rattle.std.proofs.Common.{◌≡◌, ℕ, ◌<◌, ◌≤◌, arith, Bool, true, false, ◌&&◌, ◌||◌, nat_lt, List, [], ◌∷◌, ◌++◌, map, Option, Some, None, refl, sym, ◌∙◌, ap, if◌then◌else◌}
+use Rattle.std.proofs.Common.{◌≡◌, ℕ, ◌<◌, arith, Bool, true, false, ◌&&◌, ◌||◌, nat_lt, List, [], ◌∷◌, ◌++◌, map, Option, Some, None, refl, sym, ◌∙◌, ap, if◌then◌else◌}
 use Rattle.std.proofs.lemmas.Bool.{ltb-true, ltb-false, lt-ltb}
 use Rattle.name_rules.specs.Spellings.{Place}
 use Rattle.name_rules.specs.Faults.{Fault, defined_twice, fault_where}
@@ -9,8 +9,8 @@ use Rattle.name_rules.specs.Linking.{link_of, has_earlier, faults_in}
 use Rattle.name_records.specs.declared.bodies.Bodied.{Bodied}
 use Rattle.name_records.specs.Held.{bodied_of}
 use Rattle.place_map.specs.declared.map.PlaceMap.{PlaceMap}
-use Rattle.place_map.specs.Values.{value_at, there}
-use Rattle.name_links.specs.Tables.{linked_by, earlier_unit, plain_there, earliest_plain, is_earlier, is_second, second_faults}
+use Rattle.place_map.specs.Values.{value_at}
+use Rattle.name_links.specs.Tables.{linked_by, earlier_unit, plain_there, earliest_plain, is_earlier, second_faults}
 use Rattle.name_links.proofs.Tests.{and_true, and_false, or_false}
 
 -- one of two units is earlier than a third

@@ -1,8 +1,7 @@
 -- Links of members by tables, against the rules.
-use Rattle.std.proofs.Common.{◌≡◌, ℕ, zero, suc, ◌+◌, ◌<◌, arith, Bool, true, false, not, ◌&&◌, nat_eq, List, [], ◌∷◌, map, slice_get, Option, Some, None, is_some, option_map, inl, inr, refl, sym, ◌∙◌, ap, if◌then◌else◌}
+use Rattle.std.proofs.Common.{◌≡◌, ℕ, zero, suc, ◌+◌, ◌<◌, arith, Bool, true, false, not, ◌&&◌, nat_eq, List, [], ◌∷◌, map, slice_get, Option, Some, None, is_some, option_map, refl, sym, ◌∙◌, ap, if◌then◌else◌}
 use Rattle.std.specs.Prelude.{option_and_then}
 use Rattle.std.proofs.lemmas.Bool.{eq-eqb}
-use Rattle.std.proofs.lemmas.Bool.Decides.{eqb_tells}
 use Rattle.type_table.specs.Types.{CType}
 use Rattle.name_rules.specs.Spellings.{Place}
 use Rattle.name_rules.specs.Scopes.{is_place, or_place}
@@ -13,7 +12,7 @@ use Rattle.name_records.specs.declared.body.Known.{Known}
 use Rattle.name_records.specs.declared.aggregates.StructKey.{StructKey}
 use Rattle.name_records.specs.declared.aggregates.Aggregate.{Aggregate}
 use Rattle.name_records.specs.Bodies.{OneBody}
-use Rattle.place_map.specs.Values.{or_else, there}
+use Rattle.place_map.specs.Values.{or_else}
 use Rattle.place_map.proofs.Adding.{same_place, or_none}
 use Rattle.unit_names.specs.Shown.{key_of, known_of, body_of, aggregate_of}
 use Rattle.name_links.specs.declared.keys.Shared.{Shared}

@@ -1,5 +1,5 @@
 -- Tables of objects and functions, by one more of them.
-use Rattle.std.proofs.Common.{◌≡◌, ℕ, ◌+◌, ◌<◌, ◌||◌, Bool, true, false, cond, List, ◌∷◌, length, take, reverse, slice_index_or, Option, Some, None, is_some, refl, sym, ◌∙◌, ap}
+use Rattle.std.proofs.Common.{◌≡◌, ℕ, ◌+◌, ◌<◌, ◌||◌, Bool, true, false, cond, List, length, take, reverse, slice_index_or, Option, Some, None, is_some, refl, sym, ◌∙◌, ap}
 use Rattle.std.specs.HashMap.{get}
 use Rattle.name_rules.specs.Spellings.{Place}
 use Rattle.name_rules.specs.Scopes.{is_place, or_place}

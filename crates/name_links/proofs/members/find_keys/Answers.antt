@@ -1,4 +1,4 @@
-use Rattle.std.proofs.Common.{◌≡◌, ℕ, suc, ◌+◌, arith, List, drop, Option, Some, None, sym, ◌∙◌, ap, if◌then◌else◌}
+use Rattle.std.proofs.Common.{◌≡◌, ℕ, suc, ◌+◌, arith, List, drop, Option, Some, sym, ◌∙◌, ap, if◌then◌else◌}
 use Rattle.name_records.specs.declared.aggregates.Aggregate.{Aggregate}
 use Rattle.name_links.specs.declared.keys.Shared.{Shared}
 use Rattle.name_links.specs.Tables.{keyed, with_unit, key_held, is_keyed_by, known_behind}

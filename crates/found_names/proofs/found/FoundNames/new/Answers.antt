@@ -18,4 +18,5 @@ invariant_of-result c = record {
       ap (option_map (known_of t)) (c.in_ok-members.ensures (number, name))
       ∙ member_found t 0 number number c.aggregates.result.now name at
       ∙ ap (λ (all : List rules.Aggregate). member_in (rules.body_of all number) name) (c.aggregates.ensures t);
+  links = λ t at. c.in_ok-links.ensures t at;
 }
