@@ -1,6 +1,6 @@
 -- The numbers of types that a state holds are those of its table: what is shown alike by the types of all tables that this
 -- one grows to, does not depend on numbers past it.
-use Rattle.std.proofs.Common.{arith, ◌≡◌, ℕ, suc, ◌<◌, ◌≤◌, Bool, true, false, nat_lt, List, [], ◌∷◌, ◌++◌, length, map, Option, Some, None, inl, inr, refl, sym, ◌∙◌, ap, Vec, Global, if◌then◌else◌}
+use Rattle.std.proofs.Common.{arith, ◌≡◌, ℕ, suc, ◌<◌, ◌≤◌, nat_lt, List, [], ◌∷◌, ◌++◌, length, map, Option, Some, None, inl, inr, refl, sym, ◌∙◌, ap, Vec, Global, if◌then◌else◌}
 use Rattle.std.proofs.lemmas.Bool.{cases_lt, lt-ltb, le-ltb}
 use Rattle.type_table.specs.declared.row.Row.{Row}
 use Rattle.type_table.specs.Types.{CType, base, void}
@@ -15,7 +15,7 @@ use Rattle.name_rules.specs.Spellings.{Spelling}
 use Rattle.c_names.specs.declared.state.OpenDeclaration.{OpenDeclaration}
 use Rattle.c_names.specs.declared.state.State.{State}
 use Rattle.c_names.specs.Stacks.{top}
-use Rattle.c_names.specs.Shown.{specifiers_of, declaration_of, types_of_list, state_of, IsShown}
+use Rattle.c_names.specs.Shown.{declaration_of, types_of_list, state_of, IsShown}
 
 pub map_more : {A B : Type 0} (f : A → B) (xs ys : List A) → map f (xs ++ ys) ≡ map f xs ++ map f ys
 map_more f [] ys = refl

@@ -1,5 +1,5 @@
 -- A use of a name, fact by fact.
-use Rattle.std.proofs.Common.{◌≡◌, Bool, [], ◌∷◌, ◌++◌, refl, ◌∙◌, ap}
+use Rattle.std.proofs.Common.{◌≡◌, Bool, [], ◌∷◌, ◌++◌, ◌∙◌, ap}
 use Rattle.name_rules.specs.Spellings.{Place}
 use Rattle.name_rules.specs.Scopes.{Use, Names, with_faults}
 use Rattle.name_rules.specs.Faults.{undeclared, fault_where}

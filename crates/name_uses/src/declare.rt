@@ -5,7 +5,7 @@ ghost use Rattle.std.specs.List.{last_or};
 ghost use Rattle.type_table.specs.Types.{CType, base};
 ghost use Rattle.name_types.specs.Known.{Knows};
 ghost use Rattle.name_rules.specs.Scopes.{enumerator_role};
-ghost use Rattle.name_rules.specs.Declaring.{untagged_number, declared_here, thing_where, static_where, declared_thing, declared_typedef, declared_by, typedef_known, declared_some, declared_param, declared_member, unnamed_member};
+ghost use Rattle.name_rules.specs.Declaring.{untagged_number, declared_here, thing_where, static_where, declared_thing, declared_typedef, declared_by, typedef_known, declared_some, declared_param, declared_member, unnamed_member, body_entered};
 ghost use Rattle.name_steps.specs.Steps.{body_entered_by};
 ghost use Rattle.unit_spelling.specs.Spelled.{spelling_of};
 ghost use Rattle.unit_names.specs.Shown.{names_of};
@@ -274,6 +274,21 @@ pub fn declare_unnamed(
     Ok(())
 }
 
+/// A body begins at a function's name; the function was first declared at this place. It is plain without `inline`. Constant time
+/// but for growth.
+fn enter_at(names: &mut Names, at: &Place, first: &Place, is_plain: bool) -> Result<(), NoMemory>
+    ensures { OnOk result ((t : ℕ → CType) → names_of t names.new
+        ≡ body_entered at.now first.now is_plain (names_of t names.old)) }
+{
+    let known = names.is_entered(at.0, first);
+    names.blame(known, at, Rule::DefinedTwice)?;
+    names.push_body(&Bodied {
+        first: *first,
+        at: *at,
+        is_plain,
+    })
+}
+
 /// The body begins of the function that was declared last. It is plain without `inline`. Constant time but for growth.
 pub fn enter_body(names: &mut Names, is_plain: bool) -> Result<(), NoMemory>
     ensures { OnOk result ((t : ℕ → CType) → names_of t names.new
@@ -281,16 +296,7 @@ pub fn enter_body(names: &mut Names, is_plain: bool) -> Result<(), NoMemory>
         (names_of t names.old)) }
 {
     match names.last_declared() {
-        Some(declared) => {
-            let known = names.is_entered(declared.at.0, &declared.first);
-            names.blame(known, &declared.at, Rule::DefinedTwice)?;
-            names.push_body(&Bodied {
-                first: declared.first,
-                at: declared.at,
-                is_plain,
-            })?;
-            Ok(())
-        }
+        Some(declared) => enter_at(names, &declared.at, &declared.first, is_plain),
         None => Ok(()),
     }
 }

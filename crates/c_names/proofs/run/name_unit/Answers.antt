@@ -1,5 +1,4 @@
-use Rattle.std.proofs.Common.{◌≡◌, ap, ◌∙◌}
-use Rattle.name_rules.specs.Scopes.{Names}
+use Rattle.std.proofs.Common.{ap, ◌∙◌}
 use Rattle.name_rules.specs.Units.{unit_begun}
 use Rattle.name_steps.specs.State.{State, with_names}
 use Rattle.name_steps.specs.Steps.{run}
@@ -10,10 +9,10 @@ use Rattle.c_names.proofs.run.name_unit.Goals as goal
 
 pub run-requires : goal.run-requires
 run-requires c = record {
-  shown = with_names (unit_begun c.requires.shown);
+  shown = with_names (unit_begun c.args.spelling.now.unit c.requires.shown);
   alike = λ t knows.
       c.new-state.ensures t
-      ∙ ap with_names (c.in_ok-begin_unit.ensures t ∙ ap unit_begun (c.requires.alike t knows));
+      ∙ ap with_names (c.in_ok-begin_unit.ensures t ∙ ap (unit_begun c.args.spelling.now.unit) (c.requires.alike t knows));
 }
 
 pub returns-clause-named : goal.returns-clause-named
@@ -31,11 +30,11 @@ returns-clause-shown c =
     let u = spelling_of c.args.spelling.now in
     let tape = c.args.tape.now in
     record {
-      shown = (run u tape (with_names (unit_begun c.requires.shown))).names;
+      shown = (run u tape (with_names (unit_begun u.unit c.requires.shown))).names;
       alike = λ t knows.
           let before = knows_before c.args.types.now c.run.new.types t c.in_ok-run.ensures.grown knows in
           ap (λ (x : State). x.names)
           (c.in_ok-run.ensures.shown t knows
           ∙ ap (run u tape) (c.new-state.ensures t
-          ∙ ap with_names (c.in_ok-begin_unit.ensures t ∙ ap unit_begun (c.requires.alike t before))));
+          ∙ ap with_names (c.in_ok-begin_unit.ensures t ∙ ap (unit_begun u.unit) (c.requires.alike t before))));
     }

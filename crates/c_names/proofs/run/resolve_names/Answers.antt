@@ -4,6 +4,7 @@ use Rattle.name_rules.specs.Units.{no_names, unit_begun}
 use Rattle.name_steps.specs.State.{with_names}
 use Rattle.name_steps.specs.Steps.{run}
 use Rattle.unit_spelling.specs.Spelled.{spelling_of}
+use Rattle.c_names.proofs.Alone.{begun_alone}
 use Rattle.c_names.proofs.run.resolve_names.Goals as goal
 
 pub name_unit-requires : goal.name_unit-requires
@@ -12,6 +13,8 @@ name_unit-requires c = record { shown = no_names; alike = λ t knows. c.in_ok-na
 pub returns-clause-named : goal.returns-clause-named
 returns-clause-named c =
     λ t knows.
+    let u = spelling_of c.args.spelling.now in
+    let tape = c.args.tape.now in
     c.in_ok-named.ensures.named t knows
-    ∙ ap (λ (s : Names). (run (spelling_of c.args.spelling.now) c.args.tape.now (with_names (unit_begun s))).names)
-    (c.in_ok-names.ensures t)
+    ∙ ap (λ (s : Names). (run u tape (with_names (unit_begun u.unit s))).names) (c.in_ok-names.ensures t)
+    ∙ ap (λ (s : Names). (run u tape (with_names s)).names) (begun_alone u.unit)
