@@ -20,14 +20,7 @@ use Rattle.name_links.specs.declared.keys.Keys.{Keys}
 use Rattle.name_links.specs.Tables.{keyed, key_held, is_keyed_by, AreKeyed, if_elsewhere, keyed_by, shared_by, PlaceTable, member_there, known_in, first_known, own_members, key_members, first_own, first_among, link_where, link_there, first_link, shared_links, all_links, known_behind}
 use Rattle.name_links.proofs.Tests.{and_false, not_same, key_same, key_is}
 use Rattle.name_links.proofs.Things.{first_place}
-use Rattle.name_links.proofs.Known.{held_is, one_key, known_here}
-
-some_is : {A : Type 0} (x y : A) → Some x ≡ Some y → x ≡ y
-some_is {A = A} x y is = ap (λ (o : Option A). or_this o) is
-  where
-    or_this : Option A → A
-    or_this None = x
-    or_this (Some z) = z
+use Rattle.name_links.proofs.Known.{some_is, held_is, one_key, known_here}
 
 some_first : (o e : Option Place) → is_some o ≡ true → is_some (or_place o e) ≡ true
 some_first None e is = absurd cc

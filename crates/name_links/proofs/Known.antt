@@ -12,7 +12,7 @@ use Rattle.name_links.specs.declared.keys.Shared.{Shared}
 use Rattle.name_links.specs.Tables.{with_unit, key_held, is_keyed_by, known_behind}
 use Rattle.name_links.proofs.Tests.{and_true, and_false, or_false, or_true, or_assoc, number_sym, key_sym, key_is}
 
-some_is : {A : Type 0} (x y : A) → Some x ≡ Some y → x ≡ y
+pub some_is : {A : Type 0} (x y : A) → Some x ≡ Some y → x ≡ y
 some_is {A = A} x y is = ap (λ (o : Option A). or_this o) is
   where
     or_this : Option A → A

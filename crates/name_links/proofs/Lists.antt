@@ -1,4 +1,4 @@
--- Lists of which the newest is last, gone through from the oldest on.
+-- Lists that are gone through from the first item on: what was seen, the last of it first, and what is left.
 use Rattle.std.proofs.Common.{◌≡◌, ℕ, zero, suc, ◌+◌, ◌<◌, ◌≤◌, arith, List, [], ◌∷◌, ◌++◌, length, take, drop, reverse, slice_index_or, refl, sym, ◌∙◌, ap}
 use Rattle.std.proofs.lemmas.List.{reverse-append}
 

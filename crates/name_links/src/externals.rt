@@ -72,7 +72,8 @@ impl Firsts {
     fn add_external(&mut self, statics: &Statics, thing: &(NameId, Place)) -> Result<(), NoMemory>
         ensures { (all : List (ℕ × ℕ)) → AreStatics all statics.now.known →
             OnOk result ((n : ℕ) → name_there self.new.map n ≡ or_place (name_there self.old.map n)
-            (place_where (nat_eq thing.now.0 n && is_external all thing.now.0 thing.now.1) thing.now.1)) }
+            (place_where (nat_eq thing.now.0 n && is_external all thing.now.0 thing.now.1)
+            thing.now.1)) }
     {
         if statics.is_external(thing.0, &thing.1) {
             self.add(thing.0, &thing.1)

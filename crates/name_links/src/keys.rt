@@ -73,7 +73,8 @@ impl ByKind {
     /// Has this be known by a keyword and a name. Constant time but for growth.
     fn set(&mut self, kind: TagKind, name: NameId, shared: &Shared) -> Result<(), NoMemory>
         ensures { OnOk result ((k : TagKind) (n : ℕ) → shared_there self.new k n
-            ≡ (if is_kind kind k && nat_eq name n then Some shared.now else shared_there self.old k n)) }
+            ≡ (if is_kind kind k && nat_eq name n then Some shared.now
+            else shared_there self.old k n)) }
     {
         match kind {
             TagKind::Struct => put(&mut self.structs, name, shared),
