@@ -3,6 +3,7 @@ use Rattle.std.proofs.Common.{arith, ◌≡◌, ℕ, zero, suc, ◌+◌, ◌<◌
 use Rattle.std.specs.Prelude.{All, IfSome}
 use Rattle.name_rules.specs.Faults.{Fault, IsFirst}
 use Rattle.name_rules.specs.Scopes.{Names}
+use Rattle.name_rules.specs.Linking.{body_faults}
 use Rattle.name_laws.specs.NameLaws.{NamesOfTapes, IsSound, tape_of_source}
 use Rattle.name_steps.specs.Units.{Tape}
 use Rattle.shape_laws.specs.Laws.{found_on, all_found, FirstFaultIsFound, NoneIsFound}
@@ -81,8 +82,8 @@ module _ (law : NamesOfTapes) (sources : List Source) (sound : All IsSound sourc
   faults_are : faults_on tapes ≡ all_found sources
   faults_are =
       ap faults_on taped
-      ∙ ap (λ (s : Names). s.faults ++ faults_among s (map tape_of_source sources)) (law sources sound)
-      ∙ ap (λ (fs : List Fault). (names_of sources).faults ++ fs) (found_is sources (names_of sources))
+      ∙ ap (λ (s : Names). s.faults ++ (body_faults s ++ faults_among s (map tape_of_source sources))) (law sources sound)
+      ∙ ap (λ (fs : List Fault). (names_of sources).faults ++ (body_faults (names_of sources) ++ fs)) (found_is sources (names_of sources))
 
   pub none_is : NoneIsFound → faults_on tapes ≡ [] → HasNoFault sources
   none_is none is = (none sources).0 (sym faults_are ∙ is)

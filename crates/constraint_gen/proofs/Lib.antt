@@ -1,3 +1,4 @@
 pub mod Words
 pub mod Numbering
 pub mod Sources
+pub mod Units

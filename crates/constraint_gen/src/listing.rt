@@ -1,6 +1,7 @@
 //! The variables that a report lists.
 
-ghost use Rattle.std.specs.Prelude.{◌≡◌, ◌+◌, ◌≤◌, ◌++◌, [], map, slice_get, IfOk, OnOk, if◌then◌else◌};
+ghost use Rattle.std.specs.Prelude.{◌≡◌, ◌+◌, ◌≤◌, ◌++◌, [], map, slice_get, IfOk, IfSome, OnOk, if◌then◌else◌};
+ghost use Rattle.std.specs.List.{Contains};
 ghost use Rattle.flow_graph.specs.System.{most_variables};
 ghost use Rattle.type_table.specs.Types.{size};
 ghost use Rattle.row_rules.specs.Sites.{variables_among};
@@ -47,7 +48,10 @@ fn is_name_token(tokens: &Tokens, token: TokenId) -> bool
 }
 
 /// The unit of a number, where units are in the order of their numbers and none is left out. Constant time.
-fn unit_in_order<'a>(units: &'a [Tokens<'a>], unit: UnitNo) -> Option<&'a Tokens<'a>> {
+fn unit_in_order<'a, 'b>(units: &'a [Tokens<'b>], unit: UnitNo) -> Option<&'a Tokens<'b>>
+    ensures one { IfSome result (λ it. Contains units.now it.now) }
+    ensures unit { IfSome result (λ it. it.now.unit ≡ unit) }
+{
     let first = units.first()?;
     let index = unit.number().checked_sub(first.unit().number())?;
     let tokens = units.get(index as usize)?;
@@ -73,6 +77,7 @@ fn is_name_in_some(units: &[Tokens], at: &Place) -> bool
 
 /// Whether the token at a place is a name. Constant time where the units are in the order of their numbers and none is left out, and
 /// linear in their number otherwise.
+#[tactic(auto, using(crate::proofs::Units::named_by_one))]
 fn is_name_at(units: &[Tokens], at: &Place) -> bool
     ensures { NumbersDiffer units.now → result ≡ rules.is_name_at units.now at.now }
 {

@@ -44,14 +44,22 @@ fn fault_of_names(fault: &records::Fault) -> Fault
     Fault { at: fault.at, rule }
 }
 
+/// Keeps the earliest one of a fault that is known and of some faults of names. Linear in them.
+fn keep_each(best: &mut Option<Fault>, faults: &[records::Fault])
+    ensures { some_fault_of best.new
+        ≡ keep (some_fault_of best.old) (map shown.fault_of faults.now) }
+{
+    for fault in faults {
+        keep(best, &fault_of_names(fault));
+    }
+}
+
 /// The earliest of some faults of names. Linear in them.
 fn earliest(faults: &[records::Fault]) -> Option<Fault>
     ensures { some_fault_of result ≡ keep None (map shown.fault_of faults.now) }
 {
     let mut best = None;
-    for fault in faults {
-        keep(&mut best, &fault_of_names(fault));
-    }
+    keep_each(&mut best, faults);
     best
 }
 
@@ -67,9 +75,7 @@ pub fn keep_of_names(best: &mut Option<Fault>, more: &[records::Fault])
     ensures { (faults : List rules.Fault) → IsFirstOf (some_fault_of best.old) faults
         → IsFirstOf (some_fault_of best.new) (faults ++ map shown.fault_of more.now) }
 {
-    for fault in more {
-        keep(best, &fault_of_names(fault));
-    }
+    keep_each(best, more);
 }
 
 /// Keeps the earliest one of a fault that is known and of those of a tape. Linear in the tape, but

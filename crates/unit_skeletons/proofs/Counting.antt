@@ -1,23 +1,12 @@
 -- Numbers of places.
-use Rattle.std.proofs.Common.{◌≡◌, ◌<◌, ℕ, suc, ◌+◌, arith, Bool, true, false, ◌||◌, List, [], ◌∷◌, ◌++◌, length, Option, Some, None, refl, sym, ◌∙◌, ap, length-append, if◌then◌else◌}
+use Rattle.std.proofs.Common.{◌≡◌, ◌<◌, ℕ, suc, ◌+◌, arith, Bool, true, false, List, [], ◌∷◌, ◌++◌, length, Option, Some, None, refl, sym, ◌∙◌, ap, length-append, if◌then◌else◌}
 use Rattle.std.specs.Prelude.{unwrap_or}
 use Rattle.name_rules.specs.Spellings.{Place}
 use Rattle.name_rules.specs.Scopes.{is_place}
-use Rattle.name_rules.specs.Declaring as declaring
 use Rattle.place_map.specs.declared.index.PlaceIndex.{PlaceIndex}
 use Rattle.place_map.specs.Values.{number_at, or_else, there}
 use Rattle.row_rules.specs.Worlds.{number_among}
-use Rattle.row_rules.specs.Sites as sites
 use Rattle.unit_skeletons.specs.Numbers.{place_among, AreNumbered}
-
-pub same_bodies : (places : List Place) (p : Place) → declaring.has_place places p ≡ sites.has_place places p
-same_bodies [] p = refl
-same_bodies (q ∷ places) p = by_test (is_place q p) (same_bodies places p)
-  where
-    by_test : (b : Bool) → declaring.has_place places p ≡ sites.has_place places p
-        → b || declaring.has_place places p ≡ (if b then true else sites.has_place places p)
-    by_test true is = refl
-    by_test false is = is
 
 pub number_counted : (n : ℕ) (places : List Place) (p : Place)
     → number_among n places p ≡ unwrap_or (place_among n places p) (n + length places)

@@ -1,4 +1,5 @@
 pub mod Counting
+pub mod Gathering
 pub mod Placing
 pub mod Marking
 pub mod Siting

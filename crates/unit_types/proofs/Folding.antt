@@ -17,11 +17,11 @@ pub knows_before : (old new : List Row) (t : ℕ → CType) → Grows old new �
 knows_before old new t grows knows = λ n lt. knows n (let l = grows.longer in omega arith) ∙ grows.keeps n lt
 
 pub names_on_from : (units : List UnitTape) (i : ℕ) (it : UnitTape) (s after : Names) → it ≡ slice_index_or units i it
-    → i < length units → after ≡ tape_named (tape_of it) (unit_begun s)
+    → i < length units → after ≡ tape_named (tape_of it) (unit_begun (tape_of it).spelling.unit s)
     → tapes_named (tapes_of (drop (i + 1) units)) after ≡ tapes_named (tapes_of (drop i units)) s
 names_on_from [] i it s after is lt made = absurd (omega arith)
 names_on_from (x ∷ units) zero it s after is lt made =
-    ap (tapes_named (tapes_of units)) (made ∙ ap (λ (u : UnitTape). tape_named (tape_of u) (unit_begun s)) is)
+    ap (tapes_named (tapes_of units)) (made ∙ ap (λ (u : UnitTape). tape_named (tape_of u) (unit_begun (tape_of u).spelling.unit s)) is)
 names_on_from (x ∷ units) (suc i) it s after is lt made =
     let e : suc i + 1 ≡ suc (i + 1) = omega arith in rw e (names_on_from units i it s after is (omega arith) made)
 

@@ -39,6 +39,17 @@ fn name_units(alloc: Global, types: &mut Types, units: &[UnitTape]) -> Result<Na
     Ok(names)
 }
 
+/// The first fault of names and of bodies in several units.
+fn first_of_declarations(alloc: Global, names: &FoundNames) -> Result<Option<Fault>, NoMemory>
+    ensures { IfOk result (λ first. (t : ℕ → CType) → IsFirstOf (some_fault_of first)
+        ((names_of t names.now).faults ++ body_faults (names_of t names.now))) }
+{
+    let mut best = first_of_names(names);
+    let bodies = names.body_faults(alloc)?;
+    keep_of_names(&mut best, &bodies);
+    Ok(best)
+}
+
 /// The first fault of units, of their names, of their bodies and of their expressions.
 fn first_fault(
     alloc: Global,
@@ -53,9 +64,7 @@ fn first_fault(
         ++ (body_faults (names_in types.now names.now)
         ++ faults_among (names_in types.now names.now) (tapes_of units.now)))) }
 {
-    let mut best = first_of_names(names);
-    let bodies = names.body_faults(alloc)?;
-    keep_of_names(&mut best, &bodies);
+    let mut best = first_of_declarations(alloc, names)?;
     for unit in units {
         judge_tape(
             alloc,

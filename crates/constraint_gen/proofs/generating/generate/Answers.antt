@@ -9,6 +9,7 @@ use Rattle.unit_system.specs.declared.fault.GenerateFault.{GenerateFault}
 use Rattle.unit_system.specs.Systems.{AreNumbered, starts_on}
 use Rattle.constraint_gen.specs.Programs.{program_in}
 use Rattle.constraint_gen.proofs.Sources.{counted, generated}
+use Rattle.constraint_gen.proofs.Units.{numbers_differ}
 use Rattle.constraint_gen.proofs.generating.generate.Goals as goal
 
 same_fault : {A : Type 0} (x y : GenerateFault) → IsErrOf {T = A} (Err x) y → x ≡ y
@@ -21,7 +22,7 @@ returns-in-Ok-constrain-clause-made c = λ all is.
     (c.in-Ok-constrain.ensures.system all is)
     (subst (λ (s : Skeletons). AreNumbered (starts_on c.args.program.now) s) (sym c.in-Ok-constrain.ensures.skeletons)
     c.in-Ok.ensures.numbers.skeletons)
-    c.in-Ok.ensures.listed
+    (c.in-Ok.ensures.listed (numbers_differ all c.args.units.now is.lexed is.differ))
 
 pub returns-in-Ok-constrain-clause-owned : goal.returns-in-Ok-constrain-clause-owned
 returns-in-Ok-constrain-clause-owned c = λ all is.

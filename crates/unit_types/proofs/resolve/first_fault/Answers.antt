@@ -1,8 +1,9 @@
-use Rattle.std.proofs.Common.{arith, ◌<◌, ◌≤◌, ◌++◌, List, length, refl, sym, ◌∙◌, ap, subst, append-nil}
+use Rattle.std.proofs.Common.{arith, ◌<◌, ◌≤◌, ◌++◌, List, length, sym, ◌∙◌, ap, subst, append_assoc, append-nil}
 use Rattle.std.proofs.lemmas.List.{drop_all}
 use Rattle.type_table.specs.Rows.{type_of}
 use Rattle.tape_ops.specs.declared.op.Op.{Op}
 use Rattle.name_rules.specs.Faults.{Fault}
+use Rattle.name_rules.specs.Linking.{body_faults}
 use Rattle.shape_steps.specs.State.{nothing}
 use Rattle.shape_steps.specs.Found.{faults_found}
 use Rattle.unit_spelling.specs.Spelled.{spelling_of}
@@ -16,7 +17,11 @@ use Rattle.unit_types.proofs.resolve.first_fault.Goals as goal
 pub loop-unit-init : goal.loop-unit-init
 loop-unit-init c =
     let s = names_in c.args.types.now c.args.names.now in
-    record { so_far = s.faults; first = c.first_of_names-best.ensures (type_of c.args.types.now); rest = refl }
+    record {
+      so_far = s.faults ++ body_faults s;
+      first = c.in_ok-best.ensures (type_of c.args.types.now);
+      rest = append_assoc s.faults (body_faults s) (faults_among s (tapes_of c.args.units.now));
+    }
 
 pub loop-unit-preserved : goal.loop-unit-preserved
 loop-unit-preserved c =

@@ -1,5 +1,6 @@
 use Rattle.std.proofs.Common.{◌≡◌, ◌++◌, List, drop}
 use Rattle.name_rules.specs.Faults.{Fault}
+use Rattle.name_rules.specs.Linking.{body_faults}
 use Rattle.unit_shapes.specs.Faults.{some_fault_of, IsFirstOf}
 use Rattle.unit_shapes.specs.Views.{names_in}
 use Rattle.unit_types.specs.Resolved.{tapes_of, faults_among}
@@ -12,5 +13,5 @@ invariant-loop-unit l =
       so_far : List Fault;
       first : IsFirstOf (some_fault_of l.best) so_far;
       rest : so_far ++ faults_among s (tapes_of (drop l.unit-index l.units))
-          ≡ s.faults ++ faults_among s (tapes_of l.units);
+          ≡ s.faults ++ (body_faults s ++ faults_among s (tapes_of l.units));
     }

@@ -31,7 +31,7 @@ loop-unit-preserved c =
       named = λ t knows.
           let before = knows_before c.loop-unit.types c.name_unit.new.types t named.grown knows in
           let u = spelling_of c.unit-item.result.spelling in
-          let begun = with_names (unit_begun (names_of t c.loop-unit.names)) in
+          let begun = with_names (unit_begun u.unit (names_of t c.loop-unit.names)) in
           names_on_from units c.loop-unit.unit-index c.unit-item.result (names_of t c.loop-unit.names)
           (names_of t c.in_ok-names-2.names) c.unit-item.is within
           (named.named t knows ∙ ap (λ (ops : List Op). (run u ops begun).names) c.deref.ensures.value)

@@ -1,8 +1,0 @@
-use Rattle.std.proofs.Common.{◌≡◌, None, drop, map}
-use Rattle.unit_names.specs.Shown.{fault_of}
-use Rattle.unit_shapes.specs.Faults.{some_fault_of, keep}
-use Rattle.unit_shapes.proofs.judge.earliest.Given as goal
-
-abbrev pub invariant-loop-fault : goal.invariant-loop-fault
-invariant-loop-fault l =
-    keep (some_fault_of l.best) (map fault_of (drop l.fault-index l.faults)) ≡ keep None (map fault_of l.faults)

@@ -1,0 +1,9 @@
+use Rattle.std.proofs.Common.{◌≡◌, drop, map}
+use Rattle.unit_names.specs.Shown.{fault_of}
+use Rattle.unit_shapes.specs.Faults.{some_fault_of, keep}
+use Rattle.unit_shapes.proofs.judge.keep_each.Given as goal
+
+abbrev pub invariant-loop-fault : goal.invariant-loop-fault
+invariant-loop-fault l =
+    keep (some_fault_of l.best) (map fault_of (drop l.fault-index l.faults))
+    ≡ keep (some_fault_of l.initial.best) (map fault_of l.faults)
