@@ -1,3 +1,4 @@
+pub mod Asking
 pub mod Owned
 pub mod Source
 pub mod Names

@@ -11,10 +11,10 @@ use Rattle.cqual_tool.specs.declared.status.Status.TheVariants.{Accepted}
 use Rattle.cqual_tool.specs.Inputs.{Inputs, files_with, first_of}
 use Rattle.cqual_tool.specs.Words.{FileNames, of_files, names_of}
 use Rattle.cqual_tool.specs.Programs.{text_of, texts_of}
-use Rattle.cqual_tool.proofs.Asking.{tasks_have_sources}
 use Rattle.cqual_tool.specs.Outcome.{AreBefore, NoPrelude, OnePrelude, NoSource, OneSource, SourceParses, SourcesParse, total_limit, ProgramIsRead, annotated_unit, IsEnd, Inferred, ReportChecked, IsRight}
 use Rattle.cqual_tool.specs.Outcome.{SourcesRead, OfUnits, PreludeRead, OfFiles, LatticeRead, LatticesRead, OfTask, OfProgram, OfGenerated, WithMeaning}
 use Rattle.answer_laws.specs.Laws.{AnnotatedGivesTheSource, IsAnnotated, judged}
+use Rattle.answer_laws.proofs.Asking.{annotated_names_one}
 
 -- the source is found among the texts by its number
 unit_is : (named : FileNames) (inputs : Inputs) (lattices : List LatticeView) (before : List UnitRead) (marks : List IndexMark) (it : UnitRead)
@@ -103,7 +103,7 @@ annotated_gives_the_source law words names inputs text means (WithMeaning task _
     by (some_task (sym is ∙ means)) outcome
   where
     one : length names.sources ≡ 1
-    one = (tasks_have_sources words (Annotate names) means).2 refl
+    one = annotated_names_one words names means
 
     by : task ≡ Annotate names → OfTask inputs task Accepted text → IsAnnotated (of_files names true None) inputs text
     by same (OfGenerated number _ _ made _) = absurd (let no : Generate number ≡ Annotate names = sym made ∙ same in cc)

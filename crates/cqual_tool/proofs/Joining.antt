@@ -13,12 +13,16 @@ use Rattle.c_types.specs.Sources.{UnitRead, sources_behind, sources_in}
 use Rattle.annotate.specs.Texts.{UnitText}
 use Rattle.annotate.specs.declared.scene.UnitText.{UnitText as LentUnit}
 use Rattle.annotate.specs.Scenes as scenes
+use Rattle.lattice_core.specs.View.{LatticeView}
+use Rattle.index_words.specs.Marks.{IndexMark}
 use Rattle.cqual_tool.specs.declared.answer.Answer.{Answer}
+use Rattle.cqual_tool.specs.declared.preparing.Earlier.{Earlier}
+use Rattle.cqual_tool.specs.declared.preparing.Joined.{Joined}
 use Rattle.cqual_tool.specs.declared.status.Status.TheVariants.{Malformed}
 use Rattle.cqual_tool.specs.Statuses.{Says}
 use Rattle.cqual_tool.specs.Words.{FileNames}
 use Rattle.cqual_tool.specs.Programs.{text_of, texts_of}
-use Rattle.cqual_tool.specs.Preparing.{AreEarlier, IsFormed}
+use Rattle.cqual_tool.specs.Preparing.{AreEarlier, IsEarlier, IsFormed, IsOneMore}
 
 -- tokens that are numbered by their places have numbers of their own
 
@@ -122,6 +126,14 @@ prelude_alone it unit formed = record {
   differ = (refl, tt);
   lower = λ n le. rw (apart it.lexed.unit n (omega (arith, le, unit))) refl;
 }
+
+-- what is made of a source of a unit's number
+pub at_number : (lattices : List LatticeView) (number unit : ℕ) (file bytes : List ℕ) (before : List UnitRead) (marks : List IndexMark)
+    (earlier : Earlier) (it : Joined) → unit ≡ number → IsEarlier number before earlier
+    → (IsEarlier unit before earlier → IsOneMore lattices unit file bytes before marks it) → IsOneMore lattices number file bytes before marks it
+at_number lattices number unit file bytes before marks earlier it same may of =
+    subst (λ (n : ℕ). IsOneMore lattices n file bytes before marks it) same
+    (of (subst (λ (n : ℕ). IsEarlier n before earlier) (sym same) may))
 
 -- an answer that says a line which refuses something
 pub refused : (Refuses : List ℕ → Type 0) (line : List ℕ) (answer : Answer) → Says Malformed line answer → Refuses line

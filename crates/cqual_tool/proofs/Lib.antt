@@ -1,6 +1,7 @@
 pub mod Asking
 pub mod Joining
 pub mod Judging
+pub mod Naming
 pub mod Outcomes
 pub mod Pieces
 pub mod Readings

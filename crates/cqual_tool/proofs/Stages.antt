@@ -1,5 +1,5 @@
 -- What is answered behind the reading of each file in turn: the lattice file, the prelude, each source and the report.
-use Rattle.std.proofs.Common.{◌≡◌, arith, ◌<◌, ◌≤◌, ◌+◌, ◌-◌, ℕ, false, List, [], ◌∷◌, ◌++◌, length, Option, Some, None, Ok, Err, refl, sym, ap, subst, append-nil}
+use Rattle.std.proofs.Common.{◌≡◌, arith, ◌<◌, ◌≤◌, ◌+◌, ◌-◌, ℕ, false, List, [], ◌∷◌, ◌++◌, length, codes, Option, Some, None, Ok, Err, refl, sym, ◌∙◌, ap, subst, append-nil}
 use Rattle.std.specs.declared.result.Result.{Result}
 use Rattle.std.specs.declared.vec.Vec.{Vec}
 use Rattle.std.specs.declared.alloc.Global.{Global}
@@ -16,11 +16,15 @@ use Rattle.cqual_words.specs.Words.{Generate, Task}
 use Rattle.cqual_tool.specs.Words.{FileNames, names_of}
 use Rattle.cqual_tool.specs.Programs.{Judging, judging_of}
 use Rattle.cqual_tool.specs.Inputs.{Inputs, behind_first, files_named, files_of, files_with, first_of, from_prelude, from_report, from_sources, one_file}
-use Rattle.cqual_tool.specs.Outcome.{AreBefore, AreCounted, InOrder, IsEnd, LatticeAlone, LatticesRead, MadeAlone, NoPrelude, NoSource, NotCounted, OfFiles, OfProgram, OfSources, OfTask, OfUnits, PreludeRead, SourceParses, SourcesRead, Starts, UnitsRefused, limit_in, named_one, sources_of, total_limit}
-use Rattle.cqual_tool.specs.Preparing.{EndStarts, NoReport, NoUnit, NoneLeft, OneReport, PreludeAlone, SomeStart, SourcesStart, UnitsStart}
+use Rattle.cqual_tool.specs.Outcome.{AreBefore, AreCounted, InOrder, IsEnd, LatticeAlone, LatticesRead, MadeAlone, NoPrelude, NoSource, NotCounted, NotParsed, OfFiles, OfProgram, OfSources, OfTask, OfUnits, PreludeRead, Refused, SourceParses, SourceRefused, SourcesRead, Starts, TooLarge, UnitsRefused, limit_in, named_one, sources_of, total_limit}
+use Rattle.cqual_tool.specs.declared.preparing.Earlier.{Earlier}
+use Rattle.cqual_tool.specs.Statuses.{Says}
+use Rattle.cqual_tool.specs.Texts.{malformed_line}
+use Rattle.cqual_tool.specs.Preparing.{IsEarlier, EndStarts, NoReport, NoUnit, NoneLeft, OneReport, PreludeAlone, SomeStart, SourcesStart, UnitsStart}
 use Rattle.cqual_tool.specs.Answering.{Answered, EndAnswered, FilesAnswered, FilesGo, Finds, IsSaid, SourcesAnswered, SourcesGo, TaskAnswered, UnitsAnswered, UnitsGo}
 use Rattle.cqual_tool.proofs.Readings as reading
-use Rattle.cqual_tool.proofs.Readings.{whole_is}
+use Rattle.cqual_tool.proofs.Outcomes.{at_equal}
+use Rattle.cqual_tool.proofs.Readings.{past_limit, whole_is}
 use Rattle.cqual_tool.proofs.Starting.{all_start, at_name, end_starts, one_of, one_starts, rest_of, units_start}
 
 -- what was found of a file
@@ -82,6 +86,22 @@ units_lack s named lattices stop is =
         says = refl;
       },
     )
+
+-- what is answered behind units and marks is answered behind equal marks
+pub at_marks : (old new : Standing) (named : FileNames) (lattices : List LatticeView) (units : List UnitRead) (marks same : List IndexMark)
+    (number left : ℕ) (names : List (List ℕ)) (result : Result Answer Stop) → marks ≡ same
+    → SourcesAnswered old new named lattices units marks number left names result
+    → SourcesAnswered old new named lattices units same number left names result
+at_marks old new named lattices units marks same number left names result is more =
+    subst (λ (ms : List IndexMark). SourcesAnswered old new named lattices units ms number left names result) is more
+
+-- sources that are named alike
+pub at_sources : (old new : Standing) (named : FileNames) (lattices : List LatticeView) (units : List UnitRead) (marks : List IndexMark)
+    (number left : ℕ) (names same : List (List ℕ)) (result : Result Answer Stop) → same ≡ names
+    → SourcesAnswered old new named lattices units marks number left names result
+    → SourcesAnswered old new named lattices units marks number left same result
+at_sources old new named lattices units marks number left names same result is more =
+    subst (λ (ns : List (List ℕ)). SourcesAnswered old new named lattices units marks number left ns result) (sym is) more
 
 module _ (old mid : Standing) (r : Reading) (read : ReadOn old mid (r ∷ [])) (named : FileNames) where
   -- the lattice file
@@ -151,6 +171,29 @@ module _ (old mid : Standing) (r : Reading) (read : ReadOn old mid (r ∷ [])) (
     source_answers answer whole of =
         reading.answers old mid r read file same (λ i. first_of i.sources) with_source rest (λ i b. refl) (λ i b. refl) Of Go answer source_alone whole of
 
+    -- its bytes are no unit, or too many
+    pub source_refused : (answer : Answer) (bytes : List ℕ) → r.end ≡ Whole → r.bytes ≡ bytes → length r.bytes ≤ limit_in left
+        → answer.status ≡ Malformed → SourceRefused lattices number file bytes answer.text.items
+        → SourcesAnswered old mid named lattices before marks number left (file ∷ names) (Ok answer)
+    source_refused answer bytes whole same_bytes within status is =
+        source_answers answer (whole_stands r whole) (λ inputs gives.
+        let content : first_of inputs.sources ≡ r.bytes = whole_is r (first_of inputs.sources) whole gives in
+        let text = answer.text.items in
+        at_equal (Of inputs) answer.status Malformed text text status refl
+        (NotParsed text
+        (Refused number left (file, first_of inputs.sources) (files_with names (behind_first inputs.sources)) text
+        (subst (λ (b : List ℕ). length b ≤ limit_in left) (sym content) within)
+        (subst (λ (b : List ℕ). SourceRefused lattices number file b text) (sym (content ∙ same_bytes)) is))))
+
+    pub source_too_large : (answer : Answer) → (r.end ≡ Going) × (limit_in left < length r.bytes) → Says Malformed (malformed_line file (codes "F2")) answer
+        → SourcesAnswered old mid named lattices before marks number left (file ∷ names) (Ok answer)
+    source_too_large answer past says =
+        source_answers answer (going_stands r past.0) (λ inputs gives.
+        at_equal (Of inputs) answer.status Malformed answer.text.items (malformed_line file (codes "F2")) says.0 says.1
+        (NotParsed _
+        (TooLarge number left (file, first_of inputs.sources) (files_with names (behind_first inputs.sources))
+        (past_limit (limit_in left) r (first_of inputs.sources) past gives))))
+
     -- it is the unit
     module _ (new : Standing) (unit : UnitRead) (whole : r.end ≡ Whole) (within : length r.bytes ≤ limit_in left)
         (parses : SourceParses lattices number r.bytes unit) where
@@ -182,6 +225,7 @@ module _ (old mid : Standing) (r : Reading) (read : ReadOn old mid (r ∷ [])) (
       behind : (result : Result Answer Stop)
           → SourcesAnswered mid new named lattices (before ++ unit ∷ []) marks (number + 1) (left - length r.bytes) names result
           → Answered mid new rest OfRest GoRest result
+      unfolding in_front
       behind result (these, by) = (
         these,
         record {
@@ -214,6 +258,19 @@ module _ (old mid : Standing) (r : Reading) (read : ReadOn old mid (r ∷ [])) (
       source_goes result more =
           reading.goes old mid r read file same (λ i. first_of i.sources) with_source rest (λ i b. refl) (λ i b. refl)
           Of Go new OfRest GoRest whole starting of result (behind result more)
+
+    -- the same, by what is made of its bytes
+    pub source_joins : (new : Standing) (it : Earlier) (bytes : List ℕ) (rest_left : ℕ) → r.end ≡ Whole → r.bytes ≡ bytes
+        → length r.bytes ≤ limit_in left → rest_left ≡ left - length bytes
+        → (is : (unit : UnitRead) × SourceParses lattices number bytes unit × IsEarlier (number + 1) (before ++ unit ∷ []) it × (it.prelude ≡ marks))
+        → (result : Result Answer Stop)
+        → SourcesAnswered mid new named lattices (before ++ is.0 ∷ []) it.prelude (number + 1) rest_left names result
+        → SourcesAnswered old new named lattices before marks number left (file ∷ names) result
+    source_joins new it bytes rest_left whole same_bytes within less is result more =
+        source_goes new is.0 whole within (subst (λ (b : List ℕ). SourceParses lattices number b is.0) (sym same_bytes) is.1) result
+        (subst (λ (n : ℕ). SourcesAnswered mid new named lattices (before ++ is.0 ∷ []) marks (number + 1) n names result)
+        (less ∙ ap (λ (b : List ℕ). left - length b) (sym same_bytes))
+        (at_marks mid new named lattices (before ++ is.0 ∷ []) it.prelude marks (number + 1) rest_left names result is.3 more))
 
   -- a prelude
   module _ (file : List ℕ) (same : r.name ≡ file) (is : named.prelude ≡ Some file) (lattices : List LatticeView) where
@@ -307,7 +364,7 @@ no_prelude old new named lattices is some result (these, by) = (
   },
 )
   where
-    said : (result : Result Answer Stop) → IsSaid (from_sources named named.sources) 
+    said : (result : Result Answer Stop) → IsSaid (from_sources named named.sources)
         (λ inputs. OfSources named lattices [] [] (IsEnd named inputs.report) 1 total_limit (sources_of named inputs)) these result
         → IsSaid (from_prelude named) (λ inputs. OfUnits named inputs lattices) these result
     said (Ok answer) says = (
@@ -396,14 +453,6 @@ module _ (s : Standing) (named : FileNames) (lattices : List LatticeView) (units
             (NotCounted [] answer.text.items (NoSource number left)
             (behind_none s s named lattices units marks number left (λ us. UnitsRefused named lattices marks us answer.text.items) is)),
       )
-
--- what is answered behind units and marks is answered behind equal marks
-pub at_marks : (old new : Standing) (named : FileNames) (lattices : List LatticeView) (units : List UnitRead) (marks same : List IndexMark)
-    (number left : ℕ) (names : List (List ℕ)) (result : Result Answer Stop) → marks ≡ same
-    → SourcesAnswered old new named lattices units marks number left names result
-    → SourcesAnswered old new named lattices units same number left names result
-at_marks old new named lattices units marks same number left names result is more =
-    subst (λ (ms : List IndexMark). SourcesAnswered old new named lattices units ms number left names result) is more
 
 -- the files of a task
 pub of_task : (old new : Standing) (task : Task) (named : FileNames) → names_of task ≡ Some named → (result : Result Answer Stop)

@@ -95,13 +95,14 @@ module _ (named : FileNames) (lattices : List LatticeView) where
         parsed = parsed inputs (source inputs given);
       }))
   units_start Given Sources before marks _ o same some source are (ReportBehind file is read) =
-      subst (λ (first : List (List ℕ)). UnitsStart named lattices Given (first ++ named.sources ++ file ∷ [])) same
+      subst (UnitsStart named lattices Given) (append_assoc o named.sources (file ∷ []))
+      (subst (λ (first : List (List ℕ)). UnitsStart named lattices Given (first ++ named.sources ++ file ∷ [])) same
       (ReportToo file is (λ inputs given. record {
         before = before;
         marks = marks;
         are = are inputs given;
         read = read inputs (source inputs given);
-      }))
+      })))
 
   -- all files behind the lattice file
   pub all_start : (Given Units : Inputs → Type 0) (names : List (List ℕ)) → ((inputs : Inputs) → Given inputs → Units inputs)

@@ -1,5 +1,5 @@
 -- The files that a task names, and what is to be written of their program.
-use Rattle.std.specs.Prelude.{◌≡◌, ◌≤◌, ⊤, ℕ, Bool, true, false, List, length, map, Option, Some, None}
+use Rattle.std.specs.Prelude.{ℕ, Bool, true, false, List, map, Option, Some, None}
 use Rattle.std.specs.Option.{option_map}
 use Rattle.cqual_words.specs.Words as words
 use Rattle.cqual_tool.specs.declared.words.Named.{Named}
@@ -38,8 +38,3 @@ names_of (words.Infer files) = Some (of_files files false None)
 names_of (words.Annotate files) = Some (of_files files true None)
 names_of (words.Check files report) = Some (of_files files false (Some report))
 names_of (words.Generate number) = None
-
--- the sources of a task are 1 to 256, and one where it is to be annotated
-abbrev pub HasSources : Option FileNames → Type 0
-HasSources None = ⊤
-HasSources (Some named) = (1 ≤ length named.sources) × (length named.sources ≤ 256) × (named.annotated ≡ true → length named.sources ≡ 1)

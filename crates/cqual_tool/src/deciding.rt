@@ -2,8 +2,7 @@
 
 ghost use Rattle.std.specs.Prelude.{◌≡◌, IfOk, map, string_bytes};
 ghost use Rattle.outside.specs.Readings.{since, stands};
-ghost use Rattle.cqual_words.specs.Asked.{AsksMade, task_of};
-ghost use Rattle.cqual_tool.specs.Words.{HasSources, names_of};
+ghost use Rattle.cqual_words.specs.Asked.{AsksMade, NamesSources, task_of};
 ghost use Rattle.cqual_tool.specs.Texts.{usage_line};
 ghost use Rattle.cqual_tool.specs.Sending.{Sends};
 ghost use Rattle.cqual_tool.specs.Outcome.{IsDecided};
@@ -39,7 +38,7 @@ fn finish<O: Sink>(out: &mut O, status: Status, text: &[u8]) -> Status
 /// The answer for what is asked.
 fn answer_for<F: Files>(alloc: Global, asked: &Asked<'_>, files: &mut F) -> Result<Answer, Stop>
     requires made { AsksMade asked.now }
-    requires sources { HasSources (names_of (task_of asked.now)) }
+    requires sources { NamesSources asked.now }
     ensures reads { TaskAnswered
         (stands (F.log files.old) (F.failed files.old) (F.contents files.old))
         (stands (F.log files.new) (F.failed files.new) (F.contents files.new))

@@ -195,7 +195,7 @@ pub enum Joined<'a> {
 }
 
 /// A source behind earlier units, by its tokens and its tape.
-fn joined<'a>(
+fn added<'a>(
     alloc: Global,
     earlier: Earlier<'a>,
     tokens: Tokens<'a>,
@@ -225,7 +225,7 @@ fn parsed<'a>(
         (IsOneMore lattices number file.now bytes before earlier.entry.prelude) }
 {
     match parse_tape(alloc, &tokens) {
-        Ok(ops) => joined(alloc, earlier, tokens, ops),
+        Ok(ops) => added(alloc, earlier, tokens, ops),
         Err(fault) => Ok(Joined::Refused(unit_refused(alloc, file, &tokens, fault)?)),
     }
 }

@@ -1,10 +1,11 @@
-use Rattle.std.proofs.Common.{Some, Ok, Err, ap, refl, sym, ◌∙◌}
+use Rattle.std.proofs.Common.{true, false, Some, None, Ok, Err, ap, refl, subst, sym, ◌∙◌}
 use Rattle.std.proofs.lemmas.Result.{err_from_is_err_and}
 use Rattle.cqual_words.specs.declared.asked.Asked.{Asked}
-use Rattle.cqual_words.specs.Asked.{task_of}
+use Rattle.cqual_words.specs.Asked.{NamesSources, task_of}
 use Rattle.cqual_tool.specs.declared.taking.Stop.TheVariants.{NoMemory}
 use Rattle.cqual_tool.specs.Words.{names_in, names_of}
 use Rattle.cqual_tool.specs.Outcome.{OfGenerated}
+use Rattle.cqual_tool.proofs.Asking.{counted}
 use Rattle.cqual_tool.proofs.Stages.{of_made, of_task}
 use Rattle.cqual_tool.proofs.deciding.answer_for.Goals as goal
 
@@ -33,3 +34,24 @@ returns-in_ok-made_answer-in-Generate-clause-reads g c =
     let is = ap task_of c.in-Generate.is in
     of_made _ (task_of c.args.asked.now) _ is (Ok c.in_ok-made_answer-in-Generate.field-0)
     (refl, λ inputs reads. OfGenerated _ _ _ is c.in_ok-made_answer-in-Generate.ensures.outcome)
+
+pub answer-requires : goal.answer-requires
+answer-requires g c =
+    let count =
+    counted (names_in c.of_files.result) c.in-Infer.names.now false None c.of_files.ensures
+    (subst NamesSources c.in-Infer.is c.requires.sources) in
+    record { some = count.0; few = count.1 }
+
+pub answer-in-Annotate-requires : goal.answer-in-Annotate-requires
+answer-in-Annotate-requires g c =
+    let count =
+    counted (names_in c.of_files-in-Annotate.result) c.in-Annotate.names.now true None c.of_files-in-Annotate.ensures
+    (subst NamesSources c.in-Annotate.is c.requires.sources) in
+    record { some = count.0; few = count.1 }
+
+pub answer-in-Check-requires : goal.answer-in-Check-requires
+answer-in-Check-requires g c =
+    let count =
+    counted (names_in c.of_files-in-Check.result) c.in-Check.names.now false (Some c.in-Check.report.now.now) c.of_files-in-Check.ensures
+    (subst NamesSources c.in-Check.is c.requires.sources) in
+    record { some = count.0; few = count.1 }

@@ -1,7 +1,6 @@
 use Rattle.std.proofs.Common.{[], map, string_bytes, subst}
 use Rattle.cqual_words.specs.Asked.{task_of}
 use Rattle.cqual_tool.specs.Sending.{Sends}
-use Rattle.cqual_tool.proofs.Asking.{tasks_have_sources}
 use Rattle.cqual_tool.proofs.Outcomes.{meant, unmeant}
 use Rattle.cqual_tool.proofs.Runs.{by_since, ran_no_memory, ran_not, ran_read_fault, ran_sent, ran_usage}
 use Rattle.cqual_tool.proofs.deciding.decide_and_write.Goals as goal
@@ -47,9 +46,3 @@ pub returns-in-Err : goal.returns-in-Err
 returns-in-Err g c =
     let words = map string_bytes c.args.words.now in
     by_since words _ _ _ _ _ _ _ [] (ran_not words _ _ _)
-
-pub answer_for-requires-clause-sources : goal.answer_for-requires-clause-sources
-answer_for-requires-clause-sources g c =
-    let words = map string_bytes c.args.words.now in
-    tasks_have_sources words (task_of c.in-Ok-Some.asked)
-    (meant words task_of c.in-Ok-Some.field-0 c.in-Ok-Some.asked c.in-Ok-Some.ensures.meaning c.in-Ok-Some.field-0-is)

@@ -8,7 +8,7 @@ pub returns-in-Ok : goal.returns-in-Ok
 returns-in-Ok c = λ lattices number bytes before earlier lexes.
     let taped = c.in-Ok.ensures.tape in
     let unit : UnitRead = record { lexed = c.args.tokens; items = taped.items } in
-    c.joined.ensures lattices number c.args.file.now bytes before unit earlier (record { lexed_is = refl; taped = taped.taped })
+    c.added.ensures lattices number c.args.file.now bytes before unit earlier (record { lexed_is = refl; taped = taped.taped })
     (record { lexes = lexes; formed = taped.formed })
 
 pub returns : goal.returns

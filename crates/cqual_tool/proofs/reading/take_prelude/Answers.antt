@@ -6,12 +6,12 @@ use Rattle.cqual_tool.specs.declared.status.Status.TheVariants.{Malformed}
 use Rattle.cqual_tool.specs.declared.taking.Stop.TheVariants.{NoMemory}
 use Rattle.cqual_tool.specs.Words.{names_in}
 use Rattle.cqual_tool.specs.Preludes.{prelude_line}
-use Rattle.cqual_tool.specs.Outcome.{OfUnits, OnePrelude, PreludeReads, PreludeFails, PreludeRefused, PreludeTooLarge, source_limit}
+use Rattle.cqual_tool.specs.Outcome.{OfUnits, OnePrelude, PreludeReads, PreludeFails, PreludeRefused, PreludeTooLarge, source_limit, total_limit}
 use Rattle.cqual_tool.specs.Preparing.{IsEarlier}
 use Rattle.cqual_tool.proofs.Joining.{prelude_alone}
 use Rattle.cqual_tool.proofs.Outcomes.{at_equal}
 use Rattle.cqual_tool.proofs.Readings.{past_limit, whole_is}
-use Rattle.cqual_tool.proofs.Stages.{at_source, found_none, found_some, going_stands, prelude_answers, prelude_goes, prelude_lacks, prelude_stops, whole_stands}
+use Rattle.cqual_tool.proofs.Stages.{at_marks, found_none, found_some, going_stands, prelude_answers, prelude_goes, prelude_lacks, prelude_stops, whole_stands}
 use Rattle.cqual_tool.proofs.reading.take_prelude.Goals as goal
 
 pub take_sources-requires : goal.take_sources-requires
@@ -103,9 +103,9 @@ returns-in-Ok-clause-reads g c =
     let found = found_some source_limit read.0 c.in_ok-bytes.field-0 c.in-Some.bytes c.in-Some.is read.3 in
     let same : c.deref.result.now ≡ read.0.bytes = c.deref.ensures.value ∙ sym found.1 in
     let parses = c.in-Ok.ensures.reads.parses in
-    let earlier : IsEarlier (unit ∷ []) c.in_ok-earlier-in-Ok.earlier =
+    let earlier : IsEarlier 1 (unit ∷ []) c.in_ok-earlier-in-Ok.earlier =
     record { are = c.in_ok-earlier-in-Ok.ensures.units; may = prelude_alone unit parses.lexes.unit parses.formed } in
-    prelude_goes _ _ read.0 read.1 named file read.2 c.requires.named lattices _ (unit ∷ []) marks found.0
+    prelude_goes _ _ read.0 read.1 named file read.2 c.requires.named lattices _ (unit ∷ []) marks found.0 c.requires.some
     (λ inputs here.
     let content = sym here in
     let Short : List ℕ → Type 0 = λ b. length b ≤ source_limit in
@@ -116,6 +116,6 @@ returns-in-Ok-clause-reads g c =
       is = subst (λ (bytes : List ℕ). IsPrelude c.args.words.now bytes unit marks) (same ∙ content) c.in-Ok.ensures.reads;
     } in
     OnePrelude file unit marks c.requires.named reads)
-    c.take_source.result
-    (at_source _ _ named lattices (unit ∷ []) (unit ∷ []) _ marks c.take_source.result refl
-    c.in_ok-earlier-in-Ok.ensures.prelude (c.take_source.ensures.reads (unit ∷ []) earlier))
+    c.take_sources.result
+    (at_marks _ _ named lattices (unit ∷ []) _ marks 1 total_limit named.sources c.take_sources.result
+    c.in_ok-earlier-in-Ok.ensures.prelude (c.take_sources.ensures.reads (unit ∷ []) earlier))

@@ -1,6 +1,6 @@
 use Rattle.std.proofs.Common.{refl}
 use Rattle.cqual_tool.proofs.Joining.{one_more_may}
-use Rattle.cqual_tool.proofs.preparing.joined.Goals as goal
+use Rattle.cqual_tool.proofs.preparing.added.Goals as goal
 
 pub returns : goal.returns
 returns c = λ lattices number file bytes before unit earlier taped parses. (
