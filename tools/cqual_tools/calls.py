@@ -1,0 +1,164 @@
+"""Calls of compilers, linkers and `ar`: what each reads and makes, by its words."""
+
+import os
+import re
+import shlex
+from dataclasses import dataclass, field
+
+from .options import MADE, MADE_SO, MADE_WITH, WITH_WORD
+
+# the names of what is wrapped, with the prefix of a system and a version: x86_64-linux-gnu-gcc-12
+COMPILER = re.compile(r"(?:[\w.]+-)*?(?:gcc|cc|c99|c89|clang|tcc|g\+\+|c\+\+|clang\+\+)(?:-[\d.]+)?\Z")
+LINKER = re.compile(r"(?:[\w]+-)*?ld(?:\.bfd|\.gold|\.lld)?\Z")
+ARCHIVER = re.compile(r"(?:[\w.]+-)*?(?:llvm-|gcc-)?ar(?:-[\d.]+)?\Z")
+LAUNCHERS = {"ccache", "distcc", "sccache", "icecc"}
+LINK_WITH_WORD = set("-m -T -z -e -u -h -b -R -F -f -y -Y -G -a -Map -soname -rpath -rpath-link -dynamic-linker".split()) | set(
+    "--dynamic-linker --version-script --soname --entry --defsym --wrap --undefined --retain-symbols-file --build-id".split()
+)
+
+
+@dataclass
+class Call:
+    """A call of a compiler or a linker: `makes` is `object`, `program`, `partial`, or nothing at all."""
+
+    directory: str
+    compiler: str
+    makes: str = "program"
+    flags: list = field(default_factory=list)
+    # C files; files of other languages; objects, archives and libraries in their order
+    sources: list = field(default_factory=list)
+    others: list = field(default_factory=list)
+    inputs: list = field(default_factory=list)
+    folders: list = field(default_factory=list)
+    output: str = ""
+    takes_all: bool = False
+    is_static: bool = False
+    is_library: bool = False
+
+    def path_of(self, name):
+        return os.path.normpath(os.path.join(self.directory, name))
+
+    def object_of(self, source):
+        """The object that is made of a source; an empty text where it is linked at once."""
+        if self.makes != "object":
+            return ""
+        return self.path_of(self.output or os.path.splitext(os.path.basename(source))[0] + ".o")
+
+    def linked(self):
+        return self.path_of(self.output or "a.out")
+
+
+def without_launcher(words):
+    """The words without a `ccache` before them."""
+    at = 0
+    while at + 1 < len(words) and os.path.basename(words[at]) in LAUNCHERS:
+        at += 1
+    return words[at:]
+
+
+def expanded(words, directory):
+    """The words with those of files in place of `@file`."""
+    made = []
+    for word in words:
+        path = os.path.join(directory, word[1:])
+        if word.startswith("@") and os.path.isfile(path):
+            with open(path, encoding="utf-8", errors="surrogateescape") as file:
+                made += expanded(shlex.split(file.read()), os.path.dirname(path))
+        else:
+            made.append(word)
+    return made
+
+
+def call_of(directory, words):
+    """What a call of a compiler or a linker does; None where it is one of `ar`, or of something else."""
+    words = without_launcher(words)
+    name = os.path.basename(words[0]) if words else ""
+    is_linker = bool(LINKER.match(name))
+    if not words or (not is_linker and ARCHIVER.match(name) and not COMPILER.match(name)):
+        return None
+    made = Call(directory, words[0])
+    language, at = "", 1
+    with_word = LINK_WITH_WORD if is_linker else WITH_WORD
+    while at < len(words):
+        word = words[at]
+        value = words[at + 1] if at + 1 < len(words) else ""
+        at += 1
+        if word == "-o":
+            made.output, at = value, at + 1
+        elif word.startswith("-o") and not is_linker:
+            made.output = word[2:]
+        elif word == "-x":
+            language, at = value if value != "none" else "", at + 1
+        elif word.startswith("-x") and not is_linker:
+            language = word[2:] if word != "-xnone" else ""
+        elif word in ("-L", "-l"):
+            take_library(made, word + value)
+            at += 1
+        elif word.startswith(("-L", "-l", "-Wl,")) or (is_linker and word.startswith("--")):
+            take_library(made, word)
+        elif word in with_word:
+            take_pair(made, word, value)
+            at += 1
+        elif word in MADE_WITH:
+            at += 1
+        elif word.startswith("-") and word != "-":
+            take_flag(made, word)
+        else:
+            take_file(made, word, language)
+    return made
+
+
+def take_pair(made, word, value):
+    if word == "-Xlinker":
+        take_library(made, "-Wl," + value)
+    elif word not in ("-T", "-z", "-u", "-e"):
+        made.flags += [word, value]
+
+
+def take_flag(made, word):
+    """A flag: what it says of what is made, or how the source is read."""
+    if word in ("-c", "-S"):
+        made.makes = "object" if word == "-c" else ""
+    elif word in ("-E", "-M", "-MM", "-fsyntax-only"):
+        made.makes = ""
+    elif word in ("-r", "-shared", "-static", "-dynamiclib"):
+        made.makes = "partial" if word == "-r" and made.makes else made.makes
+        made.is_static |= word == "-static"
+        made.is_library |= word != "-static"
+    elif word not in MADE and not word.startswith((*MADE_SO, *MADE_WITH)):
+        made.flags.append(word)
+
+
+def take_library(made, word):
+    if word.startswith("-L"):
+        made.folders.append(word[2:])
+    elif word.startswith("-l"):
+        made.inputs.append(word)
+    elif "whole-archive" in word:
+        made.takes_all = True
+
+
+def take_file(made, name, language):
+    """A file, by its language or its ending."""
+    ending = os.path.splitext(name)[1]
+    if language in ("c", "cpp-output") or (not language and ending in (".c", ".i")):
+        made.sources.append(name)
+    elif language or ending in (".s", ".S", ".sx", ".cc", ".cpp", ".cxx", ".C", ".m", ".f", ".f90", ".go", ".d", ".h"):
+        made.others.append(name)
+    else:
+        made.inputs.append(name)
+
+
+def archive_of(directory, words):
+    """The archive that a call of `ar` writes to; an empty text where it writes to none."""
+    words = without_launcher(words)
+    if not words or not ARCHIVER.match(os.path.basename(words[0])):
+        return ""
+    names = [word for word in words[1:] if not word.startswith("--")]
+    if len(names) < 2:
+        return ""
+    letters = names[0].lstrip("-")
+    if not set("rq") & set(letters):
+        return ""
+    at = 1 + (1 if set("abi") & set(letters) else 0) + (1 if "N" in letters else 0)
+    return os.path.normpath(os.path.join(directory, names[at])) if at < len(names) else ""
