@@ -6,7 +6,7 @@ import os
 import tempfile
 
 from .options import Stop
-from .objects import sum_of
+from .objects import sum_of, sum_of_file
 
 
 def key_of(*parts):
@@ -45,7 +45,7 @@ class Kept:
         """Keeps a text, and returns its checksum."""
         data = text.encode("latin-1")
         key = sum_of(data)
-        if not os.path.exists(self.path("texts", key)):
+        if sum_of_file(self.path("texts", key)) != key:
             self.put(self.path("texts", key), data)
         return key
 

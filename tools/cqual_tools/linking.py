@@ -5,6 +5,7 @@ import os
 import subprocess
 from dataclasses import dataclass, field
 
+from .builds import Unit
 from .diagnosis import Sources
 from .kept import key_of
 from .options import Stop
@@ -12,7 +13,7 @@ from .objects import sum_of_file
 from .reports import report_of
 from .running import prelude_of, reason_of, status_of
 from .texts import Text
-from .units import LARGEST, latin
+from .units import Ready, latin
 
 MOST_SOURCES, MOST_BYTES = 256, 67108864
 
@@ -76,11 +77,8 @@ def apart(readies):
 
 def limit_of(linked):
     """A line where the program is past a limit of cqual."""
-    for ready in linked.readies:
-        if ready.size > LARGEST:
-            return f"{ready.unit.shown} has {ready.size} bytes behind the preprocessor: cqual takes {LARGEST}"
     if len(linked.readies) > MOST_SOURCES:
-        return f"{linked.name} has {len(linked.readies)} sources: cqual takes {MOST_SOURCES}"
+        return f"{linked.name} has {len(linked.readies)} sources: cqual takes {MOST_SOURCES} (--program and --without say which)"
     if linked.size > MOST_BYTES:
         return f"{linked.name} has {linked.size} bytes behind the preprocessor: cqual takes {MOST_BYTES}"
     return ""
@@ -92,6 +90,13 @@ class Answers:
     def __init__(self, setting, room):
         self.setting, self.words = setting, setting.words(room)
         self.key = key_of(sum_of_file(self.words[0]), sum_of_file(setting.lattice), setting.prelude_text, os.path.basename(setting.lattice))
+
+    def check_setting(self):
+        """Stops where the lattice or the prelude is refused, whatever the sources are."""
+        empty = Ready(Unit("empty.c", "", "", ()), self.setting.kept.write_text("\n"), 1)
+        linked = self.ask(Linked("empty.c", [empty], setting=self.setting))
+        if linked.status != 0:
+            raise Stop(linked.status, linked.fault or linked.printed.rstrip("\n"))
 
     def ask(self, linked):
         """Fills in the answer of a program."""

@@ -60,7 +60,7 @@ class Run:
         self.kept = Kept(cache_of(options), options.has("--fresh"))
         self.setting = Setting(options)
         self.setting.kept = self.kept
-        # what could not be read: units by their line or their report
+        # what could not be read: a line or a program of one file, by its name, or by the checksum of its text
         self.unread = {}
 
     def programs(self):
@@ -100,6 +100,7 @@ class Run:
         programs = self.programs()
         with tempfile.TemporaryDirectory(prefix="cqual-run-") as room, ThreadPoolExecutor(jobs_of(self.options)) as threads:
             self.answers, self.threads = Answers(self.setting, room), threads
+            self.answers.check_setting()
             readies = self.prepared(programs)
             made = []
             for program in programs:
@@ -122,8 +123,8 @@ class Run:
             self.unread[name] = f"{name}: no compile of this object was logged: build from clean"
         for ready in readies:
             if ready.fault:
-                self.unread[ready.unit] = f"{ready.unit.shown}: {ready.fault}"
-        lacking = [*program.unknown, *(ready.unit for ready in readies if ready.fault)]
+                self.unread[ready.unit.shown] = f"{ready.unit.shown}: {ready.fault}"
+        lacking = [*program.unknown, *(ready.unit.shown for ready in readies if ready.fault)]
         made = []
         for number, group in enumerate(apart([ready for ready in readies if not ready.fault]), 1):
             one = Linked(program.name if number == 1 else f"{program.name}-{number}", group, left_out=list(lacking), setting=self.setting)
@@ -165,21 +166,20 @@ class Run:
         self.ask(alone, "read")
         for one in alone:
             if refused_code(one):
-                self.unread[one.readies[0].unit] = one
+                self.unread[one.readies[0].sum] = one
 
     def without_unread(self, programs):
         """The programs, without what cannot be read where the run goes on."""
         again = []
         for one in programs:
-            lacking = [ready for ready in one.readies if ready.unit in self.unread]
-            one.left_out += [ready.unit for ready in lacking]
+            one.left_out += [ready.unit.shown for ready in one.readies if ready.sum in self.unread]
             if not one.left_out or one.fault:
                 continue
             if not self.options.has("--keep-going"):
                 count = len(one.left_out)
                 one.fault = f"{one.name}: {count} of its files cannot be read: --keep-going leaves {'it' if count == 1 else 'them'} out"
                 continue
-            one.readies = [ready for ready in one.readies if ready.unit not in self.unread]
+            one.readies = [ready for ready in one.readies if ready.sum not in self.unread]
             if one.readies:
                 again.append(one)
             else:
@@ -189,14 +189,12 @@ class Run:
 
     def print(self, programs):
         """Prints all, and returns the status."""
-        for one in self.unread.values():
+        different = {one if isinstance(one, str) else one.printed: one for one in self.unread.values()}
+        for one in different.values():
             if isinstance(one, str):
                 say(one)
-            elif is_gcc_style(self.options):
-                answered(one)
             else:
-                sys.stdout.write(one.printed.encode("latin-1").decode("utf-8", "replace"))
-        sys.stdout.flush()
+                self.print_answer(one)
         statuses = [self.print_program(one) for one in programs]
         worse = [status for status in statuses if status > 2]
         status = worse[0] if worse else 1 if 1 in statuses else 2 if 2 in statuses else 0
@@ -212,7 +210,15 @@ class Run:
         print(f"program {one.name}: {len(one.readies)} {plural}, {one.size} bytes{left_out}", flush=True)
         if self.options.reports:
             self.keep_report(one)
-        return answered(one)
+        return self.print_answer(one)
+
+    def print_answer(self, one):
+        """Prints what cqual said, and returns the status."""
+        if is_gcc_style(self.options) or self.options.baseline:
+            return answered(one)
+        sys.stdout.buffer.write(one.printed.encode("latin-1"))
+        sys.stdout.flush()
+        return one.status
 
     def keep_report(self, one):
         path = os.path.join(self.options.reports, one.name.replace(os.sep, "_") + ".report")

@@ -122,9 +122,9 @@ class Maker:
 
     def is_good(self, kept):
         try:
-            is_there = os.path.getsize(self.kept.path("texts", kept["text"])) == kept["size"]
+            is_there = sum_of_file(self.kept.path("texts", kept["text"])) == kept["text"]
             return is_there and all(self.sum_of(path) == sum_ for path, sum_ in kept["files"].items())
-        except (OSError, KeyError, TypeError, AttributeError):
+        except (KeyError, TypeError, AttributeError):
             return False
 
     def made(self, unit, program, key):
@@ -162,4 +162,6 @@ def preprocessed(unit, program, flags):
             return "", [], f"the preprocessor failed: {faults[0]}"
         with open(rule, encoding="utf-8", errors="surrogateescape") as file:
             names = listed_files(file.read())
+    if len(ran.stdout) > LARGEST:
+        return "", [], f"it has {len(ran.stdout)} bytes behind the preprocessor: cqual takes {LARGEST}"
     return ran.stdout.decode("latin-1"), [os.path.join(unit.directory, name) for name in names], ""
