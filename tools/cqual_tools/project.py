@@ -207,7 +207,7 @@ class Run:
             return one.status if one.status > 2 else 2
         left_out = f", {len(one.left_out)} left out" if one.left_out else ""
         plural = "source" if len(one.readies) == 1 else "sources"
-        print(f"program {one.name}: {len(one.readies)} {plural}, {one.size} bytes{left_out}", flush=True)
+        print(f"program {one.name}: {len(one.readies)} {plural}{left_out}", flush=True)
         if self.options.reports:
             self.keep_report(one)
         return self.print_answer(one)
