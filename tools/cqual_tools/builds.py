@@ -7,7 +7,7 @@ import shlex
 from dataclasses import dataclass, field
 from typing import NamedTuple
 
-from .calls import archive_of, call_of, expanded
+from .calls import archive_of, call_of, environment, expanded
 from .options import Stop
 
 
@@ -18,6 +18,7 @@ class Unit(NamedTuple):
     directory: str
     compiler: str
     flags: tuple
+    environment: tuple = ()
 
     @property
     def shown(self):
@@ -47,10 +48,11 @@ def shown(path):
     return os.path.relpath(path, here) if path == here or path.startswith(here + os.sep) else path
 
 
-def units_of(call):
+def units_of(call, beside):
+    """The units of a call, with what the compiler takes from its environment."""
     for source in call.sources:
         language = () if source.endswith((".c", ".i")) else ("-x", "c")
-        yield Unit(call.path_of(source), call.directory, call.compiler, (*call.flags, *language))
+        yield Unit(call.path_of(source), call.directory, call.compiler, (*call.flags, *language), tuple(beside.items()))
 
 
 class Build:
@@ -72,7 +74,7 @@ class Build:
             self.libraries[archive] = [Part(archive, *member) for member in entry["members"][archive]]
             return
         call = call_of(directory, words)
-        units = list(units_of(call))
+        units = list(units_of(call, entry["environment"]))
         self.units.update(dict.fromkeys(units))
         if call.makes == "object":
             for unit, source in zip(units, call.sources):
@@ -86,11 +88,13 @@ class Build:
         output = call.linked()
         parts = [Part(path, os.path.basename(path), sum_) for path, sum_ in entry["sums"].items() if path != output]
         parts += [Part(path, *member) for path, members in entry["members"].items() for member in members]
-        if call.makes == "partial":
-            self.make(output, entry["sums"], (units, parts))
+        # of shared libraries those of the build
+        shared = [Part(path, os.path.basename(path), sum_) for path, sum_ in entry.get("shared", {}).items() if sum_ in self.makers]
+        self.make(output, entry["sums"], (units, parts + shared))
+        if call.is_library:
             self.libraries[output] = [Part(output, os.path.basename(output), entry["sums"].get(output, ""))]
         else:
-            self.links[output] = (units, parts)
+            self.links[output] = (units, parts + shared)
 
     def make(self, path, sums, made_of):
         """Two files of one content are one: the path, else the name, says which is meant."""
@@ -132,7 +136,7 @@ def read_log(path):
 
 
 def programs_of(build):
-    """The programs of a build: one for each link, for each library that no program holds whole, and for what is in neither."""
+    """The programs of a build: one for each that is linked, for each library that no program holds whole, and for what is in neither."""
     made = []
     for output, (units, parts) in build.links.items():
         found, unknown = build.units_in(parts)
@@ -183,7 +187,7 @@ def read_commands(name):
             directory = os.path.join(os.path.dirname(os.path.abspath(path)), entry["directory"])
             words = entry["arguments"] if "arguments" in entry else shlex.split(entry["command"])
             call = call_of(os.path.normpath(directory), expanded(words, directory))
-            units.update(dict.fromkeys(units_of(call) if call else ()))
+            units.update(dict.fromkeys(units_of(call, environment()) if call else ()))
         except (KeyError, TypeError, ValueError, AttributeError) as fault:
             raise Stop(9, f"{path}: command {number} has no directory and no words of a compiler") from fault
     if not units:

@@ -11,10 +11,17 @@ from .options import MADE, MADE_SO, MADE_WITH, WITH_WORD
 COMPILER = re.compile(r"(?:[\w.]+-)*?(?:gcc|cc|c99|c89|clang|tcc|g\+\+|c\+\+|clang\+\+)(?:-[\d.]+)?\Z")
 LINKER = re.compile(r"(?:[\w]+-)*?ld(?:\.bfd|\.gold|\.lld)?\Z")
 ARCHIVER = re.compile(r"(?:[\w.]+-)*?(?:llvm-|gcc-)?ar(?:-[\d.]+)?\Z")
+# what a compiler takes beside its words
+ENVIRONMENT = ("CPATH", "C_INCLUDE_PATH", "LIBRARY_PATH", "GCC_EXEC_PREFIX", "COMPILER_PATH")
 LAUNCHERS = {"ccache", "distcc", "sccache", "icecc"}
 LINK_WITH_WORD = set("-m -T -z -e -u -h -b -R -F -f -y -Y -G -a -Map -soname -rpath -rpath-link -dynamic-linker".split()) | set(
     "--dynamic-linker --version-script --soname --entry --defsym --wrap --undefined --retain-symbols-file --build-id".split()
 )
+
+
+def environment():
+    """Those of these variables that are set."""
+    return {name: os.environ[name] for name in ENVIRONMENT if name in os.environ}
 
 
 @dataclass

@@ -15,7 +15,7 @@ What is built:
   COMMANDS           a compile_commands.json, or a folder with one (where none is named: the working folder or its folder build). All
                      files are one program; of files with a second body of one function each is linked with all that collide with none
   --make CMD         runs CMD in a shell with wrappers before the compilers, `ld` and `ar`, which log what they are called for: a program
-                     is what one link takes, through archives and objects; so is a static library that no program takes whole
+                     is what one link takes, through objects and libraries of the build; so is a library that no program takes whole
   --program GLOB     only programs whose name fits; may stand more than once
   --without GLOB     leaves out sources whose name fits, such as 'tests/*'; may stand more than once
   -j N, --jobs N     so many processes at a time (as many as there are processors)

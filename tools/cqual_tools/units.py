@@ -8,14 +8,13 @@ import tempfile
 from typing import NamedTuple
 
 from .builds import shown
+from .calls import ENVIRONMENT
 from .kept import key_of
 from .models import ModelError, replaced
 from .objects import sum_of_file
 
 LARGEST = 16777216
 MARKER = re.compile(r'^(#(?:line)? *\d+ +")((?:[^"\\\n]|\\.)*)(".*)$', re.M)
-# what the preprocessor takes beside its words
-ENVIRONMENT = ("CPATH", "C_INCLUDE_PATH", "GCC_EXEC_PREFIX", "COMPILER_PATH", "LANG", "LC_ALL", "SOURCE_DATE_EPOCH")
 
 
 class Ready(NamedTuple):
@@ -112,8 +111,7 @@ class Maker:
         program = shutil.which(compiler)
         if program is None:
             return Ready(unit, fault=f"there is no compiler {unit.compiler}")
-        beside = [os.environ.get(name) for name in ENVIRONMENT]
-        key = key_of(self.key, unit, os.getcwd(), self.sum_of(os.path.realpath(program)), beside)
+        key = key_of(self.key, unit, os.getcwd(), self.sum_of(os.path.realpath(program)))
         kept = self.kept.read("commands", key)
         if kept and self.is_good(kept):
             names = tuple(((file, line), tuple(names)) for file, line, names in kept["names"])
@@ -145,6 +143,11 @@ class Maker:
         return made
 
 
+def environment_of(unit):
+    """The environment of a compile, as far as a compiler looks at it."""
+    return {**{name: value for name, value in os.environ.items() if name not in ENVIRONMENT}, **dict(unit.environment)}
+
+
 def preprocessed(unit, program, flags):
     """What the preprocessor writes, which files it read, and a line where it fails."""
     if not os.path.isfile(unit.source):
@@ -153,7 +156,9 @@ def preprocessed(unit, program, flags):
         rule = os.path.join(room, "files")
         words = [program, "-E", *flags, "-MD", "-MF", rule, "-MT", "x", unit.source]
         try:
-            ran = subprocess.run(words, cwd=unit.directory, stdout=subprocess.PIPE, stderr=subprocess.PIPE, check=False)
+            ran = subprocess.run(
+                words, cwd=unit.directory, env=environment_of(unit), stdout=subprocess.PIPE, stderr=subprocess.PIPE, check=False
+            )
         except OSError as fault:
             return "", [], f"cannot run {unit.compiler}: {fault.strerror}"
         if ran.returncode:

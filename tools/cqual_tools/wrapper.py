@@ -11,7 +11,7 @@ import shlex
 import subprocess
 import sys
 
-from .calls import ARCHIVER, COMPILER, LAUNCHERS, LINKER, archive_of, call_of, expanded
+from .calls import ARCHIVER, COMPILER, LAUNCHERS, LINKER, archive_of, call_of, environment, expanded
 from .objects import is_archive, members_of, sum_of_file, taken_members
 from .version import FOLDER
 
@@ -54,8 +54,8 @@ def environment_with(folder):
 def called(real, log, shims, words):
     """Calls the real one as if nothing stood before it, then logs the call where it went well. Returns its status."""
     path = os.environ.get("PATH", "").split(os.pathsep)
-    environment = {**os.environ, "PATH": os.pathsep.join(place for place in path if place != shims)}
-    status = subprocess.run([real, *words], env=environment, check=False).returncode
+    without = {**os.environ, "PATH": os.pathsep.join(place for place in path if place != shims)}
+    status = subprocess.run([real, *words], env=without, check=False).returncode
     if status == 0:
         try:
             entry = entry_of(os.getcwd(), [real, *words])
@@ -81,11 +81,13 @@ def entry_of(directory, words):
     call = call_of(directory, words)
     if call is None or not call.makes:
         return None
-    entry = {"directory": directory, "words": words, "sums": {}, "members": {}}
+    call.folders += [folder for folder in os.environ.get("LIBRARY_PATH", "").split(os.pathsep) if folder]
+    entry = {"directory": directory, "words": words, "environment": environment(), "sums": {}, "members": {}}
     if call.makes == "object":
         paths = [call.object_of(source) for source in [*call.sources, *call.others]]
     else:
-        paths, archives = inputs_of(call)
+        paths, archives, libraries = inputs_of(call)
+        entry["shared"] = {path: sum_of_file(path) for path in libraries}
         # of a file that is compiled and linked at once no object is left to ask
         entry["members"] = taken_members(paths, archives, call.takes_all or bool(call.sources + call.others))
         paths = [*paths, call.linked()]
@@ -94,31 +96,34 @@ def entry_of(directory, words):
 
 
 def inputs_of(call):
-    """The objects and the archives that a link is given; of the system's libraries nothing is known."""
-    objects, archives = [], []
+    """The objects, the archives and the shared libraries that a link is given; the system's are in no folder that is named."""
+    objects, archives, libraries = [], [], []
     for name in call.inputs:
         path = library_of(call, name) if name.startswith("-l") else call.path_of(name)
         if path and is_archive(path):
             archives.append(path)
-        elif path and path.endswith((".o", ".lo", ".obj", ".os", ".pic", ".So")) and os.path.isfile(path):
+        elif path and elf_type(path) == SHARED:
+            libraries.append(path)
+        elif path and (elf_type(path) == RELOCATABLE or (path.endswith(".o") and os.path.isfile(path))):
             objects.append(path)
-        elif path and is_relocatable(path):
-            objects.append(path)
-    return objects, archives
+    return objects, archives, libraries
 
 
-def is_relocatable(path):
-    """Whether a file is an object of ELF, whatever its name is."""
+RELOCATABLE, SHARED = 1, 3
+
+
+def elf_type(path):
+    """The type of a file of ELF, whatever its name is; 0 where it is none."""
     try:
         with open(path, "rb") as file:
             head = file.read(18)
     except OSError:
-        return False
-    return head[:4] == b"\x7fELF" and head[16:18] in (b"\x01\x00", b"\x00\x01")
+        return 0
+    return max(head[16:18]) if head.startswith(b"\x7fELF") and len(head) == 18 else 0
 
 
 def library_of(call, name):
-    """The archive that `-lNAME` stands for; an empty text where it is a shared library, or stands in no folder that is named."""
+    """The library that `-lNAME` stands for; an empty text where it stands in no folder that is named."""
     for folder in call.folders:
         if name.startswith("-l:"):
             names = [name[3:]]
@@ -127,5 +132,5 @@ def library_of(call, name):
         for one in names:
             path = call.path_of(os.path.join(folder, one))
             if os.path.isfile(path):
-                return path if path.endswith(".a") else ""
+                return path
     return ""
