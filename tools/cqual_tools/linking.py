@@ -22,18 +22,18 @@ MOST_SOURCES, MOST_BYTES = 256, 67108864
 class Linked:
     """A program as it is given to cqual, with what came of it. `fault` is a line that says why there is no answer."""
 
+    answers: "Answers"
     name: str
     readies: list
+    # the files that are left out, or that keep it from being judged
+    left_out: list = field(default_factory=list)
     status: int = 0
     printed: str = ""
     fault: str = ""
-    # what the user is told of it: files that were left out, and why others are apart
-    left_out: list = field(default_factory=list)
-    setting: object = None
 
     @property
     def options(self):
-        made = copy.copy(self.setting.options)
+        made = copy.copy(self.answers.setting.options)
         made.source = latin(self.name)
         return made
 
@@ -43,12 +43,12 @@ class Linked:
 
     def sources(self):
         """Where places of the report are looked for."""
-        texts, names = [], {}
+        setting, texts, names = self.answers.setting, [], {}
         for ready in self.readies:
-            with open(self.setting.kept.path("texts", ready.sum), "rb") as file:
+            with open(self.answers.kept.path("texts", ready.sum), "rb") as file:
                 texts.append(Text(latin(ready.unit.shown), file.read().decode("latin-1")))
             names.update({place: list(replaced) for place, replaced in ready.names})
-        return Sources(texts, prelude_of(self.setting), self.setting.tool_files, names)
+        return Sources(texts, prelude_of(setting), setting.tool_files, names)
 
 
 def apart(readies):
@@ -87,36 +87,34 @@ def limit_of(linked):
 class Answers:
     """Asks cqual, or what is kept of its answers."""
 
-    def __init__(self, setting, room):
-        self.setting, self.words = setting, setting.words(room)
+    def __init__(self, setting, kept, room):
+        self.setting, self.kept, self.words = setting, kept, setting.words(room)
         self.key = key_of(sum_of_file(self.words[0]), sum_of_file(setting.lattice), setting.prelude_text, os.path.basename(setting.lattice))
 
     def check_setting(self):
         """Stops where the lattice or the prelude is refused, whatever the sources are."""
-        empty = Ready(Unit("empty.c", "", "", ()), self.setting.kept.write_text("\n"), 1)
-        linked = self.ask(Linked("empty.c", [empty], setting=self.setting))
+        empty = Ready(Unit("empty.c", "", "", ()), self.kept.write_text("\n"), 1)
+        linked = self.ask(Linked(self, "empty.c", [empty]))
         if linked.status != 0:
             raise Stop(linked.status, linked.fault or linked.printed.rstrip("\n"))
 
     def ask(self, linked):
         """Fills in the answer of a program."""
-        linked.setting = self.setting
         linked.fault = limit_of(linked)
         if linked.fault:
             linked.status = 2
             return linked
-        kept = self.setting.kept
         key = key_of(self.key, [(ready.sum, ready.unit.shown) for ready in linked.readies])
-        answer = kept.read("answers", key)
+        answer = self.kept.read("answers", key)
         if answer is None or set(answer) != {"status", "printed"}:
             answer = self.asked(linked)
             if answer["status"] in (0, 1, 2):
-                kept.write("answers", key, answer)
+                self.kept.write("answers", key, answer)
         linked.status, linked.printed = answer["status"], answer["printed"]
         return linked
 
     def asked(self, linked):
-        paths = [self.setting.kept.path("texts", ready.sum) for ready in linked.readies]
+        paths = [self.kept.path("texts", ready.sum) for ready in linked.readies]
         try:
             ran = subprocess.run([*self.words, *paths], stdout=subprocess.PIPE, check=False)
         except OSError as fault:

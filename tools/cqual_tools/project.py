@@ -16,7 +16,7 @@ from .run_options import USAGE, cache_of, jobs_of, options_of
 from .running import Setting
 from .units import Maker, latin
 from .version import version_text
-from .wrapper import environment_with, put_wrappers
+from .wrapper import wrapped_environment
 
 
 def say(line):
@@ -59,7 +59,7 @@ class Run:
         self.options, self.progress = options, Progress()
         self.kept = Kept(cache_of(options), options.has("--fresh"))
         self.setting = Setting(options)
-        self.setting.kept = self.kept
+        self.answers = self.threads = None
         # what could not be read: a line or a program of one file, by its name, or by the checksum of its text
         self.unread = {}
 
@@ -83,9 +83,8 @@ class Run:
         if self.options.has("--fresh") and os.path.exists(log):
             os.remove(log)
         # The folder stays: a `cmake` or a `configure` inside the build writes down where it found a compiler
-        os.makedirs(wrappers, exist_ok=True)
-        put_wrappers(wrappers, log)
-        ran = subprocess.run(["sh", "-c", make], env=environment_with(wrappers), stdout=sys.stderr, check=False)
+        environment = wrapped_environment(wrappers, log)
+        ran = subprocess.run(["sh", "-c", make], env=environment, stdout=sys.stderr, check=False)
         if ran.returncode:
             line = f"the build ended with status {ran.returncode}: {make}"
             if not self.options.has("--keep-going"):
@@ -99,7 +98,7 @@ class Run:
         """All programs with their answers."""
         programs = self.programs()
         with tempfile.TemporaryDirectory(prefix="cqual-run-") as room, ThreadPoolExecutor(jobs_of(self.options)) as threads:
-            self.answers, self.threads = Answers(self.setting, room), threads
+            self.answers, self.threads = Answers(self.setting, self.kept, room), threads
             self.answers.check_setting()
             readies = self.prepared(programs)
             made = []
@@ -108,7 +107,7 @@ class Run:
             self.ask([one for one in made if not one.fault], "linked")
             made = self.without_second_bodies(made)
             self.find_unread(made)
-            return self.without_unread(made)
+            return self.without_second_bodies(self.without_unread(made))
 
     def prepared(self, programs):
         """What is ready of each unit."""
@@ -127,7 +126,7 @@ class Run:
         lacking = [*program.unknown, *(ready.unit.shown for ready in readies if ready.fault)]
         made = []
         for number, group in enumerate(apart([ready for ready in readies if not ready.fault]), 1):
-            one = Linked(program.name if number == 1 else f"{program.name}-{number}", group, left_out=list(lacking), setting=self.setting)
+            one = Linked(self.answers, program.name if number == 1 else f"{program.name}-{number}", group, list(lacking))
             one.fault = "" if group else f"{program.name}: none of its sources can be read"
             made.append(one)
         if len(made) > 1:
@@ -149,7 +148,7 @@ class Run:
             if unit is None:
                 made.append(one)
                 continue
-            other = Linked(f"{one.name}-without", [unit], setting=self.setting)
+            other = Linked(self.answers, f"{one.name}-without", [unit])
             say(f"{one.name}: a function of {unit.unit.shown} has a body in another file too; {other.name} is this file alone")
             one.readies = [ready for ready in one.readies if ready is not unit]
             self.ask([one, other], "linked")
@@ -162,7 +161,7 @@ class Run:
         for one in programs:
             if one.left_out or refused_code(one):
                 doubtful.update({ready.sum: ready for ready in one.readies})
-        alone = [Linked(ready.unit.shown, [ready], setting=self.setting) for ready in doubtful.values()]
+        alone = [Linked(self.answers, ready.unit.shown, [ready]) for ready in doubtful.values()]
         self.ask(alone, "read")
         for one in alone:
             if refused_code(one):

@@ -24,30 +24,41 @@ sys.exit(called({real!r}, {log!r}, {shims!r}, sys.argv[1:]))
 """
 
 
-def put_wrappers(folder, log):
-    """Puts a wrapper into the folder for each compiler, linker and archiver on the path."""
-    for place in os.environ.get("PATH", "").split(os.pathsep):
-        for name in sorted(os.listdir(place)) if os.path.isdir(place) else []:
-            real, shim = os.path.abspath(os.path.join(place, name)), os.path.join(folder, name)
+def put_wrapper(path, real, log, shims):
+    """Puts a wrapper of a real program there; one that is there and in use stays."""
+    text = SHIM.format(python=sys.executable, folder=FOLDER, real=real, log=log, shims=shims)
+    try:
+        with open(path, encoding="utf-8", errors="surrogateescape") as file:
+            if file.read() == text:
+                return
+    except OSError:
+        os.makedirs(os.path.dirname(path), exist_ok=True)
+    with open(path + ".new", "w", encoding="utf-8", errors="surrogateescape") as file:
+        file.write(text)
+    os.chmod(path + ".new", 0o755)
+    os.replace(path + ".new", path)
+
+
+def wrapped_environment(folder, log):
+    """The environment of a build with a wrapper of each compiler, linker and archiver: first on the path, and where $CC has a whole path."""
+    made, seen = dict(os.environ), set()
+    for place in made.get("PATH", "").split(os.pathsep):
+        for name in sorted(os.listdir(place)) if os.path.isdir(place) and place != folder else []:
+            real = os.path.abspath(os.path.join(place, name))
             wrapped = COMPILER.match(name) or LINKER.match(name) or ARCHIVER.match(name)
-            if wrapped and not os.path.exists(shim) and os.access(real, os.X_OK):
-                with open(shim, "w", encoding="utf-8", errors="surrogateescape") as file:
-                    file.write(SHIM.format(python=sys.executable, folder=FOLDER, real=real, log=log, shims=folder))
-                os.chmod(shim, 0o755)
-
-
-def environment_with(folder):
-    """The environment of a build: the wrappers first, also where $CC names a compiler by its path."""
-    made = dict(os.environ)
+            if wrapped and name not in seen and os.access(real, os.X_OK):
+                put_wrapper(os.path.join(folder, name), real, log, folder)
+                seen.add(name)
     made["PATH"] = folder + os.pathsep + made.get("PATH", "")
     # a cache would answer without calling the compiler
     made["CCACHE_DISABLE"] = "1"
     for name in ("CC", "LD", "AR"):
         words = shlex.split(made.get(name, ""))
         at = next((at for at, word in enumerate(words) if os.path.basename(word) not in LAUNCHERS), None)
-        if at is not None and os.path.exists(os.path.join(folder, os.path.basename(words[at]))):
-            words[at] = os.path.basename(words[at])
-            made[name] = shlex.join(words)
+        if at is not None and os.sep in words[at]:
+            shim = os.path.join(folder, "named", os.path.basename(words[at]))
+            put_wrapper(shim, os.path.abspath(words[at]), log, folder)
+            made[name] = shlex.join([*words[:at], shim, *words[at + 1 :]])
     return made
 
 
