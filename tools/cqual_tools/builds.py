@@ -60,7 +60,7 @@ class Build:
 
     def __init__(self):
         self.units, self.links, self.libraries, self.faults = {}, {}, {}, []
-        # what an object was made of: units, parts of other objects, or a file of another language, which is neither
+        # what an object or a library was made of: units and parts; of a file of another language, neither
         self.makers = {}
 
     def take(self, entry):
@@ -112,7 +112,8 @@ class Build:
             if part in seen:
                 continue
             seen.add(part)
-            made_of = next((self.makers[key] for key in ((part.path, part.sum), (part.name, part.sum), part.sum) if key in self.makers), None)
+            keys = ((part.path, part.sum), (part.name, part.sum), part.sum)
+            made_of = next((self.makers[key] for key in keys if key in self.makers), None)
             if made_of is None:
                 inside = f"{shown(part.path)}({part.name})" if part.name != os.path.basename(part.path) else shown(part.path)
                 unknown.setdefault(inside, part.path)
@@ -146,7 +147,7 @@ def programs_of(build):
         if not any({unit.source for unit in units} <= {unit.source for unit in one.units} for one in made):
             add_program(made, shown(path), units, unknown)
     inside = {unit.source for one in made for unit in one.units}
-    add_program(made, "rest", [unit for unit in build.units if unit.source not in inside], [])
+    add_program(made, "rest", [unit for unit in build.units if unit.source not in inside and os.path.exists(unit.source)], [])
     return made
 
 

@@ -26,7 +26,7 @@ def environment():
 
 @dataclass
 class Call:
-    """A call of a compiler or a linker: `makes` is `object`, `program`, `partial`, or nothing at all."""
+    """A call of a compiler or a linker. It `makes` an `object`, a `program`, a `partial` link, or, where that is empty, none of these."""
 
     directory: str
     compiler: str
@@ -76,38 +76,42 @@ def expanded(words, directory):
     return made
 
 
-def call_of(directory, words):
-    """What a call of a compiler or a linker does; None where it is one of `ar`, or of something else."""
-    words = without_launcher(words)
-    name = os.path.basename(words[0]) if words else ""
-    is_linker = bool(LINKER.match(name))
-    if not words or (not is_linker and ARCHIVER.match(name) and not COMPILER.match(name)):
-        return None
-    made = Call(directory, words[0])
-    language, at = "", 1
-    with_word = LINK_WITH_WORD if is_linker else WITH_WORD
+def is_archiver(words):
+    name = os.path.basename(words[0])
+    return bool(ARCHIVER.match(name)) and not COMPILER.match(name)
+
+
+def pairs_of(words, is_linker):
+    """The words, each with its value where it has one; None where it has none."""
+    with_word, joined = WITH_WORD.union(MADE_WITH), ("-o", "-x", "-L", "-l")
+    if is_linker:
+        with_word, joined = LINK_WITH_WORD, ("-o", "-L", "-l")
+    at = 0
     while at < len(words):
         word = words[at]
-        value = words[at + 1] if at + 1 < len(words) else ""
         at += 1
-        if word == "-o":
-            made.output, at = value, at + 1
-        elif word.startswith("-o") and not is_linker:
-            made.output = word[2:]
-        elif word == "-x":
-            language, at = value if value != "none" else "", at + 1
-        elif word.startswith("-x") and not is_linker:
-            language = word[2:] if word != "-xnone" else ""
-        elif word in ("-L", "-l"):
-            take_library(made, word + value)
+        if word in with_word or word in joined:
+            yield word, words[at] if at < len(words) else ""
             at += 1
-        elif word.startswith(("-L", "-l", "-Wl,")) or (is_linker and word.startswith("--")):
-            take_library(made, word)
-        elif word in with_word:
+        elif word.startswith(joined):
+            yield word[:2], word[2:]
+        else:
+            yield word, None
+
+
+def call_of(directory, words):
+    """What a call of a compiler or a linker does; None where it is one of `ar`."""
+    words = without_launcher(words)
+    if not words or is_archiver(words):
+        return None
+    made, language = Call(directory, words[0]), ""
+    for word, value in pairs_of(words[1:], LINKER.match(os.path.basename(words[0]))):
+        if word == "-x":
+            language = "" if value == "none" else value
+        elif word == "-o":
+            made.output = value
+        elif value is not None:
             take_pair(made, word, value)
-            at += 1
-        elif word in MADE_WITH:
-            at += 1
         elif word.startswith("-") and word != "-":
             take_flag(made, word)
         else:
@@ -116,9 +120,14 @@ def call_of(directory, words):
 
 
 def take_pair(made, word, value):
-    if word == "-Xlinker":
-        take_library(made, "-Wl," + value)
-    elif word not in ("-T", "-z", "-u", "-e"):
+    """A flag with its value: where libraries are, or how the source is read."""
+    if word == "-L":
+        made.folders.append(value)
+    elif word == "-l":
+        made.inputs.append("-l" + value)
+    elif word == "-Xlinker":
+        made.takes_all |= "whole-archive" in value
+    elif word not in LINK_WITH_WORD.union(MADE_WITH):
         made.flags += [word, value]
 
 
@@ -132,17 +141,10 @@ def take_flag(made, word):
         made.makes = "partial" if word == "-r" and made.makes else made.makes
         made.is_static |= word == "-static"
         made.is_library |= word != "-static"
+    elif word.startswith(("-Wl,", "--whole-archive")):
+        made.takes_all |= "whole-archive" in word
     elif word not in MADE and not word.startswith((*MADE_SO, *MADE_WITH)):
         made.flags.append(word)
-
-
-def take_library(made, word):
-    if word.startswith("-L"):
-        made.folders.append(word[2:])
-    elif word.startswith("-l"):
-        made.inputs.append(word)
-    elif "whole-archive" in word:
-        made.takes_all = True
 
 
 def take_file(made, name, language):
@@ -159,7 +161,7 @@ def take_file(made, name, language):
 def archive_of(directory, words):
     """The archive that a call of `ar` writes to; an empty text where it writes to none."""
     words = without_launcher(words)
-    if not words or not ARCHIVER.match(os.path.basename(words[0])):
+    if not words or not is_archiver(words):
         return ""
     names = [word for word in words[1:] if not word.startswith("--")]
     if len(names) < 2:

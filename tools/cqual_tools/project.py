@@ -6,6 +6,7 @@ import subprocess
 import sys
 import tempfile
 from concurrent.futures import ProcessPoolExecutor, ThreadPoolExecutor
+from concurrent.futures.process import BrokenProcessPool
 
 from .answers import answered
 from .builds import chosen, programs_of, read_commands, read_log
@@ -112,8 +113,11 @@ class Run:
     def prepared(self, programs):
         """What is ready of each unit."""
         units = list(dict.fromkeys(unit for program in programs for unit in program.units))
-        with ProcessPoolExecutor(jobs_of(self.options), initializer=ignore_interrupts) as pool:
-            made = in_parallel(pool, Maker(self.setting, self.kept).ready, units, "preprocessed", self.progress)
+        try:
+            with ProcessPoolExecutor(jobs_of(self.options), initializer=ignore_interrupts) as pool:
+                made = in_parallel(pool, Maker(self.setting, self.kept).ready, units, "preprocessed", self.progress)
+        except BrokenProcessPool as fault:
+            raise Stop(6, "a process that makes a text was ended from outside; perhaps there was not enough memory: try -j 1") from fault
         return dict(zip(units, made))
 
     def split(self, program, readies):

@@ -87,7 +87,7 @@ def entry_of(directory, words):
     """What is logged of a call: its words, the checksums of objects, and the members of archives; None where it makes nothing."""
     words = expanded(words, directory)
     archive = archive_of(directory, words)
-    if archive and not COMPILER.match(os.path.basename(words[0])):
+    if archive:
         return {"directory": directory, "words": words, "members": {archive: members_of(archive)}}
     call = call_of(directory, words)
     if call is None or not call.makes:
