@@ -106,7 +106,7 @@ def call_of(directory, words):
         return None
     made, language = Call(directory, words[0]), ""
     for word, value in pairs_of(words[1:], LINKER.match(os.path.basename(words[0]))):
-        if word == "-x":
+        if word == "-x" and value is not None:
             language = "" if value == "none" else value
         elif word == "-o":
             made.output = value
