@@ -5,7 +5,6 @@ from typing import NamedTuple, Optional
 
 from .refusals import sentence_of
 from .reports import Place
-from .texts import Text
 from .wording import ARGUMENT, called, described, exceeded, name_of, part_of, sink_of
 
 OWN = "cqual_"
@@ -31,13 +30,15 @@ class Message(NamedTuple):
 class Sources:
     """Finds places of the text that cqual read in the files that the user wrote."""
 
-    def __init__(self, text, prelude, tool_files, replaced_names):
-        self.text, self.prelude = text, prelude
+    def __init__(self, texts, prelude, tool_files, replaced_names):
+        self.texts, self.prelude = texts, prelude
         self.tool_files, self.replaced_names = tool_files, replaced_names
         self.files = {}
 
     def text_with(self, place):
-        return self.prelude if (place.file, place.line) in self.prelude.lines else self.text
+        """The text that has the line; of several, as with one of a header, the first."""
+        line = (place.file, place.line)
+        return next((text for text in (self.prelude, *self.texts) if line in text.lines), self.texts[0])
 
     def lines_of(self, file):
         """The lines of a file on disk; none where it cannot be read."""
@@ -232,8 +233,3 @@ def refusal(report, sources):
         return None, f"{report.file}: error: {sentence} [{report.code.split(' ')[0]}]"
     return Message("error", sources.spot(place), f"{sentence} [{report.code.split(' ')[0]}]"), ""
 
-
-def sources_of(run):
-    """The sources of a run of cqual-cc."""
-    text = Text(run.options.source, run.text)
-    return Sources(text, Text("preludes.h", run.prelude_text, whole=True), run.tool_files, run.replaced.names)

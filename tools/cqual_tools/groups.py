@@ -26,7 +26,7 @@ def grouped(failures):
 def entry_of(explained, source):
     """What a baseline keeps of an error: nothing that changes where lines move."""
     failure = explained.failure
-    function = explained.sources.text.function_at(explained.place)
+    function = explained.sources.text_with(explained.place).function_at(explained.place)
     cause = f"{failure.element} in {stable_name(cause_of(failure))}"
     bound = f"{failure.bound} at {stable_name(sink_of(failure))}"
     return "\t".join(field.replace("\t", " ") for field in (source, function or "-", cause, bound))

@@ -1,4 +1,4 @@
-"""The words of cqual-cc: its options, and behind `--` the flags of a compiler with one source."""
+"""The words of cqual-cc: its options, and behind `--` the flags of a compiler with one source. cqual-run takes most of them too."""
 
 import os
 import sys
@@ -41,12 +41,19 @@ Status: that of cqual; 3 where the words have no meaning, 8 where the preprocess
 
 VALUES = ("--lattice", "--prelude", "--model", "--include", "--check", "--style", "--color", "--baseline")
 SWITCHES = ("--annotate", "--fortify", "--no-fail", "--no-models", "--all", "--update-baseline")
+# options whose field has another name; one whose field is a list may stand more than once
+FIELDS = {"--prelude": "preludes", "--model": "models", "--include": "includes"}
 CHOICES = {"--style": ("gcc", "plain"), "--color": ("auto", "always", "never")}
 
 # flags that say what is made: alone, with the next word, with the rest of the word
-MADE = {"-c", "-S", "-E", "-M", "-MM", "-MD", "-MMD", "-MG", "-MP", "-pipe"}
+MADE = {"-c", "-S", "-E", "-M", "-MM", "-MD", "-MMD", "-MG", "-MP", "-pipe", "-P"}
 MADE_WITH = ("-o", "-MF", "-MT", "-MQ")
-WITH_WORD = {"-include", "-I", "-D", "-U", "-isystem", "-iquote", "-idirafter", "-imacros", "-x", "-L", "-l", "-T", "-Xlinker", "--param"}
+# with -g3 and with -dD the preprocessor writes the macros out; with -save-temps it writes files
+MADE_SO = ("-Wp,-M", "-g", "-dD", "-dM", "-dN", "-dI", "-dU", "-save-temps")
+WITH_WORD = set(
+    "-include -I -D -U -isystem -iquote -idirafter -imacros -isysroot -iprefix -iwithprefix -iwithprefixbefore --sysroot -x -L -l -T -z -u -e "
+    "-Xlinker -Xassembler -Xpreprocessor -Xclang -mllvm -target -arch -A -aux-info --param -dumpbase -dumpbase-ext -dumpdir".split()
+)
 
 
 class Stop(Exception):
@@ -56,9 +63,13 @@ class Stop(Exception):
         super().__init__(line)
         self.status, self.line = status, line
 
+    def __reduce__(self):
+        return Stop, (self.status, self.line)
+
 
 @dataclass
 class Options:
+    script: str = "cqual-cc"
     lattice: str = ""
     preludes: list = field(default_factory=list)
     models: list = field(default_factory=list)
@@ -77,24 +88,12 @@ class Options:
 
 def options_of(words):
     """The options that the words mean."""
-    made, at = Options(), 0
-    while at < len(words) and words[at] != "--":
-        name, equals, value = words[at].partition("=")
-        at += 1
-        if name in SWITCHES and not equals:
-            made.switches.add(name)
-        elif name in VALUES:
-            if not equals:
-                if at == len(words) or words[at] == "--":
-                    raise Stop(3, f"{name} wants a value")
-                value = words[at]
-                at += 1
-            take_value(made, name, value)
-        else:
-            raise Stop(3, f"there is no option {words[at - 1]}: cqual-cc --help lists them; the flags and the file stand behind --")
-    take_flags(made, words[at + 1 :])
-    if made.has("--update-baseline") and not made.baseline:
-        raise Stop(3, "--update-baseline wants --baseline FILE")
+    made = Options()
+    others, behind = take_options(made, words, VALUES, SWITCHES)
+    if others:
+        raise Stop(3, f"there is no option {others[0]}: cqual-cc --help lists them; the flags and the file stand behind --")
+    take_flags(made, behind)
+    check_baseline(made)
     if made.check or made.has("--annotate"):
         if made.style == "gcc" or made.baseline:
             raise Stop(3, "--check and --annotate print what cqual prints: no --style=gcc and no --baseline")
@@ -102,21 +101,44 @@ def options_of(words):
     return made
 
 
+def take_options(made, words, values, switches):
+    """Takes the options before `--`, and returns the words before it that are none, and those behind it."""
+    others, at = [], 0
+    while at < len(words) and words[at] != "--":
+        word = words[at]
+        name, equals, value = word.partition("=")
+        at += 1
+        if name in switches and not equals:
+            made.switches.add(name)
+        elif name in values:
+            if not equals:
+                if at == len(words) or words[at] == "--":
+                    raise Stop(3, f"{name} wants a value")
+                value = words[at]
+                at += 1
+            take_value(made, name, value)
+        else:
+            others.append(word)
+    return others, words[at + 1 :]
+
+
+def check_baseline(made):
+    if made.has("--update-baseline") and not made.baseline:
+        raise Stop(3, "--update-baseline wants --baseline FILE")
+
+
 def take_value(made, name, value):
     if not value:
         raise Stop(3, f"{name} wants a value")
     if name in CHOICES and value not in CHOICES[name]:
         raise Stop(3, f"{name} is one of {', '.join(CHOICES[name])}")
-    if name == "--prelude":
-        made.preludes.append(value)
-    elif name == "--model":
-        made.models.append(value)
-    elif name == "--include":
-        made.includes.append(value)
+    field_name = FIELDS.get(name, name[2:])
+    if isinstance(getattr(made, field_name), list):
+        getattr(made, field_name).append(value)
     elif name == "--lattice" and made.lattice:
-        raise Stop(3, "--lattice stands twice: run cqual-cc once for each lattice, with its preludes")
+        raise Stop(3, f"--lattice stands twice: run {made.script} once for each lattice, with its preludes")
     else:
-        setattr(made, name[2:], value)
+        setattr(made, field_name, value)
 
 
 def take_flags(made, words):
@@ -125,7 +147,7 @@ def take_flags(made, words):
     while at < len(words):
         word = words[at]
         at += 1
-        if word in MADE or word.startswith("-Wp,-M"):
+        if word in MADE or word.startswith(MADE_SO):
             continue
         if word in MADE_WITH:
             at += 1

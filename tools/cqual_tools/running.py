@@ -6,8 +6,10 @@ import shlex
 import shutil
 import subprocess
 
+from .diagnosis import Sources
 from .models import ModelError, replaced
 from .options import Stop
+from .texts import Text
 from .version import INSTALLED, SHARE, TOP
 
 PROGRAMS = os.path.join(TOP, "bin" if INSTALLED else "tools")
@@ -46,18 +48,16 @@ def read_file(path):
         raise Stop(9, f"cannot read {path}: {fault.strerror}") from fault
 
 
-class Run:
-    """One run: the folder of what is made, the text for cqual, its words and its answer."""
+class Setting:
+    """What is looked for: the lattice, the preludes and the models that the options name."""
 
-    def __init__(self, options, room):
-        self.options, self.room = options, room
-        self.compiler = shlex.split(os.environ.get("CC", "")) or ["gcc"]
+    def __init__(self, options):
+        self.options = options
         preludes = options.preludes or ([] if options.lattice else ["taint.h"])
-        self.lattice = found_file("lattices", options.lattice or "taint.q")
+        self.lattice = os.path.abspath(found_file("lattices", options.lattice or "taint.q"))
         self.prelude_parts = [(name, read_file(found_file("preludes", name))) for name in preludes]
-        self.models = self.named_models() + [(name, found_file("models", name)) for name in options.models]
-        self.text, self.replaced = "", None
-        self.status, self.printed = 0, ""
+        self.models = self.named_models() + [(name, os.path.abspath(found_file("models", name))) for name in options.models]
+        self.included = [os.path.abspath(found_file("models", name)) for name in options.includes]
 
     def named_models(self):
         """The models that the preludes name."""
@@ -66,7 +66,7 @@ class Run:
             for _, text in self.prelude_parts:
                 for found in MODELS_LINE.finditer(text):
                     names += [name for name in found[1].split() if name not in names + self.options.models]
-        return [(name, found_file("models", name)) for name in names]
+        return [(name, os.path.abspath(found_file("models", name))) for name in names]
 
     @property
     def tool_files(self):
@@ -78,23 +78,75 @@ class Run:
         """All preludes, each behind a line that says whose lines follow: a report names it as it was named here."""
         return "".join(f'# 1 "{name}"\n{text}' for name, text in self.prelude_parts)
 
-    def preprocess(self):
-        """Makes the text that cqual reads."""
-        flags = ["-D__CQUAL__=1", *self.options.flags]
-        for name in self.options.includes:
-            flags += ["-include", os.path.abspath(found_file("models", name))]
+    def flags_with(self, flags):
+        """The flags of the preprocessor, for a source with these flags of a compiler."""
+        made = ["-D__CQUAL__=1", *flags]
+        for path in self.included:
+            made += ["-include", path]
         # With fortification the headers put calls of __printf_chk and of compiler's builtins in place of printf and memcpy, with bodies
         # that cqual does not read. It comes last, since flags of distributions switch it on.
         if not self.options.has("--fortify"):
-            flags += ["-U_FORTIFY_SOURCE", "-D_FORTIFY_SOURCE=0"]
+            made += ["-U_FORTIFY_SOURCE", "-D_FORTIFY_SOURCE=0"]
+        return made
+
+    def words(self, room):
+        """The first words of cqual: the program, the lattice, and the preludes, which are written into a folder."""
+        made = [found_program(), "--lattice", self.lattice]
+        if self.prelude_parts:
+            made += ["--prelude", write_file(os.path.join(room, "preludes.h"), self.prelude_text)]
+        return made
+
+
+def write_file(path, text):
+    with open(path, "wb") as file:
+        file.write(text.encode("latin-1"))
+    return path
+
+
+def status_of(ran):
+    """The status of a program that ended, as a shell has it."""
+    return ran.returncode if ran.returncode >= 0 else 128 - ran.returncode
+
+
+def reason_of(status, program, paths):
+    """Why there was no answer; the paths are those of files that were read."""
+    if status == 4:
+        for path in paths:
+            try:
+                with open(path, "rb") as file:
+                    file.read(1)
+            except OSError as fault:
+                return f"cannot read {path}: {fault.strerror}"
+        return "a file could not be read, but it can be now: try again"
+    reasons = {
+        3: f"{program} takes no such words: it may be of another version than this script",
+        5: "the report could not be written to the end",
+        6: "there was not enough memory",
+    }
+    return reasons.get(status, f"{program} ended with status {status}")
+
+
+class Run:
+    """One run of cqual-cc: the folder of what is made, the text for cqual, its words and its answer."""
+
+    def __init__(self, options, room):
+        self.options, self.room = options, room
+        self.compiler = shlex.split(os.environ.get("CC", "")) or ["gcc"]
+        self.setting = Setting(options)
+        self.text, self.replaced = "", None
+        self.status, self.printed = 0, ""
+
+    def preprocess(self):
+        """Makes the text that cqual reads."""
+        words = [*self.compiler, "-E", *self.setting.flags_with(self.options.flags), self.options.source]
         try:
-            ran = subprocess.run([*self.compiler, "-E", *flags, self.options.source], stdout=subprocess.PIPE, check=False)
+            ran = subprocess.run(words, stdout=subprocess.PIPE, check=False)
         except OSError as fault:
             raise Stop(9, f"cannot run {self.compiler[0]}: {fault.strerror}") from fault
         if ran.returncode:
             raise Stop(8, f"the preprocessor failed on {self.options.source}")
         try:
-            self.replaced = replaced(self.options.source, ran.stdout.decode("latin-1"), self.models, self.compiler)
+            self.replaced = replaced(self.options.source, ran.stdout.decode("latin-1"), self.setting.models, self.compiler)
         except ModelError as fault:
             raise Stop(8, str(fault)) from fault
         self.text = self.replaced.text
@@ -102,10 +154,8 @@ class Run:
     def start(self, printing):
         """Runs cqual: it prints to the standard output, or what it prints is kept."""
         source = os.path.join(self.room, os.path.basename(self.options.source))
-        words = [found_program(), "--lattice", self.lattice]
-        self.write(source, self.text)
-        if self.prelude_parts:
-            words += ["--prelude", self.write(os.path.join(self.room, "preludes.h"), self.prelude_text)]
+        words = self.setting.words(self.room)
+        write_file(source, self.text)
         if self.options.has("--annotate"):
             words.append("--annotate")
         if self.options.check:
@@ -115,29 +165,15 @@ class Run:
         except OSError as fault:
             raise Stop(9, f"cannot run {words[0]}: {fault.strerror}") from fault
         self.printed = (ran.stdout or b"").decode("latin-1")
-        self.status = ran.returncode if ran.returncode >= 0 else 128 - ran.returncode
+        self.status = status_of(ran)
         if self.status not in (0, 1, 2):
-            self.explain(words[0], source)
+            raise Stop(self.status, reason_of(self.status, words[0], filter(None, (self.setting.lattice, source, self.options.check))))
 
-    @staticmethod
-    def write(path, text):
-        with open(path, "wb") as file:
-            file.write(text.encode("latin-1"))
-        return path
+    def sources(self):
+        """Where places of the report are looked for."""
+        text = Text(self.options.source, self.text)
+        return Sources([text], prelude_of(self.setting), self.setting.tool_files, self.replaced.names)
 
-    def explain(self, program, source):
-        """Says why there was no answer."""
-        if self.status == 4:
-            for path in filter(None, (self.lattice, source, self.options.check)):
-                try:
-                    with open(path, "rb") as file:
-                        file.read(1)
-                except OSError as fault:
-                    raise Stop(4, f"cannot read {path}: {fault.strerror}") from fault
-            raise Stop(4, "a file could not be read, but it can be now: try again")
-        reasons = {
-            3: f"{program} takes no such words: it may be of another version than this script",
-            5: "the report could not be written to the end",
-            6: "there was not enough memory",
-        }
-        raise Stop(self.status, reasons.get(self.status, f"{program} ended with status {self.status}"))
+
+def prelude_of(setting):
+    return Text("preludes.h", setting.prelude_text, whole=True)

@@ -1,0 +1,7 @@
+#include "letter.h"
+
+int main(void)
+{
+    print_line("sent");
+    return 0;
+}
