@@ -24,6 +24,12 @@ class Unit(NamedTuple):
     def shown(self):
         return shown(self.source)
 
+    @property
+    def is_tried(self):
+        """Whether this is what a `configure` or CMake compiled to see how compiling goes."""
+        is_gone = not os.path.exists(self.source) or not os.path.isdir(self.directory)
+        return is_gone or "CompilerIdC" in self.source.split(os.sep)
+
 
 class Part(NamedTuple):
     """An object, or a member of an archive, that a link took."""
@@ -147,14 +153,14 @@ def programs_of(build):
         if not any({unit.source for unit in units} <= {unit.source for unit in one.units} for one in made):
             add_program(made, shown(path), units, unknown)
     inside = {unit.source for one in made for unit in one.units}
-    add_program(made, "rest", [unit for unit in build.units if unit.source not in inside and os.path.exists(unit.source)], [])
+    add_program(made, "rest", [unit for unit in build.units if unit.source not in inside and not unit.is_tried], [])
     return made
 
 
 def add_program(made, name, units, unknown):
-    """Adds a program. What has no C file, or only files that are gone, as what a `configure` tries has, is none."""
+    """Adds a program. What has no C file, or only such as were tried, is none."""
     units = list(dict.fromkeys(units))
-    if unknown or any(os.path.exists(unit.source) for unit in units):
+    if unknown or not all(unit.is_tried for unit in units):
         made.append(Program(name, units, unknown))
 
 
