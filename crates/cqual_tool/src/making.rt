@@ -16,7 +16,9 @@ ghost use Rattle.cqual_tool.specs.Inputs.{files_with};
 
 use crate::answer::Answer;
 use crate::faults::lattice_refused;
-use crate::preparing::{Earlier, Joined, Prepared, Ready, judged, nothing_before, read_source, texts};
+use crate::preparing::{
+    Earlier, Joined, Prepared, Ready, judged, nothing_before, read_source, texts,
+};
 use crate::status::Status;
 use crate::taking::{SOURCE_LIMIT, too_large};
 use crate::words::Named;

@@ -1,4 +1,4 @@
-use Rattle.std.proofs.Common.{◌≡◌, arith, ◌+◌, ◌<◌, ◌≤◌, Bor, ℕ, List, [], ◌∷◌, ◌++◌, drop, length, refl, sym, ◌∙◌, subst}
+use Rattle.std.proofs.Common.{◌≡◌, arith, ◌+◌, ◌-◌, ◌<◌, ◌≤◌, Bor, ℕ, List, [], ◌∷◌, ◌++◌, drop, length, refl, sym, ◌∙◌, ap, subst}
 use Rattle.std.proofs.lemmas.List.{length-map}
 use Rattle.std.proofs.lemmas.Result.{err_from_is_err_and}
 use Rattle.cqual_tool.specs.declared.taking.Stop.TheVariants.{NoMemory}
@@ -135,7 +135,7 @@ returns-in-Some-2-clause-reads g t c = λ before earlier.
     let joins = subst (IsOneMore lattices number file c.in-Some-2.bytes.items before marks) c.in-Units.is is in
     at_sources _ _ named lattices before marks number left (file ∷ rest) (drop c.args.index named.sources) _ there
     (source_joins _ _ read.0 read.1 named file read.2 lattices before marks number left rest _ c.in-Units.earlier c.in-Some-2.bytes.items
-    _ found.0 same within refl joins c.take_sources.result (c.take_sources.ensures.reads (before ++ joins.0 ∷ []) joins.2))
+    (left - c.len.result) found.0 same within (ap (λ (n : ℕ). left - n) c.len.ensures) joins c.take_sources.result (c.take_sources.ensures.reads (before ++ joins.0 ∷ []) joins.2))
 
 pub returns-in_err-too_large-in-None-clause-reads : goal.returns-in_err-too_large-in-None-clause-reads
 returns-in_err-too_large-in-None-clause-reads g t c = λ before earlier.
