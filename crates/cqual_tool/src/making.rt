@@ -10,7 +10,8 @@ ghost use Rattle.cqual_words.specs.Words.{IsMade};
 ghost use Rattle.cqual_tool.specs.Words.{names_in as files_in};
 ghost use Rattle.cqual_tool.specs.Programs.{Judging, judging_of};
 ghost use Rattle.cqual_tool.specs.Outcome as rules;
-ghost use Rattle.cqual_tool.specs.Outcome.{IsDecided, IsSummed, LatticesRead, OfMade, OfSources, SourceParses, limit_in, total_limit};
+ghost use Rattle.cqual_tool.specs.Outcome.{IsDecided, IsSummed, LatticesRead, OfMade, OfSources};
+ghost use Rattle.cqual_tool.specs.Outcome.{SourceParses, limit_in, total_limit};
 ghost use Rattle.cqual_tool.specs.Preparing.{IsEarlier, IsReady};
 ghost use Rattle.cqual_tool.specs.Inputs.{files_with};
 

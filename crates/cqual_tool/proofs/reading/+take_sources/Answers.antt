@@ -1,4 +1,4 @@
-use Rattle.std.proofs.Common.{◌≡◌, arith, ◌+◌, ◌-◌, ◌<◌, ◌≤◌, Bor, ℕ, List, [], ◌∷◌, ◌++◌, drop, length, refl, sym, ◌∙◌, ap, subst}
+use Rattle.std.proofs.Common.{◌≡◌, arith, ◌+◌, ◌-◌, ◌<◌, ◌≤◌, Bor, ℕ, List, [], ◌∷◌, ◌++◌, drop, length, refl, sym, ◌∙◌, subst}
 use Rattle.std.proofs.lemmas.List.{length-map}
 use Rattle.std.proofs.lemmas.Result.{err_from_is_err_and}
 use Rattle.cqual_tool.specs.declared.taking.Stop.TheVariants.{NoMemory}
@@ -103,12 +103,11 @@ take_sources-requires g t c κs within =
     let same = length-map names (λ (name : Bor (List ℕ)). name.now) in
     let measure = c.decreases in (
       omega (arith, there, measure),
-      record {
-        words = c.requires.words;
-        few = c.requires.few;
-        within = omega (arith, there, same);
-        before = (before ++ is.0 ∷ [], is.2);
-      },
+      within,
+      c.requires.words,
+      c.requires.few,
+      omega (arith, there, same),
+      (before ++ is.0 ∷ [], is.2),
     )
 
 pub returns-in-Some-2-clause-reads : goal.returns-in-Some-2-clause-reads
@@ -133,9 +132,12 @@ returns-in-Some-2-clause-reads g t c = λ before earlier.
     let is =
     subst (λ (b : List ℕ). IsOneMore lattices number file b before marks c.in_ok-answer-in-Some-2.field-0) c.deref.ensures.value one in
     let joins = subst (IsOneMore lattices number file c.in-Some-2.bytes.items before marks) c.in-Units.is is in
+    let size = c.in-Some-2.bytes.ok.0 in
+    let count = c.len.ensures in
+    let less : left - c.len.result ≡ left - length c.in-Some-2.bytes.items = omega (arith, size, count) in
     at_sources _ _ named lattices before marks number left (file ∷ rest) (drop c.args.index named.sources) _ there
     (source_joins _ _ read.0 read.1 named file read.2 lattices before marks number left rest _ c.in-Units.earlier c.in-Some-2.bytes.items
-    (left - c.len.result) found.0 same within (ap (λ (n : ℕ). left - n) c.len.ensures) joins c.take_sources.result (c.take_sources.ensures.reads (before ++ joins.0 ∷ []) joins.2))
+    (left - c.len.result) found.0 same within less joins c.take_sources.result (c.take_sources.ensures.reads (before ++ joins.0 ∷ []) joins.2))
 
 pub returns-in_err-too_large-in-None-clause-reads : goal.returns-in_err-too_large-in-None-clause-reads
 returns-in_err-too_large-in-None-clause-reads g t c = λ before earlier.
