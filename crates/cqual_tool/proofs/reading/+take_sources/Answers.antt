@@ -103,11 +103,7 @@ take_sources-requires g t c κs within =
     let same = length-map names (λ (name : Bor (List ℕ)). name.now) in
     let measure = c.decreases in (
       omega (arith, there, measure),
-      within,
-      c.requires.words,
-      c.requires.few,
-      omega (arith, there, same),
-      (before ++ is.0 ∷ [], is.2),
+      (within, (c.requires.words, (c.requires.few, (omega (arith, there, same), (before ++ is.0 ∷ [], is.2))))),
     )
 
 pub returns-in-Some-2-clause-reads : goal.returns-in-Some-2-clause-reads
