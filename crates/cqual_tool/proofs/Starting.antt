@@ -132,4 +132,3 @@ module _ (named : FileNames) (lattices : List LatticeView) where
         parse = is.read.1;
         counted = is.read.2;
       })
-

@@ -10,13 +10,16 @@ ghost use Rattle.cqual_words.specs.Words.{IsMade};
 ghost use Rattle.cqual_tool.specs.Words.{names_in as files_in};
 ghost use Rattle.cqual_tool.specs.Programs.{Judging, judging_of};
 ghost use Rattle.cqual_tool.specs.Outcome as rules;
-ghost use Rattle.cqual_tool.specs.Outcome.{IsDecided, IsSummed, LatticesRead, OfMade, OfSources, SourceParses, limit_in, total_limit};
+ghost use Rattle.cqual_tool.specs.Outcome.{IsDecided, IsSummed, LatticesRead, OfMade, OfSources};
+ghost use Rattle.cqual_tool.specs.Outcome.{SourceParses, limit_in, total_limit};
 ghost use Rattle.cqual_tool.specs.Preparing.{IsEarlier, IsReady};
 ghost use Rattle.cqual_tool.specs.Inputs.{files_with};
 
 use crate::answer::Answer;
 use crate::faults::lattice_refused;
-use crate::preparing::{Earlier, Joined, Prepared, Ready, judged, nothing_before, read_source, texts};
+use crate::preparing::{
+    Earlier, Joined, Prepared, Ready, judged, nothing_before, read_source, texts,
+};
 use crate::status::Status;
 use crate::taking::{SOURCE_LIMIT, too_large};
 use crate::words::Named;

@@ -38,20 +38,20 @@ returns-in_ok-made_answer-in-Generate-clause-reads g c =
 pub answer-requires : goal.answer-requires
 answer-requires g c =
     let count =
-    counted (names_in c.of_files.result) c.in-Infer.names.now false None c.of_files.ensures
+    counted (names_in c.of_files.result) c.in-Infer.names false None c.of_files.ensures
     (subst NamesSources c.in-Infer.is c.requires.sources) in
     record { some = count.0; few = count.1 }
 
-pub answer-in-Annotate-requires : goal.answer-in-Annotate-requires
-answer-in-Annotate-requires g c =
+pub answer-requires-in-Annotate : goal.answer-requires-in-Annotate
+answer-requires-in-Annotate g c =
     let count =
-    counted (names_in c.of_files-in-Annotate.result) c.in-Annotate.names.now true None c.of_files-in-Annotate.ensures
+    counted (names_in c.of_files-in-Annotate.result) c.in-Annotate.names true None c.of_files-in-Annotate.ensures
     (subst NamesSources c.in-Annotate.is c.requires.sources) in
     record { some = count.0; few = count.1 }
 
-pub answer-in-Check-requires : goal.answer-in-Check-requires
-answer-in-Check-requires g c =
+pub answer-requires-in-Check : goal.answer-requires-in-Check
+answer-requires-in-Check g c =
     let count =
-    counted (names_in c.of_files-in-Check.result) c.in-Check.names.now false (Some c.in-Check.report.now.now) c.of_files-in-Check.ensures
+    counted (names_in c.of_files-in-Check.result) c.in-Check.names false (Some c.in-Check.report.now) c.of_files-in-Check.ensures
     (subst NamesSources c.in-Check.is c.requires.sources) in
     record { some = count.0; few = count.1 }

@@ -27,8 +27,8 @@ returns-in-Err-ReadFault g c =
     (ran_read_fault words _ _ _ _ (task_of c.in-Ok-Some.asked)
     (meant words task_of c.in-Ok-Some.field-0 c.in-Ok-Some.asked c.in-Ok-Some.ensures.meaning c.in-Ok-Some.field-0-is) by.0 c.in-Err-ReadFault.field-0 c.in-Err-ReadFault.field-0-is by.1)
 
-pub returns-in-Err-NoMemory : goal.returns-in-Err-NoMemory
-returns-in-Err-NoMemory g c =
+pub returns-in-Ok-Some : goal.returns-in-Ok-Some
+returns-in-Ok-Some g c =
     let words = map string_bytes c.args.words.now in
     let by = c.in-Err-NoMemory.ensures.reads in
     by_since words _ _ _ _ _ _ _ by.0
@@ -42,7 +42,7 @@ returns-in-Ok-None g c =
     (ran_usage words _ _ _ _ _ c.finish-in-Ok-None.result
     (unmeant words task_of c.in-Ok-None.field-0 c.in-Ok-None.ensures.meaning c.in-Ok-None.field-0-is) c.finish-in-Ok-None.ensures.sent)
 
-pub returns-in-Err : goal.returns-in-Err
-returns-in-Err g c =
+pub returns : goal.returns
+returns g c =
     let words = map string_bytes c.args.words.now in
     by_since words _ _ _ _ _ _ _ [] (ran_not words _ _ _)

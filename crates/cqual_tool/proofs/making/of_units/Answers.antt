@@ -9,10 +9,10 @@ use Rattle.cqual_tool.proofs.making.of_units.Goals as goal
 pub of_program-requires : goal.of_program-requires
 of_program-requires c =
     let names = names_in c.made_names.result in
-    let units = c.requires.1 in
+    let units = c.requires.before.1 in
     let is : IsReady names c.args.lattices.now c.args.earlier.prelude units c.in-Program.ready =
     subst (IsPrepared names c.args.lattices.now c.args.earlier.prelude units) c.in-Program.is
-    (c.in_ok-judged.ensures c.requires.0 units c.requires.2) in
+    (c.in_ok-answer.ensures c.requires.before.0 units c.requires.before.2) in
     record { named = is.within; owned = is.owned }
 
 pub returns-in-Refused-clause-outcome : goal.returns-in-Refused-clause-outcome
@@ -21,15 +21,15 @@ returns-in-Refused-clause-outcome c = λ count unit earlier none bytes within pa
     let lattices = c.args.lattices.now in
     let marks = c.args.earlier.prelude in
     made_refused c.args.number lattices bytes within unit parses names marks c.in-Refused.answer c.made_names.ensures none
-    (subst (IsPrepared names lattices marks (unit ∷ [])) c.in-Refused.is (c.in_ok-judged.ensures count (unit ∷ []) earlier))
+    (subst (IsPrepared names lattices marks (unit ∷ [])) c.in-Refused.is (c.in_ok-answer.ensures count (unit ∷ []) earlier))
 
 pub returns-in-Refused-clause-decided : goal.returns-in-Refused-clause-decided
 returns-in-Refused-clause-decided c =
     let names = names_in c.made_names.result in
-    let units = c.requires.1 in
+    let units = c.requires.before.1 in
     let is =
     subst (IsPrepared names c.args.lattices.now c.args.earlier.prelude units) c.in-Refused.is
-    (c.in_ok-judged.ensures c.requires.0 units c.requires.2) in
+    (c.in_ok-answer.ensures c.requires.before.0 units c.requires.before.2) in
     subst IsDecided (sym is.0) tt
 
 pub returns-in-Program-clause-outcome : goal.returns-in-Program-clause-outcome
@@ -40,7 +40,7 @@ returns-in-Program-clause-outcome c = λ count unit earlier none bytes within pa
     let marks = c.args.earlier.prelude in
     let ready = c.in-Program.ready in
     let is = made_ready number lattices bytes within unit parses names marks ready c.made_names.ensures none
-    (subst (IsPrepared names lattices marks (unit ∷ [])) c.in-Program.is (c.in_ok-judged.ensures count (unit ∷ []) earlier)) in
+    (subst (IsPrepared names lattices marks (unit ∷ [])) c.in-Program.is (c.in_ok-answer.ensures count (unit ∷ []) earlier)) in
     IfOk-weaker c.of_program.result _ _
     (λ answer sum. made_summed number lattices bytes within unit parses ready answer.status answer.text.items is sum)
     (c.of_program.ensures.sum (unit ∷ []) is)

@@ -31,7 +31,7 @@ returns-in-Err-TooManyVariables c = λ units of shaped.
     let fault = ap Err c.in-Err-TooManyVariables.field-0-is in
     let Refuses = UnitsRefused (names_in c.args.named.now) c.args.lattices.now c.args.prelude.now units in
     let said = c.in_ok-malformed-in-Err-TooManyVariables in
-    let last = c.last_file-in-Err-TooManyVariables.ensures in
+    let last = c.last_file.ensures in
     refused Refuses _ said.field-0 said.ensures
     (rw last (ManyVariables shaped (c.in-Err-TooManyVariables.ensures.too_many_variables fault units lent)))
 
