@@ -1,20 +1,21 @@
 -- What is found of a scene is what its texts name.
-use Rattle.std.proofs.Common.{◌≡◌, ℕ, zero, suc, ◌+◌, ◌<◌, ◌≤◌, inl, inr, Bool, false, if◌then◌else◌, List, [], ◌∷◌, ◌++◌, length, drop}
+use Rattle.std.proofs.Common.{◌≡◌, ℕ, zero, suc, ◌+◌, ◌<◌, ◌≤◌, nat_eq, inl, inr, Bool, true, false, if◌then◌else◌, List, [], ◌∷◌, ◌++◌, length, drop}
 use Rattle.std.proofs.Common.{Some, None, slice_get, refl, sym, ◌∙◌, ap, arith, get_or}
 use Rattle.std.proofs.Math.Dec.{eqb}
-use Rattle.std.proofs.lemmas.Bool.{eq-eqb}
+use Rattle.std.proofs.lemmas.Bool.{eq-eqb, eqb-true}
 use Rattle.std.proofs.lemmas.Bool.Decides.{eqb_tells}
 use Rattle.std.proofs.lemmas.List.{drop_all}
 use Rattle.std.proofs.lemmas.Option.{slice_get_past}
 use Rattle.std.specs.declared.option.Option.{Option}
 use Rattle.std.specs.Option.{option_map}
+use Rattle.std.specs.List.{Contains}
 use Rattle.c_lexer.specs.Tokens.{token_spot}
 use Rattle.qual_types.specs.Positions.{PositionView}
 use Rattle.qual_types.specs.Table.{Stands}
 use Rattle.annotate.specs.declared.scene.Scene.{Scene as Lent}
 use Rattle.annotate.specs.declared.scene.UnitText.{UnitText as LentUnit}
 use Rattle.annotate.specs.Texts.{UnitText, Scene, spot_text, unit_in, place_at, place_in, name_text, marks_text, position_text, var_text}
-use Rattle.annotate.specs.Scenes.{unit_of, units_of, Shows}
+use Rattle.annotate.specs.Scenes.{unit_of, units_of, has_unit, AreApart, Shows}
 
 -- the unit that was found is the scene's
 pub unit_is : (lent : Lent) (s : Scene) → Shows lent s → (number : ℕ) (found other : Option LentUnit) → found ≡ other → option_map unit_of found ≡ unit_in (units_of lent.units.now) number →
@@ -74,3 +75,37 @@ unit_past units n number u within is other =
 
 pub no_unit : (units : List LentUnit) (n number : ℕ) → length units ≤ n → unit_in (units_of (drop n units)) number ≡ None
 no_unit units n number past = ap (λ (left : List LentUnit). unit_in (units_of left) number) (drop_all n units past)
+
+-- one of some units has its number
+has_one : (units : List LentUnit) (n : ℕ) (it : LentUnit) → n < length units → get_or units n it ≡ it → has_unit (units_of units) it.tokens.now.unit ≡ true
+has_one [] n it within is = absurd (omega (arith, within))
+has_one (u ∷ us) zero it within is =
+    ap (λ (b : Bool). if b then true else has_unit (units_of us) it.tokens.now.unit) (eq-eqb u.tokens.now.unit it.tokens.now.unit (ap (λ (v : LentUnit). v.tokens.now.unit) is))
+has_one (u ∷ us) (suc n) it within is = by_test (nat_eq u.tokens.now.unit it.tokens.now.unit) (has_one us n it (omega (arith, within)) is)
+  where
+    by_test : (b : Bool) → has_unit (units_of us) it.tokens.now.unit ≡ true → (if b then true else has_unit (units_of us) it.tokens.now.unit) ≡ true
+    by_test true others = refl
+    by_test false others = others
+
+-- where no two have one number, it is the first of its number
+first_named : (units : List LentUnit) (n : ℕ) (it : LentUnit) (number : ℕ) → n < length units → get_or units n it ≡ it
+    → it.tokens.now.unit ≡ number → AreApart (units_of units) → unit_in (units_of units) number ≡ Some (unit_of it)
+first_named [] n it number within is here apart = absurd (omega (arith, within))
+first_named (u ∷ us) zero it number within is here apart =
+    ap (λ (b : Bool). if b then Some (unit_of u) else unit_in (units_of us) number)
+    (eq-eqb u.tokens.now.unit number (ap (λ (v : LentUnit). v.tokens.now.unit) is ∙ here))
+    ∙ ap (λ (v : LentUnit). Some (unit_of v)) is
+first_named (u ∷ us) (suc n) it number within is here apart =
+    by_test (nat_eq u.tokens.now.unit number) refl (first_named us n it number (omega (arith, within)) is here apart.1)
+  where
+    by_test : (b : Bool) → nat_eq u.tokens.now.unit number ≡ b → unit_in (units_of us) number ≡ Some (unit_of it)
+        → (if b then Some (unit_of u) else unit_in (units_of us) number) ≡ Some (unit_of it)
+    by_test true e behind =
+        let same : u.tokens.now.unit ≡ number = eqb-true u.tokens.now.unit number e in
+        let unit : it.tokens.now.unit ≡ u.tokens.now.unit = here ∙ sym same in
+        absurd (let no : true ≡ false = sym (has_one us n it (omega (arith, within)) is) ∙ ap (has_unit (units_of us)) unit ∙ apart.0 in cc)
+    by_test false e behind = behind
+
+pub named_by_one : (units : List LentUnit) (it : LentUnit) (number : ℕ) → Contains units it → it.tokens.now.unit ≡ number → AreApart (units_of units)
+    → Some (unit_of it) ≡ unit_in (units_of units) number
+named_by_one units it number one here apart = sym (first_named units one.0 it number one.1 one.2 here apart)

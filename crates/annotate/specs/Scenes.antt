@@ -1,5 +1,5 @@
 -- What the lines name, as the code holds it, and what is written of it.
-use Rattle.std.specs.Prelude.{◌≡◌, ℕ, ◌<◌, List, ◌++◌, length, map, slice_get, Some}
+use Rattle.std.specs.Prelude.{◌≡◌, ℕ, ◌<◌, nat_eq, Bool, true, false, List, [], ◌∷◌, ◌++◌, length, map, slice_get, Some, if◌then◌else◌}
 use Rattle.qual_types.specs.Positions.{PositionView}
 use Rattle.qual_types.specs.Table.{Stands}
 use Rattle.annotate.specs.declared.scene.Scene.{Scene as Lent}
@@ -13,9 +13,21 @@ unit_of unit = record { file = unit.file.now; lexed = unit.tokens.now }
 abbrev pub units_of : List LentUnit → List UnitText
 units_of units = map unit_of units
 
--- The texts' scene is what the code holds: its position of a variable is the one where the variable stands in the table.
+-- one of some units has this number
+abbrev pub has_unit : List UnitText → ℕ → Bool
+has_unit [] number = false
+has_unit (unit ∷ units) number = if nat_eq unit.lexed.unit number then true else has_unit units number
+
+-- no two units have one number
+abbrev pub AreApart : List UnitText → Type 0
+AreApart [] = Unit {0}
+AreApart (unit ∷ units) = (has_unit units unit.lexed.unit ≡ false) × AreApart units
+
+-- The texts' scene is what the code holds: no two of its units have one number, and its position of a variable is the one where the
+-- variable stands in the table.
 pub record Shows (lent : Lent) (scene : Scene) : Type 0 where
   pub units : scene.units ≡ units_of lent.units.now
+  pub apart : AreApart (units_of lent.units.now)
   pub lattices : scene.lattices ≡ lent.lattices.now
   pub listed : scene.listed ≡ lent.listed.now
   pub count : length scene.positions ≡ length lent.vars.now

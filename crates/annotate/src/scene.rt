@@ -1,8 +1,9 @@
 //! What the lines name: units, lattices and variables.
 
-ghost use Rattle.std.specs.Prelude.{◌≡◌, slice_get, option_map, Some};
+ghost use Rattle.std.specs.Prelude.{◌≡◌, slice_get, option_map, Some, IfSome};
+ghost use Rattle.std.specs.List.{Contains};
 ghost use Rattle.annotate.specs.Texts.{unit_in, bytes_in, name_in};
-ghost use Rattle.annotate.specs.Scenes.{unit_of, units_of};
+ghost use Rattle.annotate.specs.Scenes.{unit_of, units_of, AreApart};
 
 use c_lexer::Tokens;
 use lattice_core::Lattices;
@@ -36,6 +37,33 @@ pub fn find_unit<'a>(units: &'a [UnitText<'a>], number: UnitNo) -> Option<UnitTe
         }
     }
     None
+}
+
+/// The unit with a number, where units are in the order of their numbers and none is left out. Constant time.
+fn unit_in_order<'a>(units: &'a [UnitText<'a>], number: UnitNo) -> Option<UnitText<'a>>
+    ensures one { IfSome result (λ it. Contains units.now it) }
+    ensures number { IfSome result (λ it. it.tokens.now.unit ≡ number) }
+{
+    let first = units.first()?;
+    let index = number.number().checked_sub(first.tokens.unit().number())?;
+    let unit = units.get(index as usize)?;
+    if unit.tokens.unit().number() == number.number() {
+        Some(*unit)
+    } else {
+        None
+    }
+}
+
+/// The unit with a number, as `find_unit` finds it, where no two have one number. Constant time where the units are in the
+/// order of their numbers and none is left out, and linear in their number otherwise.
+pub fn unit_at<'a>(units: &'a [UnitText<'a>], number: UnitNo) -> Option<UnitText<'a>>
+    ensures { AreApart (units_of units.now) →
+        option_map unit_of result ≡ unit_in (units_of units.now) number }
+{
+    match unit_in_order(units, number) {
+        Some(unit) => Some(unit),
+        None => find_unit(units, number),
+    }
 }
 
 /// The bytes of a token of a unit; none where there is no such token.

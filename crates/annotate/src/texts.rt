@@ -8,7 +8,7 @@ ghost use Rattle.annotate.specs.Texts.{error_line, place_in, bytes_in, unit_in};
 ghost use Rattle.annotate.specs.Scenes.{unit_of, Writes};
 
 use crate::places::{put, put_decimal, put_spot};
-use crate::scene::{Scene, UnitText, bytes_of, find_unit, name_of};
+use crate::scene::{Scene, UnitText, bytes_of, name_of, unit_at};
 use flow_graph::{Constraint, Link};
 use qual_base::{EdgeId, Elem, LatticeNo, NoMemory, Numbered, Span, TokenId, UnitNo, VarId};
 use qual_types::Step;
@@ -26,7 +26,8 @@ fn put_place_in(out: &mut Vec<u8>, unit: &UnitText<'_>, token: TokenId) -> Resul
     put_spot(out, unit.file, unit.tokens.unit_bytes(), &spot)
 }
 
-/// FILE:LINE:COLUMN of a token, by the numbers of its unit and of itself; nothing where it is not there.
+/// FILE:LINE:COLUMN of a token, by the numbers of its unit and of itself; nothing where it is not there. Beside its place and
+/// text, constant where the units are in the order of their numbers and none is left out, and linear in their number otherwise.
 fn put_place(
     out: &mut Vec<u8>,
     scene: &Scene<'_>,
@@ -36,13 +37,14 @@ fn put_place(
     ensures { OnOk result
         (Writes scene.now out.old.items out.new.items (λ s. place_text s unit token)) }
 {
-    match find_unit(scene.units, unit) {
+    match unit_at(scene.units, unit) {
         Some(found) => put_place_in(out, &found, token),
         None => Ok(()),
     }
 }
 
-/// The bytes of a token, by the numbers of its unit and of itself; nothing where it is not there.
+/// The bytes of a token, by the numbers of its unit and of itself; nothing where it is not there. Linear in them, and its unit
+/// is found as that of `put_place`.
 fn put_bytes(
     out: &mut Vec<u8>,
     scene: &Scene<'_>,
@@ -53,7 +55,7 @@ fn put_bytes(
         (Writes scene.now out.old.items out.new.items
         (λ s. bytes_in (unit_in s.units unit) token)) }
 {
-    match find_unit(scene.units, unit) {
+    match unit_at(scene.units, unit) {
         Some(found) => put(out, bytes_of(&found, token)),
         None => Ok(()),
     }
