@@ -9,7 +9,7 @@ use Rattle.c_parser.specs.Parsing.{lexemes_of, numbered}
 use Rattle.type_rules.specs.Program as rules
 use Rattle.name_laws.specs.NameLaws.{IsSound}
 use Rattle.key_laws.specs.Differing.{AreNumbered, IsRead, UnitsDiffer, has_number, has_unit}
-use Rattle.c_types.specs.Sources.{UnitRead, sources_behind, sources_in}
+use Rattle.c_types.specs.Sources.{UnitRead, lexed_of, sources_behind, sources_in}
 use Rattle.annotate.specs.Texts.{UnitText}
 use Rattle.annotate.specs.declared.scene.UnitText.{UnitText as LentUnit}
 use Rattle.annotate.specs.Scenes as scenes
@@ -139,6 +139,23 @@ at_number lattices number unit file bytes before marks earlier it same may of =
 pub refused : (Refuses : List ℕ → Type 0) (line : List ℕ) (answer : Answer) → Says Malformed line answer → Refuses line
     → (answer.status ≡ Malformed) × Refuses answer.text.items
 refused Refuses line answer says is = (says.0, subst Refuses (sym says.1) is)
+
+-- texts of units that have different numbers
+
+same_texts : (named : FileNames) (earlier : List Lexed) (units : List UnitRead) (n : ℕ)
+    → has_unit n (sources_behind earlier units) ≡ scenes.has_unit (texts_of named (lexed_of units)) n
+same_texts named earlier [] n = refl
+same_texts named earlier (it ∷ units) n =
+    ap (λ (b : Bool). if nat_eq it.lexed.unit n then true else b) (same_texts named (earlier ++ it.lexed ∷ []) units n)
+
+apart_behind : (named : FileNames) (earlier : List Lexed) (units : List UnitRead) → UnitsDiffer (sources_behind earlier units)
+    → scenes.AreApart (texts_of named (lexed_of units))
+apart_behind named earlier [] differ = tt
+apart_behind named earlier (it ∷ units) differ =
+    (sym (same_texts named (earlier ++ it.lexed ∷ []) units it.lexed.unit) ∙ differ.0, apart_behind named (earlier ++ it.lexed ∷ []) units differ.1)
+
+pub texts_apart : (named : FileNames) (units : List UnitRead) → UnitsDiffer (sources_in units) → scenes.AreApart (texts_of named (lexed_of units))
+texts_apart named units differ = apart_behind named [] units differ
 
 -- the texts of units, one more at a time
 shown_on : (shown : List LentUnit) (u : LentUnit) → scenes.units_of (shown ++ u ∷ []) ≡ scenes.units_of shown ++ scenes.unit_of u ∷ []

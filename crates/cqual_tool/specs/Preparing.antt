@@ -57,6 +57,7 @@ IsOneMore lattices number file bytes before marks (joined.Units it) =
 -- names a lattice and an element of it.
 pub record IsReady (named : FileNames) (lattices : List LatticeView) (marks : List IndexMark) (units : List UnitRead) (it : Ready) : Type 0 where
   pub counted : AreCounted named lattices marks units
+  pub differ : UnitsDiffer (sources_in units)
   pub units_are : it.tokens.items ≡ lexed_of units
   pub made : IsGenerated units (program_in lattices marks units) it.made
   pub owned : IsWellOwned it.made.graph

@@ -4,7 +4,8 @@ ghost use Rattle.std.specs.Prelude.{◌≡◌, ◌<◌, ◌-◌, ◌^◌, List, 
 ghost use Rattle.outside.specs.Readings.{stands};
 ghost use Rattle.lattice_core.specs.View.{orders_of};
 ghost use Rattle.index_words.specs.Marks.{IndexMark};
-ghost use Rattle.c_types.specs.Sources.{UnitRead, lexed_of};
+ghost use Rattle.c_types.specs.Sources.{UnitRead, lexed_of, sources_in};
+ghost use Rattle.key_laws.specs.Differing.{UnitsDiffer};
 ghost use Rattle.constraint_gen.specs.Programs.{program_in};
 ghost use Rattle.constraint_gen.specs.Generating.{IsGenerated};
 ghost use Rattle.flow_graph.specs.System.{IsWellOwned};
@@ -87,7 +88,7 @@ fn inferred(
     requires named { AllNamed lattices.now ready.now.made.graph }
     requires owned { IsWellOwned ready.now.made.graph }
     ensures report { (units : List UnitRead) (marks : List IndexMark) →
-        ready.now.tokens.items ≡ lexed_of units →
+        ready.now.tokens.items ≡ lexed_of units → UnitsDiffer (sources_in units) →
         IsGenerated units (program_in lattices.now marks units) ready.now.made →
         IfOk result (λ answer. IsReport (files_in named.now)
         (judging_of (files_in named.now) lattices.now marks units)

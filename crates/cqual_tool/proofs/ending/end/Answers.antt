@@ -20,7 +20,7 @@ pub returns-in_ok-inferred-in-None-clause-reads : goal.returns-in_ok-inferred-in
 returns-in_ok-inferred-in-None-clause-reads g c = λ marks units is.
     let none = ap (option_map (λ name. name.now)) c.in-None.is in
     no_report _ (names_in c.args.named.now) _ _
-    (refl, λ inputs reads. Inferred _ _ none (c.in_ok-inferred-in-None.ensures.report units marks is.units_are is.made))
+    (refl, λ inputs reads. Inferred _ _ none (c.in_ok-inferred-in-None.ensures.report units marks is.units_are is.differ is.made))
 
 pub returns-in_err-text-in-Some-clause-reads : goal.returns-in_err-text-in-Some-clause-reads
 returns-in_err-text-in-Some-clause-reads g c = λ marks units is.

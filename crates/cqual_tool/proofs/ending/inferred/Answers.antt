@@ -6,19 +6,23 @@ use Rattle.annotate.specs.Scenes as scenes
 use Rattle.c_lexer.specs.Tokens.{Lexed}
 use Rattle.cqual_tool.specs.Words.{names_in}
 use Rattle.cqual_tool.specs.Programs.{judging_of, texts_of}
+use Rattle.cqual_tool.proofs.Joining.{texts_apart}
 use Rattle.cqual_tool.proofs.ending.inferred.Goals as goal
 
 pub returns-clause-report : goal.returns-clause-report
-returns-clause-report c = λ units marks are made.
+returns-clause-report c = λ units marks are differ made.
+    let named = names_in c.args.named.now in
+    let same =
+    ap scenes.units_of c.deref-2.ensures.value ∙ c.in_ok-units.ensures
+    ∙ ap (λ (ls : List Lexed). texts_of named ls) c.deref.ensures.value
+    ∙ ap (texts_of named) are in
     let it = judging_of (names_in c.args.named.now) c.args.lattices.now marks units in
     IfOk-weaker c.report.result _ _
     (λ answer is.
     is it
     (record {
-      units =
-          sym (ap scenes.units_of c.deref-2.ensures.value ∙ c.in_ok-units.ensures
-          ∙ ap (λ (ls : List Lexed). texts_of (names_in c.args.named.now) ls) c.deref.ensures.value
-          ∙ ap (texts_of (names_in c.args.named.now)) are);
+      units = sym same;
+      apart = subst scenes.AreApart (sym same) (texts_apart named units differ);
       lattices = refl;
       listed = sym (c.deref-3.ensures.value ∙ made.listed);
       count = sym made.count ∙ ap (λ (rows : List Row). length rows) (sym c.vars.ensures);

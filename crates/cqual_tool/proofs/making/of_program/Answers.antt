@@ -8,21 +8,24 @@ use Rattle.c_types.specs.Sources.{lexed_of}
 use Rattle.cqual_tool.specs.Words.{FileNames, names_in}
 use Rattle.cqual_tool.specs.Programs.{judging_of, texts_of}
 use Rattle.cqual_tool.specs.Outcome.{made_names}
+use Rattle.cqual_tool.proofs.Joining.{texts_apart}
 use Rattle.cqual_tool.proofs.making.of_program.Goals as goal
 
 pub returns-clause-sum : goal.returns-clause-sum
 returns-clause-sum c = λ units is.
     let it = judging_of made_names c.args.lattices.now [] units in
     let names = names_in c.made_names-named.result in
+    let same =
+    ap scenes.units_of c.deref-2.ensures.value ∙ c.in_ok-units.ensures
+    ∙ ap (λ (ls : List Lexed). texts_of names ls) c.deref.ensures.value
+    ∙ ap (texts_of names) is.units_are
+    ∙ ap (λ (ns : FileNames). texts_of ns (lexed_of units)) c.made_names-named.ensures in
     IfOk-weaker c.summed.result _ _
     (λ answer sum.
     sum it
     (record {
-      units =
-          sym (ap scenes.units_of c.deref-2.ensures.value ∙ c.in_ok-units.ensures
-          ∙ ap (λ (ls : List Lexed). texts_of names ls) c.deref.ensures.value
-          ∙ ap (texts_of names) is.units_are
-          ∙ ap (λ (ns : FileNames). texts_of ns (lexed_of units)) c.made_names-named.ensures);
+      units = sym same;
+      apart = subst scenes.AreApart (sym same) (texts_apart made_names units is.differ);
       lattices = refl;
       listed = sym (c.deref-3.ensures.value ∙ is.made.listed);
       count = sym is.made.count ∙ ap (λ (rows : List Row). length rows) (sym c.vars.ensures);

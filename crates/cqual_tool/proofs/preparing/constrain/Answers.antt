@@ -17,6 +17,7 @@ returns-in-Ok c = λ units of shaped.
         few_variables = c.in-Ok.ensures.few_variables units lent;
         few_constraints = c.in-Ok.ensures.few_constraints units lent;
       };
+      differ = of.differ;
       units_are = of.lexed;
       made = c.in-Ok.ensures.made units lent;
       owned = c.in-Ok.ensures.owned units lent;
