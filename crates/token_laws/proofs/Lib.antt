@@ -1,0 +1,10 @@
+mod Texts
+mod Parts
+mod Trees
+mod Types
+mod Names
+mod NameSteps
+mod Rows
+mod Steps
+mod Found
+mod Units
