@@ -1,7 +1,6 @@
 -- The faults that are found along a tape are at good places, and skeletons begin at such.
 use Rattle.std.proofs.Common.{ℕ, Bool, true, false, List, [], ◌∷◌, ◌++◌, Option, None, Some}
 use Rattle.std.specs.Prelude.{not, ◌&&◌, if◌then◌else◌}
-use Rattle.c_words.specs.declared.kinds.Punct.{Punct}
 use Rattle.tape_ops.specs.declared.op.Op.{Op}
 use Rattle.tape_ops.specs.declared.op.Op.TheVariants as ops
 use Rattle.tape_ops.specs.declared.expression.ExprOp.{ExprOp}
@@ -18,18 +17,18 @@ use Rattle.type_table.specs.Types.{CType, base, void, pointer}
 use Rattle.name_rules.specs.Spellings.{Place, Spelling, place}
 use Rattle.name_rules.specs.Faults.{Rule, not_pointer, not_function, argument_count, not_place, no_member, defined_twice, fault_where}
 use Rattle.name_rules.specs.Scopes.{Role, typedef_role, object_role, function_role, parameter_role, field_role, enumerator_role, Declared, declared_at, Use, means, called, missing, Bodied, Names}
-use Rattle.name_rules.specs.Linking.{link_of, has_earlier, faults_in, body_faults}
+use Rattle.name_rules.specs.Linking.{link_of, has_earlier, faults_in}
 use Rattle.name_rules.specs.Uses.{use_at, text_type}
-use Rattle.name_rules.specs.Values.{Shape, value, points_to_function, takes, lacks_member, is_no_pointer}
-use Rattle.name_rules.specs.Checks.{wants_place, is_star, prefix_faults, call_faults, member_faults, index_faults_at}
+use Rattle.name_rules.specs.Values.{value, points_to_function, takes, lacks_member, is_no_pointer}
+use Rattle.name_rules.specs.Checks.{wants_place, is_star, call_faults}
 use Rattle.shape_steps.specs.State.{State, shape_at, value_at, is_zero_at, type_at, type_of_operand, first_operand, operands_below, first_braces}
 use Rattle.shape_steps.specs.Steps.{designated, step, expr_step}
 use Rattle.shape_steps.specs.OpFaults.{expr_op_faults, form_op_faults, init_op_faults, op_faults}
 use Rattle.shape_steps.specs.Found.{faults_found}
-use Rattle.row_rules.specs.Starting.{Start, Around, fresh, some_fresh, named_start, declared_start, some_declared_start, name_start, instance, use_by_role, some_use_start, use_start, some_place, is_some_pointer, is_fresh_binary, is_fresh_prefix, fresh_where, Having, with_skeleton, of_function, without_skeleton, had_name}
+use Rattle.row_rules.specs.Starting.{Start, fresh, some_fresh, declared_start, some_declared_start, instance, use_by_role, some_use_start, use_start, some_place, is_some_pointer, is_fresh_binary, is_fresh_prefix, fresh_where, Having, with_skeleton, of_function, without_skeleton, had_name}
 use Rattle.row_steps.specs.Rounds.{Rounds, naming, left, round_step}
 use Rattle.row_steps.specs.Starting.{around, naming_has, expr_op_starts, form_op_starts, init_op_starts, spec_op_starts, declr_op_starts, op_starts, starts_found}
-use Rattle.token_laws.specs.Ops.{op_tokens, expr_tokens, form_tokens, init_tokens, spec_tokens, declr_tokens}
+use Rattle.token_laws.specs.Ops.{op_tokens, expr_tokens, form_tokens, init_tokens}
 use Rattle.token_laws.proofs.Texts.{AllIn, AllOps}
 use Rattle.token_laws.proofs.Types.{FaultsOk, BodiesOk, faults_append, fault_ok, Sound, SomeDeclaredOk, declared_there}
 

@@ -8,7 +8,6 @@ use Rattle.tape_ops.specs.declared.expression.ExprOp.{ExprOp}
 use Rattle.tape_ops.specs.declared.expression.ExprOp.TheVariants as exprs
 use Rattle.tape_ops.specs.declared.specifier.SpecOp.{SpecOp}
 use Rattle.tape_ops.specs.declared.specifier.SpecOp.TheVariants as specs
-use Rattle.tape_ops.specs.declared.specifier.TagKind.{TagKind}
 use Rattle.tape_ops.specs.declared.declarator.DeclrOp.{DeclrOp}
 use Rattle.tape_ops.specs.declared.declarator.DeclrOp.TheVariants as declrs
 use Rattle.tape_ops.specs.declared.statement.StmtOp.{StmtOp}
@@ -17,11 +16,11 @@ use Rattle.type_table.specs.Types.{Words, CType, words_or_none}
 use Rattle.name_rules.specs.Spellings.{Place, Spelling, place, annotation_at}
 use Rattle.name_rules.specs.Scopes.{Declared, Names, meaning}
 use Rattle.name_rules.specs.Pieces.{with_words, decayed, piece_of, to_pointer, to_function}
-use Rattle.name_rules.specs.Declaring.{use_by, type_by, Begun, tag_used, tag_begun, untagged_begun, untagged_number, own_where, tag_type}
+use Rattle.name_rules.specs.Declaring.{use_by, tag_used, tag_begun, untagged_begun, untagged_number}
 use Rattle.name_steps.specs.State.{Specifiers, OpenBody, OpenDeclaration, OpenParameters, State, with_names, no_specifiers, no_declaration, no_body, no_parameters, innermost_or, with_innermost, without_innermost, types_in}
-use Rattle.name_steps.specs.Steps.{declaration, body, parameters, without_tag, with_body, ellipsis_where, linked_some, specifier_step, declarator_step, expression_step, statement_step, body_entered_by, is_plain, step, run}
+use Rattle.name_steps.specs.Steps.{declaration, body, parameters, ellipsis_where, specifier_step, declarator_step, expression_step, statement_step, body_entered_by, is_plain, step, run}
 use Rattle.token_laws.proofs.Texts.{AllIn, AllOps}
-use Rattle.token_laws.specs.Ops.{op_tokens, expr_tokens, spec_tokens, declr_tokens, stmt_tokens}
+use Rattle.token_laws.specs.Ops.{op_tokens, expr_tokens, spec_tokens, declr_tokens}
 use Rattle.token_laws.proofs.Types.{AllWords, Ok, ListOk, words_append, worded, decayed_ok, pieced, listed, list_append, tagged, DeclaredOk, SomeDeclaredOk, Sound, NamedAt, meant, type_by_ok}
 use Rattle.token_laws.proofs.Names.{used_there, type_named_there, tag_used_there, tag_begun_there, untagged_begun_there, declared_here_there, declared_some_there, declared_param_there, declared_member_there, unnamed_there, enter_there, leave_there, keep_there, body_entered_there, body_left_there}
 

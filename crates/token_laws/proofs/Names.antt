@@ -1,15 +1,15 @@
 -- What a use or a declaration makes of names is at good places, where that itself is.
 use Rattle.std.proofs.Common.{ℕ, Bool, true, false, List, [], ◌∷◌, ◌++◌, length, Option, None, Some}
-use Rattle.std.specs.Prelude.{◌&&◌, ◌||◌, nat_eq, nat_lt, if◌then◌else◌}
+use Rattle.std.specs.Prelude.{◌&&◌, ◌||◌, nat_lt, if◌then◌else◌}
 use Rattle.c_words.specs.declared.kinds.Keyword.{Keyword}
 use Rattle.c_words.specs.declared.kinds.Keyword.TheVariants as keywords
 use Rattle.tape_ops.specs.declared.specifier.TagKind.{TagKind}
 use Rattle.type_table.specs.Types.{CType, size}
 use Rattle.name_rules.specs.Spellings.{Place, Spelling, place, Named}
 use Rattle.name_rules.specs.Faults.{Fault, type_too_large, undeclared, defined_twice, fault_where}
-use Rattle.name_rules.specs.Scopes.{Meaning, means_type, means_thing, Role, typedef_role, object_role, function_role, parameter_role, field_role, Use, NameUse, Names, Body, tag_in, tag_through, innermost, outer_scopes, inner_meaning, is_at_file, enter, leave, bound, tag_bound, with_faults, with_declared, sized, with_aggregate, or_no_body, body_of, has_body, with_body, with_key, with_member, with_unnamed, is_place}
+use Rattle.name_rules.specs.Scopes.{Meaning, means_type, means_thing, Role, typedef_role, object_role, function_role, parameter_role, field_role, Use, NameUse, Names, Body, tag_in, tag_through, innermost, inner_meaning, is_at_file, enter, leave, bound, tag_bound, with_faults, sized, with_aggregate, or_no_body, body_of, has_body, with_body, with_key, with_member, with_unnamed, is_place}
 use Rattle.name_rules.specs.Pieces.{is_function}
-use Rattle.name_rules.specs.Declaring.{is_missing, used_as, type_named, new_tag, Numbered, found_or_new, tag_used, untagged, Begun, opened, tag_known, begun_in, begun_body, tag_begun, untagged_begun, struct_number, the_thing, owner_where, declaring, declared_here, linked, has_word, thing_where, static_where, declared_thing, declared_typedef, declared_by, typedef_known, declared_some, declared_param, declared_member, unnamed_member, keep, has_body_in, scope_kept, body_entered, body_left}
+use Rattle.name_rules.specs.Declaring.{is_missing, used_as, type_named, new_tag, Numbered, found_or_new, tag_used, untagged, tag_known, begun_in, tag_begun, untagged_begun, struct_number, the_thing, owner_where, declaring, declared_here, linked, has_word, thing_where, static_where, declared_thing, declared_typedef, declared_by, typedef_known, declared_some, declared_param, declared_member, unnamed_member, keep, has_body_in, body_entered, body_left}
 use Rattle.name_rules.specs.Units.{no_names, unit_begun}
 use Rattle.token_laws.proofs.Types.{Ok, MeansOk, FaultsOk, Sound, faults_append, fault_ok, declared_append, named_append, inner_names, outer_ok, NamedAt, kept_there}
 

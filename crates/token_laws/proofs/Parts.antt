@@ -1,5 +1,5 @@
 -- Parts of texts and of tapes, and what stands round other nodes.
-use Rattle.std.proofs.Common.{◌≡◌, ℕ, All, Any, Bool, true, false, List, [], ◌∷◌, ◌++◌, Option, None, Some, length, nat_eq, inl, inr, sym, arith, IsPermutation}
+use Rattle.std.proofs.Common.{◌≡◌, ℕ, All, Any, Bool, true, false, List, [], ◌∷◌, Option, None, Some, length, nat_eq, inl, inr, sym, arith, IsPermutation}
 use Rattle.std.proofs.lemmas.List.Elements.{All-head, All-tail}
 use Rattle.std.proofs.lemmas.List.Folds.{list_any-from_Any}
 use Rattle.std.proofs.lemmas.List.Sorted.{length_permutation}
@@ -20,10 +20,9 @@ use Rattle.c_syntax.specs.declared.parts.ArrayWord.{ArrayWord}
 use Rattle.c_syntax.specs.declared.parts.ArrayWord.TheVariants as array_words
 use Rattle.tape_ops.specs.declared.op.Op.{Op}
 use Rattle.tape_ops.specs.declared.specifier.TagKind.{TagKind}
-use Rattle.tape_ops.specs.declared.declarator.DeclrOp.TheVariants as declrs
 use Rattle.c_tree.specs.declared.lexeme.Lexeme.{Lexeme}
 use Rattle.c_tree.specs.Tree.{SpecWords, no_words, more_words, Params, no_params, more_params, Dots}
-use Rattle.c_tree.specs.Text.{some_sign_text, tag_text, words_text, extensions_text, texts_text, group_text, tokens_between, attr_text, attrs_text, label_text, assert_text, qual_text, quals_text, pointer_words_text, array_words_text, dots_text}
+use Rattle.c_tree.specs.Text.{some_sign_text, tag_text, words_text, extensions_text, texts_text, group_text, tokens_between, attrs_text, label_text, assert_text, qual_text, quals_text, pointer_words_text, array_words_text, dots_text}
 use Rattle.c_tree.specs.Firsts.{qual_token, word_token, first_word}
 use Rattle.c_tree.specs.Specifiers.{IsMix, basic_types}
 use Rattle.c_tree.specs.WellFormed.{IsElement, IsQual, IsPointerWord, IsArrayWord, IsEllipsis}

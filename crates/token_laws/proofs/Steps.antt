@@ -1,8 +1,7 @@
 -- The constraints that are found along a tape stand at good spans, where each two tokens that the tape carries are the ends of one.
-use Rattle.std.proofs.Common.{ℕ, zero, suc, Bool, true, false, List, [], ◌∷◌, ◌++◌, Option, None, Some}
+use Rattle.std.proofs.Common.{ℕ, zero, suc, true, false, List, [], ◌∷◌, Option, None, Some}
 use Rattle.std.specs.Prelude.{drop, if◌then◌else◌}
 use Rattle.qual_base.specs.declared.places.Span.{Span}
-use Rattle.flow_graph.specs.declared.constraint.Constraint.{Constraint}
 use Rattle.tape_ops.specs.declared.op.Op.{Op}
 use Rattle.tape_ops.specs.declared.op.Op.TheVariants as ops
 use Rattle.tape_ops.specs.declared.expression.ExprOp.{ExprOp}
@@ -17,19 +16,18 @@ use Rattle.tape_ops.specs.declared.specifier.SpecOp.{SpecOp}
 use Rattle.tape_ops.specs.declared.specifier.SpecOp.TheVariants as specs
 use Rattle.tape_ops.specs.declared.statement.StmtOp.{StmtOp}
 use Rattle.tape_ops.specs.declared.statement.StmtOp.TheVariants as stmts
-use Rattle.type_table.specs.Types.{CType}
 use Rattle.name_rules.specs.Uses.{use_at}
 use Rattle.qual_types.specs.Skel.{Skel, root, param_at}
 use Rattle.shape_steps.specs.State.{declared_last}
 use Rattle.row_rules.specs.Worlds.{World, at, all_lattices, span}
 use Rattle.row_rules.specs.Annotations.{parameters, further}
-use Rattle.row_rules.specs.Vals.{contents, is_ref, own}
+use Rattle.row_rules.specs.Vals.{is_ref, own}
 use Rattle.row_rules.specs.Vals as vals
 use Rattle.row_rules.specs.Forming.{formed}
 use Rattle.row_rules.specs.Rows.{annotating_some, annotating_place, formed_here}
 use Rattle.row_steps.specs.Rounds.{naming, is_quiet}
 use Rattle.row_steps.specs.State.{Operand, expression, named_type, State, nothing, first_operand, val_of_operand, is_zero_operand, type_of_operand, val_at, value_at, is_zero_at, type_at, depth_below, operands_below, first_braces}
-use Rattle.row_steps.specs.Steps.{target_in, initialised_by, expr_step, form_step, init_step, spec_step, declr_step, stmt_step, stack_step, step}
+use Rattle.row_steps.specs.Steps.{target_in, initialised_by, expr_step, form_step, init_step, spec_step, declr_step, stmt_step, step}
 use Rattle.row_steps.specs.OpRows.{function_skeleton, naming_row, into_target, called_at, expr_row, form_row, init_row, spec_row, declr_row, stmt_row, loud_row, op_row}
 use Rattle.row_steps.specs.Found.{rows_found}
 use Rattle.token_laws.specs.Ops.{op_tokens, expr_tokens, form_tokens, init_tokens, spec_tokens, stmt_tokens}

@@ -4,12 +4,10 @@ use Rattle.std.proofs.lemmas.List.Elements.{All-head, All-tail}
 use Rattle.std.specs.Prelude.{if◌then◌else◌}
 use Rattle.c_words.specs.declared.kinds.Punct.{Punct}
 use Rattle.c_words.specs.declared.kinds.Punct.TheVariants.{Colon, Comma, Equal}
-use Rattle.c_words.specs.declared.kinds.Keyword.{Keyword}
 use Rattle.c_syntax.specs.declared.parts.Identifier.{Identifier}
 use Rattle.tape_ops.specs.declared.op.Op.{Op}
 use Rattle.tape_ops.specs.declared.expression.ExprOp.TheVariants as exprs
 use Rattle.tape_ops.specs.declared.specifier.SpecOp.TheVariants as specs
-use Rattle.tape_ops.specs.declared.declarator.DeclrOp.TheVariants as declrs
 use Rattle.tape_ops.specs.declared.specifier.TagKind.{TagKind}
 use Rattle.tape_ops.specs.declared.specifier.TagKind.TheVariants as tags
 use Rattle.c_tree.specs.declared.lexeme.Lexeme.{Lexeme}
@@ -18,11 +16,10 @@ use Rattle.c_tree.specs.Text.{tokens_between, texts_text, expr_text, operator_te
 use Rattle.c_tree.specs.Specifiers.{IsMix}
 use Rattle.c_tree.specs.WellFormed.{IsElement, IsExpr, IsMiddle, IsSomeExpr, AreArguments, AreSteps, IsStep, AreDesigs, IsDesig, AreTypeWords, AreSpecWords, IsSpecWord, IsBody, AreStructItems, IsStructItem, AreMemDeclrs, IsMemDeclr, IsSomeValue, IsEnum, IsEnumBody, AreEnumerators, IsDeclr, IsSomeAbstract, IsSomeDirect, IsSize, IsArraySize, AreParams, IsSomeDeclr, IsInit, IsInitList, AreInitItems, IsSomeInit, AreInitDeclrs, IsDeclaration, IsDecl, AreBlockItems, IsBlockItem, IsStmt, IsOther, IsStart}
 use Rattle.c_tree.specs.Unit.{Item, function_item, decl_item, asm_item, semi_item, IsItem, item_text, items_text}
-use Rattle.c_tree.specs.Ends.{first_token, last_token, first_text, number_of_first, EndsAt, FirstBegins, LastEnds}
-use Rattle.c_tree.specs.Firsts.{word_token, enum_token, first_word}
+use Rattle.c_tree.specs.Ends.{first_token, last_token, first_text, number_of_first, FirstBegins, LastEnds}
+use Rattle.c_tree.specs.Firsts.{word_token, first_word}
 use Rattle.c_tape.specs.Tests.{is_void, tag_kind, says_none}
-use Rattle.c_tape.specs.Tape.{expr, spec, declr, arguments, pieces, some_pieces, desigs_tape, desig_tape, rule, rule_of_list, rule_of_items, expr_tape, operator_tape, middle_tape, some_expr_tape, exprs_tape, dropped_tape, steps_tape, step_tape, words_tape, word_tape, unnamed_tape, unnamed_word_tape, specs_with, type_name_with, struct_tape, struct_items_tape, struct_item_tape, members_tape, mem_declrs_tape, mem_declr_tape, some_value_tape, enum_tape, enum_body_tape, enumerators_tape, some_declr_tape, contents, some_contents, some_size_tape, size_tape, params_tape, init_tape, list_tape, init_items_tape, indices_tape, index_tape, some_init_tape, declared_init_tape, init_declrs_tape, declaration_tape, decl_tape, block_items_tape, block_item_tape, stmt_tape, some_else_tape, for_start_tape, return_tape, item_tape, tape_of, pointer_words_tape, array_words_tape, dots_tape}
-use Rattle.c_tape.specs.Tests.{has_ellipsis}
+use Rattle.c_tape.specs.Tape.{expr, spec, arguments, pieces, some_pieces, desigs_tape, desig_tape, rule, rule_of_list, rule_of_items, expr_tape, operator_tape, middle_tape, some_expr_tape, exprs_tape, dropped_tape, steps_tape, step_tape, words_tape, word_tape, unnamed_tape, unnamed_word_tape, specs_with, type_name_with, struct_tape, struct_items_tape, struct_item_tape, members_tape, mem_declrs_tape, mem_declr_tape, some_value_tape, enum_tape, enum_body_tape, enumerators_tape, some_declr_tape, contents, some_contents, some_size_tape, size_tape, params_tape, init_tape, list_tape, init_items_tape, indices_tape, index_tape, some_init_tape, declared_init_tape, init_declrs_tape, declaration_tape, decl_tape, block_items_tape, block_item_tape, stmt_tape, some_else_tape, for_start_tape, return_tape, item_tape, tape_of}
 use Rattle.token_laws.proofs.Texts.{AllAt, Holds, Covers, empty, one, both, nothing, none, so, done, join, head, skip, bind, trail, past, ended, ends, put, set, mute}
 use Rattle.token_laws.proofs.Parts.{Begins, first_of, SomeAt, tag_ops, body_ops, quiet_covers, scope_covers, either, params_cover, some_sign_skip, tag_covers, words_skip, extensions_skip, texts_skip, group_skip, attrs_skip, label_skip, assert_skip, qual_at, pointer_words_at, array_words_at, dots_at}
 

@@ -6,7 +6,7 @@ use Rattle.tape_ops.specs.declared.specifier.TagKind.{TagKind}
 use Rattle.tape_ops.specs.declared.specifier.TagKind.TheVariants as tags
 use Rattle.name_rules.specs.Spellings.{Place, Spelling, place, Named}
 use Rattle.name_rules.specs.Faults.{Rule, Fault, fault_where}
-use Rattle.name_rules.specs.Scopes.{Meaning, means_type, means_thing, Scope, no_scope, innermost, outer_scopes, Declared, TypeNamed, Bodied, Names, meaning_in, some_thing, thing_named, or_outer, meaning_through, declared_at, is_place}
+use Rattle.name_rules.specs.Scopes.{Meaning, means_type, means_thing, Scope, innermost, outer_scopes, Declared, TypeNamed, Bodied, Names, meaning_in, some_thing, thing_named, or_outer, meaning_through, declared_at, is_place}
 use Rattle.name_rules.specs.Pieces.{with_words, decayed, Piece, to_pointer, to_function, piece_of}
 use Rattle.name_rules.specs.Declaring.{tag_type, type_by, scope_kept}
 use Rattle.name_rules.specs.Uses.{type_named_at}

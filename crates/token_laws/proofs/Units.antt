@@ -1,5 +1,5 @@
 -- The spans of constraints, the call sites and the faults of programs that were read.
-use Rattle.std.proofs.Common.{◌≡◌, ℕ, zero, suc, ◌+◌, ◌<◌, All, Contains, List, [], ◌∷◌, ◌++◌, Option, None, Some, inl, inr, refl, sym, ◌∙◌, ap, subst, arith}
+use Rattle.std.proofs.Common.{◌≡◌, ℕ, zero, suc, ◌+◌, ◌-◌, All, Contains, List, [], ◌∷◌, ◌++◌, Option, None, Some, inl, inr, refl, sym, ◌∙◌, ap, subst, arith}
 use Rattle.std.specs.Prelude.{slice_get, take, drop, map}
 use Rattle.std.proofs.lemmas.List.Elements.{All-nil, All-cons, Contains-append_cases}
 use Rattle.c_words.specs.declared.kinds.TokenKind.TheVariants as kinds
@@ -10,10 +10,9 @@ use Rattle.tape_ops.specs.declared.op.Op.{Op}
 use Rattle.c_tree.specs.declared.lexeme.Lexeme.{Lexeme}
 use Rattle.c_tree.specs.Text.{tokens_between}
 use Rattle.c_tree.specs.WellFormed.{IsElement}
-use Rattle.c_tree.specs.Unit.{AreTokensOf, items_text}
 use Rattle.c_tree.specs.Ends.{FirstBegins, LastEnds}
 use Rattle.c_tape.specs.Tape.{tape_of}
-use Rattle.name_rules.specs.Spellings.{Place, Spelling, place}
+use Rattle.name_rules.specs.Spellings.{Place, place}
 use Rattle.name_rules.specs.Faults.{Fault}
 use Rattle.name_rules.specs.Scopes.{Names}
 use Rattle.name_rules.specs.Units.{no_names, unit_begun}
@@ -21,12 +20,12 @@ use Rattle.name_rules.specs.Linking.{body_faults}
 use Rattle.name_steps.specs.State.{with_names}
 use Rattle.name_steps.specs.Units.{tape_named, tapes_named}
 use Rattle.name_laws.specs.NameLaws.{IsSound, tape_of_source, NamesOfTapes}
-use Rattle.type_rules.specs.Program.{Source, names_of, judged, faults_of}
+use Rattle.type_rules.specs.Program.{Source, names_of, judged}
 use Rattle.type_rules.specs.Judging.{items_faults_of}
 use Rattle.shape_steps.specs.State.{nothing}
 use Rattle.shape_laws.specs.Laws.{FaultsAreFound}
-use Rattle.row_rules.specs.Worlds.{World, span, word_span}
-use Rattle.row_rules.specs.Sites.{functions_of, owner_by, site_of, sites_among}
+use Rattle.row_rules.specs.Worlds.{span, word_span}
+use Rattle.row_rules.specs.Sites.{functions_of, site_of, sites_among}
 use Rattle.row_rules.specs.Starting.{Start}
 use Rattle.row_steps.specs.Rounds.{file}
 use Rattle.row_steps.specs.Found.{unit_rows}
@@ -72,26 +71,29 @@ counted_all all (it ∷ k) n h same = (here, counted_all all k (suc n) h.1 next)
     next i = same_get (suc n + i) (n + suc i) all (later n i) ∙ same (suc i)
 
 -- the token at a place
-at_place : (all k : List Lexeme) (n m : ℕ) → AreCounted m k → IsElement (take 1 (drop n k)) →
+at_place : (k : List Lexeme) (n m : ℕ) → AreCounted m k → IsElement (take 1 (drop n k)) →
     (it : Lexeme) × (slice_get k n ≡ Some it) × (it.at ≡ m + n)
-at_place all [] zero m h is = absurd is
-at_place all [] (suc n) m h is = absurd is
-at_place all (it ∷ k) zero m h is = (it, refl, h.0 ∙ plain m)
+at_place [] zero m h is = absurd is
+at_place [] (suc n) m h is = absurd is
+at_place (it ∷ k) zero m h is = (it, refl, h.0 ∙ plain m)
   where
     plain : (m : ℕ) → m ≡ m + 0
     plain m = omega arith
-at_place all (it ∷ k) (suc n) m h is =
-    let found = at_place all k n (suc m) h.1 is in (found.0, found.1, found.2 ∙ later m n)
+at_place (it ∷ k) (suc n) m h is =
+    let found = at_place k n (suc m) h.1 is in (found.0, found.1, found.2 ∙ later m n)
   where
     later : (m n : ℕ) → suc m + n ≡ m + suc n
     later m n = omega arith
 
+from_none : (n : ℕ) → 0 + n ≡ n
+from_none n = omega arith
+
 one_token : (all : List Lexeme) → AreCounted 0 all → (n : ℕ) → IsElement (tokens_between all n n) → IsTokenOf n all
 one_token all h n is =
-    let found = at_place all all n 0 h (subst (λ (m : ℕ). IsElement (take m (drop n all))) (one n) is) in
-    record { token = found.0; there = found.1; numbered = found.2 }
+    let found = at_place all n 0 h (subst (λ (m : ℕ). IsElement (take m (drop n all))) (one n) is) in
+    record { token = found.0; there = found.1; numbered = found.2 ∙ from_none n }
   where
-    one : (n : ℕ) → suc n - n ≡ 1
+    one : (n : ℕ) → n + 1 - n ≡ 1
     one n = omega arith
 
 -- one source
@@ -100,7 +102,8 @@ tape_tokens : FirstBegins → LastEnds → (it : Source) (all : List Lexeme) →
     AllOps (λ n. IsTokenOf n all) (tape_of it.items)
 tape_tokens firsts lasts it all read =
     let end : List Lexeme = record { kind = kinds.End; at = read.tokens.last } ∷ [] in
-    let each : AllAt (λ m. IsTokenOf m all) all = counted_all all all 0 read.counted (λ i. refl) in
+    let each : AllAt (λ m. IsTokenOf m all) all = counted_all all all 0 read.counted
+    (λ i. same_get (0 + i) i all (from_none i)) in
     ((items_cover all (one_token all read.counted) firsts lasts it.items read.rules.parts end).goes
     (subst (AllAt (λ m. IsTokenOf m all)) read.tokens.spelled each)).ops.all
 

@@ -7,7 +7,7 @@
 --
 -- So what the tool says of a span or a fault where there is no such unit or no such token (`cqual_tool/specs/Syntax.antt`,
 -- `token_line`; `cqual_tool/specs/Shapes.antt`, `in_unit`) is never met for sources that were read.
-use Rattle.std.specs.Prelude.{◌≡◌, ℕ, suc, Contains, List, [], ◌∷◌, slice_get, Option, Some, ◌⊎◌}
+use Rattle.std.specs.Prelude.{◌≡◌, ℕ, suc, Contains, List, [], ◌∷◌, slice_get, Some, ◌⊎◌}
 use Rattle.qual_base.specs.declared.places.Span.{Span}
 use Rattle.flow_graph.specs.declared.constraint.Constraint.{Constraint}
 use Rattle.flow_graph.specs.declared.constraint.Site.{Site}
