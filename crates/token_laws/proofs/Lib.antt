@@ -8,3 +8,4 @@ mod Rows
 mod Steps
 mod Found
 mod Units
+mod Numbers

@@ -16,6 +16,7 @@ use Rattle.c_tree.specs.Unit.{AreTokensOf, IsUnit}
 use Rattle.name_rules.specs.Faults.{Fault}
 use Rattle.type_rules.specs.Program.{Source, faults_of}
 use Rattle.row_rules.specs.Worlds.{word_span}
+use Rattle.key_laws.specs.Differing.{IsRead}
 use Rattle.constraint_rules.specs.Systems.{Program, system_of}
 
 -- tokens are numbered by their places, the first by this number
@@ -35,6 +36,10 @@ AreReadFrom [] [] = Unit {0}
 AreReadFrom [] (all ∷ texts) = ⊥
 AreReadFrom (it ∷ sources) [] = ⊥
 AreReadFrom (it ∷ sources) (all ∷ texts) = IsReadFrom it all × AreReadFrom sources texts
+
+-- so the unit is read
+abbrev pub CountedAreRead : Type 0
+CountedAreRead = (it : Source) (all : List Lexeme) → IsReadFrom it all → IsRead it
 
 -- one of these tokens stands at this place among them and has it as its number
 pub record IsTokenOf (n : ℕ) (all : List Lexeme) : Type 0 where

@@ -1,6 +1,6 @@
 //! Laws of the tokens at which constraints, call sites and faults stand.
 
-ghost use Rattle.token_laws.specs.Tokens.{FaultsHaveTokens, SitesHaveTokens, SpansHaveTokens};
+ghost use Rattle.token_laws.specs.Tokens.{CountedAreRead, FaultsHaveTokens, SitesHaveTokens, SpansHaveTokens};
 
 use c_tree::{first_begins, last_ends};
 use name_laws::names_of_tapes;
@@ -37,3 +37,8 @@ pub fn faults_have_tokens()
     names_of_tapes();
     faults_are_found();
 }
+
+/// Tokens that are numbered by their places have different numbers.
+pub fn counted_are_read()
+    ensures { CountedAreRead }
+{}

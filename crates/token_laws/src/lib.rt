@@ -3,4 +3,4 @@
 
 mod laws;
 
-pub use laws::{faults_have_tokens, sites_have_tokens, spans_have_tokens};
+pub use laws::{counted_are_read, faults_have_tokens, sites_have_tokens, spans_have_tokens};
