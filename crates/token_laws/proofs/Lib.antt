@@ -1,0 +1,11 @@
+mod Texts
+mod Parts
+mod Trees
+mod Types
+mod Names
+mod NameSteps
+mod Rows
+mod Steps
+mod Found
+mod Units
+mod Numbers
