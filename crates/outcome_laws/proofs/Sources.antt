@@ -46,6 +46,7 @@ module _ (one_unit : OneUnitAtMost) (lattices : List LatticeView) where
 
   pub never_fail : (number left : ℕ) (sources : List (List ℕ × List ℕ)) (units : List UnitRead) (text : List ℕ)
       → SourcesParse lattices number left sources units → SourcesFail lattices number left sources text → ⊥
+  never_fail _ _ _ _ text (NoSource number left) fails = elim fails [ ]
   never_fail _ _ _ _ _ (OneSource number left source more unit units within h rest) (TooLarge _ _ _ _ over) = omega (arith, within, over)
   never_fail _ _ _ _ _ (OneSource number left source more unit units within h rest) (Refused _ _ _ _ text fits refused) =
       never_refused number source.1 source.0 text unit h refused
