@@ -6,6 +6,8 @@ use Rattle.cqual_words.specs.Words as words
 use Rattle.cqual_words.specs.declared.asked.Asked.{Asked}
 use Rattle.cqual_words.specs.declared.asked.Asked.TheVariants as asked
 use Rattle.cqual_words.specs.declared.asked.FileWords.{FileWords}
+use Rattle.cqual_words.specs.declared.asked.Question.{Question}
+use Rattle.cqual_words.specs.declared.asked.Question.TheVariants as questions
 
 abbrev pub names_in : FileWords → FileNames
 names_in files = record {
@@ -14,22 +16,24 @@ names_in files = record {
   sources = map (λ name. name.now) files.sources.items;
 }
 
+-- what is asked of a program
+abbrev pub question_in : Question → words.Question
+question_in questions.Infer = words.Infer
+question_in questions.Annotate = words.Annotate
+question_in (questions.Check report) = words.Check report.now
+question_in questions.Certify = words.Certify
+question_in (questions.Verify certificate) = words.Verify certificate.now
+
 abbrev pub task_of : Asked → Task
-task_of (asked.Infer files) = words.Infer (names_in files)
-task_of (asked.Annotate files) = words.Annotate (names_in files)
-task_of (asked.Check files report) = words.Check (names_in files) report.now
+task_of (asked.Ask question files) = words.Ask (question_in question) (names_in files)
 task_of (asked.Generate number) = words.Generate number
 
 -- where the report of a made source is asked, there is such a source
 abbrev pub AsksMade : Asked → Type 0
-AsksMade (asked.Infer files) = ⊤
-AsksMade (asked.Annotate files) = ⊤
-AsksMade (asked.Check files report) = ⊤
+AsksMade (asked.Ask question files) = ⊤
 AsksMade (asked.Generate number) = IsMade number
 
 -- where files are asked for, 1 to 256 of them are sources
 abbrev pub NamesSources : Asked → Type 0
-NamesSources (asked.Infer files) = IsSourceCount (length files.sources.items)
-NamesSources (asked.Annotate files) = IsSourceCount (length files.sources.items)
-NamesSources (asked.Check files report) = IsSourceCount (length files.sources.items)
+NamesSources (asked.Ask question files) = IsSourceCount (length files.sources.items)
 NamesSources (asked.Generate number) = ⊤

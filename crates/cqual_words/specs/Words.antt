@@ -15,44 +15,56 @@ pub record FileNames : Type 0 where
   pub prelude : Option Text
   pub sources : List Text
 
--- what is asked: a report, a report with the annotated source behind it, what another report comes to, or the report of a source
--- that the tool makes itself
+-- What is asked of a program: its report, its report with the annotated source behind it, what the report of a file comes to, its
+-- certificate, or what the certificate of a file comes to.
+pub data Question : Type 0 where
+  Infer : Question
+  Annotate : Question
+  Check : Text → Question
+  Certify : Question
+  Verify : Text → Question
+
+-- what is asked: that of the program that files are, or the report of a source that the tool makes itself
 pub data Task : Type 0 where
-  Infer : FileNames → Task
-  Annotate : FileNames → Task
-  Check : FileNames → Text → Task
+  Ask : Question → FileNames → Task
   Generate : ℕ → Task
 
 -- ---- the pieces that words spell
 
--- the options that have a value: `--lattice`, `--prelude`, `--check` and `--generate`
+-- the options that have a value: `--lattice`, `--prelude`, `--check`, `--verify` and `--generate`
 pub data Key : Type 0 where
   Lattice : Key
   Prelude : Key
   Report : Key
+  Certificate : Key
   Number : Key
 
--- the parts of a command line: the options with a value, the flag `--annotate`, and the words that are no options
+-- the options that have none: `--annotate` and `--certify`
+pub data Flag : Type 0 where
+  Annotation : Flag
+  Certification : Flag
+
+-- the parts of a command line: the options with a value, the flags, and the words that are no options
 pub data Part : Type 0 where
   Valued : Key → Part
-  Annotation : Part
+  Flagged : Flag → Part
   Source : Part
 
--- what words give: an option with its value, the flag, or a word that is no option
+-- what words give: an option with its value, a flag, or a word that is no option
 pub data Piece : Type 0 where
   Value : Key → Text → Piece
-  Flag : Piece
+  Set : Flag → Piece
   Plain : Text → Piece
 
 abbrev pub part_of : Piece → Part
 part_of (Value key text) = Valued key
-part_of Flag = Annotation
+part_of (Set flag) = Flagged flag
 part_of (Plain word) = Source
 
--- the flag has no text of its own: where it stands it reads as `true`, which has a meaning
+-- a flag has no text of its own: where it stands it reads as `true`, which has a meaning
 abbrev pub text_of : Piece → Text
 text_of (Value key text) = text
-text_of Flag = codes "true"
+text_of (Set flag) = codes "true"
 text_of (Plain word) = word
 
 -- one word: `--`, which ends the options; an option whose value is the next word; or a whole piece
@@ -73,8 +85,10 @@ named name =
     if bytes_eq (codes "lattice") name then Some (Valued Lattice)
     else (if bytes_eq (codes "prelude") name then Some (Valued Prelude)
     else (if bytes_eq (codes "check") name then Some (Valued Report)
+    else (if bytes_eq (codes "verify") name then Some (Valued Certificate)
     else (if bytes_eq (codes "generate") name then Some (Valued Number)
-    else (if bytes_eq (codes "annotate") name then Some Annotation else None))))
+    else (if bytes_eq (codes "annotate") name then Some (Flagged Annotation)
+    else (if bytes_eq (codes "certify") name then Some (Flagged Certification) else None))))))
 
 -- what stands before the first `=`, and what stands behind it where there is one
 abbrev pub is_equals : ℕ → Bool
@@ -89,8 +103,8 @@ value_in text = if list_any is_equals text then Some (after_first is_equals text
 -- the word of an option, by its name and the value that is attached; a word that names no option, and a flag with a value, is
 -- read as a plain word, which begins with a hyphen and so has no meaning
 abbrev pub option_word : Text → Option Part → Option Text → Word
-option_word word (Some Annotation) None = Whole Flag
-option_word word (Some Annotation) (Some value) = Whole (Plain word)
+option_word word (Some (Flagged flag)) None = Whole (Set flag)
+option_word word (Some (Flagged flag)) (Some value) = Whole (Plain word)
 option_word word (Some Source) value = Whole (Plain word)
 option_word word (Some (Valued key)) None = Opens key
 option_word word (Some (Valued key)) (Some value) = Whole (Value key value)
@@ -126,12 +140,17 @@ abbrev pub key_place : Key → ℕ
 key_place Lattice = 0
 key_place Prelude = 1
 key_place Report = 2
-key_place Number = 3
+key_place Certificate = 3
+key_place Number = 4
+
+abbrev pub flag_place : Flag → ℕ
+flag_place Annotation = 5
+flag_place Certification = 6
 
 abbrev pub place : Part → ℕ
 place (Valued key) = key_place key
-place Annotation = 4
-place Source = 5
+place (Flagged flag) = flag_place flag
+place Source = 7
 
 -- the texts of a part, in the order of the words
 abbrev pub texts_of : Part → List Piece → List Text
@@ -180,14 +199,40 @@ sources_of texts = if list_all has_meaning texts && nat_le (length texts) 256 th
 abbrev pub IsSourceCount : ℕ → Type 0
 IsSourceCount count = (1 ≤ count) × (count ≤ 256)
 
--- what the parts ask together, by what is there of the lattice, the prelude, the report, the number and the flag, and by the sources:
--- one where it is annotated, and none where the tool makes it
-abbrev pub task_of_parts : Option Text → Option Text → Option Text → Option Text → Option Text → List Text → Option Task
-task_of_parts (Some l) p None None None (s ∷ more) = Some (Infer (files_of l p (s ∷ more)))
-task_of_parts (Some l) p None None (Some on) (s ∷ []) = Some (Annotate (files_of l p (s ∷ [])))
-task_of_parts (Some l) p (Some r) None None (s ∷ more) = Some (Check (files_of l p (s ∷ more)) r)
-task_of_parts None None None (Some n) None [] = option_map (λ number. Generate number) (number_of n)
-task_of_parts l p r n on sources = None
+-- What is asked of a program, by what is there of a report, a certificate, the flag `--annotate` and the flag `--certify`: at most
+-- one of them.
+abbrev pub question_of : Option Text → Option Text → Option Text → Option Text → Option Question
+question_of None None None None = Some Infer
+question_of None None (Some on) None = Some Annotate
+question_of None None None (Some on) = Some Certify
+question_of (Some r) None None None = Some (Check r)
+question_of None (Some v) None None = Some (Verify v)
+question_of r v annotate certify = None
+
+-- as many sources as a question may have: one where it is annotated
+abbrev pub fits : Question → List Text → Bool
+fits Infer sources = not (nat_le (length sources) 0)
+fits Annotate sources = length sources == 1
+fits (Check r) sources = not (nat_le (length sources) 0)
+fits Certify sources = not (nat_le (length sources) 0)
+fits (Verify v) sources = not (nat_le (length sources) 0)
+
+-- with a lattice
+abbrev pub asked_of : FileNames → Option Question → Option Task
+asked_of files None = None
+asked_of files (Some question) = if fits question files.sources then Some (Ask question files) else None
+
+-- the report of a made source stands alone
+abbrev pub made_of : Text → Option Text → Option Question → List Text → Option Task
+made_of n None (Some Infer) [] = option_map (λ number. Generate number) (number_of n)
+made_of n prelude question sources = None
+
+-- what the parts ask together, by what is there of the lattice, the prelude and the number, by the question, and by the sources
+abbrev pub task_of_parts : Option Text → Option Text → Option Text → Option Question → List Text → Option Task
+task_of_parts (Some l) p None question sources = asked_of (files_of l p sources) question
+task_of_parts None p (Some n) question sources = made_of n p question sources
+task_of_parts (Some l) p (Some n) question sources = None
+task_of_parts None p None question sources = None
 
 -- what comes of an option among the pieces, where it stands at most once
 abbrev pub with_part : Part → List Piece → (Option Text → Option Task) → Option Task
@@ -196,8 +241,9 @@ with_part part pieces next = option_and_then next (at_most_once (texts_of part p
 abbrev pub task_in : List Piece → Option Task
 task_in pieces =
     with_part (Valued Lattice) pieces (λ l. with_part (Valued Prelude) pieces (λ p. with_part (Valued Report) pieces (λ r.
-    with_part (Valued Number) pieces (λ n. with_part Annotation pieces (λ on.
-    option_and_then (λ sources. task_of_parts l p r n on sources) (sources_of (texts_of Source pieces)))))))
+    with_part (Valued Certificate) pieces (λ v. with_part (Valued Number) pieces (λ n.
+    with_part (Flagged Annotation) pieces (λ annotate. with_part (Flagged Certification) pieces (λ certify.
+    option_and_then (λ sources. task_of_parts l p n (question_of r v annotate certify) sources) (sources_of (texts_of Source pieces)))))))))
 
 -- what the words behind the program's name ask, or nothing where they have no meaning
 abbrev pub meaning_of : List Text → Option Task

@@ -8,15 +8,26 @@ pub struct FileWords<'a> {
     pub sources: Vec<&'a str>,
 }
 
+/// What is asked of a program.
+#[derive(Clone, Copy, PartialEq, Eq, Debug)]
+pub enum Question<'a> {
+    /// Its report.
+    Infer,
+    /// Its report, and behind it its one source with what was inferred.
+    Annotate,
+    /// What the report of the named file comes to.
+    Check(&'a str),
+    /// Its certificate, or its report where it is not accepted.
+    Certify,
+    /// What the certificate of the named file comes to.
+    Verify(&'a str),
+}
+
 /// What the words ask.
 #[derive(Debug, Drop)]
 pub enum Asked<'a> {
-    /// The report of sources.
-    Infer(FileWords<'a>),
-    /// The report of one source, and behind it the source with what was inferred.
-    Annotate(FileWords<'a>),
-    /// What the report of the named file comes to over sources.
-    Check(FileWords<'a>, &'a str),
+    /// A question of the program that files are.
+    Ask(Question<'a>, FileWords<'a>),
     /// The report of the source of this number, 1 to 1000, which the tool makes itself.
     Generate(u32),
 }

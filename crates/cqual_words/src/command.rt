@@ -31,7 +31,7 @@ fn source<'a>(alloc: Global) -> Arg<'a>
     Arg::new(alloc, "source").action(ArgAction::Append)
 }
 
-/// The options, the flag and the words that are neither.
+/// The options, the flags and the words that are neither.
 pub fn command<'a>(alloc: Global) -> Result<Command<'a>, AllocError>
     ensures { IfOk result (λ c. app_of c ≡ tool) }
 {
@@ -42,7 +42,9 @@ pub fn command<'a>(alloc: Global) -> Result<Command<'a>, AllocError>
         .arg(option(alloc, "lattice"))?
         .arg(option(alloc, "prelude"))?
         .arg(option(alloc, "check"))?
+        .arg(option(alloc, "verify"))?
         .arg(option(alloc, "generate"))?
         .arg(flag(alloc, "annotate"))?
+        .arg(flag(alloc, "certify"))?
         .arg(source(alloc))
 }

@@ -8,5 +8,5 @@ mod numeral;
 mod tests;
 mod words;
 
-pub use asked::{Asked, FileWords};
+pub use asked::{Asked, FileWords, Question};
 pub use words::meaning;

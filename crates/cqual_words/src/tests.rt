@@ -1,6 +1,6 @@
 //! What no clause says: that calls succeed where there is memory, and what lists of words ask, worked out by hand.
 
-use crate::asked::{Asked, FileWords};
+use crate::asked::{Asked, FileWords, Question};
 use crate::words::meaning;
 use std::alloc::{AllocError, Global};
 use std::test::Fail;
@@ -15,49 +15,78 @@ fn files_text(alloc: Global, files: &FileWords<'_>) -> Result<String, AllocError
     Ok(text)
 }
 
+fn question_text(alloc: Global, question: Question<'_>) -> Result<String, AllocError> {
+    match question {
+        Question::Infer => String::from_str(alloc, "infer"),
+        Question::Annotate => String::from_str(alloc, "annotate"),
+        Question::Check(report) => format!(in alloc; "check {report}"),
+        Question::Certify => String::from_str(alloc, "certify"),
+        Question::Verify(certificate) => format!(in alloc; "verify {certificate}"),
+    }
+}
+
 fn asked_text(alloc: Global, asked: Option<Asked<'_>>) -> Result<String, AllocError> {
     match asked {
         None => String::from_str(alloc, "nothing"),
-        Some(Asked::Infer(files)) => {
+        Some(Asked::Ask(question, files)) => {
+            let question = question_text(alloc, question)?;
             let text = files_text(alloc, &files)?;
-            format!(in alloc; "infer {text}")
-        }
-        Some(Asked::Annotate(files)) => {
-            let text = files_text(alloc, &files)?;
-            format!(in alloc; "annotate {text}")
-        }
-        Some(Asked::Check(files, report)) => {
-            let text = files_text(alloc, &files)?;
-            format!(in alloc; "check {text} {report}")
+            format!(in alloc; "{question}: {text}")
         }
         Some(Asked::Generate(number)) => format!(in alloc; "generate {number}"),
     }
 }
 
-/// Words with a bar between two, and what they ask: the lattice, the prelude or none, the sources and the report.
-static LISTS: [(&str, &str); 55] = [
-    ("--lattice|l.q|s.c", "infer l.q none s.c"),
-    ("--lattice=l.q|s.c", "infer l.q none s.c"),
-    ("s.c|--lattice|l.q", "infer l.q none s.c"),
-    ("--lattice|l.q|--|s.c", "infer l.q none s.c"),
-    ("s.c|--lattice|l.q|--", "infer l.q none s.c"),
-    ("--prelude|p.h|s.c|--lattice=l.q", "infer l.q p.h s.c"),
-    ("--lattice==x|s.c", "infer =x none s.c"),
-    ("--lattice=a=b|s.c", "infer a=b none s.c"),
-    ("--lattice|l.q|lattice", "infer l.q none lattice"),
-    ("--annotate|--lattice|l.q|s.c", "annotate l.q none s.c"),
+/// Words with a bar between two, and what they ask: the question, the lattice, the prelude or none, and the sources.
+static LISTS: [(&str, &str); 72] = [
+    ("--lattice|l.q|s.c", "infer: l.q none s.c"),
+    ("--lattice=l.q|s.c", "infer: l.q none s.c"),
+    ("s.c|--lattice|l.q", "infer: l.q none s.c"),
+    ("--lattice|l.q|--|s.c", "infer: l.q none s.c"),
+    ("s.c|--lattice|l.q|--", "infer: l.q none s.c"),
+    ("--prelude|p.h|s.c|--lattice=l.q", "infer: l.q p.h s.c"),
+    ("--lattice==x|s.c", "infer: =x none s.c"),
+    ("--lattice=a=b|s.c", "infer: a=b none s.c"),
+    ("--lattice|l.q|lattice", "infer: l.q none lattice"),
+    ("--annotate|--lattice|l.q|s.c", "annotate: l.q none s.c"),
     (
         "--lattice|l.q|s.c|--prelude=p.h|--annotate",
-        "annotate l.q p.h s.c",
+        "annotate: l.q p.h s.c",
     ),
     (
         "--check|r.txt|--lattice|l.q|s.c",
-        "check l.q none s.c r.txt",
+        "check r.txt: l.q none s.c",
     ),
     (
         "--lattice|l.q|--prelude|p.h|--check=r.txt|s.c",
-        "check l.q p.h s.c r.txt",
+        "check r.txt: l.q p.h s.c",
     ),
+    ("--certify|--lattice|l.q|s.c", "certify: l.q none s.c"),
+    (
+        "s.c|--prelude|p.h|--certify|--lattice=l.q|t.c",
+        "certify: l.q p.h s.c t.c",
+    ),
+    (
+        "--verify|c.txt|--lattice|l.q|s.c",
+        "verify c.txt: l.q none s.c",
+    ),
+    (
+        "s.c|t.c|--lattice|l.q|--prelude=p.h|--verify=c.txt",
+        "verify c.txt: l.q p.h s.c t.c",
+    ),
+    ("--lattice|l.q|s.c|--certify|--certify", "nothing"),
+    ("--lattice|l.q|s.c|--certify=x", "nothing"),
+    ("--lattice|l.q|s.c|--certify|--annotate", "nothing"),
+    ("--lattice|l.q|s.c|--certify|--check|r.txt", "nothing"),
+    ("--lattice|l.q|s.c|--certify|--verify|c.txt", "nothing"),
+    ("--lattice|l.q|s.c|--verify|c.txt|--verify|c.txt", "nothing"),
+    ("--lattice|l.q|s.c|--verify|c.txt|--check|r.txt", "nothing"),
+    ("--lattice|l.q|s.c|--verify|c.txt|--annotate", "nothing"),
+    ("--lattice|l.q|s.c|--verify=", "nothing"),
+    ("--lattice|l.q|--certify", "nothing"),
+    ("--lattice|l.q|--verify|c.txt", "nothing"),
+    ("--generate|1|--certify", "nothing"),
+    ("--generate|1|--verify|c.txt", "nothing"),
     ("--generate|1", "generate 1"),
     ("--generate=1000", "generate 1000"),
     ("--generate|70|--", "generate 70"),
@@ -77,14 +106,14 @@ static LISTS: [(&str, &str); 55] = [
     ("--lattice|l.q|-", "nothing"),
     ("--lattice|l.q|--|-x", "nothing"),
     ("--lattice|l.q|--|--", "nothing"),
-    ("--lattice|l.q|s.c|t.c", "infer l.q none s.c t.c"),
+    ("--lattice|l.q|s.c|t.c", "infer: l.q none s.c t.c"),
     (
         "s.c|--lattice|l.q|t.c|--prelude=p.h|--|u.c",
-        "infer l.q p.h s.c t.c u.c",
+        "infer: l.q p.h s.c t.c u.c",
     ),
     (
         "s.c|s.c|--check|r.txt|--lattice|l.q",
-        "check l.q none s.c s.c r.txt",
+        "check r.txt: l.q none s.c s.c",
     ),
     ("--lattice|l.q|s.c|-t.c", "nothing"),
     ("--lattice|l.q|s.c||t.c", "nothing"),
@@ -149,7 +178,7 @@ fn at_most_256_sources_are_named(rt: HostRuntime) -> Result<(), Fail> {
     let most = words_with(alloc, 256)?;
     let asked = meaning(alloc, most.as_slice())?;
     let count = match &asked {
-        Some(Asked::Infer(files)) => files.sources.len(),
+        Some(Asked::Ask(_, files)) => files.sources.len(),
         _ => 0,
     };
     assert_eq!(rt; count, 256);

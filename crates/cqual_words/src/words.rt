@@ -6,12 +6,13 @@ ghost use Rattle.std.specs.List.{list_all};
 ghost use Rattle.std.specs.Option.{option_map};
 ghost use Rattle.clap.specs.Words.{FailsBy, HasMatchesOf, fault_of, first_value, found_of, one_text};
 ghost use Rattle.clap.specs.Values.{bool_text};
-ghost use Rattle.cqual_words.specs.Asked.{AsksMade, NamesSources, names_in, task_of};
+ghost use Rattle.cqual_words.specs.Asked.{AsksMade, NamesSources, names_in, question_in, task_of};
 ghost use Rattle.cqual_words.specs.Words as rules;
 ghost use Rattle.cqual_words.specs.Words.{meaning_of};
-ghost use Rattle.cqual_words.specs.Tool.{asked_by, asked_with, flag_text, given, plain_texts, raw_of, tool};
+ghost use Rattle.cqual_words.specs.Tool.{Flags, HasFlags, asked_by, asked_with, flag_text, given};
+ghost use Rattle.cqual_words.specs.Tool.{plain_texts, raw_of, tool};
 
-use crate::asked::{Asked, FileWords};
+use crate::asked::{Asked, FileWords, Question};
 use crate::command::command;
 use crate::numeral::number;
 use clap::error::ErrorKind;
@@ -74,29 +75,77 @@ fn sources_of<'a>(
     }
 }
 
+/// What is asked of a program, by the report, the certificate and the flags: at most one of them.
+fn question<'a>(
+    report: Option<&'a str>,
+    certificate: Option<&'a str>,
+    annotate: bool,
+    certify: bool,
+) -> Option<Question<'a>>
+    ensures { option_map question_in result ≡ rules.question_of
+        (option_map (λ s. s.now) report.entry) (option_map (λ s. s.now) certificate.entry)
+        (flag_text annotate) (flag_text certify) }
+{
+    match (report, certificate, annotate, certify) {
+        (None, None, false, false) => Some(Question::Infer),
+        (None, None, true, false) => Some(Question::Annotate),
+        (None, None, false, true) => Some(Question::Certify),
+        (Some(report), None, false, false) => Some(Question::Check(report)),
+        (None, Some(certificate), false, false) => Some(Question::Verify(certificate)),
+        _ => None,
+    }
+}
+
+/// Whether a question may have so many sources.
+fn fits(question: Question<'_>, sources: &[&str]) -> bool
+    ensures { result ≡ rules.fits (question_in question.entry) (map (λ s. s.now) sources.now) }
+{
+    match question {
+        Question::Annotate => sources.len() == 1,
+        Question::Infer | Question::Check(_) | Question::Certify | Question::Verify(_) => {
+            !sources.is_empty()
+        }
+    }
+}
+
 /// What is asked with a lattice and sources.
-fn of_files<'a>(files: FileWords<'a>, report: Option<&'a str>, annotate: bool) -> Option<Asked<'a>>
-    ensures task { option_map task_of result ≡ rules.task_of_parts (Some files.entry.lattice.now)
-        (option_map (λ s. s.now) files.entry.prelude) (option_map (λ s. s.now) report.entry) None
-        (flag_text annotate) (map (λ s. s.now) files.entry.sources.items) }
+fn of_files<'a>(files: FileWords<'a>, question: Option<Question<'a>>) -> Option<Asked<'a>>
+    ensures task { option_map task_of result
+        ≡ rules.asked_of (names_in files.entry) (option_map question_in question.entry) }
     ensures made { IfSome result AsksMade }
     ensures sources { length files.entry.sources.items ≤ 256 → IfSome result NamesSources }
 {
-    let count = files.sources.len();
-    match (report, annotate) {
-        _ if count == 0 => None,
-        (None, false) => Some(Asked::Infer(files)),
-        (None, true) if count == 1 => Some(Asked::Annotate(files)),
-        (Some(report), false) => Some(Asked::Check(files, report)),
+    let question = question?;
+    if fits(question, &files.sources) {
+        Some(Asked::Ask(question, files))
+    } else {
+        None
+    }
+}
+
+/// What the number of a made source asks, which stands alone.
+fn of_number<'a>(
+    text: &str,
+    prelude: Option<&str>,
+    question: Option<Question<'_>>,
+    sources: &[&str],
+) -> Option<Asked<'a>>
+    ensures task { option_map task_of result ≡ rules.made_of text.now
+        (option_map (λ s. s.now) prelude.now) (option_map question_in question.now)
+        (map (λ s. s.now) sources.now) }
+    ensures made { IfSome result AsksMade }
+    ensures sources { IfSome result NamesSources }
+{
+    match (prelude, question) {
+        (None, Some(Question::Infer)) if sources.is_empty() => Some(Asked::Generate(number(text)?)),
         _ => None,
     }
 }
 
 /// What the texts of the parts ask, with these sources.
 fn of_parts<'a>(matches: &ArgMatches<'a>, sources: Vec<&'a str>) -> Option<Asked<'a>>
-    ensures task { (on : Bool) → one_text (found_of matches.now) (codes "annotate")
-        ≡ Some (bool_text on) → option_map task_of result
-        ≡ asked_with on (λ id. first_value (found_of matches.now) id)
+    ensures task { (flags : Flags) → HasFlags (found_of matches.now) flags → option_map task_of result
+        ≡ asked_with flags (λ id. first_value (found_of matches.now) id)
         (map (λ s. s.now) sources.entry.items) }
     ensures made { IfSome result AsksMade }
     ensures sources { length sources.entry.items ≤ 256 → IfSome result NamesSources }
@@ -104,32 +153,32 @@ fn of_parts<'a>(matches: &ArgMatches<'a>, sources: Vec<&'a str>) -> Option<Asked
     let lattice = text_of(matches, "lattice")?;
     let prelude = text_of(matches, "prelude")?;
     let report = text_of(matches, "check")?;
-    let generate = text_of(matches, "generate")?;
-    let annotate = matches.get_flag("annotate");
-    match (lattice, generate) {
+    let certificate = text_of(matches, "verify")?;
+    let number = text_of(matches, "generate")?;
+    let question = question(
+        report,
+        certificate,
+        matches.get_flag("annotate"),
+        matches.get_flag("certify"),
+    );
+    match (lattice, number) {
         (Some(lattice), None) => {
             let files = FileWords {
                 lattice,
                 prelude,
                 sources,
             };
-            of_files(files, report, annotate)
+            of_files(files, question)
         }
-        (None, Some(text)) => {
-            if prelude.is_some() || report.is_some() || annotate || sources.len() > 0 {
-                return None;
-            }
-            Some(Asked::Generate(number(text)?))
-        }
+        (None, Some(text)) => of_number(text, prelude, question, &sources),
         _ => None,
     }
 }
 
 /// What the matches ask.
 fn of_matches<'a>(alloc: Global, matches: &ArgMatches<'a>) -> Result<Option<Asked<'a>>, AllocError>
-    ensures task { IfOk result (λ found. (on : Bool) → one_text (found_of matches.now)
-        (codes "annotate") ≡ Some (bool_text on) → option_map task_of found
-        ≡ asked_by on (λ id. first_value (found_of matches.now) id)
+    ensures task { IfOk result (λ found. (flags : Flags) → HasFlags (found_of matches.now) flags →
+        option_map task_of found ≡ asked_by flags (λ id. first_value (found_of matches.now) id)
         (raw_of (found_of matches.now) (codes "source"))) }
     ensures made { IfOk result (λ found. IfSome found AsksMade) }
     ensures sources { IfOk result (λ found. IfSome found NamesSources) }
