@@ -19,7 +19,7 @@ use Rattle.cqual_tool.specs.declared.status.Status.TheVariants.{Rejected, PathsH
 use Rattle.cqual_tool.specs.Inputs.{Inputs}
 use Rattle.cqual_tool.specs.Words.{FileNames, of_files, names_of}
 use Rattle.cqual_tool.specs.Programs.{texts_of}
-use Rattle.cqual_tool.specs.Outcome.{AreBefore, NoPrelude, OnePrelude, NoSource, OneSource, SourcesParse, sources_of, total_limit, ProgramIsRead, Inferred, ReportChecked, IsWrong, Holding, report_limit}
+use Rattle.cqual_tool.specs.Outcome.{AreBefore, NoPrelude, OnePrelude, NoSource, OneSource, SourcesParse, sources_of, total_limit, ProgramIsRead, AnsweredAlone, SavedJudged, IsWrong, Holding, saved_limit}
 use Rattle.cqual_tool.specs.Outcome.{SourcesRead, PreludeRead, OfFiles, LatticeRead, OfTask, OfProgram, OfGenerated, Outcome, WithMeaning}
 use Rattle.answer_laws.specs.Laws.{ProgramsAreOwned, RejectedIsChecked, FilesAreFree, judged}
 use Rattle.answer_laws.proofs.Owned.{built_sized, built_lattices}
@@ -61,24 +61,24 @@ tokens_free law named inputs it =
     (sources_free law it.lattices 1 total_limit (sources_of named inputs) it.units it.parse))
 
 -- the same names with a report that is to be checked
-abbrev with_report : Names → List ℕ → FileNames
-with_report names report = of_files names false (Some report)
+abbrev with_saved : Names → List ℕ → FileNames
+with_saved names report = of_files names false (Some report)
 
 abbrev alone : Names → FileNames
 alone names = of_files names false None
 
 before_on : (names : Names) (report : List ℕ) (inputs : Inputs) (text : List ℕ) (lattices : List LatticeView) (before : List UnitRead)
     (marks : List IndexMark) → AreBefore (alone names) inputs lattices before marks
-    → AreBefore (with_report names report) (record inputs { report = text }) lattices before marks
+    → AreBefore (with_saved names report) (record inputs { report = text }) lattices before marks
 before_on names report inputs text lattices _ _ (NoPrelude none) = NoPrelude none
 before_on names report inputs text lattices _ _ (OnePrelude file unit marks is reads) = OnePrelude file unit marks is reads
 
 module _ (owned : ProgramsAreOwned) (elements : ElementsAreNamed) (back : RejectedReadsBack) (free : TokensHaveNoFeed)
-    (names : Names) (report : List ℕ) (inputs : Inputs) (text : List ℕ) (few : length text ≤ report_limit)
+    (names : Names) (report : List ℕ) (inputs : Inputs) (text : List ℕ) (few : length text ≤ saved_limit)
     (files : (it : ProgramIsRead (alone names) inputs) → FilesAreFree (judged (alone names) inputs it).scene) where
   of_report : (it : ProgramIsRead (alone names) inputs)
       → IsRejectedReport (judged (alone names) inputs it).scene (judged (alone names) inputs it).system text
-      → OfFiles (with_report names report) (record inputs { report = text }) PathsHold (checked_text Hold)
+      → OfFiles (with_saved names report) (record inputs { report = text }) PathsHold (checked_text Hold)
   of_report it is =
       let p = program_in it.lattices it.marks (it.before ++ it.units) in
       let built = it.read.read.built in
@@ -95,13 +95,13 @@ module _ (owned : ProgramsAreOwned) (elements : ElementsAreNamed) (back : Reject
       (PreludeRead it.before it.marks PathsHold (checked_text Hold) (before_on names report inputs text it.lattices it.before it.marks it.are)
       (SourcesRead it.units PathsHold (checked_text Hold) it.parse
       (record { shaped = it.counted.shaped; few_variables = it.counted.few_variables; few_constraints = it.counted.few_constraints })
-      (ReportChecked report PathsHold (checked_text Hold) refl few (Holding comes is.rejected))))
+      (SavedJudged report PathsHold (checked_text Hold) refl few (Holding comes is.rejected))))
 
   of_files_wrong : OfFiles (alone names) inputs Rejected text
-      → OfFiles (with_report names report) (record inputs { report = text }) PathsHold (checked_text Hold)
-  of_files_wrong (LatticeRead lattices _ _ read (PreludeRead before marks _ _ are (SourcesRead units _ _ parse counted (Inferred _ _ none (IsWrong _ (RejectedWith _ is)))))) =
+      → OfFiles (with_saved names report) (record inputs { report = text }) PathsHold (checked_text Hold)
+  of_files_wrong (LatticeRead lattices _ _ read (PreludeRead before marks _ _ are (SourcesRead units _ _ parse counted (AnsweredAlone _ _ none (IsWrong _ (RejectedWith _ is)))))) =
       of_report (record { lattices = lattices; read = read; before = before; marks = marks; are = are; units = units; parse = parse; counted = counted }) is
-  of_files_wrong (LatticeRead lattices _ _ read (PreludeRead before marks _ _ are (SourcesRead units _ _ parse counted (ReportChecked file _ _ there short is)))) =
+  of_files_wrong (LatticeRead lattices _ _ read (PreludeRead before marks _ _ are (SourcesRead units _ _ parse counted (SavedJudged file _ _ there short is)))) =
       absurd cc
 
 some_task : {x y : Task} → Some x ≡ Some y → x ≡ y
@@ -119,6 +119,6 @@ rejected_is_checked owned elements back free words others names report inputs te
     by same (OfProgram named _ _ is_named read) =
         let e : named ≡ of_files names false None = some_names (sym is_named ∙ ap names_of same) in
         WithMeaning (Check names report) PathsHold (checked_text Hold) other
-        (OfProgram (with_report names report) PathsHold (checked_text Hold) refl
+        (OfProgram (with_saved names report) PathsHold (checked_text Hold) refl
         (of_files_wrong owned elements back free names report inputs text few files
         (subst (λ (n : FileNames). OfFiles n inputs Rejected text) e read)))

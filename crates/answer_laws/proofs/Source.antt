@@ -11,7 +11,7 @@ use Rattle.cqual_tool.specs.declared.status.Status.TheVariants.{Accepted}
 use Rattle.cqual_tool.specs.Inputs.{Inputs, files_with, first_of}
 use Rattle.cqual_tool.specs.Words.{FileNames, of_files, names_of}
 use Rattle.cqual_tool.specs.Programs.{text_of, texts_of}
-use Rattle.cqual_tool.specs.Outcome.{AreBefore, NoPrelude, OnePrelude, NoSource, OneSource, SourceParses, SourcesParse, total_limit, ProgramIsRead, annotated_unit, IsEnd, Inferred, ReportChecked, IsRight}
+use Rattle.cqual_tool.specs.Outcome.{AreBefore, NoPrelude, OnePrelude, NoSource, OneSource, SourceParses, SourcesParse, total_limit, ProgramIsRead, annotated_unit, IsEnd, AnsweredAlone, SavedJudged, IsRight}
 use Rattle.cqual_tool.specs.Outcome.{SourcesRead, OfUnits, PreludeRead, OfFiles, LatticeRead, LatticesRead, OfTask, OfProgram, OfGenerated, WithMeaning}
 use Rattle.answer_laws.specs.Laws.{AnnotatedGivesTheSource, IsAnnotated, judged}
 use Rattle.answer_laws.proofs.Asking.{annotated_names_one}
@@ -73,21 +73,21 @@ of_text law named inputs it text annotated one is = by (subst Judged annotated i
     }
 
 of_end : CommentsComeOut → (named : FileNames) (inputs : Inputs) (it : ProgramIsRead named inputs) (text : List ℕ)
-    → named.annotated ≡ true → named.report ≡ None → length named.sources ≡ 1 → IsEnd named inputs.report (judged named inputs it) Accepted text
+    → named.annotated ≡ true → saved_in named ≡ None → length named.sources ≡ 1 → IsEnd named inputs.saved (judged named inputs it) Accepted text
     → IsAnnotated named inputs text
-of_end law named inputs it text annotated none one (ReportChecked file _ _ there few is) =
+of_end law named inputs it text annotated none one (SavedJudged file _ _ there few is) =
     absurd (let no : None ≡ Some file = sym none ∙ there in cc)
-of_end law named inputs it text annotated none one (Inferred _ _ no_report (IsRight _ is)) = of_text law named inputs it text annotated one is
+of_end law named inputs it text annotated none one (AnsweredAlone _ _ none_saved (IsRight _ is)) = of_text law named inputs it text annotated one is
 
 of_units : CommentsComeOut → (named : FileNames) (inputs : Inputs) (lattices : List LatticeView) → LatticesRead inputs.lattice lattices
-    → (text : List ℕ) → named.annotated ≡ true → named.report ≡ None → length named.sources ≡ 1 → OfUnits named inputs lattices Accepted text
+    → (text : List ℕ) → named.annotated ≡ true → saved_in named ≡ None → length named.sources ≡ 1 → OfUnits named inputs lattices Accepted text
     → IsAnnotated named inputs text
 of_units law named inputs lattices read text annotated none one (PreludeRead before marks _ _ are (SourcesRead units _ _ parse counted end)) =
     of_end law named inputs
     (record { lattices = lattices; read = read; before = before; marks = marks; are = are; units = units; parse = parse; counted = counted })
     text annotated none one end
 
-of_files_read : CommentsComeOut → (named : FileNames) (inputs : Inputs) (text : List ℕ) → named.annotated ≡ true → named.report ≡ None
+of_files_read : CommentsComeOut → (named : FileNames) (inputs : Inputs) (text : List ℕ) → named.annotated ≡ true → saved_in named ≡ None
     → length named.sources ≡ 1 → OfFiles named inputs Accepted text → IsAnnotated named inputs text
 of_files_read law named inputs text annotated none one (LatticeRead lattices _ _ read units) =
     of_units law named inputs lattices read text annotated none one units

@@ -16,7 +16,7 @@ use Rattle.cqual_tool.specs.declared.status.Status.TheVariants.{Accepted, Reject
 use Rattle.cqual_tool.specs.Inputs.{Inputs, first_of}
 use Rattle.cqual_tool.specs.Words.{FileNames, of_files}
 use Rattle.cqual_tool.specs.Programs.{Judging, judging_of}
-use Rattle.cqual_tool.specs.Outcome.{Outcome, ProgramIsRead, report_limit}
+use Rattle.cqual_tool.specs.Outcome.{Outcome, ProgramIsRead, saved_limit}
 
 -- what is judged of files that are read
 abbrev pub judged : (named : FileNames) (inputs : Inputs) → ProgramIsRead named inputs → Judging
@@ -55,5 +55,5 @@ abbrev pub RejectedIsChecked : Type 0
 RejectedIsChecked = (words others : List (List ℕ)) (names : Names) (report : List ℕ) (inputs : Inputs) (text : List ℕ) →
     meaning_of words ≡ Some (Infer names) → meaning_of others ≡ Some (Check names report) →
     ((it : ProgramIsRead (of_files names false None) inputs) → FilesAreFree (judged (of_files names false None) inputs it).scene) →
-    length text ≤ report_limit → Outcome words inputs Rejected text →
+    length text ≤ saved_limit → Outcome words inputs Rejected text →
     Outcome others (record inputs { report = text }) PathsHold (checked_text Hold)

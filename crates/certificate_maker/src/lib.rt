@@ -1,8 +1,11 @@
-//! The maker of certificates: the certificate of a lattice, from what the summaries and the solver of the lattice found.
+//! The maker of certificates: the certificate of a lattice, from what the summaries and the solver of the lattice found, and the text
+//! of those of all lattices, where a program is accepted.
 #![tactic(auto)]
 
+mod all;
 mod maker;
 mod pairs;
 mod sets;
 
+pub use all::certified;
 pub use maker::certificate;

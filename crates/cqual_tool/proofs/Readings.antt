@@ -88,7 +88,7 @@ past_limit limit r content past gives =
     omega (arith, over, sum)
 
 pub none : Inputs
-none = record { lattice = []; prelude = []; sources = []; report = [] }
+none = record { lattice = []; prelude = []; sources = []; saved = [] }
 
 -- One reading of a file, with its part of the bytes, and the files behind it.
 module _ (old mid : Standing) (r : Reading) (read : ReadOn old mid (r ∷ [])) (name : List ℕ) (same : r.name ≡ name)

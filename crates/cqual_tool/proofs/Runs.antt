@@ -277,7 +277,7 @@ module _ (files : List (List ℕ × List ℕ)) where
       step named.lattice inputs.lattice _ _ these reads agree (λ more reads agree.
       may named.prelude inputs.prelude _ _ more reads agree (λ more reads agree.
       among named.sources inputs.sources _ _ more reads agree (λ more reads agree.
-      last named.report inputs.report more reads agree)))
+      last (saved_in named) inputs.saved more reads agree)))
 
   by_task : (o : Option Task) (inputs : Inputs) (these : List Reading) → ReadsAs (files_asked o inputs) these → All (Agrees files) these
       → ReadsAs (files_asked o (inputs_asked files o)) these

@@ -15,12 +15,12 @@ use Rattle.cqual_tool.specs.declared.taking.Stop.TheVariants.{ReadFault, NoMemor
 use Rattle.cqual_words.specs.Words.{Generate, Task}
 use Rattle.cqual_tool.specs.Words.{FileNames, names_of}
 use Rattle.cqual_tool.specs.Programs.{Judging, judging_of}
-use Rattle.cqual_tool.specs.Inputs.{Inputs, behind_first, files_named, files_of, files_with, first_of, from_prelude, from_report, from_sources, one_file}
+use Rattle.cqual_tool.specs.Inputs.{Inputs, behind_first, files_named, files_of, files_with, first_of, from_prelude, from_saved, from_sources, one_file}
 use Rattle.cqual_tool.specs.Outcome.{AreBefore, AreCounted, InOrder, IsEnd, LatticeAlone, LatticesRead, MadeAlone, NoPrelude, NoSource, NotCounted, NotParsed, OfFiles, OfProgram, OfSources, OfTask, OfUnits, PreludeRead, Refused, SourceParses, SourceRefused, SourcesRead, Starts, TooLarge, UnitsRefused, limit_in, named_one, sources_of, total_limit}
 use Rattle.cqual_tool.specs.declared.preparing.Earlier.{Earlier}
 use Rattle.cqual_tool.specs.Statuses.{Says}
 use Rattle.cqual_tool.specs.Texts.{malformed_line}
-use Rattle.cqual_tool.specs.Preparing.{IsEarlier, EndStarts, NoReport, NoUnit, NoneLeft, OneReport, PreludeAlone, SomeStart, SourcesStart, UnitsStart}
+use Rattle.cqual_tool.specs.Preparing.{IsEarlier, EndStarts, NoneSaved, NoUnit, NoneLeft, OneSaved, PreludeAlone, SomeStart, SourcesStart, UnitsStart}
 use Rattle.cqual_tool.specs.Answering.{Answered, EndAnswered, FilesAnswered, FilesGo, Finds, IsSaid, SourcesAnswered, SourcesGo, TaskAnswered, UnitsAnswered, UnitsGo}
 use Rattle.cqual_tool.proofs.Readings as reading
 use Rattle.cqual_tool.proofs.Outcomes.{at_equal}
@@ -44,30 +44,30 @@ going_stands r is = ap is_broken is
 
 -- parts at other bytes
 abbrev with_lattice : Inputs → List ℕ → Inputs
-with_lattice inputs bytes = record { lattice = bytes; prelude = inputs.prelude; sources = inputs.sources; report = inputs.report }
+with_lattice inputs bytes = record { lattice = bytes; prelude = inputs.prelude; sources = inputs.sources; saved = inputs.saved }
 
 abbrev with_prelude : Inputs → List ℕ → Inputs
-with_prelude inputs bytes = record { lattice = inputs.lattice; prelude = bytes; sources = inputs.sources; report = inputs.report }
+with_prelude inputs bytes = record { lattice = inputs.lattice; prelude = bytes; sources = inputs.sources; saved = inputs.saved }
 
 abbrev with_source : Inputs → List ℕ → Inputs
 with_source inputs bytes = record {
   lattice = inputs.lattice;
   prelude = inputs.prelude;
   sources = bytes ∷ behind_first inputs.sources;
-  report = inputs.report;
+  saved = inputs.saved;
 }
 
-abbrev with_report : Inputs → List ℕ → Inputs
-with_report inputs bytes = record { lattice = inputs.lattice; prelude = inputs.prelude; sources = inputs.sources; report = bytes }
+abbrev with_saved : Inputs → List ℕ → Inputs
+with_saved inputs bytes = record { lattice = inputs.lattice; prelude = inputs.prelude; sources = inputs.sources; saved = bytes }
 
 -- where the prelude or the report has this name, or none
 pub at_prelude : (named : FileNames) (o : Option (List ℕ)) → named.prelude ≡ o → (P : (Inputs → List (List ℕ × List ℕ)) → Type 0)
     → P (λ inputs. one_file o inputs.prelude ++ from_sources named named.sources inputs) → P (from_prelude named)
 at_prelude named o is P there = subst (λ (name : Option (List ℕ)). P (λ inputs. one_file name inputs.prelude ++ from_sources named named.sources inputs)) (sym is) there
 
-pub at_report : (named : FileNames) (o : Option (List ℕ)) → named.report ≡ o → (P : (Inputs → List (List ℕ × List ℕ)) → Type 0)
-    → P (λ inputs. one_file o inputs.report) → P (from_report named)
-at_report named o is P there = subst (λ (name : Option (List ℕ)). P (λ inputs. one_file name inputs.report)) (sym is) there
+pub at_saved : (named : FileNames) (o : Option (List ℕ)) → saved_in named ≡ o → (P : (Inputs → List (List ℕ × List ℕ)) → Type 0)
+    → P (λ inputs. one_file o inputs.saved) → P (from_saved named)
+at_saved named o is P there = subst (λ (name : Option (List ℕ)). P (λ inputs. one_file name inputs.saved)) (sym is) there
 
 behind_prelude : (named : FileNames) (o : Option (List ℕ)) → named.prelude ≡ o → (inputs : Inputs) (these : List Reading)
     → ReadsAs (from_prelude named inputs) these → ReadsAs (one_file o inputs.prelude ++ from_sources named named.sources inputs) these
@@ -142,7 +142,7 @@ module _ (old mid : Standing) (r : Reading) (read : ReadOn old mid (r ∷ [])) (
   module _ (file : List ℕ) (same : r.name ≡ file) (lattices : List LatticeView) (before : List UnitRead) (marks : List IndexMark) (number left : ℕ)
       (names : List (List ℕ)) where
     abbrev Of : Inputs → Status → List ℕ → Type 0
-    Of inputs = OfSources named lattices before marks (IsEnd named inputs.report) number left (files_with (file ∷ names) inputs.sources)
+    Of inputs = OfSources named lattices before marks (IsEnd named inputs.saved) number left (files_with (file ∷ names) inputs.sources)
 
     abbrev Go : List Reading → Type 0
     Go = SourcesGo named lattices before marks number left (file ∷ names)
@@ -199,7 +199,7 @@ module _ (old mid : Standing) (r : Reading) (read : ReadOn old mid (r ∷ [])) (
         (parses : SourceParses lattices number r.bytes unit) where
       abbrev OfRest : Inputs → Status → List ℕ → Type 0
       OfRest inputs =
-          OfSources named lattices (before ++ unit ∷ []) marks (IsEnd named inputs.report) (number + 1) (left - length r.bytes)
+          OfSources named lattices (before ++ unit ∷ []) marks (IsEnd named inputs.saved) (number + 1) (left - length r.bytes)
           (files_with names (behind_first inputs.sources))
 
       abbrev GoRest : List Reading → Type 0
@@ -208,7 +208,7 @@ module _ (old mid : Standing) (r : Reading) (read : ReadOn old mid (r ∷ [])) (
       -- those behind it, by the parts of all
       among : (these : List Reading) (result : Result Answer Stop)
           → IsSaid (from_sources named names)
-          (λ inputs. OfSources named lattices (before ++ unit ∷ []) marks (IsEnd named inputs.report) (number + 1) (left - length r.bytes) (files_with names inputs.sources)) these result
+          (λ inputs. OfSources named lattices (before ++ unit ∷ []) marks (IsEnd named inputs.saved) (number + 1) (left - length r.bytes) (files_with names inputs.sources)) these result
           → IsSaid rest OfRest these result
       among these (Ok answer) says = (says.0, λ inputs reads. says.1 (rest_of inputs) reads)
       among these (Err ReadFault) says = says
@@ -219,7 +219,7 @@ module _ (old mid : Standing) (r : Reading) (read : ReadOn old mid (r ∷ [])) (
         lattice = inputs.lattice;
         prelude = inputs.prelude;
         sources = [] ∷ inputs.sources;
-        report = inputs.report;
+        saved = inputs.saved;
       }
 
       behind : (result : Result Answer Stop)
@@ -247,9 +247,9 @@ module _ (old mid : Standing) (r : Reading) (read : ReadOn old mid (r ∷ [])) (
 
       of : (inputs : Inputs) (status : Status) (text : List ℕ) → first_of inputs.sources ≡ r.bytes → OfRest inputs status text → Of inputs status text
       of inputs status text here is =
-          subst (λ (content : List ℕ). OfSources named lattices before marks (IsEnd named inputs.report) number left
+          subst (λ (content : List ℕ). OfSources named lattices before marks (IsEnd named inputs.saved) number left
           ((file, content) ∷ files_with names (behind_first inputs.sources)) status text) (sym here)
-          (one_of named lattices before marks number left file r.bytes unit within parses (IsEnd named inputs.report)
+          (one_of named lattices before marks number left file r.bytes unit within parses (IsEnd named inputs.saved)
           (files_with names (behind_first inputs.sources)) status text is)
 
       pub source_goes : (result : Result Answer Stop)
@@ -309,7 +309,7 @@ module _ (old mid : Standing) (r : Reading) (read : ReadOn old mid (r ∷ [])) (
         at_prelude named (Some file) is (λ files. Prelude files new result)
         (reading.goes old mid r read file same (λ i. i.prelude) with_prelude (from_sources named named.sources) (λ i b. refl) (λ i b. refl)
         (λ inputs. OfUnits named inputs lattices) (UnitsGo named lattices) new
-        (λ inputs. OfSources named lattices before marks (IsEnd named inputs.report) 1 total_limit (sources_of named inputs))
+        (λ inputs. OfSources named lattices before marks (IsEnd named inputs.saved) 1 total_limit (sources_of named inputs))
         (SourcesGo named lattices before marks 1 total_limit named.sources) whole starting (λ inputs status text here of. PreludeRead before marks status text (are inputs here) of) result more)
       where
         starting : (these : List Reading) → SourcesGo named lattices before marks 1 total_limit named.sources these → UnitsGo named lattices (r ∷ these)
@@ -320,32 +320,32 @@ module _ (old mid : Standing) (r : Reading) (read : ReadOn old mid (r ∷ [])) (
             (λ inputs given. are inputs (whole_is r inputs.prelude whole (behind_prelude named (Some file) is inputs (r ∷ these) given).1)) starts)
 
   -- a report
-  module _ (file : List ℕ) (same : r.name ≡ file) (is : named.report ≡ Some file) (it : Judging) where
+  module _ (file : List ℕ) (same : r.name ≡ file) (is : saved_in named ≡ Some file) (it : Judging) where
     abbrev Report : (Inputs → List (List ℕ × List ℕ)) → Result Answer Stop → Type 0
-    Report files result = Answered old mid files (λ inputs. IsEnd named inputs.report it) (λ these. EndStarts named (names_read these)) result
+    Report files result = Answered old mid files (λ inputs. IsEnd named inputs.saved it) (λ these. EndStarts named (names_read these)) result
 
-    report_alone : EndStarts named (r.name ∷ [])
-    report_alone = at_name (EndStarts named) r file [] same (OneReport file is)
+    saved_alone : EndStarts named (r.name ∷ [])
+    saved_alone = at_name (EndStarts named) r file [] same (OneSaved file is)
 
-    pub report_stops : (limit : ℕ) (stop : Stop) → Finds limit r (Err stop) → EndAnswered old mid named it (Err stop)
-    report_stops limit stop finds =
-        at_report named (Some file) is (λ files. Report files (Err stop))
-        (reading.stops old mid r read file same (λ i. i.report) with_report (λ i. []) (λ i b. refl) (λ i b. refl)
-        (λ inputs. IsEnd named inputs.report it) (λ these. EndStarts named (names_read these)) limit stop report_alone finds)
+    pub saved_stops : (limit : ℕ) (stop : Stop) → Finds limit r (Err stop) → EndAnswered old mid named it (Err stop)
+    saved_stops limit stop finds =
+        at_saved named (Some file) is (λ files. Report files (Err stop))
+        (reading.stops old mid r read file same (λ i. i.saved) with_saved (λ i. []) (λ i b. refl) (λ i b. refl)
+        (λ inputs. IsEnd named inputs.saved it) (λ these. EndStarts named (names_read these)) limit stop saved_alone finds)
 
-    pub report_lacks : (stop : Stop) → stop ≡ NoMemory → is_broken r.end ≡ false → EndAnswered old mid named it (Err stop)
-    report_lacks stop memory whole =
-        at_report named (Some file) is (λ files. Report files (Err stop))
-        (reading.lacks old mid r read file same (λ i. i.report) with_report (λ i. []) (λ i b. refl) (λ i b. refl)
-        (λ inputs. IsEnd named inputs.report it) (λ these. EndStarts named (names_read these)) stop memory report_alone whole)
+    pub saved_lacks : (stop : Stop) → stop ≡ NoMemory → is_broken r.end ≡ false → EndAnswered old mid named it (Err stop)
+    saved_lacks stop memory whole =
+        at_saved named (Some file) is (λ files. Report files (Err stop))
+        (reading.lacks old mid r read file same (λ i. i.saved) with_saved (λ i. []) (λ i b. refl) (λ i b. refl)
+        (λ inputs. IsEnd named inputs.saved it) (λ these. EndStarts named (names_read these)) stop memory saved_alone whole)
 
-    pub report_answers : (answer : Answer) → is_broken r.end ≡ false
-        → ((inputs : Inputs) → MayGive r.end inputs.report r.bytes → IsEnd named inputs.report it answer.status answer.text.items)
+    pub saved_answers : (answer : Answer) → is_broken r.end ≡ false
+        → ((inputs : Inputs) → MayGive r.end inputs.saved r.bytes → IsEnd named inputs.saved it answer.status answer.text.items)
         → EndAnswered old mid named it (Ok answer)
-    report_answers answer whole of =
-        at_report named (Some file) is (λ files. Report files (Ok answer))
-        (reading.answers old mid r read file same (λ i. i.report) with_report (λ i. []) (λ i b. refl) (λ i b. refl)
-        (λ inputs. IsEnd named inputs.report it) (λ these. EndStarts named (names_read these)) answer report_alone whole of)
+    saved_answers answer whole of =
+        at_saved named (Some file) is (λ files. Report files (Ok answer))
+        (reading.answers old mid r read file same (λ i. i.saved) with_saved (λ i. []) (λ i b. refl) (λ i b. refl)
+        (λ inputs. IsEnd named inputs.saved it) (λ these. EndStarts named (names_read these)) answer saved_alone whole of)
 
 -- where no prelude is named
 pub no_prelude : (old new : Standing) (named : FileNames) (lattices : List LatticeView) → named.prelude ≡ None → 1 ≤ length named.sources
@@ -365,7 +365,7 @@ no_prelude old new named lattices is some result (these, by) = (
 )
   where
     said : (result : Result Answer Stop) → IsSaid (from_sources named named.sources)
-        (λ inputs. OfSources named lattices [] [] (IsEnd named inputs.report) 1 total_limit (sources_of named inputs)) these result
+        (λ inputs. OfSources named lattices [] [] (IsEnd named inputs.saved) 1 total_limit (sources_of named inputs)) these result
         → IsSaid (from_prelude named) (λ inputs. OfUnits named inputs lattices) these result
     said (Ok answer) says = (
       says.0,
@@ -376,15 +376,15 @@ no_prelude old new named lattices is some result (these, by) = (
     said (Err NoMemory) says = says
 
 -- where no report is asked for
-pub no_report : (s : Standing) (named : FileNames) (it : Judging) (result : Result Answer Stop)
-    → IsSaid (from_report named) (λ inputs. IsEnd named inputs.report it) [] result → EndAnswered s s named it result
-no_report s named it result says = (
+pub none_saved : (s : Standing) (named : FileNames) (it : Judging) (result : Result Answer Stop)
+    → IsSaid (from_saved named) (λ inputs. IsEnd named inputs.saved it) [] result → EndAnswered s s named it result
+none_saved s named it result says = (
   [],
   record {
     read = reading.nothing_read s;
     in_turn = tt;
     there = (reading.none, tt);
-    starts = NoReport;
+    starts = NoneSaved;
     says = says;
   },
 )
@@ -412,14 +412,14 @@ module _ (old new : Standing) (named : FileNames) (lattices : List LatticeView) 
       all = behind_none (AreCounted named lattices marks) counted
 
       said : (result : Result Answer Stop)
-          → IsSaid (from_report named) (λ inputs. IsEnd named inputs.report (judging_of named lattices marks units)) these result
+          → IsSaid (from_saved named) (λ inputs. IsEnd named inputs.saved (judging_of named lattices marks units)) these result
           → IsSaid (from_sources named [])
-          (λ inputs. OfSources named lattices units marks (IsEnd named inputs.report) number left (files_with [] inputs.sources)) these result
+          (λ inputs. OfSources named lattices units marks (IsEnd named inputs.saved) number left (files_with [] inputs.sources)) these result
       said (Ok answer) says = (
         says.0,
         λ inputs reads.
             SourcesRead [] answer.status answer.text.items (NoSource number left) all
-            (behind_none (λ us. IsEnd named inputs.report (judging_of named lattices marks us) answer.status answer.text.items) (says.1 inputs reads)),
+            (behind_none (λ us. IsEnd named inputs.saved (judging_of named lattices marks us) answer.status answer.text.items) (says.1 inputs reads)),
       )
       said (Err ReadFault) says = says
       said (Err NoMemory) says = says
@@ -427,7 +427,7 @@ module _ (old new : Standing) (named : FileNames) (lattices : List LatticeView) 
 module _ (s : Standing) (named : FileNames) (lattices : List LatticeView) (units : List UnitRead) (marks : List IndexMark) (number left : ℕ) where
   no_more : (result : Result Answer Stop)
       → IsSaid (from_sources named [])
-      (λ inputs. OfSources named lattices units marks (IsEnd named inputs.report) number left (files_with [] inputs.sources)) [] result
+      (λ inputs. OfSources named lattices units marks (IsEnd named inputs.saved) number left (files_with [] inputs.sources)) [] result
       → SourcesAnswered s s named lattices units marks number left [] result
   no_more result says = (
     [],
@@ -449,7 +449,7 @@ module _ (s : Standing) (named : FileNames) (lattices : List LatticeView) (units
       no_more (Ok answer) (
         refl,
         λ inputs reads.
-            subst (λ (st : Status). OfSources named lattices units marks (IsEnd named inputs.report) number left [] st answer.text.items) (sym status)
+            subst (λ (st : Status). OfSources named lattices units marks (IsEnd named inputs.saved) number left [] st answer.text.items) (sym status)
             (NotCounted [] answer.text.items (NoSource number left)
             (behind_none s s named lattices units marks number left (λ us. UnitsRefused named lattices marks us answer.text.items) is)),
       )

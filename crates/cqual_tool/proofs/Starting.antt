@@ -8,8 +8,8 @@ use Rattle.cqual_tool.specs.Words.{FileNames}
 use Rattle.cqual_tool.specs.declared.status.Status.{Status}
 use Rattle.cqual_tool.specs.Programs.{Judging, judging_of}
 use Rattle.cqual_tool.specs.Inputs.{Inputs, behind_first, first_of}
-use Rattle.cqual_tool.specs.Outcome.{AreBefore, AreCounted, LatticesRead, Later, LatticeAlone, NoSource, NotCounted, NotParsed, OfSources, OneSource, SourceParses, SourcesParse, SourcesRead, Starts, ThenPrelude, ThenReport, ThenSource, UnitsRefused, limit_in, named_one, total_limit}
-use Rattle.cqual_tool.specs.Preparing.{AreRead, EndStarts, NoReport, NoUnit, NoneLeft, OneReport, PreludeAlone, ReportBehind, ReportToo, SomeStart, SourceToo, SourcesStart, UnitsStart}
+use Rattle.cqual_tool.specs.Outcome.{AreBefore, AreCounted, LatticesRead, Later, LatticeAlone, NoSource, NotCounted, NotParsed, OfSources, OneSource, SourceParses, SourcesParse, SourcesRead, Starts, ThenPrelude, ThenSaved, ThenSource, UnitsRefused, limit_in, named_one, total_limit}
+use Rattle.cqual_tool.specs.Preparing.{AreRead, EndStarts, NoneSaved, NoUnit, NoneLeft, OneSaved, PreludeAlone, SavedBehind, SavedToo, SomeStart, SourceToo, SourcesStart, UnitsStart}
 
 -- what holds of a name holds of the name of the reading
 pub at_name : (Is : List (List ℕ) → Type 0) (r : Reading) (name : List ℕ) (names : List (List ℕ)) → r.name ≡ name → Is (name ∷ names) → Is (r.name ∷ names)
@@ -21,7 +21,7 @@ rest_of inputs = record {
   lattice = inputs.lattice;
   prelude = inputs.prelude;
   sources = behind_first inputs.sources;
-  report = inputs.report;
+  saved = inputs.saved;
 }
 
 -- one more source in front
@@ -43,8 +43,8 @@ module _ (named : FileNames) (lattices : List LatticeView) where
   pub end_starts : (before : List UnitRead) (marks : List IndexMark) (number left : ℕ) (Given : Inputs → Type 0) (started : List (List ℕ))
       → EndStarts named started → ((inputs : Inputs) → Given inputs → AreRead named lattices before marks number left [])
       → SourcesStart named lattices before marks number left [] Given started
-  end_starts before marks number left Given _ NoReport read = NoneLeft refl
-  end_starts before marks number left Given _ (OneReport file is) read = ReportBehind file is read
+  end_starts before marks number left Given _ NoneSaved read = NoneLeft refl
+  end_starts before marks number left Given _ (OneSaved file is) read = SavedBehind file is read
 
   -- a source that is the unit, and what is behind it
   module _ (before : List UnitRead) (marks : List IndexMark) (number left : ℕ) (file bytes : List ℕ) (unit : UnitRead)
@@ -58,8 +58,8 @@ module _ (named : FileNames) (lattices : List LatticeView) where
         SomeStart (suc count) (omega (arith, lt)) (λ inputs given.
         let all = is inputs given in let rest = parsed (rest_of inputs) all.1 in
         (unit ∷ rest.0, one_more lattices number left file bytes (first_of inputs.sources) _ unit rest.0 all.0 within parses rest.1))
-    one_starts names Given Rest _ is (ReportBehind report asked read) =
-        ReportBehind report asked (λ inputs given.
+    one_starts names Given Rest _ is (SavedBehind report asked read) =
+        SavedBehind report asked (λ inputs given.
         let all = is inputs given in let rest = read (rest_of inputs) all.1 in (
           unit ∷ rest.0,
           one_more lattices number left file bytes (first_of inputs.sources) _ unit rest.0 all.0 within parses rest.1,
@@ -94,10 +94,10 @@ module _ (named : FileNames) (lattices : List LatticeView) where
         are = are inputs given;
         parsed = parsed inputs (source inputs given);
       }))
-  units_start Given Sources before marks _ o same some source are (ReportBehind file is read) =
+  units_start Given Sources before marks _ o same some source are (SavedBehind file is read) =
       subst (UnitsStart named lattices Given) (append_assoc o named.sources (file ∷ []))
       (subst (λ (first : List (List ℕ)). UnitsStart named lattices Given (first ++ named.sources ++ file ∷ [])) same
-      (ReportToo file is (λ inputs given. record {
+      (SavedToo file is (λ inputs given. record {
         before = before;
         marks = marks;
         are = are inputs given;
@@ -121,8 +121,8 @@ module _ (named : FileNames) (lattices : List LatticeView) where
         units = is.parsed.0;
         parse = is.parsed.1;
       })
-  all_start Given Units _ units read (ReportToo file report are) =
-      ThenReport file report (λ inputs given. let is = are inputs (units inputs given) in record {
+  all_start Given Units _ units read (SavedToo file report are) =
+      ThenSaved file report (λ inputs given. let is = are inputs (units inputs given) in record {
         lattices = lattices;
         read = read inputs given;
         before = is.before;

@@ -14,7 +14,7 @@ use Rattle.cqual_tool.specs.declared.taking.Stop.TheVariants.{ReadFault, NoMemor
 use Rattle.cqual_words.specs.Words.{Task}
 use Rattle.cqual_tool.specs.Words.{FileNames, names_of}
 use Rattle.cqual_tool.specs.Programs.{Judging}
-use Rattle.cqual_tool.specs.Inputs.{Inputs, files_named, files_of, files_with, from_prelude, from_report, from_sources}
+use Rattle.cqual_tool.specs.Inputs.{Inputs, files_named, files_of, files_with, from_prelude, from_saved, from_sources}
 use Rattle.cqual_tool.specs.Outcome.{IsEnd, OfFiles, OfSources, OfTask, OfUnits, Starts, TaskStarts}
 use Rattle.cqual_tool.specs.Preparing.{EndStarts, SourcesStart, UnitsStart}
 
@@ -49,7 +49,7 @@ Answered old new files Of Starting result = (these : List Reading) × AnsweredBy
 -- behind the sources
 abbrev pub EndAnswered : Standing → Standing → FileNames → Judging → Result Answer Stop → Type 0
 EndAnswered old new named it result =
-    Answered old new (from_report named) (λ inputs. IsEnd named inputs.report it) (λ these. EndStarts named (names_read these)) result
+    Answered old new (from_saved named) (λ inputs. IsEnd named inputs.saved it) (λ these. EndStarts named (names_read these)) result
 
 -- from some sources on, the first of which has this number, where so many bytes are left for all of them
 abbrev pub SourcesGo : FileNames → List LatticeView → List UnitRead → List IndexMark → ℕ → ℕ → List (List ℕ) → List Reading → Type 0
@@ -60,7 +60,7 @@ abbrev pub SourcesAnswered : Standing → Standing → FileNames → List Lattic
     → Result Answer Stop → Type 0
 SourcesAnswered old new named lattices before marks number left names result =
     Answered old new (from_sources named names)
-    (λ inputs. OfSources named lattices before marks (IsEnd named inputs.report) number left (files_with names inputs.sources))
+    (λ inputs. OfSources named lattices before marks (IsEnd named inputs.saved) number left (files_with names inputs.sources))
     (SourcesGo named lattices before marks number left names) result
 
 -- behind the lattice file

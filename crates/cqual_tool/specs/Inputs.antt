@@ -3,14 +3,14 @@
 use Rattle.std.specs.Prelude.{ℕ, List, [], ◌∷◌, ◌++◌, map, Option, Some, None}
 use Rattle.outside.specs.Readings.{content_of}
 use Rattle.cqual_words.specs.Words.{Task, meaning_of}
-use Rattle.cqual_tool.specs.Words.{FileNames, names_of}
+use Rattle.cqual_tool.specs.Words.{FileNames, names_of, saved_in}
 
--- the bytes of each part; those of the sources in their order
+-- the bytes of each part, those of the sources in their order; saved is the report or the certificate that is checked
 pub record Inputs : Type 0 where
   pub lattice : List ℕ
   pub prelude : List ℕ
   pub sources : List (List ℕ)
-  pub report : List ℕ
+  pub saved : List ℕ
 
 -- a file, as its name and its bytes, where it is named
 abbrev pub one_file : Option (List ℕ) → List ℕ → List (List ℕ × List ℕ)
@@ -31,13 +31,13 @@ abbrev pub files_with : List (List ℕ) → List (List ℕ) → List (List ℕ �
 files_with [] contents = []
 files_with (name ∷ names) contents = (name, first_of contents) ∷ files_with names (behind_first contents)
 
--- The files that are named, in the order in which they are read: the report, those from some sources on, those from the prelude on,
+-- The files that are named, in the order in which they are read: the saved one, those from some sources on, those from the prelude on,
 -- and all.
-abbrev pub from_report : FileNames → Inputs → List (List ℕ × List ℕ)
-from_report named inputs = one_file named.report inputs.report
+abbrev pub from_saved : FileNames → Inputs → List (List ℕ × List ℕ)
+from_saved named inputs = one_file (saved_in named) inputs.saved
 
 abbrev pub from_sources : FileNames → List (List ℕ) → Inputs → List (List ℕ × List ℕ)
-from_sources named names inputs = files_with names inputs.sources ++ from_report named inputs
+from_sources named names inputs = files_with names inputs.sources ++ from_saved named inputs
 
 abbrev pub from_prelude : FileNames → Inputs → List (List ℕ × List ℕ)
 from_prelude named inputs = one_file named.prelude inputs.prelude ++ from_sources named named.sources inputs
@@ -63,12 +63,12 @@ content_named files None = []
 content_named files (Some name) = content_of files name
 
 abbrev pub inputs_of : List (List ℕ × List ℕ) → Option FileNames → Inputs
-inputs_of files None = record { lattice = []; prelude = []; sources = []; report = [] }
+inputs_of files None = record { lattice = []; prelude = []; sources = []; saved = [] }
 inputs_of files (Some named) = record {
   lattice = content_of files named.lattice;
   prelude = content_named files named.prelude;
   sources = map (content_of files) named.sources;
-  report = content_named files named.report;
+  saved = content_named files (saved_in named);
 }
 
 abbrev pub inputs_asked : List (List ℕ × List ℕ) → Option Task → Inputs

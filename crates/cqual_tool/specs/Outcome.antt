@@ -34,12 +34,18 @@ use Rattle.report_checks.specs.declared.judging.Checked.TheVariants.{Hold, Bad}
 use Rattle.report_checks.specs.declared.judging.Code.{Code}
 use Rattle.report_checks.specs.Checks.{ComesTo}
 use Rattle.report_checks.specs.Texts.{checked_text}
+use Rattle.certificate_laws.specs.declared.rule.CertRule.{CertRule}
+use Rattle.certificate_maker.specs.Certified.{IsCertificate}
+use Rattle.certificate_checks.specs.declared.judging.CertCode.{CertCode}
+use Rattle.certificate_checks.specs.declared.judging.Verdict.TheVariants.{Holds, Fails, Unread}
+use Rattle.certificate_checks.specs.Checks.{ComesTo as IsProof}
+use Rattle.certificate_checks.specs.Texts.{verdict_text}
 use Rattle.cqual_tool.specs.declared.status.Status.{Status}
-use Rattle.cqual_tool.specs.declared.status.Status.TheVariants.{Accepted, Rejected, PathsHold, PathBad, Malformed, BadWords, ReadFault, WriteFault, NoMemory}
-use Rattle.cqual_words.specs.Words.{Task, Generate, meaning_of}
+use Rattle.cqual_tool.specs.declared.status.Status.TheVariants.{Accepted, Rejected, PathsHold, PathBad, CertificateHolds, CertificateBad, Malformed, BadWords, ReadFault, WriteFault, NoMemory}
+use Rattle.cqual_words.specs.Words.{Question, Infer, Annotate, Check, Certify, Verify, Task, Generate, meaning_of}
 use Rattle.generated_source.specs.Source.{generated_text, lattice_text}
 use Rattle.generated_source.specs.Summary.{summary_text}
-use Rattle.cqual_tool.specs.Words.{FileNames, names_of}
+use Rattle.cqual_tool.specs.Words.{FileNames, names_of, saved_in}
 use Rattle.cqual_tool.specs.Inputs.{Inputs, asked, files_with}
 use Rattle.cqual_tool.specs.Texts.{usage_line, malformed_line}
 use Rattle.cqual_tool.specs.Faults.{lattice_line, lex_line}
@@ -48,7 +54,7 @@ use Rattle.cqual_tool.specs.Shapes.{shape_line}
 use Rattle.cqual_tool.specs.Preludes.{prelude_line}
 use Rattle.cqual_tool.specs.Programs.{Judging, judging_of, last_of, texts_of}
 
--- the most bytes that a lattice file, a prelude or a source, and a report may have
+-- the most bytes that a lattice file, a prelude or a source, and a saved report or certificate may have
 abbrev pub lattice_limit : ℕ
 lattice_limit = 1048576
 
@@ -59,8 +65,8 @@ source_limit = 16777216
 abbrev pub total_limit : ℕ
 total_limit = 67108864
 
-abbrev pub report_limit : ℕ
-report_limit = 268435456
+abbrev pub saved_limit : ℕ
+saved_limit = 268435456
 
 -- the bytes are within the limit and read as these lattices
 pub record LatticesRead (bytes : List ℕ) (lattices : List LatticeView) : Type 0 where
@@ -158,15 +164,16 @@ pub record AreCounted (named : FileNames) (lattices : List LatticeView) (marks :
   pub few_variables : length (judging_of named lattices marks units).scene.positions ≤ most_variables
   pub few_constraints : length (judging_of named lattices marks units).system.constraints ≤ most_constraints
 
--- the unit of which the annotated source is asked for: 1 is the one source
-abbrev pub annotated_unit : Bool → Option ℕ
-annotated_unit true = Some 1
-annotated_unit false = None
+-- The status and the whole text for the constraints of a program, with the annotated source of a unit, if one is asked for.
+pub data IsReport (annotated : Option ℕ) (it : Judging) : Status → List ℕ → Type 0 where
+  IsRight : (text : List ℕ) → IsJudgedWith it.scene it.system annotated true text → IsReport annotated it Accepted text
+  IsWrong : (text : List ℕ) → IsJudgedWith it.scene it.system annotated false text → IsReport annotated it Rejected text
 
--- The status and the whole text for the constraints of a program.
-pub data IsReport (named : FileNames) (it : Judging) : Status → List ℕ → Type 0 where
-  IsRight : (text : List ℕ) → IsJudgedWith it.scene it.system (annotated_unit named.annotated) true text → IsReport named it Accepted text
-  IsWrong : (text : List ℕ) → IsJudgedWith it.scene it.system (annotated_unit named.annotated) false text → IsReport named it Rejected text
+-- The status and the whole text where a certificate is asked for: that of an accepted program, or the report of one that is not.
+pub data IsCertified (it : Judging) : Status → List ℕ → Type 0 where
+  Certified : (text : List ℕ) → IsAccepted it.system (orders_of it.scene.lattices) →
+      IsCertificate it.system (orders_of it.scene.lattices) text → IsCertified it Accepted text
+  Uncertified : (text : List ℕ) → IsJudgedWith it.scene it.system None false text → IsCertified it Rejected text
 
 -- The status and the whole text for a report that is checked over the constraints of a program. Where its paths hold, the program
 -- is not accepted.
@@ -176,13 +183,40 @@ pub data IsChecked (it : Judging) (bytes : List ℕ) : Status → List ℕ → T
   Failing : (line : ℕ) (code : Code) → ComesTo it.system (orders_of it.scene.lattices) bytes (Bad line code) →
       IsChecked it bytes PathBad (checked_text (Bad line code))
 
--- The status and the whole text for a program within the limits, by what is asked of it, and by the bytes of the report.
-pub data IsEnd (named : FileNames) (report : List ℕ) (it : Judging) : Status → List ℕ → Type 0 where
-  Inferred : (status : Status) (text : List ℕ) → named.report ≡ None → IsReport named it status text → IsEnd named report it status text
-  ReportTooLarge : (file : List ℕ) → named.report ≡ Some file → report_limit < length report →
-      IsEnd named report it Malformed (malformed_line file (codes "F2"))
-  ReportChecked : (file : List ℕ) (status : Status) (text : List ℕ) → named.report ≡ Some file → length report ≤ report_limit →
-      IsChecked it report status text → IsEnd named report it status text
+-- The status and the whole text for a certificate that is checked over the constraints of a program. Where it holds, the program is
+-- accepted: who trusts that need know neither the rules nor the text of certificates.
+pub data IsVerified (it : Judging) (bytes : List ℕ) : Status → List ℕ → Type 0 where
+  Proving : IsProof it.system (orders_of it.scene.lattices) bytes Holds → IsAccepted it.system (orders_of it.scene.lattices) →
+      IsVerified it bytes CertificateHolds (verdict_text Holds)
+  Breaking : (lattice : ℕ) (rule : CertRule) → IsProof it.system (orders_of it.scene.lattices) bytes (Fails lattice rule) →
+      IsVerified it bytes CertificateBad (verdict_text (Fails lattice rule))
+  NoProof : (line : ℕ) (code : CertCode) → IsProof it.system (orders_of it.scene.lattices) bytes (Unread line code) →
+      IsVerified it bytes CertificateBad (verdict_text (Unread line code))
+
+-- The status and the whole text for a program, where no saved file is asked of; the one source is unit 1.
+abbrev pub IsAlone : Question → Judging → Status → List ℕ → Type 0
+IsAlone Infer it status text = IsReport None it status text
+IsAlone Annotate it status text = IsReport (Some 1) it status text
+IsAlone (Check file) it status text = ⊥
+IsAlone Certify it status text = IsCertified it status text
+IsAlone (Verify file) it status text = ⊥
+
+-- The status and the whole text for a program and the bytes of the saved report or certificate.
+abbrev pub IsOfSaved : Question → Judging → List ℕ → Status → List ℕ → Type 0
+IsOfSaved Infer it saved status text = ⊥
+IsOfSaved Annotate it saved status text = ⊥
+IsOfSaved (Check file) it saved status text = IsChecked it saved status text
+IsOfSaved Certify it saved status text = ⊥
+IsOfSaved (Verify file) it saved status text = IsVerified it saved status text
+
+-- The status and the whole text for a program within the limits, by what is asked of it, and by the bytes of the saved file.
+pub data IsEnd (named : FileNames) (saved : List ℕ) (it : Judging) : Status → List ℕ → Type 0 where
+  AnsweredAlone : (status : Status) (text : List ℕ) → saved_in named ≡ None → IsAlone named.asked it status text →
+      IsEnd named saved it status text
+  SavedTooLarge : (file : List ℕ) → saved_in named ≡ Some file → saved_limit < length saved →
+      IsEnd named saved it Malformed (malformed_line file (codes "F2"))
+  SavedJudged : (file : List ℕ) (status : Status) (text : List ℕ) → saved_in named ≡ Some file → length saved ≤ saved_limit →
+      IsOfSaved named.asked it saved status text → IsEnd named saved it status text
 
 -- The status and the whole text for sources, each its name and its bytes, behind lattices and units that were read: the first has this
 -- number, and so many bytes are left for all of them. `Ends` is what comes of their program.
@@ -207,7 +241,7 @@ pub data OfUnits (named : FileNames) (inputs : Inputs) (lattices : List LatticeV
   PreludeRefused : (file : List ℕ) (fault : PreludeFault) → named.prelude ≡ Some file → PreludeFails lattices inputs.prelude fault →
       OfUnits named inputs lattices Malformed (prelude_line file inputs.prelude fault)
   PreludeRead : (before : List UnitRead) (marks : List IndexMark) (status : Status) (text : List ℕ) → AreBefore named inputs lattices before marks →
-      OfSources named lattices before marks (IsEnd named inputs.report) 1 total_limit (sources_of named inputs) status text →
+      OfSources named lattices before marks (IsEnd named inputs.saved) 1 total_limit (sources_of named inputs) status text →
       OfUnits named inputs lattices status text
 
 -- The status and the whole text for files that are named, by the bytes of each.
@@ -219,7 +253,7 @@ pub data OfFiles (named : FileNames) (inputs : Inputs) : Status → List ℕ →
 
 -- the names of the files that the tool makes itself
 abbrev pub made_names : FileNames
-made_names = record { lattice = codes "generated.q"; prelude = None; annotated = false; report = None; sources = codes "generated.c" ∷ [] }
+made_names = record { lattice = codes "generated.q"; prelude = None; asked = Infer; sources = codes "generated.c" ∷ [] }
 
 abbrev pub sum_status : ℕ → Status
 sum_status zero = Accepted
@@ -269,6 +303,8 @@ IsAnswer Accepted = Unit {0}
 IsAnswer Rejected = Unit {0}
 IsAnswer PathsHold = Unit {0}
 IsAnswer PathBad = Unit {0}
+IsAnswer CertificateHolds = Unit {0}
+IsAnswer CertificateBad = Unit {0}
 IsAnswer Malformed = Unit {0}
 IsAnswer BadWords = Unit {0}
 IsAnswer ReadFault = ⊥
@@ -281,6 +317,8 @@ IsDecided Accepted = Unit {0}
 IsDecided Rejected = Unit {0}
 IsDecided PathsHold = Unit {0}
 IsDecided PathBad = Unit {0}
+IsDecided CertificateHolds = Unit {0}
+IsDecided CertificateBad = Unit {0}
 IsDecided Malformed = Unit {0}
 IsDecided BadWords = ⊥
 IsDecided ReadFault = ⊥
@@ -291,7 +329,7 @@ abbrev pub named_one : Option (List ℕ) → List (List ℕ)
 named_one None = []
 named_one (Some name) = name ∷ []
 
--- what was read before the prelude, before a source behind so many others, and before the report
+-- what was read before the prelude, before a source behind so many others, and before the saved file
 
 pub record LatticesAreRead (named : FileNames) (inputs : Inputs) : Type 0 where
   pub lattices : List LatticeView
@@ -316,7 +354,7 @@ pub record ProgramIsRead (named : FileNames) (inputs : Inputs) : Type 0 where
   pub parse : SourcesParse lattices 1 total_limit (sources_of named inputs) units
   pub counted : AreCounted named lattices marks (before ++ units)
 
--- The files that are started, in order, by their names: the lattice file, the prelude, the sources and the report, each only where
+-- The files that are started, in order, by their names: the lattice file, the prelude, the sources and the saved file, each only where
 -- those before it have read. Given are the bytes of the parts: all that give the readings.
 pub data Starts (named : FileNames) (Given : Inputs → Type 0) : List (List ℕ) → Type 0 where
   LatticeAlone : Starts named Given (named.lattice ∷ [])
@@ -324,7 +362,7 @@ pub data Starts (named : FileNames) (Given : Inputs → Type 0) : List (List ℕ
       Starts named Given (named.lattice ∷ file ∷ [])
   ThenSource : (count : ℕ) → count < length named.sources → ((inputs : Inputs) → Given inputs → SourcesAreRead named inputs count) →
       Starts named Given (named.lattice ∷ named_one named.prelude ++ take (suc count) named.sources)
-  ThenReport : (file : List ℕ) → named.report ≡ Some file → ((inputs : Inputs) → Given inputs → ProgramIsRead named inputs) →
+  ThenSaved : (file : List ℕ) → saved_in named ≡ Some file → ((inputs : Inputs) → Given inputs → ProgramIsRead named inputs) →
       Starts named Given (named.lattice ∷ named_one named.prelude ++ named.sources ++ file ∷ [])
 
 -- the files that a task starts: a source that the tool makes itself starts none

@@ -21,7 +21,7 @@ use Rattle.cqual_tool.specs.declared.preparing.Joined.TheVariants as joined
 use Rattle.cqual_tool.specs.declared.preparing.Ready.{Ready}
 use Rattle.cqual_tool.specs.declared.preparing.Prepared.{Prepared}
 use Rattle.cqual_tool.specs.declared.preparing.Prepared.TheVariants.{Refused, Program}
-use Rattle.cqual_tool.specs.Words.{FileNames}
+use Rattle.cqual_tool.specs.Words.{FileNames, saved_in}
 use Rattle.cqual_tool.specs.Inputs.{Inputs, files_with}
 use Rattle.cqual_tool.specs.Outcome.{AreBefore, AreCounted, SourceParses, SourceRefused, SourcesParse, UnitsRefused, named_one, sources_of, total_limit}
 
@@ -70,10 +70,10 @@ IsPrepared named lattices marks units (Refused answer) =
     (answer.status ≡ Malformed) × UnitsRefused named lattices marks units answer.text.items
 IsPrepared named lattices marks units (Program it) = IsReady named lattices marks units it
 
--- the files that are started behind the sources: the report, where one is to be checked
+-- the files that are started behind the sources: the saved one, where one is to be checked
 pub data EndStarts (named : FileNames) : List (List ℕ) → Type 0 where
-  NoReport : EndStarts named []
-  OneReport : (file : List ℕ) → named.report ≡ Some file → EndStarts named (file ∷ [])
+  NoneSaved : EndStarts named []
+  OneSaved : (file : List ℕ) → saved_in named ≡ Some file → EndStarts named (file ∷ [])
 
 -- what was read of some sources, and of all of them and of the units before them
 abbrev pub AreParsed : List LatticeView → ℕ → ℕ → List (List ℕ × List ℕ) → Type 0
@@ -90,11 +90,11 @@ pub data SourcesStart (named : FileNames) (lattices : List LatticeView) (before 
   SomeStart : (count : ℕ) → count < length names →
       ((inputs : Inputs) → Given inputs → AreParsed lattices number left (take count (files_with names inputs.sources))) →
       SourcesStart named lattices before marks number left names Given (take (suc count) names)
-  ReportBehind : (file : List ℕ) → named.report ≡ Some file →
+  SavedBehind : (file : List ℕ) → saved_in named ≡ Some file →
       ((inputs : Inputs) → Given inputs → AreRead named lattices before marks number left (files_with names inputs.sources)) →
       SourcesStart named lattices before marks number left names Given (names ++ file ∷ [])
 
--- what was read before a source behind so many others, and before the report
+-- what was read before a source behind so many others, and before the saved file
 pub record FirstAreRead (named : FileNames) (lattices : List LatticeView) (inputs : Inputs) (count : ℕ) : Type 0 where
   pub before : List UnitRead
   pub marks : List IndexMark
@@ -114,5 +114,5 @@ pub data UnitsStart (named : FileNames) (lattices : List LatticeView) (Given : I
   SourceToo : (count : ℕ) → count < length named.sources →
       ((inputs : Inputs) → Given inputs → FirstAreRead named lattices inputs count) →
       UnitsStart named lattices Given (named_one named.prelude ++ take (suc count) named.sources)
-  ReportToo : (file : List ℕ) → named.report ≡ Some file → ((inputs : Inputs) → Given inputs → AllAreRead named lattices inputs) →
+  SavedToo : (file : List ℕ) → saved_in named ≡ Some file → ((inputs : Inputs) → Given inputs → AllAreRead named lattices inputs) →
       UnitsStart named lattices Given (named_one named.prelude ++ named.sources ++ file ∷ [])

@@ -2,15 +2,19 @@
 use Rattle.std.specs.Prelude.{◌≡◌, ℕ, Bool, true, false, List}
 use Rattle.report_checks.specs.declared.judging.Checked.{Checked}
 use Rattle.report_checks.specs.declared.judging.Checked.TheVariants.{Hold, Bad}
+use Rattle.certificate_checks.specs.declared.judging.Verdict.{Verdict}
+use Rattle.certificate_checks.specs.declared.judging.Verdict.TheVariants.{Holds, Fails, Unread}
 use Rattle.cqual_tool.specs.declared.answer.Answer.{Answer}
 use Rattle.cqual_tool.specs.declared.status.Status.{Status}
-use Rattle.cqual_tool.specs.declared.status.Status.TheVariants.{Accepted, Rejected, PathsHold, PathBad, Malformed, BadWords, ReadFault, WriteFault, NoMemory}
+use Rattle.cqual_tool.specs.declared.status.Status.TheVariants.{Accepted, Rejected, PathsHold, PathBad, CertificateHolds, CertificateBad, Malformed, BadWords, ReadFault, WriteFault, NoMemory}
 
 abbrev pub exit_of : Status → ℕ
 exit_of Accepted = 0
 exit_of Rejected = 1
 exit_of PathsHold = 0
 exit_of PathBad = 1
+exit_of CertificateHolds = 0
+exit_of CertificateBad = 1
 exit_of Malformed = 2
 exit_of BadWords = 3
 exit_of ReadFault = 4
@@ -30,3 +34,9 @@ status_of false = Rejected
 abbrev pub checked_status : Checked → Status
 checked_status Hold = PathsHold
 checked_status (Bad line code) = PathBad
+
+-- of what a certificate comes to
+abbrev pub verdict_status : Verdict → Status
+verdict_status Holds = CertificateHolds
+verdict_status (Fails lattice rule) = CertificateBad
+verdict_status (Unread line code) = CertificateBad

@@ -46,11 +46,7 @@ fn answer_for<F: Files>(alloc: Global, asked: &Asked<'_>, files: &mut F) -> Resu
     ensures decided { IfOk result (λ answer. IsDecided answer.status) }
 {
     match asked {
-        Asked::Infer(names) => answer(alloc, &of_files(names, false, None), files),
-        Asked::Annotate(names) => answer(alloc, &of_files(names, true, None), files),
-        Asked::Check(names, report) => {
-            answer(alloc, &of_files(names, false, Some(*report)), files)
-        }
+        Asked::Ask(question, names) => answer(alloc, &of_files(names, *question), files),
         Asked::Generate(number) => Ok(made_answer(alloc, *number)?),
     }
 }

@@ -1,6 +1,6 @@
-//! What is asked of a program whose constraints are there: its report, or what another report comes to.
+//! What is asked of a program whose constraints are there: its report, its certificate, or what a saved one comes to.
 
-ghost use Rattle.std.specs.Prelude.{◌≡◌, ◌<◌, ◌-◌, ◌^◌, List, IfOk, length};
+ghost use Rattle.std.specs.Prelude.{◌≡◌, ◌<◌, ◌-◌, ◌^◌, ◌×◌, ℕ, List, None, Some, IfOk, length};
 ghost use Rattle.outside.specs.Readings.{stands};
 ghost use Rattle.lattice_core.specs.View.{orders_of};
 ghost use Rattle.index_words.specs.Marks.{IndexMark};
@@ -12,20 +12,23 @@ ghost use Rattle.flow_graph.specs.System.{IsWellOwned};
 ghost use Rattle.flow_graph.specs.Unfolding.{NamesElements};
 ghost use Rattle.annotate.specs.Scenes.{Shows};
 ghost use Rattle.annotate.specs.Solutions.{AllNamed};
-ghost use Rattle.cqual_tool.specs.Statuses.{status_of, checked_status};
-ghost use Rattle.cqual_tool.specs.Words.{names_in as files_in};
+ghost use Rattle.cqual_tool.specs.Statuses.{checked_status, status_of, verdict_status};
+ghost use Rattle.cqual_tool.specs.Words.{names_in as files_in, saved_in};
 ghost use Rattle.cqual_tool.specs.Programs.{Judging, judging_of};
-ghost use Rattle.cqual_tool.specs.Outcome as rules;
 ghost use Rattle.cqual_tool.specs.Answering.{EndAnswered};
-ghost use Rattle.cqual_tool.specs.Outcome.{IsChecked, IsDecided, IsReport};
+ghost use Rattle.cqual_tool.specs.Outcome.{IsAlone, IsCertified, IsChecked, IsDecided, IsOfSaved};
+ghost use Rattle.cqual_tool.specs.Outcome.{IsReport, IsVerified};
 ghost use Rattle.cqual_tool.specs.Preparing.{IsReady};
 
 use crate::answer::Answer;
 use crate::preparing::{Ready, texts};
 use crate::status::Status;
-use crate::taking::{REPORT_LIMIT, Stop, taken, too_large};
+use crate::taking::{SAVED_LIMIT, Stop, taken, too_large};
 use crate::words::Named;
 use annotate::{Judged, Scene, judge_with};
+use certificate_checks::{Verdict, judge_certificate, put_verdict};
+use certificate_maker::certified;
+use cqual_words::Question;
 use flow_graph::FlowGraph;
 use lattice_core::Lattices;
 use outside::Files;
@@ -49,48 +52,38 @@ fn reported(judged: Judged) -> Answer
     }
 }
 
-/// The unit of which the annotated source is asked for.
-fn annotated_unit(annotated: bool) -> Option<UnitNo>
-    ensures { result ≡ rules.annotated_unit annotated }
-{
-    if annotated {
-        Some(UnitNo::new(1))
-    } else {
-        None
-    }
-}
-
 /// The answer for constraints and what the reports name of them. Each lattice is solved once.
 fn report(
     alloc: Global,
-    named: &Named<'_>,
     scene: &Scene<'_>,
     graph: &FlowGraph,
+    annotated: Option<UnitNo>,
 ) -> Result<Answer, NoMemory>
     requires named { AllNamed scene.now.lattices.now graph.now }
     requires owned { IsWellOwned graph.now }
     ensures report { IfOk result (λ answer. (it : Judging) → Shows scene.now it.scene →
         it.system ≡ graph.now →
-        IsReport (files_in named.now) it answer.status answer.text.items) }
+        IsReport annotated it answer.status answer.text.items) }
     ensures decided { IfOk result (λ answer. IsDecided answer.status) }
 {
-    let judged = judge_with(alloc, scene, graph, annotated_unit(named.annotated))?;
+    let judged = judge_with(alloc, scene, graph, annotated)?;
     Ok(reported(judged))
 }
 
-/// The report of a program.
+/// The report of a program, with the annotated source of a unit, if it is asked for.
 fn inferred(
     alloc: Global,
     named: &Named<'_>,
     lattices: &Lattices,
     ready: &Ready<'_>,
+    annotated: Option<UnitNo>,
 ) -> Result<Answer, NoMemory>
     requires named { AllNamed lattices.now ready.now.made.graph }
     requires owned { IsWellOwned ready.now.made.graph }
     ensures report { (units : List UnitRead) (marks : List IndexMark) →
         ready.now.tokens.items ≡ lexed_of units → UnitsDiffer (sources_in units) →
         IsGenerated units (program_in lattices.now marks units) ready.now.made →
-        IfOk result (λ answer. IsReport (files_in named.now)
+        IfOk result (λ answer. IsReport annotated
         (judging_of (files_in named.now) lattices.now marks units)
         answer.status answer.text.items) }
     ensures decided { IfOk result (λ answer. IsDecided answer.status) }
@@ -102,7 +95,60 @@ fn inferred(
         vars: ready.made.skeletons.vars(),
         listed: &ready.made.listed,
     };
-    report(alloc, named, &scene, &ready.made.graph)
+    report(alloc, &scene, &ready.made.graph, annotated)
+}
+
+/// The certificate of a program, or its report where it is not accepted.
+fn certificate(
+    alloc: Global,
+    named: &Named<'_>,
+    lattices: &Lattices,
+    ready: &Ready<'_>,
+) -> Result<Answer, NoMemory>
+    requires named { AllNamed lattices.now ready.now.made.graph }
+    requires owned { IsWellOwned ready.now.made.graph }
+    requires elements { NamesElements ready.now.made.graph (orders_of lattices.now) }
+    ensures certified { (units : List UnitRead) (marks : List IndexMark) →
+        IsReady (files_in named.now) lattices.now marks units ready.now →
+        IfOk result (λ answer. IsCertified
+        (judging_of (files_in named.now) lattices.now marks units)
+        answer.status answer.text.items) }
+    ensures decided { IfOk result (λ answer. IsDecided answer.status) }
+{
+    match certified(alloc, &ready.made.graph, lattices)? {
+        Some(text) => Ok(Answer {
+            status: Status::Accepted,
+            text,
+        }),
+        None => inferred(alloc, named, lattices, ready, None),
+    }
+}
+
+/// The answer for a program, where no saved file is asked of: its report, or its certificate. The one source is unit 1.
+fn alone(
+    alloc: Global,
+    named: &Named<'_>,
+    lattices: &Lattices,
+    ready: &Ready<'_>,
+) -> Result<Answer, NoMemory>
+    requires none { saved_in (files_in named.now) ≡ None }
+    requires named { AllNamed lattices.now ready.now.made.graph }
+    requires owned { IsWellOwned ready.now.made.graph }
+    requires elements { NamesElements ready.now.made.graph (orders_of lattices.now) }
+    ensures alone { (units : List UnitRead) (marks : List IndexMark) →
+        IsReady (files_in named.now) lattices.now marks units ready.now →
+        IfOk result (λ answer. IsAlone (files_in named.now).asked
+        (judging_of (files_in named.now) lattices.now marks units)
+        answer.status answer.text.items) }
+    ensures decided { IfOk result (λ answer. IsDecided answer.status) }
+{
+    match named.asked {
+        Question::Annotate => inferred(alloc, named, lattices, ready, Some(UnitNo::new(1))),
+        Question::Certify => certificate(alloc, named, lattices, ready),
+        Question::Infer | Question::Check(_) | Question::Verify(_) => {
+            inferred(alloc, named, lattices, ready, None)
+        }
+    }
 }
 
 /// The status of what a report comes to.
@@ -138,7 +184,64 @@ fn checked(
     })
 }
 
-/// The answer for a program: its report, or what the report that is named comes to.
+/// The status of what a certificate comes to.
+fn status_of(verdict: Verdict) -> Status
+    ensures { result ≡ verdict_status verdict }
+{
+    match verdict {
+        Verdict::Holds => Status::CertificateHolds,
+        Verdict::Fails { .. } | Verdict::Unread { .. } => Status::CertificateBad,
+    }
+}
+
+/// The answer for the text of a certificate.
+fn verified(
+    alloc: Global,
+    lattices: &Lattices,
+    graph: &FlowGraph,
+    text: &[u8],
+) -> Result<Answer, NoMemory>
+    requires length { length text.now < 2 ^ 32 - 1 }
+    requires elements { NamesElements graph.now (orders_of lattices.now) }
+    ensures verified { IfOk result (λ answer. (it : Judging) → it.scene.lattices ≡ lattices.now →
+        it.system ≡ graph.now → IsVerified it text.now answer.status answer.text.items) }
+    ensures decided { IfOk result (λ answer. IsDecided answer.status) }
+{
+    let found = judge_certificate(alloc, graph, lattices, text)?;
+    let mut text = Vec::new(alloc);
+    put_verdict(&mut text, found)?;
+    Ok(Answer {
+        status: status_of(found),
+        text,
+    })
+}
+
+/// The answer for the text of the saved report or certificate that is asked of.
+fn of_saved(
+    alloc: Global,
+    named: &Named<'_>,
+    lattices: &Lattices,
+    graph: &FlowGraph,
+    text: &[u8],
+) -> Result<Answer, NoMemory>
+    requires some { (file : List ℕ) × (saved_in (files_in named.now) ≡ Some file) }
+    requires length { length text.now < 2 ^ 32 - 1 }
+    requires owned { IsWellOwned graph.now }
+    requires elements { NamesElements graph.now (orders_of lattices.now) }
+    ensures judged { IfOk result (λ answer. (it : Judging) → it.scene.lattices ≡ lattices.now →
+        it.system ≡ graph.now →
+        IsOfSaved (files_in named.now).asked it text.now answer.status answer.text.items) }
+    ensures decided { IfOk result (λ answer. IsDecided answer.status) }
+{
+    match named.asked {
+        Question::Verify(_) => verified(alloc, lattices, graph, text),
+        Question::Check(_) | Question::Infer | Question::Annotate | Question::Certify => {
+            checked(alloc, lattices, graph, text)
+        }
+    }
+}
+
+/// The answer for a program: its report or its certificate, or what the report or certificate that is named comes to.
 pub fn end<F: Files>(
     alloc: Global,
     named: &Named<'_>,
@@ -156,10 +259,10 @@ pub fn end<F: Files>(
         (judging_of (files_in named.now) lattices.now marks units) result }
     ensures decided { IfOk result (λ answer. IsDecided answer.status) }
 {
-    match named.report {
-        None => Ok(inferred(alloc, named, lattices, ready)?),
-        Some(file) => match taken(alloc, files, file, REPORT_LIMIT)? {
-            Some(text) => Ok(checked(alloc, lattices, &ready.made.graph, &text)?),
+    match named.saved() {
+        None => Ok(alone(alloc, named, lattices, ready)?),
+        Some(file) => match taken(alloc, files, file, SAVED_LIMIT)? {
+            Some(text) => Ok(of_saved(alloc, named, lattices, &ready.made.graph, &text)?),
             None => Ok(too_large(alloc, file)?),
         },
     }

@@ -1,4 +1,5 @@
-//! The tool as one call: reads a lattice file, a prelude and sources, decides, and writes a report; or checks the paths of one.
+//! The tool as one call: reads a lattice file, a prelude and sources, decides, and writes a report or a certificate; or checks a saved
+//! one.
 #![tactic(auto)]
 
 mod answer;

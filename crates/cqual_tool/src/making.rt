@@ -24,6 +24,7 @@ use crate::status::Status;
 use crate::taking::{SOURCE_LIMIT, too_large};
 use crate::words::Named;
 use annotate::{Scene, count_errors};
+use cqual_words::Question;
 use flow_graph::FlowGraph;
 use generated_source::{Counts, generated_source, lattice_bytes, put_summary};
 use lattice_core::Lattices;
@@ -45,8 +46,7 @@ fn made_names() -> Named<'static>
     Named {
         lattice: LATTICE,
         prelude: None,
-        annotated: false,
-        report: None,
+        asked: Question::Infer,
         sources: SOURCES,
     }
 }

@@ -6,7 +6,7 @@ ghost use Rattle.cqual_tool.specs.Statuses.{exit_of};
 /// What the tool answers.
 #[derive(Clone, Copy, PartialEq, Eq, Debug)]
 pub enum Status {
-    /// The program has an assignment at every call depth; the accepted report was written.
+    /// The program has an assignment at every call depth; the accepted report or the certificate was written.
     Accepted,
     /// It has none at some depth; the rejected report was written.
     Rejected,
@@ -14,6 +14,10 @@ pub enum Status {
     PathsHold,
     /// The report does not read, or a path proof of it fails.
     PathBad,
+    /// The certificate reads and obeys the rules, so the program is accepted.
+    CertificateHolds,
+    /// The certificate does not read, or breaks a rule.
+    CertificateBad,
     /// A file is past its limit or does not read, or the program has too many variables or constraints.
     Malformed,
     /// The words have no meaning.
@@ -36,6 +40,8 @@ impl Status {
             Status::Rejected => 1,
             Status::PathsHold => 0,
             Status::PathBad => 1,
+            Status::CertificateHolds => 0,
+            Status::CertificateBad => 1,
             Status::Malformed => 2,
             Status::BadWords => 3,
             Status::ReadFault => 4,

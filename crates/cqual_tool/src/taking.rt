@@ -21,8 +21,8 @@ pub const SOURCE_LIMIT: usize = 16_777_216;
 /// The most bytes that all sources together may have.
 pub const TOTAL_LIMIT: usize = 67_108_864;
 
-/// The most bytes that a report may have.
-pub const REPORT_LIMIT: usize = 268_435_456;
+/// The most bytes that a saved report or certificate may have.
+pub const SAVED_LIMIT: usize = 268_435_456;
 
 /// Why nothing is written.
 #[derive(Clone, Copy, PartialEq, Eq, Debug)]

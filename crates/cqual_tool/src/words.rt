@@ -6,29 +6,39 @@ ghost use Rattle.cqual_words.specs.Asked as asked;
 ghost use Rattle.cqual_tool.specs.Words as rules;
 ghost use Rattle.cqual_tool.specs.Words.{names_in};
 
-use cqual_words::FileWords;
+use cqual_words::{FileWords, Question};
 
-/// The files that the words name. Where a report is named, it is to be checked; where none is, the annotated source may be asked for.
+/// The files that the words name, and what is asked of their program.
 #[derive(Clone, Copy, Debug)]
 pub struct Named<'a> {
     pub lattice: &'a str,
     pub prelude: Option<&'a str>,
-    pub annotated: bool,
-    pub report: Option<&'a str>,
+    pub asked: Question<'a>,
     /// In their order.
     pub sources: &'a [&'a str],
 }
 
-/// The files of words, with what is to be written.
-pub fn of_files<'a>(files: &'a FileWords<'a>, annotated: bool, report: Option<&'a str>) -> Named<'a>
-    ensures { names_in result ≡ rules.of_files (asked.names_in files.now) annotated
-        (option_map (λ name. name.now) report.entry) }
+impl<'a> Named<'a> {
+    /// The file of the report or the certificate that is to be checked.
+    pub fn saved(&self) -> Option<&'a str>
+        ensures { option_map (λ name. name.now) result ≡ rules.saved_in (names_in self.now) }
+    {
+        match self.asked {
+            Question::Check(file) | Question::Verify(file) => Some(file),
+            Question::Infer | Question::Annotate | Question::Certify => None,
+        }
+    }
+}
+
+/// The files of words, with what is asked.
+pub fn of_files<'a>(files: &'a FileWords<'a>, asked: Question<'a>) -> Named<'a>
+    ensures { names_in result ≡ rules.of_files (asked.names_in files.now)
+        (asked.question_in asked.entry) }
 {
     Named {
         lattice: files.lattice,
         prelude: files.prelude,
-        annotated,
-        report,
+        asked,
         sources: files.sources.as_slice(),
     }
 }

@@ -18,7 +18,7 @@ use Rattle.cqual_tool.specs.declared.status.Status.TheVariants.{Malformed}
 use Rattle.cqual_tool.specs.Words.{FileNames, names_of}
 use Rattle.cqual_tool.specs.Inputs.{Inputs, files_with}
 use Rattle.cqual_tool.specs.Programs.{Judging, judging_of}
-use Rattle.cqual_tool.specs.Outcome.{source_limit, total_limit, annotated_unit, made_names, sources_of, sum_status, LatticesRead, PreludeFails, AreBefore, NoPrelude, OnePrelude, SourcesParse, IsReport, IsRight, IsWrong, IsChecked, Holding, Failing, IsEnd, Inferred, ReportTooLarge, ReportChecked, OfSources, NotParsed, NotCounted, SourcesRead, OfUnits, PreludeTooLarge, PreludeRefused, PreludeRead, OfFiles, LatticeTooLarge, LatticeRefused, LatticeRead, IsSummed, SummedUp, OfMade, MadeLatticesRefused, MadeRead, OfTask, OfProgram, OfGenerated, WithoutMeaning, WithMeaning}
+use Rattle.cqual_tool.specs.Outcome.{source_limit, total_limit, annotated_unit, made_names, sources_of, sum_status, LatticesRead, PreludeFails, AreBefore, NoPrelude, OnePrelude, SourcesParse, IsReport, IsRight, IsWrong, IsChecked, Holding, Failing, IsEnd, AnsweredAlone, SavedTooLarge, SavedJudged, OfSources, NotParsed, NotCounted, SourcesRead, OfUnits, PreludeTooLarge, PreludeRefused, PreludeRead, OfFiles, LatticeTooLarge, LatticeRefused, LatticeRead, IsSummed, SummedUp, OfMade, MadeLatticesRefused, MadeRead, OfTask, OfProgram, OfGenerated, WithoutMeaning, WithMeaning}
 use Rattle.outcome_laws.specs.Outcomes.{HasOneText, OneOutcome}
 use Rattle.outcome_laws.proofs.Lattices.{one_reading_of_lattices}
 use Rattle.outcome_laws.proofs.Judging.{one_judgement, one_error_count}
@@ -57,15 +57,15 @@ check_once it bytes _ _ _ _ (Failing line code h) (Failing other tag k) =
 
 module _ (named : FileNames) (report : List ℕ) (it : Judging) (are : AreLattices it.scene.lattices) where
   end_once : (s t : Status) (x y : List ℕ) → IsEnd named report it s x → IsEnd named report it t y → Same s t x y
-  end_once _ _ _ _ (Inferred s x none h) (Inferred t y none_too k) = report_once named it are s t x y h k
-  end_once _ _ _ _ (Inferred s x none h) (ReportTooLarge file some over) = absurd cc
-  end_once _ _ _ _ (Inferred s x none h) (ReportChecked file t y some within k) = absurd cc
-  end_once _ _ _ _ (ReportTooLarge file some over) (Inferred t y none k) = absurd cc
-  end_once _ _ _ _ (ReportTooLarge file some over) (ReportTooLarge other too above) = malformed _ _
-  end_once _ _ _ _ (ReportTooLarge file some over) (ReportChecked other t y too within k) = absurd (omega (arith, over, within))
-  end_once _ _ _ _ (ReportChecked file s x some within h) (Inferred t y none k) = absurd cc
-  end_once _ _ _ _ (ReportChecked file s x some within h) (ReportTooLarge other too over) = absurd (omega (arith, over, within))
-  end_once _ _ _ _ (ReportChecked file s x some within h) (ReportChecked other t y too fits k) = check_once it report s t x y h k
+  end_once _ _ _ _ (AnsweredAlone s x none h) (AnsweredAlone t y none_too k) = report_once named it are s t x y h k
+  end_once _ _ _ _ (AnsweredAlone s x none h) (SavedTooLarge file some over) = absurd cc
+  end_once _ _ _ _ (AnsweredAlone s x none h) (SavedJudged file t y some within k) = absurd cc
+  end_once _ _ _ _ (SavedTooLarge file some over) (AnsweredAlone t y none k) = absurd cc
+  end_once _ _ _ _ (SavedTooLarge file some over) (SavedTooLarge other too above) = malformed _ _
+  end_once _ _ _ _ (SavedTooLarge file some over) (SavedJudged other t y too within k) = absurd (omega (arith, over, within))
+  end_once _ _ _ _ (SavedJudged file s x some within h) (AnsweredAlone t y none k) = absurd cc
+  end_once _ _ _ _ (SavedJudged file s x some within h) (SavedTooLarge other too over) = absurd (omega (arith, over, within))
+  end_once _ _ _ _ (SavedJudged file s x some within h) (SavedJudged other t y too fits k) = check_once it report s t x y h k
 
 -- the sources
 
@@ -138,10 +138,10 @@ module _ (one_unit : OneUnitAtMost) (named : FileNames) (inputs : Inputs) (latti
       absurd (before_reads before marks name fault too fails reads)
   units_one _ _ _ _ (PreludeRead before marks s x reads h) (PreludeRead ahead said t y also k) =
       let same = before_once before ahead marks said reads also in
-      sources_one one_unit named lattices before (IsEnd named inputs.report) 1 total_limit (sources_of named inputs) marks said same.1
-      (λ units. end_once named inputs.report (judging_of named lattices marks units) are) s t x y h
+      sources_one one_unit named lattices before (IsEnd named inputs.saved) 1 total_limit (sources_of named inputs) marks said same.1
+      (λ units. end_once named inputs.saved (judging_of named lattices marks units) are) s t x y h
       (subst (λ (units : List UnitRead).
-      OfSources named lattices units said (IsEnd named inputs.report) 1 total_limit (sources_of named inputs) t y) (sym same.0) k)
+      OfSources named lattices units said (IsEnd named inputs.saved) 1 total_limit (sources_of named inputs) t y) (sym same.0) k)
 
 -- the lattices
 

@@ -1,0 +1,30 @@
+-- The line that says what a certificate comes to.
+use Rattle.std.specs.Prelude.{ℕ, List, [], ◌∷◌, ◌++◌, codes}
+use Rattle.std.specs.Fmt.{decimal}
+use Rattle.certificate_laws.specs.declared.rule.CertRule.{CertRule}
+use Rattle.certificate_laws.specs.declared.rule.CertRule.TheVariants.{A1, A2, A3, A4, A5, A6, A7, A8, A9}
+use Rattle.certificate_checks.specs.declared.judging.CertCode.{CertCode}
+use Rattle.certificate_checks.specs.declared.judging.CertCode.TheVariants.{V1, V2}
+use Rattle.certificate_checks.specs.declared.judging.Verdict.{Verdict}
+use Rattle.certificate_checks.specs.declared.judging.Verdict.TheVariants.{Holds, Fails, Unread}
+
+abbrev pub rule_text : CertRule → List ℕ
+rule_text A1 = codes "A1"
+rule_text A2 = codes "A2"
+rule_text A3 = codes "A3"
+rule_text A4 = codes "A4"
+rule_text A5 = codes "A5"
+rule_text A6 = codes "A6"
+rule_text A7 = codes "A7"
+rule_text A8 = codes "A8"
+rule_text A9 = codes "A9"
+
+abbrev pub code_text : CertCode → List ℕ
+code_text V1 = codes "V1"
+code_text V2 = codes "V2"
+
+-- with its line feed
+abbrev pub verdict_text : Verdict → List ℕ
+verdict_text Holds = codes "certificate holds" ++ 10 ∷ []
+verdict_text (Fails lattice rule) = codes "certificate bad in lattice " ++ decimal lattice ++ codes ": " ++ rule_text rule ++ 10 ∷ []
+verdict_text (Unread line code) = codes "certificate bad at line " ++ decimal line ++ codes ": " ++ code_text code ++ 10 ∷ []
