@@ -14,12 +14,12 @@ use Rattle.report_laws.specs.Scenes.{HasNoFeed, HasNoFeeds, TokensHaveNoFeed}
 use Rattle.report_laws.specs.Laws.{RejectedReadsBack}
 use Rattle.report_checks.specs.declared.judging.Checked.TheVariants.{Hold}
 use Rattle.report_checks.specs.Texts.{checked_text}
-use Rattle.cqual_words.specs.Words.{FileNames as Names, Task, Infer, Check, Generate}
+use Rattle.cqual_words.specs.Words.{FileNames as Names, Question, Infer, Annotate, Check, Certify, Verify, Task, Ask, Generate}
 use Rattle.cqual_tool.specs.declared.status.Status.TheVariants.{Rejected, PathsHold}
 use Rattle.cqual_tool.specs.Inputs.{Inputs}
 use Rattle.cqual_tool.specs.Words.{FileNames, of_files, names_of}
 use Rattle.cqual_tool.specs.Programs.{texts_of}
-use Rattle.cqual_tool.specs.Outcome.{AreBefore, NoPrelude, OnePrelude, NoSource, OneSource, SourcesParse, sources_of, total_limit, ProgramIsRead, AnsweredAlone, SavedJudged, IsWrong, Holding, saved_limit}
+use Rattle.cqual_tool.specs.Outcome.{AreBefore, NoPrelude, OnePrelude, NoSource, OneSource, SourcesParse, sources_of, total_limit, ProgramIsRead, AnsweredAlone, SavedJudged, IsAlone, IsOfSaved, IsChecked, IsVerified, IsWrong, Uncertified, Holding, saved_limit}
 use Rattle.cqual_tool.specs.Outcome.{SourcesRead, PreludeRead, OfFiles, LatticeRead, OfTask, OfProgram, OfGenerated, Outcome, WithMeaning}
 use Rattle.answer_laws.specs.Laws.{ProgramsAreOwned, RejectedIsChecked, FilesAreFree, judged}
 use Rattle.answer_laws.proofs.Owned.{built_sized, built_lattices}
@@ -62,47 +62,86 @@ tokens_free law named inputs it =
 
 -- the same names with a report that is to be checked
 abbrev with_saved : Names → List ℕ → FileNames
-with_saved names report = of_files names false (Some report)
+with_saved names report = of_files names (Check report)
 
-abbrev alone : Names → FileNames
-alone names = of_files names false None
-
-before_on : (names : Names) (report : List ℕ) (inputs : Inputs) (text : List ℕ) (lattices : List LatticeView) (before : List UnitRead)
-    (marks : List IndexMark) → AreBefore (alone names) inputs lattices before marks
-    → AreBefore (with_saved names report) (record inputs { report = text }) lattices before marks
-before_on names report inputs text lattices _ _ (NoPrelude none) = NoPrelude none
-before_on names report inputs text lattices _ _ (OnePrelude file unit marks is reads) = OnePrelude file unit marks is reads
+before_on : (names : Names) (question : Question) (report : List ℕ) (inputs : Inputs) (text : List ℕ) (lattices : List LatticeView) (before : List UnitRead)
+    (marks : List IndexMark) → AreBefore (of_files names question) inputs lattices before marks
+    → AreBefore (with_saved names report) (record inputs { saved = text }) lattices before marks
+before_on names question report inputs text lattices _ _ (NoPrelude none) = NoPrelude none
+before_on names question report inputs text lattices _ _ (OnePrelude file unit marks is reads) = OnePrelude file unit marks is reads
 
 module _ (owned : ProgramsAreOwned) (elements : ElementsAreNamed) (back : RejectedReadsBack) (free : TokensHaveNoFeed)
-    (names : Names) (report : List ℕ) (inputs : Inputs) (text : List ℕ) (few : length text ≤ saved_limit)
-    (files : (it : ProgramIsRead (alone names) inputs) → FilesAreFree (judged (alone names) inputs it).scene) where
-  of_report : (it : ProgramIsRead (alone names) inputs)
-      → IsRejectedReport (judged (alone names) inputs it).scene (judged (alone names) inputs it).system text
-      → OfFiles (with_saved names report) (record inputs { report = text }) PathsHold (checked_text Hold)
+    (question : Question) (names : Names) (report : List ℕ) (inputs : Inputs) (text : List ℕ) (few : length text ≤ saved_limit)
+    (files : (it : ProgramIsRead (of_files names question) inputs) → FilesAreFree (judged (of_files names question) inputs it).scene) where
+  of_report : (it : ProgramIsRead (of_files names question) inputs)
+      → IsRejectedReport (judged (of_files names question) inputs it).scene (judged (of_files names question) inputs it).system text
+      → OfFiles (with_saved names report) (record inputs { saved = text }) PathsHold (checked_text Hold)
   of_report it is =
       let p = program_in it.lattices it.marks (it.before ++ it.units) in
       let built = it.read.read.built in
-      let scene = (judged (alone names) inputs it).scene in
+      let scene = (judged (of_files names question) inputs it).scene in
       let feeds : HasNoFeeds scene = record {
         files = files it;
-        tokens = tokens_free free (alone names) inputs it;
+        tokens = tokens_free free (of_files names question) inputs it;
         names = names_free it.read.read.blocks inputs.lattice it.lattices it.read.read.text built;
       } in
-      let comes = (back scene (judged (alone names) inputs it).system text feeds (built_lattices it.read.read.blocks it.lattices built)
-      (elements p (built_sized it.read.read.blocks it.lattices built)) (owned (alone names) inputs it).0 it.counted.few_constraints
+      let comes = (back scene (judged (of_files names question) inputs it).system text feeds (built_lattices it.read.read.blocks it.lattices built)
+      (elements p (built_sized it.read.read.blocks it.lattices built)) (owned (of_files names question) inputs it).0 it.counted.few_constraints
       (omega arith) is).comes in
       LatticeRead it.lattices PathsHold (checked_text Hold) it.read
-      (PreludeRead it.before it.marks PathsHold (checked_text Hold) (before_on names report inputs text it.lattices it.before it.marks it.are)
+      (PreludeRead it.before it.marks PathsHold (checked_text Hold) (before_on names question report inputs text it.lattices it.before it.marks it.are)
       (SourcesRead it.units PathsHold (checked_text Hold) it.parse
       (record { shaped = it.counted.shaped; few_variables = it.counted.few_variables; few_constraints = it.counted.few_constraints })
       (SavedJudged report PathsHold (checked_text Hold) refl few (Holding comes is.rejected))))
 
-  of_files_wrong : OfFiles (alone names) inputs Rejected text
-      → OfFiles (with_saved names report) (record inputs { report = text }) PathsHold (checked_text Hold)
-  of_files_wrong (LatticeRead lattices _ _ read (PreludeRead before marks _ _ are (SourcesRead units _ _ parse counted (AnsweredAlone _ _ none (IsWrong _ (RejectedWith _ is)))))) =
-      of_report (record { lattices = lattices; read = read; before = before; marks = marks; are = are; units = units; parse = parse; counted = counted }) is
+  -- what is asked of files that are read and rejected is a report, with the annotated source or for a certificate too
+  of_end : (it : ProgramIsRead (of_files names question) inputs) (asked : Question)
+      → IsAlone asked (judged (of_files names question) inputs it) Rejected text
+      → IsRejectedReport (judged (of_files names question) inputs it).scene (judged (of_files names question) inputs it).system text
+  of_end it Infer (IsWrong _ (RejectedWith _ is)) = is
+  of_end it Annotate (IsWrong _ (RejectedWith _ is)) = is
+  of_end it Certify (Uncertified _ (RejectedWith _ is)) = is
+  of_end it (Check file) none = absurd none
+  of_end it (Verify file) none = absurd none
+
+  saved_not : (it : ProgramIsRead (of_files names question) inputs) (asked : Question)
+      → IsOfSaved asked (judged (of_files names question) inputs it) inputs.saved Rejected text → ⊥
+  saved_not it Infer is = is
+  saved_not it Annotate is = is
+  saved_not it Certify is = is
+  saved_not it (Check file) is = rejects is
+    where
+      rejects : IsChecked (judged (of_files names question) inputs it) inputs.saved Rejected text → ⊥
+      rejects ()
+  saved_not it (Verify file) is = rejects is
+    where
+      rejects : IsVerified (judged (of_files names question) inputs it) inputs.saved Rejected text → ⊥
+      rejects ()
+
+  of_files_wrong : OfFiles (of_files names question) inputs Rejected text
+      → OfFiles (with_saved names report) (record inputs { saved = text }) PathsHold (checked_text Hold)
+  of_files_wrong (LatticeRead lattices _ _ read (PreludeRead before marks _ _ are (SourcesRead units _ _ parse counted (AnsweredAlone _ _ none is)))) =
+      let it : ProgramIsRead (of_files names question) inputs = record {
+        lattices = lattices;
+        read = read;
+        before = before;
+        marks = marks;
+        are = are;
+        units = units;
+        parse = parse;
+        counted = counted;
+      } in of_report it (of_end it question is)
   of_files_wrong (LatticeRead lattices _ _ read (PreludeRead before marks _ _ are (SourcesRead units _ _ parse counted (SavedJudged file _ _ there short is)))) =
-      absurd cc
+      absurd (saved_not (record {
+        lattices = lattices;
+        read = read;
+        before = before;
+        marks = marks;
+        are = are;
+        units = units;
+        parse = parse;
+        counted = counted;
+      }) question is)
 
 some_task : {x y : Task} → Some x ≡ Some y → x ≡ y
 some_task e = cc
@@ -111,14 +150,14 @@ some_names : {x y : FileNames} → Some x ≡ Some y → x ≡ y
 some_names e = cc
 
 pub rejected_is_checked : ProgramsAreOwned → ElementsAreNamed → RejectedReadsBack → TokensHaveNoFeed → RejectedIsChecked
-rejected_is_checked owned elements back free words others names report inputs text means other files few (WithMeaning task _ _ is outcome) =
+rejected_is_checked owned elements back free words others question names report inputs text means other files few (WithMeaning task _ _ is outcome) =
     by (some_task (sym is ∙ means)) outcome
   where
-    by : task ≡ Infer names → OfTask inputs task Rejected text → Outcome others (record inputs { report = text }) PathsHold (checked_text Hold)
-    by same (OfGenerated number _ _ made _) = absurd (let not_so : Generate number ≡ Infer names = sym made ∙ same in cc)
+    by : task ≡ Ask question names → OfTask inputs task Rejected text → Outcome others (record inputs { saved = text }) PathsHold (checked_text Hold)
+    by same (OfGenerated number _ _ made _) = absurd (let not_so : Generate number ≡ Ask question names = sym made ∙ same in cc)
     by same (OfProgram named _ _ is_named read) =
-        let e : named ≡ of_files names false None = some_names (sym is_named ∙ ap names_of same) in
-        WithMeaning (Check names report) PathsHold (checked_text Hold) other
+        let e : named ≡ of_files names question = some_names (sym is_named ∙ ap names_of same) in
+        WithMeaning (Ask (Check report) names) PathsHold (checked_text Hold) other
         (OfProgram (with_saved names report) PathsHold (checked_text Hold) refl
-        (of_files_wrong owned elements back free names report inputs text few files
+        (of_files_wrong owned elements back free question names report inputs text few files
         (subst (λ (n : FileNames). OfFiles n inputs Rejected text) e read)))

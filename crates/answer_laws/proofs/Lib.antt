@@ -3,3 +3,4 @@ pub mod Owned
 pub mod Source
 pub mod Names
 pub mod Checked
+pub mod Certified

@@ -6,12 +6,12 @@ use Rattle.index_words.specs.Marks.{IndexMark}
 use Rattle.annotate.specs.Texts.{UnitText, line, unit_in}
 use Rattle.annotate.specs.Annotated.{CommentsComeOut, annotated_in}
 use Rattle.annotate.specs.Reports.{AcceptedWith, IsJudgedWith}
-use Rattle.cqual_words.specs.Words.{Task, Annotate, Generate}
+use Rattle.cqual_words.specs.Words.{Question, Annotate, Task, Ask, Generate}
 use Rattle.cqual_tool.specs.declared.status.Status.TheVariants.{Accepted}
 use Rattle.cqual_tool.specs.Inputs.{Inputs, files_with, first_of}
 use Rattle.cqual_tool.specs.Words.{FileNames, of_files, names_of}
 use Rattle.cqual_tool.specs.Programs.{text_of, texts_of}
-use Rattle.cqual_tool.specs.Outcome.{AreBefore, NoPrelude, OnePrelude, NoSource, OneSource, SourceParses, SourcesParse, total_limit, ProgramIsRead, annotated_unit, IsEnd, AnsweredAlone, SavedJudged, IsRight}
+use Rattle.cqual_tool.specs.Outcome.{AreBefore, NoPrelude, OnePrelude, NoSource, OneSource, SourceParses, SourcesParse, total_limit, ProgramIsRead, IsAlone, IsOfSaved, IsEnd, AnsweredAlone, SavedJudged, IsRight}
 use Rattle.cqual_tool.specs.Outcome.{SourcesRead, OfUnits, PreludeRead, OfFiles, LatticeRead, LatticesRead, OfTask, OfProgram, OfGenerated, WithMeaning}
 use Rattle.answer_laws.specs.Laws.{AnnotatedGivesTheSource, IsAnnotated, judged}
 use Rattle.answer_laws.proofs.Asking.{annotated_names_one}
@@ -44,15 +44,10 @@ the_unit named inputs it one =
     one_unit it.lattices 1 total_limit (file.0, first_of inputs.sources) it.units
     (subst (λ (files : List (List ℕ × List ℕ)). SourcesParse it.lattices 1 total_limit files it.units) file.1 it.parse)
 
-of_text : CommentsComeOut → (named : FileNames) (inputs : Inputs) (it : ProgramIsRead named inputs) (text : List ℕ)
-    → named.annotated ≡ true → length named.sources ≡ 1
-    → IsJudgedWith (judged named inputs it).scene (judged named inputs it).system (annotated_unit named.annotated) true text
-    → IsAnnotated named inputs text
-of_text law named inputs it text annotated one is = by (subst Judged annotated is)
+of_text : CommentsComeOut → (named : FileNames) (inputs : Inputs) (it : ProgramIsRead named inputs) (text : List ℕ) → length named.sources ≡ 1
+    → IsJudgedWith (judged named inputs it).scene (judged named inputs it).system (Some 1) true text → IsAnnotated named inputs text
+of_text law named inputs it text one is = by is
   where
-    Judged : Bool → Type 0
-    Judged b = IsJudgedWith (judged named inputs it).scene (judged named inputs it).system (annotated_unit b) true text
-
     source : (unit : UnitRead) × (it.units ≡ unit ∷ []) × SourceParses it.lattices 1 (first_of inputs.sources) unit
     source = the_unit named inputs it one
 
@@ -61,7 +56,7 @@ of_text law named inputs it text annotated one is = by (subst Judged annotated i
         ap (λ (units : List UnitRead). unit_in (texts_of named (lexed_of (it.before ++ units))) 1) source.1
         ∙ unit_is named inputs it.lattices it.before it.marks source.0 it.are source.2.lexes.unit
 
-    by : Judged true → IsAnnotated named inputs text
+    by : IsJudgedWith (judged named inputs it).scene (judged named inputs it).system (Some 1) true text → IsAnnotated named inputs text
     by (AcceptedWith _ report is spelled) = record {
       read = it;
       unit = source.0;
@@ -72,25 +67,33 @@ of_text law named inputs it text annotated one is = by (subst Judged annotated i
       source = law (judged named inputs it).scene source.0.lexed is.listings ∙ source.2.lexes.bytes_are;
     }
 
+of_alone : CommentsComeOut → (named : FileNames) (inputs : Inputs) (it : ProgramIsRead named inputs) (text : List ℕ) (asked : Question)
+    → asked ≡ Annotate → length named.sources ≡ 1 → IsAlone asked (judged named inputs it) Accepted text → IsAnnotated named inputs text
+of_alone law named inputs it text asked annotated one is =
+    by (subst (λ (q : Question). IsAlone q (judged named inputs it) Accepted text) annotated is)
+  where
+    by : IsAlone Annotate (judged named inputs it) Accepted text → IsAnnotated named inputs text
+    by (IsRight _ with_source) = of_text law named inputs it text one with_source
+
 of_end : CommentsComeOut → (named : FileNames) (inputs : Inputs) (it : ProgramIsRead named inputs) (text : List ℕ)
-    → named.annotated ≡ true → saved_in named ≡ None → length named.sources ≡ 1 → IsEnd named inputs.saved (judged named inputs it) Accepted text
+    → named.asked ≡ Annotate → length named.sources ≡ 1 → IsEnd named inputs.saved (judged named inputs it) Accepted text
     → IsAnnotated named inputs text
-of_end law named inputs it text annotated none one (SavedJudged file _ _ there few is) =
-    absurd (let no : None ≡ Some file = sym none ∙ there in cc)
-of_end law named inputs it text annotated none one (AnsweredAlone _ _ none_saved (IsRight _ is)) = of_text law named inputs it text annotated one is
+of_end law named inputs it text annotated one (SavedJudged file _ _ there few is) =
+    absurd (subst (λ (q : Question). IsOfSaved q (judged named inputs it) inputs.saved Accepted text) annotated is)
+of_end law named inputs it text annotated one (AnsweredAlone _ _ none is) = of_alone law named inputs it text named.asked annotated one is
 
 of_units : CommentsComeOut → (named : FileNames) (inputs : Inputs) (lattices : List LatticeView) → LatticesRead inputs.lattice lattices
-    → (text : List ℕ) → named.annotated ≡ true → saved_in named ≡ None → length named.sources ≡ 1 → OfUnits named inputs lattices Accepted text
+    → (text : List ℕ) → named.asked ≡ Annotate → length named.sources ≡ 1 → OfUnits named inputs lattices Accepted text
     → IsAnnotated named inputs text
-of_units law named inputs lattices read text annotated none one (PreludeRead before marks _ _ are (SourcesRead units _ _ parse counted end)) =
+of_units law named inputs lattices read text annotated one (PreludeRead before marks _ _ are (SourcesRead units _ _ parse counted end)) =
     of_end law named inputs
     (record { lattices = lattices; read = read; before = before; marks = marks; are = are; units = units; parse = parse; counted = counted })
-    text annotated none one end
+    text annotated one end
 
-of_files_read : CommentsComeOut → (named : FileNames) (inputs : Inputs) (text : List ℕ) → named.annotated ≡ true → saved_in named ≡ None
+of_files_read : CommentsComeOut → (named : FileNames) (inputs : Inputs) (text : List ℕ) → named.asked ≡ Annotate
     → length named.sources ≡ 1 → OfFiles named inputs Accepted text → IsAnnotated named inputs text
-of_files_read law named inputs text annotated none one (LatticeRead lattices _ _ read units) =
-    of_units law named inputs lattices read text annotated none one units
+of_files_read law named inputs text annotated one (LatticeRead lattices _ _ read units) =
+    of_units law named inputs lattices read text annotated one units
 
 some_task : {x y : Task} → Some x ≡ Some y → x ≡ y
 some_task e = cc
@@ -105,10 +108,10 @@ annotated_gives_the_source law words names inputs text means (WithMeaning task _
     one : length names.sources ≡ 1
     one = annotated_names_one words names means
 
-    by : task ≡ Annotate names → OfTask inputs task Accepted text → IsAnnotated (of_files names true None) inputs text
-    by same (OfGenerated number _ _ made _) = absurd (let no : Generate number ≡ Annotate names = sym made ∙ same in cc)
+    by : task ≡ Ask Annotate names → OfTask inputs task Accepted text → IsAnnotated (of_files names Annotate) inputs text
+    by same (OfGenerated number _ _ made _) = absurd (let no : Generate number ≡ Ask Annotate names = sym made ∙ same in cc)
     by same (OfProgram named _ _ is_named files) =
-        let e : named ≡ of_files names true None = some_names (sym is_named ∙ ap names_of same) in
+        let e : named ≡ of_files names Annotate = some_names (sym is_named ∙ ap names_of same) in
         subst (λ (n : FileNames). IsAnnotated n inputs text) e
-        (of_files_read law named inputs text (ap (λ (n : FileNames). n.annotated) e) (ap (λ (n : FileNames). n.report) e)
+        (of_files_read law named inputs text (ap (λ (n : FileNames). n.asked) e)
         (ap (λ (n : FileNames). length n.sources) e ∙ one) files)

@@ -1,8 +1,10 @@
 //! Laws of what is answered and written.
 
-ghost use Rattle.answer_laws.specs.Laws.{AnnotatedGivesTheSource, ProgramsAreOwned, RejectedIsChecked};
+ghost use Rattle.answer_laws.specs.Laws.{AnnotatedGivesTheSource, CertifiedIsVerified};
+ghost use Rattle.answer_laws.specs.Laws.{ProgramsAreOwned, RejectedIsChecked};
 
 use annotate::comments_come_out;
+use certificate_answers::written_holds;
 use element_laws::elements_are_named;
 use owned_laws::systems_are_owned;
 use report_laws::{rejected_reads_back, tokens_have_no_feed};
@@ -24,7 +26,7 @@ pub fn annotated_gives_the_source()
     comments_come_out();
 }
 
-/// A rejected report that is checked over the same files holds, where no name of a file has a line feed in it.
+/// A rejected report, whatever was asked, that is checked over the same files holds, where no name of a file has a line feed in it.
 pub fn rejected_is_checked()
     ensures { RejectedIsChecked }
 {
@@ -32,4 +34,12 @@ pub fn rejected_is_checked()
     elements_are_named();
     rejected_reads_back();
     tokens_have_no_feed();
+}
+
+/// The certificate of an accepted program that is checked over the same files holds.
+pub fn certified_is_verified()
+    ensures { CertifiedIsVerified }
+{
+    programs_are_owned();
+    written_holds();
 }

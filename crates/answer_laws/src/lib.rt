@@ -3,4 +3,6 @@
 
 mod laws;
 
-pub use laws::{annotated_gives_the_source, programs_are_owned, rejected_is_checked};
+pub use laws::{
+    annotated_gives_the_source, certified_is_verified, programs_are_owned, rejected_is_checked,
+};

@@ -1,33 +1,80 @@
 -- Programs that are judged, and reports that are checked.
-use Rattle.std.proofs.Common.{◌≡◌, ℕ, Bool, true, false, List, refl, sym, subst}
+use Rattle.std.proofs.Common.{◌≡◌, ℕ, Bool, true, false, List, Some, None, true≢false, refl, sym, ap, subst}
+use Rattle.std.specs.Prelude.{is_some}
 use Rattle.std.specs.declared.option.Option.{Option}
 use Rattle.lattice_core.specs.View.{LatticeView, orders_of}
 use Rattle.flow_graph.specs.System.{System}
 use Rattle.flow_graph.specs.Unfolding.{IsAccepted}
-use Rattle.annotate.specs.Reports.{IsJudgedWith}
+use Rattle.annotate.specs.Reports.{IsJudgedWith, AcceptedWith}
+use Rattle.certificate_checks.specs.declared.judging.Verdict.{Verdict}
+use Rattle.certificate_checks.specs.declared.judging.Verdict.TheVariants.{Holds, Fails, Unread}
+use Rattle.certificate_checks.specs.Checks.{ComesTo as IsProof}
+use Rattle.certificate_checks.specs.Texts.{verdict_text}
 use Rattle.report_checks.specs.declared.judging.Checked.{Checked}
 use Rattle.report_checks.specs.declared.judging.Checked.TheVariants.{Hold, Bad}
 use Rattle.report_checks.specs.Checks.{ComesTo}
 use Rattle.report_checks.specs.Texts.{checked_text}
+use Rattle.cqual_words.specs.Words.{Question, Infer, Annotate, Check, Certify, Verify}
 use Rattle.cqual_tool.specs.declared.status.Status.{Status}
-use Rattle.cqual_tool.specs.Statuses.{status_of, checked_status}
+use Rattle.cqual_tool.specs.declared.status.Status.TheVariants.{Accepted, Rejected}
+use Rattle.cqual_tool.specs.Statuses.{status_of, checked_status, verdict_status}
 use Rattle.cqual_tool.specs.Programs.{Judging}
-use Rattle.cqual_tool.specs.Words.{FileNames}
-use Rattle.cqual_tool.specs.Outcome.{annotated_unit, IsReport, IsRight, IsWrong, IsChecked, Holding, Failing, IsDecided}
+use Rattle.cqual_tool.specs.Words.{saved_of}
+use Rattle.cqual_tool.specs.Outcome.{IsReport, IsRight, IsWrong, IsCertified, Certified, Uncertified, IsChecked, Holding, Failing}
+use Rattle.cqual_tool.specs.Outcome.{IsVerified, Proving, Breaking, NoProof, IsAlone, IsOfSaved, IsDecided}
 use Rattle.cqual_tool.proofs.Outcomes.{at_equal}
 
-judged : (named : FileNames) (it : Judging) (accepted : Bool) (text : List ℕ)
-    → IsJudgedWith it.scene it.system (annotated_unit named.annotated) accepted text → IsReport named it (status_of accepted) text
-judged named it true text is = IsRight text is
-judged named it false text is = IsWrong text is
+judged : (unit : Option ℕ) (it : Judging) (accepted : Bool) (text : List ℕ)
+    → IsJudgedWith it.scene it.system unit accepted text → IsReport unit it (status_of accepted) text
+judged unit it true text is = IsRight text is
+judged unit it false text is = IsWrong text is
 
-pub judged_as : (named : FileNames) (it : Judging) (sys : System) (unit : Option ℕ) (accepted : Bool) (status : Status) (text words : List ℕ)
-    → it.system ≡ sys → unit ≡ annotated_unit named.annotated → status ≡ status_of accepted → text ≡ words
-    → IsJudgedWith it.scene sys unit accepted words → IsReport named it status text
-judged_as named it sys unit accepted status text words system which same spelled is =
-    at_equal (IsReport named it) status (status_of accepted) text words same spelled
-    (judged named it accepted words (subst (λ (u : Option ℕ). IsJudgedWith it.scene it.system u accepted words) which
-    (subst (λ (s : System). IsJudgedWith it.scene s unit accepted words) (sym system) is)))
+pub judged_as : (unit : Option ℕ) (it : Judging) (sys : System) (accepted : Bool) (status : Status) (text words : List ℕ)
+    → it.system ≡ sys → status ≡ status_of accepted → text ≡ words → IsJudgedWith it.scene sys unit accepted words → IsReport unit it status text
+judged_as unit it sys accepted status text words system same spelled is =
+    at_equal (IsReport unit it) status (status_of accepted) text words same spelled
+    (judged unit it accepted words (subst (λ (s : System). IsJudgedWith it.scene s unit accepted words) (sym system) is))
+
+-- the report of a program that is not accepted, where its certificate is asked for
+pub uncertified : (it : Judging) (status : Status) (text : List ℕ) → (IsAccepted it.system (orders_of it.scene.lattices) → ⊥)
+    → IsReport None it status text → IsCertified it status text
+uncertified it Accepted text never (IsRight text (AcceptedWith text report is spelled)) = absurd (never is.accepted)
+uncertified it Rejected text never (IsWrong text is) = Uncertified text is
+
+-- where no saved file is asked of, the report or the certificate is what is asked for
+pub alone_of : (asked : Question) (it : Judging) (status : Status) (text : List ℕ) → saved_of asked ≡ None → IsReport None it status text
+    → (asked ≡ Annotate → ⊥) → (asked ≡ Certify → ⊥) → IsAlone asked it status text
+alone_of Infer it status text none is not_one not_other = is
+alone_of Annotate it status text none is not_one not_other = absurd (not_one refl)
+alone_of (Check file) it status text none is not_one not_other = absurd (true≢false (ap is_some none))
+alone_of Certify it status text none is not_one not_other = absurd (not_other refl)
+alone_of (Verify file) it status text none is not_one not_other = absurd (true≢false (ap is_some none))
+
+-- where a saved file is asked of, and no certificate, it is a report
+pub of_report : (asked : Question) (file : List ℕ) (it : Judging) (saved : List ℕ) (status : Status) (text : List ℕ) → saved_of asked ≡ Some file
+    → ((other : List ℕ) → asked ≡ Verify other → ⊥) → IsChecked it saved status text → IsOfSaved asked it saved status text
+of_report Infer file it saved status text some never is = absurd (true≢false (sym (ap is_some some)))
+of_report Annotate file it saved status text some never is = absurd (true≢false (sym (ap is_some some)))
+of_report (Check other) file it saved status text some never is = is
+of_report Certify file it saved status text some never is = absurd (true≢false (sym (ap is_some some)))
+of_report (Verify other) file it saved status text some never is = absurd (never other refl)
+
+verified : (it : Judging) (bytes : List ℕ) (found : Verdict) → IsProof it.system (orders_of it.scene.lattices) bytes found
+    → (found ≡ Holds → IsAccepted it.system (orders_of it.scene.lattices)) → IsVerified it bytes (verdict_status found) (verdict_text found)
+verified it bytes Holds comes accepted = Proving comes (accepted refl)
+verified it bytes (Fails lattice rule) comes accepted = Breaking lattice rule comes
+verified it bytes (Unread line code) comes accepted = NoProof line code comes
+
+pub verified_as : (it : Judging) (lattices : List LatticeView) (sys : System) (bytes : List ℕ) (found : Verdict) (status : Status) (text : List ℕ)
+    → it.scene.lattices ≡ lattices → it.system ≡ sys → status ≡ verdict_status found → text ≡ verdict_text found
+    → IsProof sys (orders_of lattices) bytes found → (found ≡ Holds → IsAccepted sys (orders_of lattices)) → IsVerified it bytes status text
+verified_as it lattices sys bytes found status text same system says spelled comes accepted =
+    at_equal (IsVerified it bytes) status (verdict_status found) text (verdict_text found) says spelled
+    (verified it bytes found
+    (subst (λ (s : System). IsProof s (orders_of it.scene.lattices) bytes found) (sym system)
+    (subst (λ (ls : List LatticeView). IsProof sys (orders_of ls) bytes found) (sym same) comes))
+    (λ holds. subst (λ (s : System). IsAccepted s (orders_of it.scene.lattices)) (sym system)
+    (subst (λ (ls : List LatticeView). IsAccepted sys (orders_of ls)) (sym same) (accepted holds))))
 
 pub decided : (accepted : Bool) → IsDecided (status_of accepted)
 decided true = tt

@@ -145,6 +145,7 @@ fn alone(
     match named.asked {
         Question::Annotate => inferred(alloc, named, lattices, ready, Some(UnitNo::new(1))),
         Question::Certify => certificate(alloc, named, lattices, ready),
+        // (the last two are never asked here)
         Question::Infer | Question::Check(_) | Question::Verify(_) => {
             inferred(alloc, named, lattices, ready, None)
         }
@@ -235,6 +236,7 @@ fn of_saved(
 {
     match named.asked {
         Question::Verify(_) => verified(alloc, lattices, graph, text),
+        // (the last three are never asked here)
         Question::Check(_) | Question::Infer | Question::Annotate | Question::Certify => {
             checked(alloc, lattices, graph, text)
         }

@@ -1,5 +1,5 @@
 -- The outcome is one.
-use Rattle.std.proofs.Common.{◌≡◌, ℕ, ◌<◌, true, false, List, [], ◌∷◌, ◌++◌, length, Some, None, refl, sym, ◌∙◌, ap, subst, arith, zero, suc}
+use Rattle.std.proofs.Common.{◌≡◌, ℕ, ◌<◌, true, false, List, [], ◌∷◌, ◌++◌, length, Option, Some, None, refl, sym, ◌∙◌, ap, subst, arith, zero, suc}
 use Rattle.lattice_core.specs.Order.{IsLattice}
 use Rattle.lattice_core.specs.View.{LatticeView, AreLattices, orders_of}
 use Rattle.lattice_core.specs.Names.{words_of}
@@ -9,16 +9,24 @@ use Rattle.c_types.specs.Sources.{UnitRead}
 use Rattle.index_words.specs.Marks.{IndexMark}
 use Rattle.report_checks.specs.declared.judging.Checked.TheVariants.{Hold, Bad}
 use Rattle.report_checks.specs.Texts.{checked_text}
+use Rattle.annotate.specs.Reports.{IsJudgedWith, RejectedWith}
+use Rattle.flow_graph.specs.Unfolding.{IsAccepted}
+use Rattle.certificate_answers.specs.Laws.{OneCertificate, OneVerdict}
+use Rattle.certificate_checks.specs.declared.judging.Verdict.{Verdict}
+use Rattle.certificate_checks.specs.declared.judging.Verdict.TheVariants.{Holds, Fails, Unread}
+use Rattle.certificate_checks.specs.Checks.{ComesTo as IsProof}
+use Rattle.certificate_checks.specs.Texts.{verdict_text}
 use Rattle.generated_source.specs.Source.{generated_text, lattice_text}
 use Rattle.generated_source.specs.Summary.{summary_text}
-use Rattle.cqual_words.specs.Words.{Task, Generate}
+use Rattle.cqual_words.specs.Words.{Question, Infer, Annotate, Check, Certify, Verify, Task, Generate}
 use Rattle.cq_prelude.specs.declared.fault.PreludeFault.{PreludeFault}
 use Rattle.cqual_tool.specs.declared.status.Status.{Status}
 use Rattle.cqual_tool.specs.declared.status.Status.TheVariants.{Malformed}
+use Rattle.cqual_tool.specs.Statuses.{verdict_status}
 use Rattle.cqual_tool.specs.Words.{FileNames, names_of}
 use Rattle.cqual_tool.specs.Inputs.{Inputs, files_with}
 use Rattle.cqual_tool.specs.Programs.{Judging, judging_of}
-use Rattle.cqual_tool.specs.Outcome.{source_limit, total_limit, annotated_unit, made_names, sources_of, sum_status, LatticesRead, PreludeFails, AreBefore, NoPrelude, OnePrelude, SourcesParse, IsReport, IsRight, IsWrong, IsChecked, Holding, Failing, IsEnd, AnsweredAlone, SavedTooLarge, SavedJudged, OfSources, NotParsed, NotCounted, SourcesRead, OfUnits, PreludeTooLarge, PreludeRefused, PreludeRead, OfFiles, LatticeTooLarge, LatticeRefused, LatticeRead, IsSummed, SummedUp, OfMade, MadeLatticesRefused, MadeRead, OfTask, OfProgram, OfGenerated, WithoutMeaning, WithMeaning}
+use Rattle.cqual_tool.specs.Outcome.{source_limit, total_limit, made_names, sources_of, sum_status, LatticesRead, PreludeFails, AreBefore, NoPrelude, OnePrelude, SourcesParse, IsReport, IsRight, IsWrong, IsCertified, Certified, Uncertified, IsChecked, Holding, Failing, IsVerified, Proving, Breaking, NoProof, IsAlone, IsOfSaved, IsEnd, AnsweredAlone, SavedTooLarge, SavedJudged, OfSources, NotParsed, NotCounted, SourcesRead, OfUnits, PreludeTooLarge, PreludeRefused, PreludeRead, OfFiles, LatticeTooLarge, LatticeRefused, LatticeRead, IsSummed, SummedUp, OfMade, MadeLatticesRefused, MadeRead, OfTask, OfProgram, OfGenerated, WithoutMeaning, WithMeaning}
 use Rattle.outcome_laws.specs.Outcomes.{HasOneText, OneOutcome}
 use Rattle.outcome_laws.proofs.Lattices.{one_reading_of_lattices}
 use Rattle.outcome_laws.proofs.Judging.{one_judgement, one_error_count}
@@ -34,17 +42,32 @@ Same s t x y = (s ≡ t) × (HasOneText s → x ≡ y)
 malformed : (x y : List ℕ) → Same Malformed Malformed x y
 malformed x y = (refl, λ text. absurd text)
 
--- the report of what is inferred, and of a report that is checked
+-- the report of what is inferred
 
-module _ (named : FileNames) (it : Judging) (are : AreLattices it.scene.lattices) where
-  report_once : (s t : Status) (x y : List ℕ) → IsReport named it s x → IsReport named it t y → Same s t x y
+module _ (unit : Option ℕ) (it : Judging) (are : AreLattices it.scene.lattices) where
+  report_once : (s t : Status) (x y : List ℕ) → IsReport unit it s x → IsReport unit it t y → Same s t x y
   report_once _ _ _ _ (IsRight x h) (IsRight y k) =
-      (refl, λ text. (one_judgement it.scene it.system (annotated_unit named.annotated) are true x h).one_text refl y k)
+      (refl, λ text. (one_judgement it.scene it.system unit are true x h).one_text refl y k)
   report_once _ _ _ _ (IsRight x h) (IsWrong y k) =
-      let e = (one_judgement it.scene it.system (annotated_unit named.annotated) are true x h).only false y k in absurd cc
+      let e = (one_judgement it.scene it.system unit are true x h).only false y k in absurd cc
   report_once _ _ _ _ (IsWrong x h) (IsRight y k) =
-      let e = (one_judgement it.scene it.system (annotated_unit named.annotated) are false x h).only true y k in absurd cc
+      let e = (one_judgement it.scene it.system unit are false x h).only true y k in absurd cc
   report_once _ _ _ _ (IsWrong x h) (IsWrong y k) = (refl, λ text. absurd text)
+
+-- a program that is accepted has no report of one that is not
+never_both : (it : Judging) (text : List ℕ) → IsAccepted it.system (orders_of it.scene.lattices)
+    → IsJudgedWith it.scene it.system None false text → ⊥
+never_both it _ accepted (RejectedWith text is) = is.rejected accepted
+
+-- the certificate, or the report where there is none
+certified_once : OneCertificate → (it : Judging) (s t : Status) (x y : List ℕ) → IsCertified it s x → IsCertified it t y → Same s t x y
+certified_once law it _ _ _ _ (Certified x accepted h) (Certified y too k) =
+    (refl, λ text. law it.system (orders_of it.scene.lattices) x y h k)
+certified_once law it _ _ _ _ (Certified x accepted h) (Uncertified y k) = absurd (never_both it y accepted k)
+certified_once law it _ _ _ _ (Uncertified x h) (Certified y accepted k) = absurd (never_both it x accepted h)
+certified_once law it _ _ _ _ (Uncertified x h) (Uncertified y k) = (refl, λ text. absurd text)
+
+-- a saved report, and a saved certificate
 
 check_once : (it : Judging) (bytes : List ℕ) (s t : Status) (x y : List ℕ) → IsChecked it bytes s x → IsChecked it bytes t y → Same s t x y
 check_once it bytes _ _ _ _ (Holding h never) (Holding k no_more) = (refl, λ text. refl)
@@ -55,9 +78,47 @@ check_once it bytes _ _ _ _ (Failing line code h) (Holding k never) =
 check_once it bytes _ _ _ _ (Failing line code h) (Failing other tag k) =
     (refl, λ text. ap checked_text (one_check it.system (orders_of it.scene.lattices) bytes (Bad line code) (Bad other tag) h k))
 
-module _ (named : FileNames) (report : List ℕ) (it : Judging) (are : AreLattices it.scene.lattices) where
-  end_once : (s t : Status) (x y : List ℕ) → IsEnd named report it s x → IsEnd named report it t y → Same s t x y
-  end_once _ _ _ _ (AnsweredAlone s x none h) (AnsweredAlone t y none_too k) = report_once named it are s t x y h k
+-- what a verdict says
+abbrev verdict_said : Verdict → Status → List ℕ → Type 0
+verdict_said found s x = (s ≡ verdict_status found) × (x ≡ verdict_text found)
+
+verdict_of : (it : Judging) (bytes : List ℕ) (s : Status) (x : List ℕ) → IsVerified it bytes s x
+    → (found : Verdict) × IsProof it.system (orders_of it.scene.lattices) bytes found × verdict_said found s x
+verdict_of it bytes _ _ (Proving h accepted) = (Holds, h, refl, refl)
+verdict_of it bytes _ _ (Breaking lattice rule h) = (Fails lattice rule, h, refl, refl)
+verdict_of it bytes _ _ (NoProof line code h) = (Unread line code, h, refl, refl)
+
+verified_once : OneVerdict → (it : Judging) (bytes : List ℕ) (s t : Status) (x y : List ℕ) → IsVerified it bytes s x → IsVerified it bytes t y
+    → Same s t x y
+verified_once law it bytes s t x y h k =
+    let one = verdict_of it bytes s x h in
+    let other = verdict_of it bytes t y k in
+    let same = law it.system (orders_of it.scene.lattices) bytes one.0 other.0 one.1 other.1 in (
+      one.2.0 ∙ ap verdict_status same ∙ sym other.2.0,
+      λ text. one.2.1 ∙ ap verdict_text same ∙ sym other.2.1,
+    )
+
+module _ (one_certificate : OneCertificate) (one_verdict : OneVerdict) (it : Judging) (are : AreLattices it.scene.lattices) where
+  alone_once : (asked : Question) (s t : Status) (x y : List ℕ) → IsAlone asked it s x → IsAlone asked it t y → Same s t x y
+  alone_once Infer s t x y h k = report_once None it are s t x y h k
+  alone_once Annotate s t x y h k = report_once (Some 1) it are s t x y h k
+  alone_once (Check file) s t x y h k = absurd h
+  alone_once Certify s t x y h k = certified_once one_certificate it s t x y h k
+  alone_once (Verify file) s t x y h k = absurd h
+
+  saved_once : (asked : Question) (saved : List ℕ) (s t : Status) (x y : List ℕ) → IsOfSaved asked it saved s x → IsOfSaved asked it saved t y
+      → Same s t x y
+  saved_once Infer saved s t x y h k = absurd h
+  saved_once Annotate saved s t x y h k = absurd h
+  saved_once (Check file) saved s t x y h k = check_once it saved s t x y h k
+  saved_once Certify saved s t x y h k = absurd h
+  saved_once (Verify file) saved s t x y h k = verified_once one_verdict it saved s t x y h k
+
+module _ (one_certificate : OneCertificate) (one_verdict : OneVerdict) (named : FileNames) (saved : List ℕ) (it : Judging)
+    (are : AreLattices it.scene.lattices) where
+  end_once : (s t : Status) (x y : List ℕ) → IsEnd named saved it s x → IsEnd named saved it t y → Same s t x y
+  end_once _ _ _ _ (AnsweredAlone s x none h) (AnsweredAlone t y none_too k) =
+      alone_once one_certificate one_verdict it are named.asked s t x y h k
   end_once _ _ _ _ (AnsweredAlone s x none h) (SavedTooLarge file some over) = absurd cc
   end_once _ _ _ _ (AnsweredAlone s x none h) (SavedJudged file t y some within k) = absurd cc
   end_once _ _ _ _ (SavedTooLarge file some over) (AnsweredAlone t y none k) = absurd cc
@@ -65,7 +126,8 @@ module _ (named : FileNames) (report : List ℕ) (it : Judging) (are : AreLattic
   end_once _ _ _ _ (SavedTooLarge file some over) (SavedJudged other t y too within k) = absurd (omega (arith, over, within))
   end_once _ _ _ _ (SavedJudged file s x some within h) (AnsweredAlone t y none k) = absurd cc
   end_once _ _ _ _ (SavedJudged file s x some within h) (SavedTooLarge other too over) = absurd (omega (arith, over, within))
-  end_once _ _ _ _ (SavedJudged file s x some within h) (SavedJudged other t y too fits k) = check_once it report s t x y h k
+  end_once _ _ _ _ (SavedJudged file s x some within h) (SavedJudged other t y too fits k) =
+      saved_once one_certificate one_verdict it are named.asked saved s t x y h k
 
 -- the sources
 
@@ -101,7 +163,8 @@ module _ (one_unit : OneUnitAtMost) (named : FileNames) (lattices : List Lattice
       (subst (λ (j : Judging). Ends j t y)
       (sym (judged_same named lattices marks said (before ++ units) (before ++ others) same (behind units others parse also))) k)
 
-module _ (one_unit : OneUnitAtMost) (named : FileNames) (inputs : Inputs) (lattices : List LatticeView) (are : AreLattices lattices) where
+module _ (one_unit : OneUnitAtMost) (one_certificate : OneCertificate) (one_verdict : OneVerdict) (named : FileNames) (inputs : Inputs)
+    (lattices : List LatticeView) (are : AreLattices lattices) where
   -- the prelude
 
   before_once : (one other : List UnitRead) (marks said : List IndexMark) → AreBefore named inputs lattices one marks →
@@ -139,7 +202,7 @@ module _ (one_unit : OneUnitAtMost) (named : FileNames) (inputs : Inputs) (latti
   units_one _ _ _ _ (PreludeRead before marks s x reads h) (PreludeRead ahead said t y also k) =
       let same = before_once before ahead marks said reads also in
       sources_one one_unit named lattices before (IsEnd named inputs.saved) 1 total_limit (sources_of named inputs) marks said same.1
-      (λ units. end_once named inputs.saved (judging_of named lattices marks units) are) s t x y h
+      (λ units. end_once one_certificate one_verdict named inputs.saved (judging_of named lattices marks units) are) s t x y h
       (subst (λ (units : List UnitRead).
       OfSources named lattices units said (IsEnd named inputs.saved) 1 total_limit (sources_of named inputs) t y) (sym same.0) k)
 
@@ -156,7 +219,7 @@ built_lattices (b ∷ bs) (l ∷ ls) h (suc n) view there = built_lattices bs ls
 read_lattices : (bytes : List ℕ) (lattices : List LatticeView) → LatticesRead bytes lattices → AreLattices lattices
 read_lattices bytes lattices h = built_lattices h.read.blocks lattices h.read.built
 
-module _ (one_unit : OneUnitAtMost) where
+module _ (one_unit : OneUnitAtMost) (one_certificate : OneCertificate) (one_verdict : OneVerdict) where
   files_one : (named : FileNames) (inputs : Inputs) (s t : Status) (x y : List ℕ) → OfFiles named inputs s x → OfFiles named inputs t y → Same s t x y
   files_one named inputs _ _ _ _ (LatticeTooLarge over) (LatticeTooLarge above) = malformed _ _
   files_one named inputs _ _ _ _ (LatticeTooLarge over) (LatticeRefused fault fails) = malformed _ _
@@ -170,7 +233,7 @@ module _ (one_unit : OneUnitAtMost) where
       absurd ((one_reading_of_lattices inputs.lattice lattices read.read).sound fault fails.reason fails.refused)
   files_one named inputs _ _ _ _ (LatticeRead lattices s x read h) (LatticeRead others t y also k) =
       let same : lattices ≡ others = (one_reading_of_lattices inputs.lattice lattices read.read).only others also.read in
-      units_one one_unit named inputs lattices (read_lattices inputs.lattice lattices read) s t x y h
+      units_one one_unit one_certificate one_verdict named inputs lattices (read_lattices inputs.lattice lattices read) s t x y h
       (subst (λ (ls : List LatticeView). OfUnits named inputs ls t y) (sym same) k)
 
   -- a source that the tool makes itself
@@ -217,11 +280,11 @@ module _ (one_unit : OneUnitAtMost) where
       let same : number ≡ other = cc in
       made_one number s t x y h (subst (λ (n : ℕ). OfMade n t y) (sym same) k)
 
-pub one_outcome : OneUnitAtMost → OneOutcome
-one_outcome one_unit words inputs _ _ _ _ (WithoutMeaning none) (WithoutMeaning none_too) = (refl, λ text. refl)
-one_outcome one_unit words inputs _ _ _ _ (WithoutMeaning none) (WithMeaning task t y means k) = absurd cc
-one_outcome one_unit words inputs _ _ _ _ (WithMeaning task s x means h) (WithoutMeaning none) = absurd cc
-one_outcome one_unit words inputs _ _ _ _ (WithMeaning task s x means h) (WithMeaning other t y also k) =
+pub one_outcome : OneUnitAtMost → OneCertificate → OneVerdict → OneOutcome
+one_outcome one_unit one_certificate one_verdict words inputs _ _ _ _ (WithoutMeaning none) (WithoutMeaning none_too) = (refl, λ text. refl)
+one_outcome one_unit one_certificate one_verdict words inputs _ _ _ _ (WithoutMeaning none) (WithMeaning task t y means k) = absurd cc
+one_outcome one_unit one_certificate one_verdict words inputs _ _ _ _ (WithMeaning task s x means h) (WithoutMeaning none) = absurd cc
+one_outcome one_unit one_certificate one_verdict words inputs _ _ _ _ (WithMeaning task s x means h) (WithMeaning other t y also k) =
     let both : Some task ≡ Some other = sym means ∙ also in
     let same : task ≡ other = cc in
-    task_one one_unit inputs task s t x y h (subst (λ (it : Task). OfTask inputs it t y) (sym same) k)
+    task_one one_unit one_certificate one_verdict inputs task s t x y h (subst (λ (it : Task). OfTask inputs it t y) (sym same) k)

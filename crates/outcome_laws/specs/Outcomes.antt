@@ -1,7 +1,7 @@
 -- What the tool answers for words and files is one.
 use Rattle.std.specs.Prelude.{◌≡◌, ℕ, List}
 use Rattle.cqual_tool.specs.declared.status.Status.{Status}
-use Rattle.cqual_tool.specs.declared.status.Status.TheVariants.{Accepted, Rejected, PathsHold, PathBad, Malformed, BadWords, ReadFault, WriteFault, NoMemory}
+use Rattle.cqual_tool.specs.declared.status.Status.TheVariants.{Accepted, Rejected, PathsHold, PathBad, CertificateHolds, CertificateBad, Malformed, BadWords, ReadFault, WriteFault, NoMemory}
 use Rattle.cqual_tool.specs.Inputs.{Inputs}
 use Rattle.cqual_tool.specs.Outcome.{Outcome}
 
@@ -12,6 +12,8 @@ HasOneText Accepted = Unit {0}
 HasOneText Rejected = ⊥
 HasOneText PathsHold = Unit {0}
 HasOneText PathBad = Unit {0}
+HasOneText CertificateHolds = Unit {0}
+HasOneText CertificateBad = Unit {0}
 HasOneText Malformed = ⊥
 HasOneText BadWords = Unit {0}
 HasOneText ReadFault = ⊥

@@ -7,6 +7,7 @@ ghost use Rattle.outcome_laws.specs.Judgements.{OneJudgement, OneErrorCount, One
 ghost use Rattle.outcome_laws.specs.Outcomes.{OneOutcome};
 
 use c_reading::one_unit_at_most;
+use certificate_answers::{one_certificate, one_verdict};
 
 /// Bytes read as one list of lattices at most, and have no fault beside it.
 pub fn one_reading_of_lattices()
@@ -45,9 +46,11 @@ pub fn one_check()
     ensures { OneCheck }
 {}
 
-/// The words and the bytes of the files have one status, and one text where it is accepted, paths hold, path bad or bad words.
+/// The words and the bytes of the files have one status, and one text where it is neither rejected nor malformed.
 pub fn one_outcome()
     ensures { OneOutcome }
 {
     one_unit_at_most();
+    one_certificate();
+    one_verdict();
 }
