@@ -1,13 +1,11 @@
 """cqual-cc: runs the preprocessor and cqual, and prints what cqual says of the source."""
 
-import signal
-import sys
 import tempfile
 
 from .answers import answered
-from .options import USAGE, Stop, is_gcc_style, options_of
+from .options import USAGE, is_gcc_style, options_of
 from .running import Run
-from .version import version_text
+from .scripts import run_script
 
 
 def run_with(options):
@@ -24,21 +22,5 @@ def run_with(options):
 
 
 def main(words):
-    signal.signal(signal.SIGTERM, lambda *_: sys.exit(143))
     before = words[: words.index("--")] if "--" in words else words
-    if "--help" in before:
-        print(USAGE, end="")
-        return 0
-    if "--version" in before:
-        print(version_text("cqual-cc"), end="")
-        return 0
-    try:
-        return run_with(options_of(words))
-    except Stop as stop:
-        sys.stdout.flush()
-        print(f"cqual-cc: {stop.line}", file=sys.stderr)
-        return stop.status
-    except BrokenPipeError:
-        return 5
-    except KeyboardInterrupt:
-        return 130
+    return run_script("cqual-cc", USAGE, before, lambda: run_with(options_of(words)))

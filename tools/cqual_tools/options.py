@@ -3,6 +3,7 @@
 import os
 import sys
 from dataclasses import dataclass, field
+from typing import ClassVar
 
 USAGE = """usage: cqual-cc [OPTION]... -- [FLAG]... FILE.c
 
@@ -24,6 +25,8 @@ What is printed:
   --all              each error in full, also those of one cause (with --style=gcc)
   --annotate         the annotated source behind an accepted report (implies --style=plain)
   --check REPORT     checks the paths of a report (implies --style=plain)
+  --certify          the certificate of an accepted source, in place of its report (implies --style=plain)
+  --verify CERT      checks a certificate of the source (implies --style=plain)
 
 For make and CI:
   --baseline FILE    errors that the file lists are known: only others are printed, and make the run fail
@@ -39,10 +42,8 @@ defined as 1.
 Status: that of cqual; 3 where the words have no meaning, 8 where the preprocessor fails, 9 where a file or a program is not there.
 """
 
-VALUES = ("--lattice", "--prelude", "--model", "--include", "--check", "--style", "--color", "--baseline")
-SWITCHES = ("--annotate", "--fortify", "--no-fail", "--no-models", "--all", "--update-baseline")
-# options whose field has another name; one whose field is a list may stand more than once
-FIELDS = {"--prelude": "preludes", "--model": "models", "--include": "includes"}
+VALUES = ("--lattice", "--prelude", "--model", "--include", "--check", "--verify", "--style", "--color", "--baseline")
+SWITCHES = ("--annotate", "--certify", "--fortify", "--no-fail", "--no-models", "--all", "--update-baseline")
 CHOICES = {"--style": ("gcc", "plain"), "--color": ("auto", "always", "never")}
 
 # flags that say what is made: alone, with the next word, with the rest of the word
@@ -69,12 +70,16 @@ class Stop(Exception):
 
 @dataclass
 class Options:
+    # options whose field has another name; one whose field is a list may stand more than once
+    FIELDS: ClassVar[dict] = {"--prelude": "preludes", "--model": "models", "--include": "includes"}
+
     script: str = "cqual-cc"
     lattice: str = ""
     preludes: list = field(default_factory=list)
     models: list = field(default_factory=list)
     includes: list = field(default_factory=list)
     check: str = ""
+    verify: str = ""
     style: str = ""
     color: str = "auto"
     baseline: str = ""
@@ -94,11 +99,25 @@ def options_of(words):
         raise Stop(3, f"there is no option {others[0]}: cqual-cc --help lists them; the flags and the file stand behind --")
     take_flags(made, behind)
     check_baseline(made)
-    if made.check or made.has("--annotate"):
-        if made.style == "gcc" or made.baseline:
-            raise Stop(3, "--check and --annotate print what cqual prints: no --style=gcc and no --baseline")
-        made.style = "plain"
+    check_question(made)
     return made
+
+
+def question_of(made):
+    """The words of cqual that ask something else than the report."""
+    asked = [[name] for name in ("--annotate", "--certify") if made.has(name)]
+    return asked + [[name, file] for name, file in (("--check", made.check), ("--verify", made.verify)) if file]
+
+
+def check_question(made):
+    """What is asked is one thing, and what cqual answers to it is printed as it is."""
+    asked = question_of(made)
+    if len(asked) > 1:
+        raise Stop(3, f"{asked[0][0]} and {asked[1][0]}: one of both")
+    if asked:
+        if made.style == "gcc" or made.baseline:
+            raise Stop(3, f"{asked[0][0]} prints what cqual prints: no --style=gcc and no --baseline")
+        made.style = "plain"
 
 
 def take_options(made, words, values, switches):
@@ -132,7 +151,7 @@ def take_value(made, name, value):
         raise Stop(3, f"{name} wants a value")
     if name in CHOICES and value not in CHOICES[name]:
         raise Stop(3, f"{name} is one of {', '.join(CHOICES[name])}")
-    field_name = FIELDS.get(name, name[2:])
+    field_name = made.FIELDS.get(name, name[2:])
     if isinstance(getattr(made, field_name), list):
         getattr(made, field_name).append(value)
     elif name == "--lattice" and made.lattice:

@@ -15,8 +15,8 @@ from .linking import Answers, Linked, apart, refused_code, second_body
 from .options import Stop, is_gcc_style
 from .run_options import USAGE, cache_of, jobs_of, options_of
 from .running import Setting
-from .units import Maker, latin
-from .version import version_text
+from .scripts import run_script
+from .units import Maker
 from .wrapper import wrapped_environment
 
 
@@ -233,22 +233,11 @@ class Run:
             raise Stop(9, f"cannot write {path}: {fault.strerror}") from fault
 
 
+def run_with(words):
+    """The status of a run, with all that it prints."""
+    run = Run(options_of(words))
+    return run.print(run.linked())
+
+
 def main(words):
-    signal.signal(signal.SIGTERM, lambda *_: sys.exit(143))
-    if "--help" in words:
-        print(USAGE, end="")
-        return 0
-    if "--version" in words:
-        print(version_text("cqual-run"), end="")
-        return 0
-    try:
-        run = Run(options_of(words))
-        return run.print(run.linked())
-    except Stop as stop:
-        sys.stdout.flush()
-        say(stop.line)
-        return stop.status
-    except BrokenPipeError:
-        return 5
-    except KeyboardInterrupt:
-        return 130
+    return run_script("cqual-run", USAGE, words, lambda: run_with(words))

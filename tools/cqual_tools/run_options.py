@@ -2,8 +2,8 @@
 
 import os
 from dataclasses import dataclass, field
+from typing import ClassVar
 
-from . import options
 from .options import Options, Stop, check_baseline, take_options
 
 USAGE = """usage: cqual-run [OPTION]... [COMMANDS]
@@ -52,6 +52,8 @@ SWITCHES = ("--fortify", "--no-fail", "--no-models", "--all", "--update-baseline
 
 @dataclass
 class RunOptions(Options):
+    FIELDS: ClassVar[dict] = {**Options.FIELDS, "--program": "programs", "--without": "withouts"}
+
     script: str = "cqual-run"
     make: str = ""
     programs: list = field(default_factory=list)
@@ -60,9 +62,6 @@ class RunOptions(Options):
     cache: str = ""
     reports: str = ""
     commands: str = ""
-
-
-options.FIELDS.update({"--program": "programs", "--without": "withouts"})
 
 
 def split_jobs(words):

@@ -8,7 +8,7 @@ import subprocess
 
 from .diagnosis import Sources
 from .models import ModelError, replaced
-from .options import Stop
+from .options import Stop, question_of
 from .texts import Text
 from .version import INSTALLED, SHARE, TOP
 
@@ -156,18 +156,15 @@ class Run:
         source = os.path.join(self.room, os.path.basename(self.options.source))
         words = self.setting.words(self.room)
         write_file(source, self.text)
-        if self.options.has("--annotate"):
-            words.append("--annotate")
-        if self.options.check:
-            words += ["--check", self.options.check]
+        question = [word for asked in question_of(self.options) for word in asked]
         try:
-            ran = subprocess.run([*words, source], stdout=None if printing else subprocess.PIPE, check=False)
+            ran = subprocess.run([*words, *question, source], stdout=None if printing else subprocess.PIPE, check=False)
         except OSError as fault:
             raise Stop(9, f"cannot run {words[0]}: {fault.strerror}") from fault
         self.printed = (ran.stdout or b"").decode("latin-1")
         self.status = status_of(ran)
         if self.status not in (0, 1, 2):
-            raise Stop(self.status, reason_of(self.status, words[0], filter(None, (self.setting.lattice, source, self.options.check))))
+            raise Stop(self.status, reason_of(self.status, words[0], filter(None, (self.setting.lattice, source, self.options.check, self.options.verify))))
 
     def sources(self):
         """Where places of the report are looked for."""
