@@ -1,6 +1,6 @@
 //! What is asked of a program whose constraints are there: its report, its certificate, or what a saved one comes to.
 
-ghost use Rattle.std.specs.Prelude.{◌≡◌, ◌<◌, ◌-◌, ◌^◌, ◌×◌, ℕ, List, None, Some, IfOk, length};
+ghost use Rattle.std.specs.Prelude.{◌≡◌, ◌<◌, ◌-◌, ◌^◌, ℕ, List, None, Some, IfOk, length};
 ghost use Rattle.outside.specs.Readings.{stands};
 ghost use Rattle.lattice_core.specs.View.{orders_of};
 ghost use Rattle.index_words.specs.Marks.{IndexMark};
