@@ -20,7 +20,7 @@ use Rattle.cqual_words.specs.Tool.{plain_texts}
 
 -- ---- parts
 
--- the parts of a name: each part is there, and is the first of its name
+-- the part of a name: each part is found by its own
 abbrev pub first_named : Text → Option Part
 first_named name = find (λ b. bytes_eq (name_of b) name) parts
 
@@ -54,7 +54,7 @@ fails test a h = among parts (found a)
         go true e next = ap (λ t. t && list_all test bs) (ap test (same_Some b a e) ∙ h)
         go false e next = rw (next e) (and-false (test b))
 
--- an option or a flag, which stands once
+-- an option or a flag: what may stand once
 abbrev pub is_option : Part → Bool
 is_option (Valued key) = true
 is_option (Flagged flag) = true

@@ -61,12 +61,13 @@ pub data Part : Type 0 where
   Flagged : Flag → Part
   Source : Part
 
--- each part has a name of its own: that of its option, or `source`, which no word spells
+-- Each part has a name of its own. That of an option or a flag stands behind two hyphens, and no word spells `source`.
 abbrev pub name_of : Part → Text
 name_of (Valued key) = key_name key
 name_of (Flagged flag) = flag_name flag
 name_of Source = codes "source"
 
+-- all parts, in the order in which the reader of the command line is given them
 abbrev pub parts : List Part
 parts =
     Valued Lattice ∷ Valued Prelude ∷ Valued Report ∷ Valued Certificate ∷ Valued Number
@@ -101,7 +102,7 @@ behind_hyphens [] = None
 behind_hyphens (a ∷ []) = None
 behind_hyphens (a ∷ b ∷ more) = if a == 45 && b == 45 then Some more else None
 
--- a name behind two hyphens is that of an option or of a flag
+-- the name behind two hyphens is that of this option or flag
 abbrev pub spells : Text → Part → Bool
 spells name (Valued key) = bytes_eq (key_name key) name
 spells name (Flagged flag) = bytes_eq (flag_name flag) name
@@ -157,6 +158,7 @@ pieces_of words = pieces_from None words
 
 -- ---- what the pieces ask
 
+-- two parts are the same where they have one name
 abbrev pub is_part : Part → Part → Bool
 is_part a b = bytes_eq (name_of a) (name_of b)
 
@@ -171,7 +173,7 @@ abbrev pub has_meaning : Text → Bool
 has_meaning [] = false
 has_meaning (b ∷ more) = not (b == 45)
 
--- how often a part may stand: an option or a flag once, and at most 256 sources
+-- how often a part may stand: an option or a flag once, sources 256 times
 abbrev pub most_of : Part → ℕ
 most_of (Valued key) = 1
 most_of (Flagged flag) = 1
@@ -235,7 +237,7 @@ abbrev pub made_of : Text → Option Text → Option Question → List Text → 
 made_of n None (Some Infer) [] = option_map (λ number. Generate number) (number_of n)
 made_of n prelude question sources = None
 
--- by what is there of the lattice and of the number, which do not go together
+-- by what is there of the lattice, the prelude and the number: files are of a lattice, and a number has none
 abbrev pub task_with : Option Text → Option Text → Option Text → Option Question → List Text → Option Task
 task_with (Some l) p None question sources = asked_of (files_of l p sources) question
 task_with None p (Some n) question sources = made_of n p question sources
