@@ -1,8 +1,8 @@
 -- clap's matches and faults at the words, and their meaning.
 use Rattle.std.proofs.Common.{refl, sym, ap₂, subst, ◌≡◌, ◌≢◌, ◌∙◌, Bool, false, List, [], ◌∷◌, Option, Some, None, inl, inr}
 use Rattle.std.specs.Prelude.{codes, is_some}
-use Rattle.clap.specs.Values.{bool_text, kind_of}
-use Rattle.clap.specs.Matches.{first_value, one_text}
+use Rattle.clap.specs.Values.{kind_of}
+use Rattle.clap.specs.Matches.{first_value}
 use Rattle.clap.specs.Walk.{Row, rows_of, nothing_held, walk_from}
 use Rattle.clap.specs.Simple.{built, entered, matches_of}
 use Rattle.clap.specs.Faults.{entered_fault, fault_of, level_fault}
@@ -11,8 +11,8 @@ use Rattle.clap.specs.declared.error.Error.{Error}
 use Rattle.clap.specs.declared.error.kind.ErrorKind.TheVariants as kind
 use Rattle.clap.specs.declared.parser.matches.Found.{Found}
 use Rattle.clap.proofs.WalkLemmas.{first_value-rows, one_text-rows, raw_values-rows}
-use Rattle.cqual_words.specs.Words.{Text, meaning_of}
-use Rattle.cqual_words.specs.Tool.{asked_by, raw_of, tool}
+use Rattle.cqual_words.specs.Words.{Flag, Text, flag_name, meaning_of}
+use Rattle.cqual_words.specs.Tool.{HasFlags, asked_by, raw_of, tool}
 use Rattle.cqual_words.proofs.Rules.{shape}
 use Rattle.cqual_words.proofs.States.{Free}
 use Rattle.cqual_words.proofs.Steps.{Judged}
@@ -36,12 +36,17 @@ agrees words =
     subst (λ ks. Judged ks (matches_of tool words) (meaning_of words)) (sym same) (walks words [] Free (λ a other. refl))
 
 pub matches_right : (words : List Text) (f : Found) → fault_of tool words ≡ [] → rows_of f ≡ matches_of tool words
-    → (on : Bool) × (one_text f (codes "annotate") ≡ Some (bool_text on)) × (asked_by on (λ id. first_value f id) (raw_of f (codes "source")) ≡ meaning_of words)
+    → (stands : Flag → Bool) × HasFlags f stands
+    × (asked_by stands (λ id. first_value f id) (raw_of f (codes "source")) ≡ meaning_of words)
 matches_right words f fine rows =
     let judged : Judged [] (rows_of f) (meaning_of words) =
     subst (λ rs. Judged [] rs (meaning_of words)) (sym rows) (subst (λ ks. Judged ks (matches_of tool words) (meaning_of words)) fine
-    (agrees words)) in
-    (judged.0, one_text-rows f (codes "annotate") ∙ judged.1, (λ i. asked_by judged.0 (λ id. first_value-rows f id i) (raw_values-rows f (codes "source") i)) ∙ judged.2)
+    (agrees words)) in (
+      judged.0,
+      (λ flag. one_text-rows f (flag_name flag) ∙ judged.1 flag),
+      (λ i. asked_by judged.0 (λ id. first_value-rows f id i)
+          (raw_values-rows f (codes "source") i)) ∙ judged.2,
+    )
 
 pub refusal_right : (words : List Text) (e : Error) → HasKind (fault_of tool words) e → kind_of e ≢ kind.OutOfMemory
     → None ≡ meaning_of words

@@ -1,106 +1,154 @@
--- What the matches ask at the end of the words, where each option and the flag stand once.
-use Rattle.std.proofs.Common.{refl, sym, ap, ◌≡◌, ◌∙◌, ◌||◌, ◌==◌, ◌++◌, Bool, true, false, cond, List, [], ◌∷◌, Option, Some, None}
-use Rattle.std.proofs.Common.{true≢false, fold, is_some, option_map}
-use Rattle.std.specs.Prelude.{option_and_then, slice_get, codes}
-use Rattle.std.specs.List.{find}
+-- What the matches ask at the end of the words, where each option and each flag stands once.
+use Rattle.std.proofs.Common.{refl, sym, ap, ap₂, ◌≡◌, ◌∙◌, ◌&&◌, ◌||◌, ◌++◌, Bool, true, false, cond, map, List, [], ◌∷◌, Option}
+use Rattle.std.proofs.Common.{Some, None, true≢false, fold, is_some, option_map}
+use Rattle.std.specs.Prelude.{option_and_then, slice_get, codes, length, nat_le}
+use Rattle.std.specs.List.{find, list_all}
 use Rattle.std.specs.Str.{bytes_eq}
 use Rattle.clap.specs.Values.{bool_text, read_as}
-use Rattle.clap.specs.Walk.{Row, Rule, all_of, first_of, has_row, more_values, one_of, row_text, with_default, with_values}
+use Rattle.clap.specs.Walk.{Row, all_of, first_of, has_row, is_empty, more_values, one_of, row_text, with_default, with_values}
 use Rattle.clap.specs.Faults.{default_fault, defaults_fault, check_fault, given_default_fault}
 use Rattle.clap.specs.declared.parser.matches.ValueSource.{ValueSource}
 use Rattle.clap.specs.declared.parser.matches.ValueSource.TheVariants.{CommandLine, DefaultValue}
 use Rattle.clap.specs.declared.builder.value_parser.Reading.TheVariants.{AsWritten}
-use Rattle.cqual_words.specs.Words.{Part, Piece, Task, Text, Valued, Lattice, Prelude, Report, Number, Annotation, Source, Value, Flag}
-use Rattle.cqual_words.specs.Words.{Plain, at_most_once, part_of, place, sources_of, task_in, task_of_parts, text_of, texts_of}
-use Rattle.cqual_words.specs.Tool.{asked_by, flag_text, given, id_of, plain_texts}
-use Rattle.cqual_words.proofs.Pieces.{all_more, all_other, bind_none, first_by, first_in, first_joined, has_any, has_row_is, is_id}
-use Rattle.cqual_words.proofs.Pieces.{plain_are, rows_at, some_row, texts_are, with_piece}
+use Rattle.cqual_words.specs.Words.{Flag, Key, Part, Piece, Task, Text, Valued, Flagged, Source, Plain, Set, Value, are_fit, flag_name}
+use Rattle.cqual_words.specs.Words.{has_meaning, is_part, key_name, name_of, part_of, parts, stands_among, task_in, task_of_parts}
+use Rattle.cqual_words.specs.Words.{text_of, texts_of, value_among}
+use Rattle.cqual_words.specs.Tool.{asked_by, fits_part, is_fit, plain_texts, sources_of}
+use Rattle.cqual_words.proofs.Pieces.{all_more, all_other, fails, first_by, first_in, first_joined, found, is_id, joined, part_same}
+use Rattle.cqual_words.proofs.Pieces.{plain_are, rows_at, same_part, some_row, texts_are, with_piece}
 use Rattle.cqual_words.proofs.Rules.{all_rules, rule_for, shape}
 use Rattle.cqual_words.proofs.States.{OnceEach, is_once}
+
+-- the rows at the end: a flag that does not stand among the words gets the text `false`
+abbrev pub end_rows : List Row → List Row
+end_rows rows = fold with_default rows all_rules
+
+-- ---- no default is at fault
+
+fine_default : (rows : List Row) (a : Part) → default_fault rows (rule_for a) ≡ []
+fine_default rows a = go (has_row (rule_for a).id rows || is_empty (rule_for a).defaults)
+  where
+    fine : (b : Part) → given_default_fault (rule_for b) (rule_for b).defaults ≡ []
+    fine (Valued key) = refl
+    fine (Flagged flag) = refl
+    fine Source = refl
+
+    go : (b : Bool) → cond b [] (given_default_fault (rule_for a) (rule_for a).defaults) ≡ []
+    go true = refl
+    go false = fine a
+
+all_fine : (bs : List Part) (rows : List Row) → defaults_fault rows (map rule_for bs) ≡ []
+unfolding defaults_fault
+all_fine [] rows = refl
+all_fine (b ∷ bs) rows = rw (fine_default rows b) (all_fine bs (with_default rows (rule_for b)))
+
+pub defaults_fine : (rows : List Row) → defaults_fault rows all_rules ≡ []
+defaults_fine rows = all_fine parts rows
+
+pub check_fine : (rows : List Row) → check_fault shape rows false ≡ []
+check_fine rows = refl
+
+-- ---- the texts of a part at the end
+
+abbrev off_rows : Flag → List Row → List Row
+off_rows flag rows = with_values (flag_name flag) AsWritten DefaultValue (codes "false" ∷ []) rows
+
+-- the texts of a part, with the default of a flag
+abbrev with_off : Part → Option (List Text) → Option (List Text)
+with_off (Valued key) texts = texts
+with_off (Flagged flag) None = Some (codes "false" ∷ [])
+with_off (Flagged flag) (Some texts) = Some texts
+with_off Source texts = texts
+
+off_again : (a : Part) (texts : Option (List Text)) → with_off a (with_off a texts) ≡ with_off a texts
+off_again (Valued key) texts = refl
+off_again (Flagged flag) None = refl
+off_again (Flagged flag) (Some texts) = refl
+off_again Source texts = refl
 
 cond_same : {X : Type 0} (b : Bool) (x : X) → cond b x x ≡ x
 cond_same true x = refl
 cond_same false x = refl
 
--- the rows at the end
-abbrev pub end_rows : List Row → List Row
-end_rows rows = with_default rows (rule_for Annotation)
-
-pub finished_is : (rows : List Row) → fold with_default rows all_rules ≡ end_rows rows
-finished_is rows =
-    ap (λ rs. with_default (with_default (with_default (with_default (with_default rs (rule_for (Valued Prelude))) (rule_for
-    (Valued Report))) (rule_for (Valued Number)))
-    (rule_for Annotation)) (rule_for Source)) (cond_same (has_row (codes "lattice") rows) rows)
-    ∙ ap (λ rs. with_default (with_default (with_default (with_default rs (rule_for (Valued Report))) (rule_for (Valued Number)))
-    (rule_for Annotation)) (rule_for Source))
-    (cond_same (has_row (codes "prelude") rows) rows)
-    ∙ ap (λ rs. with_default (with_default (with_default rs (rule_for (Valued Number))) (rule_for Annotation)) (rule_for Source))
-    (cond_same (has_row (codes "check") rows) rows)
-    ∙ ap (λ rs. with_default (with_default rs (rule_for Annotation)) (rule_for Source)) (cond_same (has_row (codes "generate") rows) rows)
-    ∙ cond_same (has_row (codes "source") (end_rows rows)) (end_rows rows)
-
--- no default is at fault
-fine_default : (rows : List Row) (a : Rule) → given_default_fault a a.defaults ≡ [] → default_fault rows a ≡ []
-fine_default rows a h = go (has_row a.id rows || Rattle.clap.specs.Walk.is_empty a.defaults)
+-- the default of the part itself
+own_default : (a : Part) (rows : List Row)
+    → all_of (name_of a) (with_default rows (rule_for a)) ≡ with_off a (all_of (name_of a) rows)
+own_default (Valued key) rows = ap (all_of (key_name key)) (cond_same (has_row (key_name key) rows) rows)
+own_default Source rows = ap (all_of (codes "source")) (cond_same (has_row (codes "source") rows) rows)
+own_default (Flagged flag) rows = go (has_row (flag_name flag) rows) (all_of (flag_name flag) rows) (some_row (flag_name flag) rows)
+    (all_more (flag_name flag) DefaultValue (codes "false") rows (part_same (Flagged flag))) refl
   where
-    go : (b : Bool) → cond b [] (given_default_fault a a.defaults) ≡ []
-    go true = refl
-    go false = h
+    go : (b : Bool) (o : Option (List Text)) → b ≡ is_some o
+        → all_of (flag_name flag) (off_rows flag rows) ≡ Some (plain_texts o ++ codes "false" ∷ []) → all_of (flag_name flag) rows ≡ o
+        → all_of (flag_name flag) (cond b rows (off_rows flag rows)) ≡ with_off (Flagged flag) o
+    go true None e more is = absurd (true≢false e)
+    go true (Some texts) e more is = is
+    go false None e more is = more
+    go false (Some texts) e more is = absurd (true≢false (sym e))
 
-abbrev AllFine : List Rule → Type 0
-AllFine [] = Unit {0}
-AllFine (a ∷ rs) = (given_default_fault a a.defaults ≡ []) × AllFine rs
-
-all_fine : (rs : List Rule) (rows : List Row) → AllFine rs → defaults_fault rows rs ≡ []
-unfolding defaults_fault
-all_fine [] rows h = refl
-all_fine (a ∷ rs) rows h = rw (fine_default rows a h.0) (all_fine rs (with_default rows a) h.1)
-
-pub defaults_fine : (rows : List Row) → defaults_fault rows all_rules ≡ []
-defaults_fine rows = all_fine all_rules rows (refl, (refl, (refl, (refl, (refl, (refl, tt))))))
-
-pub check_fine : (rows : List Row) → check_fault shape rows false ≡ []
-check_fine rows = refl
-
--- ---- the flag, where it does not stand among the words
-
-abbrev off_rows : List Row → List Row
-off_rows rows = with_values (codes "annotate") AsWritten DefaultValue (codes "false" ∷ []) rows
-
--- the other parts keep their texts
-all_kept : (id : Text) (rows : List Row) → bytes_eq (codes "annotate") id ≡ false → all_of id (end_rows rows) ≡ all_of id rows
-all_kept id rows other = go (has_row (codes "annotate") rows)
+-- and that of another part
+other_default : (a b : Part) (rows : List Row) → is_part b a ≡ false
+    → all_of (name_of a) (with_default rows (rule_for b)) ≡ all_of (name_of a) rows
+other_default a (Valued key) rows other = ap (all_of (name_of a)) (cond_same (has_row (key_name key) rows) rows)
+other_default a Source rows other = ap (all_of (name_of a)) (cond_same (has_row (codes "source") rows) rows)
+other_default a (Flagged flag) rows other = go (has_row (flag_name flag) rows)
   where
-    go : (b : Bool) → all_of id (cond b rows (off_rows rows)) ≡ all_of id rows
+    go : (b : Bool) → all_of (name_of a) (cond b rows (off_rows flag rows)) ≡ all_of (name_of a) rows
     go true = refl
-    go false = all_other (codes "annotate") id DefaultValue (codes "false") rows other
+    go false = all_other (flag_name flag) (name_of a) DefaultValue (codes "false") rows other
 
-none_of : (o : Option (List Text)) → is_some o ≡ false → plain_texts o ≡ []
-none_of None h = refl
-none_of (Some ts) h = absurd (true≢false h)
+-- the defaults of some parts, by whether this part is among them
+texts_behind : (a : Part) (bs : List Part) (rows : List Row) → all_of (name_of a) (fold with_default rows (map rule_for bs))
+    ≡ cond (is_some (find (λ b. is_part b a) bs)) (with_off a (all_of (name_of a) rows)) (all_of (name_of a) rows)
+texts_behind a [] rows = refl
+texts_behind a (b ∷ bs) rows = texts_behind a bs (with_default rows (rule_for b)) ∙ go (is_part b a) refl
+  where
+    before : Option (List Text)
+    before = all_of (name_of a) rows
 
--- the flag stands as `true` where it was given
-flag_texts : (ps : List Piece) → has_any (texts_of Annotation ps) ≡ true → slice_get (texts_of Annotation ps) 0 ≡ Some (codes "true")
-flag_texts [] h = absurd (true≢false (sym h))
-flag_texts (Flag ∷ ps) h = refl
-flag_texts (Plain word ∷ ps) h = flag_texts ps h
-flag_texts (Value Lattice text ∷ ps) h = flag_texts ps h
-flag_texts (Value Prelude text ∷ ps) h = flag_texts ps h
-flag_texts (Value Report text ∷ ps) h = flag_texts ps h
-flag_texts (Value Number text ∷ ps) h = flag_texts ps h
+    after : Option (List Text)
+    after = all_of (name_of a) (with_default rows (rule_for b))
 
-part_first : (a : Part) (ps : List Piece) → first_of (id_of a) (rows_at ps) ≡ slice_get (texts_of a ps) 0
-part_first a ps = first_by (id_of a) (rows_at ps) ∙ ap first_in (texts_are a ps) ∙ first_joined (texts_of a ps)
+    own : is_part b a ≡ true → after ≡ with_off a before
+    own e = ap (λ c. all_of (name_of a) (with_default rows (rule_for c))) (same_part b a e) ∙ own_default a rows
 
-flag_first : (ps : List Piece) (on : Bool) → has_row (codes "annotate") (rows_at ps) ≡ on
-    → first_of (codes "annotate") (end_rows (rows_at ps)) ≡ Some (bool_text on)
-flag_first ps true h = ap (λ b. first_of (codes "annotate") (cond b (rows_at ps) (off_rows (rows_at ps)))) h
-    ∙ part_first Annotation ps ∙ flag_texts ps (sym (has_row_is Annotation ps) ∙ h)
-flag_first ps false h = ap (λ b. first_of (codes "annotate") (cond b (rows_at ps) (off_rows (rows_at ps)))) h
-    ∙ first_by (codes "annotate") (off_rows (rows_at ps))
-    ∙ ap first_in (all_more (codes "annotate") DefaultValue (codes "false") (rows_at ps) refl)
-    ∙ ap (λ ts. slice_get (ts ++ codes "false" ∷ []) 0)
-    (none_of (all_of (codes "annotate") (rows_at ps)) (sym (some_row (codes "annotate") (rows_at ps)) ∙ h))
+    twice_off : (c : Bool) → cond c (with_off a (with_off a before)) (with_off a before) ≡ with_off a before
+    twice_off true = off_again a before
+    twice_off false = refl
+
+    go : (t : Bool) → is_part b a ≡ t → cond (is_some (find (λ c. is_part c a) bs)) (with_off a after) after
+        ≡ cond (is_some (cond t (Some b) (find (λ c. is_part c a) bs))) (with_off a before) before
+    go true e = ap (λ o. cond (is_some (find (λ c. is_part c a) bs)) (with_off a o) o) (own e)
+        ∙ twice_off (is_some (find (λ c. is_part c a) bs))
+    go false e = ap (λ o. cond (is_some (find (λ c. is_part c a) bs)) (with_off a o) o) (other_default a b rows e)
+
+end_texts : (a : Part) (ps : List Piece) → all_of (name_of a) (end_rows (rows_at ps)) ≡ with_off a (joined None (texts_of a ps))
+end_texts a ps = texts_behind a parts (rows_at ps)
+    ∙ ap (λ o. cond (is_some o) (with_off a (all_of (name_of a) (rows_at ps))) (all_of (name_of a) (rows_at ps))) (found a)
+    ∙ ap (with_off a) (texts_are a ps)
+
+-- ---- a flag that stands has the text `true`
+
+abbrev is_flagged : Part → Bool
+is_flagged (Valued key) = false
+is_flagged (Flagged flag) = true
+is_flagged Source = false
+
+says_true : (p : Piece) (flag : Flag) → part_of p ≡ Flagged flag → text_of p ≡ codes "true"
+says_true (Set other) flag e = refl
+says_true (Value key text) flag e = absurd (true≢false (sym (ap is_flagged e)))
+says_true (Plain word) flag e = absurd (true≢false (sym (ap is_flagged e)))
+
+flag_texts : (flag : Flag) (ps : List Piece) → texts_of (Flagged flag) ps ≡ map (λ _. codes "true") (texts_of (Flagged flag) ps)
+flag_texts flag [] = refl
+flag_texts flag (p ∷ ps) = go (is_part (part_of p) (Flagged flag)) refl (flag_texts flag ps)
+  where
+    go : (b : Bool) → is_part (part_of p) (Flagged flag) ≡ b
+        → texts_of (Flagged flag) ps ≡ map (λ _. codes "true") (texts_of (Flagged flag) ps)
+        → cond b (text_of p ∷ texts_of (Flagged flag) ps) (texts_of (Flagged flag) ps)
+        ≡ map (λ _. codes "true") (cond b (text_of p ∷ texts_of (Flagged flag) ps) (texts_of (Flagged flag) ps))
+    go true e next = ap₂ (λ t ts. t ∷ ts) (says_true p flag (same_part (part_of p) (Flagged flag) e)) next
+    go false e next = next
 
 -- ---- each text reads as it was written
 
@@ -121,14 +169,28 @@ values_written id s t (r ∷ rows) all = go (bytes_eq r.id id) (values_written i
 pieces_written : (ps : List Piece) (rows : List Row) → AreWritten rows → AreWritten (fold with_piece rows ps)
 pieces_written [] rows all = all
 pieces_written (p ∷ ps) rows all =
-    pieces_written ps (with_piece rows p) (values_written (id_of (part_of p)) CommandLine (text_of p) rows all)
+    pieces_written ps (with_piece rows p) (values_written (name_of (part_of p)) CommandLine (text_of p) rows all)
 
-end_written : (rows : List Row) → AreWritten rows → AreWritten (end_rows rows)
-end_written rows all = go (has_row (codes "annotate") rows)
+default_written : (a : Part) (rows : List Row) → AreWritten rows → AreWritten (with_default rows (rule_for a))
+default_written (Valued key) rows all = go (has_row (key_name key) rows)
   where
-    go : (b : Bool) → AreWritten (cond b rows (off_rows rows))
+    go : (b : Bool) → AreWritten (cond b rows rows)
     go true = all
-    go false = values_written (codes "annotate") DefaultValue (codes "false") rows all
+    go false = all
+default_written (Flagged flag) rows all = go (has_row (flag_name flag) rows)
+  where
+    go : (b : Bool) → AreWritten (cond b rows (off_rows flag rows))
+    go true = all
+    go false = values_written (flag_name flag) DefaultValue (codes "false") rows all
+default_written Source rows all = go (has_row (codes "source") rows)
+  where
+    go : (b : Bool) → AreWritten (cond b rows rows)
+    go true = all
+    go false = all
+
+end_written : (bs : List Part) (rows : List Row) → AreWritten rows → AreWritten (fold with_default rows (map rule_for bs))
+end_written [] rows all = all
+end_written (b ∷ bs) rows all = end_written bs (with_default rows (rule_for b)) (default_written b rows all)
 
 row_written : (r : Row) → r.reading ≡ AsWritten → row_text r ≡ slice_get r.values 0
 row_written r e = ap (λ how. option_map (read_as how) (slice_get r.values 0)) e ∙ go (slice_get r.values 0)
@@ -147,68 +209,83 @@ one_written id (r ∷ rows) all = go (bytes_eq r.id id) (one_written id rows all
     go true e = row_written r all.0
     go false e = e
 
-pub flag_reads : (ps : List Piece) (on : Bool) → has_row (codes "annotate") (rows_at ps) ≡ on
-    → one_of (codes "annotate") (end_rows (rows_at ps)) ≡ Some (bool_text on)
-flag_reads ps on h =
-    one_written (codes "annotate") (end_rows (rows_at ps)) (end_written (rows_at ps) (pieces_written ps [] tt)) ∙ flag_first ps on h
+-- ---- what the matches say of each part
 
--- ---- the parts
+-- of a flag, whether it stands
+pub flag_reads : (ps : List Piece) (flag : Flag)
+    → one_of (flag_name flag) (end_rows (rows_at ps)) ≡ Some (bool_text (stands_among ps flag))
+flag_reads ps flag =
+    one_written (flag_name flag) (end_rows (rows_at ps)) (end_written parts (rows_at ps) (pieces_written ps [] tt))
+    ∙ first_by (flag_name flag) (end_rows (rows_at ps)) ∙ ap first_in (end_texts (Flagged flag) ps)
+    ∙ go (texts_of (Flagged flag) ps) (flag_texts flag ps)
+  where
+    go : (ts : List Text) → ts ≡ map (λ _. codes "true") ts
+        → first_in (with_off (Flagged flag) (joined None ts)) ≡ Some (bool_text (is_some (slice_get ts 0)))
+    go [] e = refl
+    go (t ∷ ts) e = ap (λ xs. slice_get xs 0) e
 
-given_is : (ts : List Text) → is_once ts ≡ true → given (slice_get ts 0) ≡ at_most_once ts
-given_is [] h = refl
-given_is (t ∷ []) h = refl
-given_is (t ∷ s ∷ ts) h = absurd (true≢false (sym h))
-
-part_given : (a : Part) (ps : List Piece) → OnceEach ps → (place a == 5) ≡ false → bytes_eq (codes "annotate") (id_of a) ≡ false
-    → given (first_of (id_of a) (end_rows (rows_at ps))) ≡ at_most_once (texts_of a ps)
-part_given a ps once part other = ap given (first_by (id_of a) (end_rows (rows_at ps))
-    ∙ ap first_in (all_kept (id_of a) (rows_at ps) other ∙ texts_are a ps) ∙ first_joined (texts_of a ps))
-    ∙ given_is (texts_of a ps) (once a part)
-
-no_flag : (ts : List Text) → has_any ts ≡ false → Some None ≡ at_most_once ts
-no_flag [] h = refl
-no_flag (t ∷ ts) h = absurd (true≢false h)
-
-flag_given : (ps : List Piece) (on : Bool) → OnceEach ps → has_row (codes "annotate") (rows_at ps) ≡ on
-    → Some (flag_text on) ≡ at_most_once (texts_of Annotation ps)
-flag_given ps true once h = ap given (sym (flag_texts ps (sym (has_row_is Annotation ps) ∙ h)))
-    ∙ given_is (texts_of Annotation ps) (once Annotation refl)
-flag_given ps false once h = no_flag (texts_of Annotation ps) (sym (has_row_is Annotation ps) ∙ h)
+-- of an option, its first value
+value_is : (ps : List Piece) (key : Key) → first_of (key_name key) (end_rows (rows_at ps)) ≡ value_among ps key
+value_is ps key = first_by (key_name key) (end_rows (rows_at ps)) ∙ ap first_in (end_texts (Valued key) ps)
+    ∙ first_joined (texts_of (Valued key) ps)
 
 sources_given : (ps : List Piece) → plain_texts (all_of (codes "source") (end_rows (rows_at ps))) ≡ texts_of Source ps
-sources_given ps = ap plain_texts (all_kept (codes "source") (rows_at ps) refl) ∙ plain_are ps
+sources_given ps = ap plain_texts (end_texts Source ps ∙ sym (texts_are Source ps)) ∙ plain_are ps
 
--- the parts together, the sources first or last
-abbrev with_sources : Option (Option Text) → Option (Option Text) → Option (Option Text) → Option (Option Text) → Option (Option Text)
-    → List Text → Option Task
-with_sources l p r n on sources = option_and_then (λ l. option_and_then (λ p. option_and_then (λ r. option_and_then (λ n.
-    option_and_then (λ on. task_of_parts l p r n on sources) on) n) r) p) l
+-- ---- the parts together
 
-abbrev sources_first : Option (Option Text) → Option (Option Text) → Option (Option Text) → Option (Option Text) → Option (Option Text)
-    → Option (List Text) → Option Task
-sources_first l p r n on sources = option_and_then (with_sources l p r n on) sources
+-- the texts of options and flags are fit
+abbrev options_fit : List Piece → Part → Bool
+options_fit ps (Valued key) = are_fit (Valued key) (texts_of (Valued key) ps)
+options_fit ps (Flagged flag) = are_fit (Flagged flag) (texts_of (Flagged flag) ps)
+options_fit ps Source = true
 
-abbrev sources_last : Option (Option Text) → Option (Option Text) → Option (Option Text) → Option (Option Text) → Option (Option Text)
-    → Option (List Text) → Option Task
-sources_last l p r n on sources = option_and_then (λ l. option_and_then (λ p. option_and_then (λ r. option_and_then (λ n.
-    option_and_then (λ on. option_and_then (λ ss. task_of_parts l p r n on ss) sources) on) n) r) p) l
+fit_once : (ts : List Text) → is_once ts ≡ true → is_fit (slice_get ts 0) ≡ (list_all has_meaning ts && nat_le (length ts) 1)
+fit_once [] h = refl
+fit_once (t ∷ []) h = go (has_meaning t)
+  where
+    go : (b : Bool) → b ≡ ((b && true) && true)
+    go true = refl
+    go false = refl
+fit_once (t ∷ s ∷ ts) h = absurd (true≢false (sym h))
 
-in_either_order : (l p r n on : Option (Option Text)) (sources : Option (List Text))
-    → sources_first l p r n on sources ≡ sources_last l p r n on sources
-in_either_order l p r n on (Some sources) = refl
-in_either_order l p r n on None = sym (bind_none l _ (λ l. bind_none p _ (λ p. bind_none r _ (λ r. bind_none n _ (λ n.
-    bind_none on _ (λ on. refl))))))
+flag_fit : (ts : List Text) → ts ≡ map (λ _. codes "true") ts → is_once ts ≡ true
+    → true ≡ (list_all has_meaning ts && nat_le (length ts) 1)
+flag_fit [] e h = refl
+flag_fit (t ∷ []) e h = ap (λ xs. list_all has_meaning xs && true) (sym e)
+flag_fit (t ∷ s ∷ ts) e h = absurd (true≢false (sym h))
 
-pub asked_is : (ps : List Piece) (on : Bool) → OnceEach ps → has_row (codes "annotate") (rows_at ps) ≡ on
-    → asked_by on (λ id. first_of id (end_rows (rows_at ps))) (all_of (codes "source") (end_rows (rows_at ps))) ≡ task_in ps
-asked_is ps on once h =
-    let l = part_given (Valued Lattice) ps once refl refl in
-    let p = part_given (Valued Prelude) ps once refl refl in
-    let r = part_given (Valued Report) ps once refl refl in
-    let n = part_given (Valued Number) ps once refl refl in
-    let f = flag_given ps on once h in
-    let s = sources_given ps in
-    (λ i. sources_first (l i) (p i) (r i) (n i) (f i) (sources_of (s i)))
-    ∙ in_either_order (at_most_once (texts_of (Valued Lattice) ps)) (at_most_once (texts_of (Valued Prelude) ps))
-    (at_most_once (texts_of (Valued Report) ps)) (at_most_once (texts_of (Valued Number) ps))
-    (at_most_once (texts_of Annotation ps)) (sources_of (texts_of Source ps))
+abbrev first_at : List Piece → Text → Option Text
+first_at ps id = first_of id (end_rows (rows_at ps))
+
+part_fits : (ps : List Piece) → OnceEach ps → (a : Part) → fits_part (first_at ps) a ≡ options_fit ps a
+part_fits ps once (Valued key) = ap is_fit (value_is ps key) ∙ fit_once (texts_of (Valued key) ps) (once (Valued key) refl)
+part_fits ps once (Flagged flag) = flag_fit (texts_of (Flagged flag) ps) (flag_texts flag ps) (once (Flagged flag) refl)
+part_fits ps once Source = refl
+
+-- what the pieces ask, with the sources looked at first
+sources_first : (ps : List Piece)
+    → option_and_then (λ sources. cond (list_all (options_fit ps) parts) (task_of_parts (value_among ps) (stands_among ps) sources) None)
+    (sources_of (texts_of Source ps)) ≡ task_in ps
+sources_first ps = go (are_fit Source (texts_of Source ps)) refl
+  where
+    asked : Bool → List Text → Option Task
+    asked b sources = cond b (task_of_parts (value_among ps) (stands_among ps) sources) None
+
+    same : are_fit Source (texts_of Source ps) ≡ true → (a : Part) → options_fit ps a ≡ are_fit a (texts_of a ps)
+    same e (Valued key) = refl
+    same e (Flagged flag) = refl
+    same e Source = sym e
+
+    go : (b : Bool) → are_fit Source (texts_of Source ps) ≡ b
+        → option_and_then (λ sources. asked (list_all (options_fit ps) parts) sources) (cond b (Some (texts_of Source ps)) None)
+        ≡ asked (list_all (λ a. are_fit a (texts_of a ps)) parts) (texts_of Source ps)
+    go true e = λ i. asked (list_all (λ a. same e a i) parts) (texts_of Source ps)
+    go false e = ap (λ b. asked b (texts_of Source ps)) (sym (fails (λ a. are_fit a (texts_of a ps)) Source e))
+
+pub asked_is : (ps : List Piece) → OnceEach ps
+    → asked_by (stands_among ps) (first_at ps) (all_of (codes "source") (end_rows (rows_at ps))) ≡ task_in ps
+asked_is ps once =
+    (λ i. option_and_then (λ sources. cond (list_all (λ a. part_fits ps once a i) parts)
+    (task_of_parts (λ key. value_is ps key i) (stands_among ps) sources) None) (sources_of (sources_given ps i)))
+    ∙ sources_first ps

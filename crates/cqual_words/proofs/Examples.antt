@@ -1,43 +1,63 @@
 -- What some lists of words mean, worked out by hand from the rules.
 use Rattle.std.proofs.Common.{refl, ◌≡◌, ℕ, zero, suc, List, [], ◌∷◌, Some, None}
 use Rattle.std.specs.Prelude.{codes}
-use Rattle.cqual_words.specs.Words.{Text, Annotate, Check, Generate, Infer, files_of, meaning_of, pieces_from}
+use Rattle.cqual_words.specs.Words.{Text, Annotate, Ask, Certify, Check, Generate, Infer, Verify, files_of, meaning_of, pieces_from}
 
 -- options in any order, with the value apart or attached
-apart : meaning_of (codes "--lattice" ∷ codes "l.q" ∷ codes "s.c" ∷ []) ≡ Some (Infer (files_of (codes "l.q") None (codes "s.c" ∷ [])))
+apart : meaning_of (codes "--lattice" ∷ codes "l.q" ∷ codes "s.c" ∷ []) ≡ Some (Ask Infer (files_of (codes "l.q") None (codes "s.c" ∷ [])))
 unfolding pieces_from
 apart = refl
 
 attached : meaning_of (codes "--prelude=p.h" ∷ codes "s.c" ∷ codes "--lattice=l.q" ∷ [])
-    ≡ Some (Infer (files_of (codes "l.q") (Some (codes "p.h")) (codes "s.c" ∷ [])))
+    ≡ Some (Ask Infer (files_of (codes "l.q") (Some (codes "p.h")) (codes "s.c" ∷ [])))
 unfolding pieces_from
 attached = refl
 
-first_equals : meaning_of (codes "--lattice==x" ∷ codes "s.c" ∷ []) ≡ Some (Infer (files_of (codes "=x") None (codes "s.c" ∷ [])))
+first_equals : meaning_of (codes "--lattice==x" ∷ codes "s.c" ∷ []) ≡ Some (Ask Infer (files_of (codes "=x") None (codes "s.c" ∷ [])))
 unfolding pieces_from
 first_equals = refl
 
 ended : meaning_of (codes "--annotate" ∷ codes "--lattice=l.q" ∷ codes "--" ∷ codes "s.c" ∷ [])
-    ≡ Some (Annotate (files_of (codes "l.q") None (codes "s.c" ∷ [])))
+    ≡ Some (Ask Annotate (files_of (codes "l.q") None (codes "s.c" ∷ [])))
 unfolding pieces_from
 ended = refl
 
 checked : meaning_of (codes "--check" ∷ codes "r" ∷ codes "--lattice=l.q" ∷ codes "s.c" ∷ [])
-    ≡ Some (Check (files_of (codes "l.q") None (codes "s.c" ∷ [])) (codes "r"))
+    ≡ Some (Ask (Check (codes "r")) (files_of (codes "l.q") None (codes "s.c" ∷ [])))
 unfolding pieces_from
 checked = refl
+
+certified : meaning_of (codes "--certify" ∷ codes "--lattice=l.q" ∷ codes "s.c" ∷ [])
+    ≡ Some (Ask Certify (files_of (codes "l.q") None (codes "s.c" ∷ [])))
+unfolding pieces_from
+certified = refl
+
+verified : meaning_of (codes "--lattice=l.q" ∷ codes "--verify" ∷ codes "c" ∷ codes "s.c" ∷ [])
+    ≡ Some (Ask (Verify (codes "c")) (files_of (codes "l.q") None (codes "s.c" ∷ [])))
+unfolding pieces_from
+verified = refl
 
 -- sources before, between and behind the options, and behind `--`; one name twice is two sources
 several : meaning_of (codes "s.c" ∷ codes "--lattice" ∷ codes "l.q" ∷ codes "t.c" ∷ codes "--prelude=p.h" ∷ codes "s.c" ∷ codes "--"
     ∷ codes "u.c" ∷ [])
-    ≡ Some (Infer (files_of (codes "l.q") (Some (codes "p.h")) (codes "s.c" ∷ codes "t.c" ∷ codes "s.c" ∷ codes "u.c" ∷ [])))
+    ≡ Some (Ask Infer (files_of (codes "l.q") (Some (codes "p.h")) (codes "s.c" ∷ codes "t.c" ∷ codes "s.c" ∷ codes "u.c" ∷ [])))
 unfolding pieces_from
 several = refl
 
 checked_several : meaning_of (codes "s.c" ∷ codes "t.c" ∷ codes "--check=r" ∷ codes "--lattice=l.q" ∷ [])
-    ≡ Some (Check (files_of (codes "l.q") None (codes "s.c" ∷ codes "t.c" ∷ [])) (codes "r"))
+    ≡ Some (Ask (Check (codes "r")) (files_of (codes "l.q") None (codes "s.c" ∷ codes "t.c" ∷ [])))
 unfolding pieces_from
 checked_several = refl
+
+certified_several : meaning_of (codes "s.c" ∷ codes "--lattice=l.q" ∷ codes "--certify" ∷ codes "t.c" ∷ [])
+    ≡ Some (Ask Certify (files_of (codes "l.q") None (codes "s.c" ∷ codes "t.c" ∷ [])))
+unfolding pieces_from
+certified_several = refl
+
+verified_several : meaning_of (codes "--verify=c" ∷ codes "s.c" ∷ codes "--prelude=p.h" ∷ codes "--lattice=l.q" ∷ codes "--" ∷ codes "t.c" ∷ [])
+    ≡ Some (Ask (Verify (codes "c")) (files_of (codes "l.q") (Some (codes "p.h")) (codes "s.c" ∷ codes "t.c" ∷ [])))
+unfolding pieces_from
+verified_several = refl
 
 -- one source with no meaning among others
 empty_source : meaning_of (codes "--lattice=l.q" ∷ codes "s.c" ∷ [] ∷ codes "t.c" ∷ []) ≡ None
@@ -66,7 +86,7 @@ abbrev many : ℕ → List Text
 many zero = []
 many (suc n) = codes "s.c" ∷ many n
 
-most_sources : meaning_of (codes "--lattice=l.q" ∷ many 256) ≡ Some (Infer (files_of (codes "l.q") None (many 256)))
+most_sources : meaning_of (codes "--lattice=l.q" ∷ many 256) ≡ Some (Ask Infer (files_of (codes "l.q") None (many 256)))
 unfolding pieces_from
 most_sources = refl
 
@@ -120,3 +140,40 @@ cut_short = refl
 both_reports : meaning_of (codes "--lattice=l.q" ∷ codes "s.c" ∷ codes "--annotate" ∷ codes "--check=r" ∷ []) ≡ None
 unfolding pieces_from
 both_reports = refl
+
+certified_and_verified : meaning_of (codes "--lattice=l.q" ∷ codes "s.c" ∷ codes "--certify" ∷ codes "--verify=c" ∷ []) ≡ None
+unfolding pieces_from
+certified_and_verified = refl
+
+certified_and_annotated : meaning_of (codes "--lattice=l.q" ∷ codes "s.c" ∷ codes "--certify" ∷ codes "--annotate" ∷ []) ≡ None
+unfolding pieces_from
+certified_and_annotated = refl
+
+verified_and_annotated : meaning_of (codes "--lattice=l.q" ∷ codes "s.c" ∷ codes "--verify=c" ∷ codes "--annotate" ∷ []) ≡ None
+unfolding pieces_from
+verified_and_annotated = refl
+
+checked_and_verified : meaning_of (codes "--lattice=l.q" ∷ codes "s.c" ∷ codes "--check=r" ∷ codes "--verify=c" ∷ []) ≡ None
+unfolding pieces_from
+checked_and_verified = refl
+
+made_and_certified : meaning_of (codes "--generate=1" ∷ codes "--certify" ∷ []) ≡ None
+unfolding pieces_from
+made_and_certified = refl
+
+made_and_verified : meaning_of (codes "--generate=1" ∷ codes "--verify=c" ∷ []) ≡ None
+unfolding pieces_from
+made_and_verified = refl
+
+-- a certificate that is not named, a flag with a value, a flag that stands again
+certificate_missing : meaning_of (codes "--lattice=l.q" ∷ codes "s.c" ∷ codes "--verify" ∷ []) ≡ None
+unfolding pieces_from
+certificate_missing = refl
+
+certify_value : meaning_of (codes "--lattice=l.q" ∷ codes "s.c" ∷ codes "--certify=c" ∷ []) ≡ None
+unfolding pieces_from
+certify_value = refl
+
+certify_again : meaning_of (codes "--lattice=l.q" ∷ codes "--certify" ∷ codes "s.c" ∷ codes "--certify" ∷ []) ≡ None
+unfolding pieces_from
+certify_again = refl

@@ -8,3 +8,4 @@ mod Steps
 mod Walks
 mod Agrees
 mod Examples
+pub mod Laws

@@ -1,64 +1,75 @@
 -- Pieces, and the rows that clap's matches have of them.
-use Rattle.std.proofs.Common.{arith, refl, sym, ap, ◌≡◌, ◌∙◌, ◌||◌, ◌==◌, ◌++◌, ℕ, Bool, true, false, cond, List, [], ◌∷◌, Option}
+use Rattle.std.proofs.Common.{arith, refl, sym, ap, ◌≡◌, ◌∙◌, ◌&&◌, ◌||◌, ◌++◌, ℕ, Bool, true, false, cond, List, [], ◌∷◌, Option}
 use Rattle.std.proofs.Common.{Some, None, true≢false, append-nil, append_assoc, fold, is_some, option_map}
-use Rattle.std.specs.Prelude.{option_and_then, slice_get}
+use Rattle.std.specs.Prelude.{option_and_then, slice_get, length, nat_le, suc}
 use Rattle.std.specs.List.{list_all, list_any, find}
 use Rattle.std.specs.Str.{bytes_eq}
 use Rattle.std.proofs.lemmas.Bool.Decides.{nat_tests}
 use Rattle.std.proofs.Math.Bool.{and-false}
 use Rattle.std.proofs.lemmas.List.Sums.{fold-append}
+use Rattle.std.proofs.lemmas.Option.{none-some, same_Some}
 use Rattle.std.proofs.lemmas.Slice.Eq.{bytes_eq-Decides}
 use Rattle.clap.specs.Walk.{Row, all_of, first_of, has_row, more_values, with_values}
 use Rattle.clap.specs.declared.parser.matches.ValueSource.{ValueSource}
 use Rattle.clap.specs.declared.parser.matches.ValueSource.TheVariants.{CommandLine}
 use Rattle.clap.specs.declared.builder.value_parser.Reading.TheVariants.{AsWritten}
-use Rattle.cqual_words.specs.Words.{Key, Part, Piece, Text, Valued, Lattice, Prelude, Report, Number, Annotation, Source, Value, Flag}
-use Rattle.cqual_words.specs.Words.{Plain, at_most_once, has_meaning, part_of, place, sources_of, task_in, text_of, texts_of}
-use Rattle.cqual_words.specs.Tool.{id_of, plain_texts}
+use Rattle.cqual_words.specs.Words.{Part, Piece, Text, Valued, Flagged, Lattice, Prelude, Report, Certificate, Number, Annotation}
+use Rattle.cqual_words.specs.Words.{Certification, Source, are_fit, has_meaning, is_part, most_of, name_of, part_of, parts, stands_among}
+use Rattle.cqual_words.specs.Words.{task_in, task_of_parts, text_of, texts_of, value_among}
+use Rattle.cqual_words.specs.Tool.{plain_texts}
 
--- what holds of each part
-pub each : (P : Part → Type 0) → P (Valued Lattice) → P (Valued Prelude) → P (Valued Report) → P (Valued Number) → P Annotation
-    → P Source → (a : Part) → P a
-each P l p r n a s (Valued Lattice) = l
-each P l p r n a s (Valued Prelude) = p
-each P l p r n a s (Valued Report) = r
-each P l p r n a s (Valued Number) = n
-each P l p r n a s Annotation = a
-each P l p r n a s Source = s
+-- ---- parts
 
--- two parts have one name where they are the same
-abbrev IsNamedApart : Part → Part → Type 0
-IsNamedApart a b = bytes_eq (id_of a) (id_of b) ≡ (place a == place b)
+-- the part of a name: each part is found by its own
+abbrev pub first_named : Text → Option Part
+first_named name = find (λ b. bytes_eq (name_of b) name) parts
 
-pub ids : (a b : Part) → bytes_eq (id_of a) (id_of b) ≡ (place a == place b)
-ids a b = each (λ a. (b : Part) → IsNamedApart a b)
-    (each (IsNamedApart (Valued Lattice)) refl refl refl refl refl refl)
-    (each (IsNamedApart (Valued Prelude)) refl refl refl refl refl refl)
-    (each (IsNamedApart (Valued Report)) refl refl refl refl refl refl)
-    (each (IsNamedApart (Valued Number)) refl refl refl refl refl refl)
-    (each (IsNamedApart Annotation) refl refl refl refl refl refl)
-    (each (IsNamedApart Source) refl refl refl refl refl refl) a b
+pub found : (a : Part) → first_named (name_of a) ≡ Some a
+found (Valued Lattice) = refl
+found (Valued Prelude) = refl
+found (Valued Report) = refl
+found (Valued Certificate) = refl
+found (Valued Number) = refl
+found (Flagged Annotation) = refl
+found (Flagged Certification) = refl
+found Source = refl
 
-pub place_same : (a : Part) → (place a == place a) ≡ true
-place_same a = each (λ a. (place a == place a) ≡ true) refl refl refl refl refl refl a
+-- so two parts of one name are the same
+pub same_part : (a b : Part) → is_part a b ≡ true → a ≡ b
+same_part a b h = same_Some a b (sym (found a) ∙ ap first_named ((bytes_eq-Decides (name_of a) (name_of b)).0 h) ∙ found b)
 
-place_is : (m n : ℕ) → (m == n) ≡ true → m ≡ n
-place_is m n h = grind (arith, nat_tests)
+pub part_same : (a : Part) → is_part a a ≡ true
+part_same a = (bytes_eq-Decides (name_of a) (name_of a)).1 refl
 
-pub same_place : (a b : Part) → (place a == place b) ≡ true → place a ≡ place b
-same_place a b h = place_is (place a) (place b) h
+-- and a test that a part fails is not passed by all
+pub fails : (test : Part → Bool) (a : Part) → test a ≡ false → list_all test parts ≡ false
+fails test a h = among parts (found a)
+  where
+    among : (bs : List Part) → find (λ b. is_part b a) bs ≡ Some a → list_all test bs ≡ false
+    among [] e = absurd (none-some a e)
+    among (b ∷ bs) e = go (is_part b a) e (among bs)
+      where
+        go : (t : Bool) → cond t (Some b) (find (λ b. is_part b a) bs) ≡ Some a
+            → (find (λ b. is_part b a) bs ≡ Some a → list_all test bs ≡ false) → (test b && list_all test bs) ≡ false
+        go true e next = ap (λ t. t && list_all test bs) (ap test (same_Some b a e) ∙ h)
+        go false e next = rw (next e) (and-false (test b))
 
-pub no_source : (key : Key) → (place (Valued key) == 5) ≡ false
-no_source Lattice = refl
-no_source Prelude = refl
-no_source Report = refl
-no_source Number = refl
+-- an option or a flag: what may stand once
+abbrev pub is_option : Part → Bool
+is_option (Valued key) = true
+is_option (Flagged flag) = true
+is_option Source = false
+
+option_most : (a : Part) → is_option a ≡ true → most_of a ≡ 1
+option_most (Valued key) h = refl
+option_most (Flagged flag) h = refl
+option_most Source h = absurd (true≢false (sym h))
 
 -- ---- rows
 
 -- a text joins the row of its part, or makes one at the end
 abbrev pub with_piece : List Row → Piece → List Row
-with_piece rows piece = with_values (id_of (part_of piece)) AsWritten CommandLine (text_of piece ∷ []) rows
+with_piece rows piece = with_values (name_of (part_of piece)) AsWritten CommandLine (text_of piece ∷ []) rows
 
 abbrev pub rows_at : List Piece → List Row
 rows_at pieces = fold with_piece [] pieces
@@ -106,7 +117,7 @@ all_other other id s t (r ∷ rows) apart = go (bytes_eq r.id other) refl (all_o
 
 pub texts_append : (a : Part) (ps qs : List Piece) → texts_of a (ps ++ qs) ≡ texts_of a ps ++ texts_of a qs
 texts_append a [] qs = refl
-texts_append a (p ∷ ps) qs = go (place (part_of p) == place a) (texts_append a ps qs)
+texts_append a (p ∷ ps) qs = go (is_part (part_of p) a) (texts_append a ps qs)
   where
     go : (b : Bool) → texts_of a (ps ++ qs) ≡ texts_of a ps ++ texts_of a qs
         → cond b (text_of p ∷ texts_of a (ps ++ qs)) (texts_of a (ps ++ qs)) ≡ cond b (text_of p ∷ texts_of a ps)
@@ -115,10 +126,10 @@ texts_append a (p ∷ ps) qs = go (place (part_of p) == place a) (texts_append a
     go false e = e
 
 pub texts_here : (p : Piece) (more : List Piece) → texts_of (part_of p) (p ∷ more) ≡ text_of p ∷ texts_of (part_of p) more
-texts_here p more = ap (λ b. cond b (text_of p ∷ texts_of (part_of p) more) (texts_of (part_of p) more)) (place_same (part_of p))
+texts_here p more = ap (λ b. cond b (text_of p ∷ texts_of (part_of p) more) (texts_of (part_of p) more)) (part_same (part_of p))
 
 -- the texts of an id, by those that were there before and those that come
-abbrev joined : Option (List Text) → List Text → Option (List Text)
+abbrev pub joined : Option (List Text) → List Text → Option (List Text)
 joined None [] = None
 joined None (t ∷ ts) = Some (t ∷ ts)
 joined (Some before) ts = Some (before ++ ts)
@@ -132,28 +143,28 @@ joined_one None t ts = refl
 joined_one (Some before) t ts = ap Some (append_assoc before (t ∷ []) ts)
 
 texts_from : (a : Part) (ps : List Piece) (rows : List Row)
-    → all_of (id_of a) (fold with_piece rows ps) ≡ joined (all_of (id_of a) rows) (texts_of a ps)
-texts_from a [] rows = joined_none (all_of (id_of a) rows)
-texts_from a (p ∷ ps) rows = texts_from a ps (with_piece rows p) ∙ go (place (part_of p) == place a) refl
+    → all_of (name_of a) (fold with_piece rows ps) ≡ joined (all_of (name_of a) rows) (texts_of a ps)
+texts_from a [] rows = joined_none (all_of (name_of a) rows)
+texts_from a (p ∷ ps) rows = texts_from a ps (with_piece rows p) ∙ go (is_part (part_of p) a) refl
   where
-    same_texts : (place (part_of p) == place a) ≡ true
-        → all_of (id_of a) (with_piece rows p) ≡ Some (plain_texts (all_of (id_of a) rows) ++ text_of p ∷ [])
-    same_texts e = ap (λ id. all_of (id_of a) (with_values id AsWritten CommandLine (text_of p ∷ []) rows))
-        ((bytes_eq-Decides (id_of (part_of p)) (id_of a)).0 (ids (part_of p) a ∙ e))
-        ∙ all_more (id_of a) CommandLine (text_of p) rows (ids a a ∙ place_same a)
+    same_texts : (is_part (part_of p) a) ≡ true
+        → all_of (name_of a) (with_piece rows p) ≡ Some (plain_texts (all_of (name_of a) rows) ++ text_of p ∷ [])
+    same_texts e = ap (λ id. all_of (name_of a) (with_values id AsWritten CommandLine (text_of p ∷ []) rows))
+        ((bytes_eq-Decides (name_of (part_of p)) (name_of a)).0 e)
+        ∙ all_more (name_of a) CommandLine (text_of p) rows (part_same a)
 
-    go : (b : Bool) → (place (part_of p) == place a) ≡ b
-        → joined (all_of (id_of a) (with_piece rows p)) (texts_of a ps)
-        ≡ joined (all_of (id_of a) rows) (cond b (text_of p ∷ texts_of a ps) (texts_of a ps))
-    go true e = ap (λ o. joined o (texts_of a ps)) (same_texts e) ∙ joined_one (all_of (id_of a) rows) (text_of p) (texts_of a ps)
+    go : (b : Bool) → (is_part (part_of p) a) ≡ b
+        → joined (all_of (name_of a) (with_piece rows p)) (texts_of a ps)
+        ≡ joined (all_of (name_of a) rows) (cond b (text_of p ∷ texts_of a ps) (texts_of a ps))
+    go true e = ap (λ o. joined o (texts_of a ps)) (same_texts e) ∙ joined_one (all_of (name_of a) rows) (text_of p) (texts_of a ps)
     go false e = ap (λ o. joined o (texts_of a ps))
-        (all_other (id_of (part_of p)) (id_of a) CommandLine (text_of p) rows (ids (part_of p) a ∙ e))
+        (all_other (name_of (part_of p)) (name_of a) CommandLine (text_of p) rows e)
 
 -- the row of a part has its texts
-pub texts_are : (a : Part) (ps : List Piece) → all_of (id_of a) (rows_at ps) ≡ joined None (texts_of a ps)
+pub texts_are : (a : Part) (ps : List Piece) → all_of (name_of a) (rows_at ps) ≡ joined None (texts_of a ps)
 texts_are a ps = texts_from a ps []
 
-pub plain_are : (ps : List Piece) → plain_texts (all_of (id_of Source) (rows_at ps)) ≡ texts_of Source ps
+pub plain_are : (ps : List Piece) → plain_texts (all_of (name_of Source) (rows_at ps)) ≡ texts_of Source ps
 plain_are ps = ap plain_texts (texts_are Source ps) ∙ go (texts_of Source ps)
   where
     go : (ts : List Text) → plain_texts (joined None ts) ≡ ts
@@ -172,8 +183,8 @@ some_row id (r ∷ rows) = go (bytes_eq r.id id) (some_row id rows)
     go true e = refl
     go false e = e
 
-pub has_row_is : (a : Part) (ps : List Piece) → has_row (id_of a) (rows_at ps) ≡ has_any (texts_of a ps)
-has_row_is a ps = some_row (id_of a) (rows_at ps) ∙ ap is_some (texts_are a ps) ∙ go (texts_of a ps)
+pub has_row_is : (a : Part) (ps : List Piece) → has_row (name_of a) (rows_at ps) ≡ has_any (texts_of a ps)
+has_row_is a ps = some_row (name_of a) (rows_at ps) ∙ ap is_some (texts_are a ps) ∙ go (texts_of a ps)
   where
     go : (ts : List Text) → is_some (joined None ts) ≡ has_any ts
     go [] = refl
@@ -196,60 +207,40 @@ first_joined (t ∷ ts) = refl
 
 -- ---- pieces with no meaning
 
-once_bad : (xs : List Text) (t : Text) (ys : List Text) → has_meaning t ≡ false → at_most_once (xs ++ t ∷ ys) ≡ None
-once_bad [] t [] h = ap (λ b. cond b (Some (Some t)) None) h
-once_bad [] t (y ∷ ys) h = refl
-once_bad (x ∷ []) t ys h = refl
-once_bad (x ∷ y ∷ xs) t ys h = refl
-
-once_again : (xs : List Text) (t : Text) (ys : List Text) → has_any xs ≡ true → at_most_once (xs ++ t ∷ ys) ≡ None
-once_again [] t ys h = absurd (true≢false (sym h))
-once_again (x ∷ []) t ys h = refl
-once_again (x ∷ y ∷ xs) t ys h = refl
-
-pub bind_none : {X Y : Type 0} (o : Option X) (f : X → Option Y) → ((x : X) → f x ≡ None) → option_and_then f o ≡ None
-bind_none None f h = refl
-bind_none (Some x) f h = h x
+-- a part that may not have its texts leaves the whole with no meaning
+part_none : (a : Part) (ps : List Piece) → are_fit a (texts_of a ps) ≡ false → task_in ps ≡ None
+part_none a ps h = ap (λ b. cond b (task_of_parts (value_among ps) (stands_among ps) (texts_of Source ps)) None)
+    (fails (λ b. are_fit b (texts_of b ps)) a h)
 
 bad_among : (xs : List Text) (t : Text) (ys : List Text) → has_meaning t ≡ false → list_all has_meaning (xs ++ t ∷ ys) ≡ false
 bad_among [] t ys h = rw h refl
 bad_among (x ∷ xs) t ys h = rw (bad_among xs t ys h) (and-false (has_meaning x))
 
-sources_bad : (xs : List Text) (t : Text) (ys : List Text) → has_meaning t ≡ false → sources_of (xs ++ t ∷ ys) ≡ None
-sources_bad xs t ys h = rw (bad_among xs t ys h) refl
+too_many : (n : ℕ) → nat_le (suc (suc n)) 1 ≡ false
+too_many n = grind (arith, nat_tests)
 
-part_none : (a : Part) (ps : List Piece) → (place a == 5) ≡ false → at_most_once (texts_of a ps) ≡ None → task_in ps ≡ None
-part_none (Valued Lattice) ps other h = rw h refl
-part_none (Valued Prelude) ps other h = bind_none (at_most_once (texts_of (Valued Lattice) ps)) _ (λ l. rw h refl)
-part_none (Valued Report) ps other h = bind_none (at_most_once (texts_of (Valued Lattice) ps)) _ (λ l.
-    bind_none (at_most_once (texts_of (Valued Prelude) ps)) _ (λ p. rw h refl))
-part_none (Valued Number) ps other h = bind_none (at_most_once (texts_of (Valued Lattice) ps)) _ (λ l.
-    bind_none (at_most_once (texts_of (Valued Prelude) ps)) _ (λ p. bind_none (at_most_once (texts_of (Valued Report) ps)) _
-    (λ r. rw h refl)))
-part_none Annotation ps other h = bind_none (at_most_once (texts_of (Valued Lattice) ps)) _ (λ l.
-    bind_none (at_most_once (texts_of (Valued Prelude) ps)) _ (λ p. bind_none (at_most_once (texts_of (Valued Report) ps)) _ (λ r.
-    bind_none (at_most_once (texts_of (Valued Number) ps)) _ (λ n. rw h refl))))
-part_none Source ps other h = absurd (true≢false other)
-
-source_none : (ps : List Piece) → sources_of (texts_of Source ps) ≡ None → task_in ps ≡ None
-source_none ps h = bind_none (at_most_once (texts_of (Valued Lattice) ps)) _ (λ l.
-    bind_none (at_most_once (texts_of (Valued Prelude) ps)) _ (λ p. bind_none (at_most_once (texts_of (Valued Report) ps)) _ (λ r.
-    bind_none (at_most_once (texts_of (Valued Number) ps)) _ (λ n. bind_none (at_most_once (texts_of Annotation ps)) _ (λ on. rw h refl)))))
+again_among : (xs : List Text) (t : Text) (ys : List Text) → has_any xs ≡ true → nat_le (length (xs ++ t ∷ ys)) 1 ≡ false
+again_among [] t ys h = absurd (true≢false (sym h))
+again_among (x ∷ []) t ys h = too_many (length ys)
+again_among (x ∷ y ∷ xs) t ys h = too_many (length (xs ++ t ∷ ys))
 
 texts_at : (ps : List Piece) (p : Piece) (more : List Piece)
     → texts_of (part_of p) (ps ++ p ∷ more) ≡ texts_of (part_of p) ps ++ text_of p ∷ texts_of (part_of p) more
 texts_at ps p more = texts_append (part_of p) ps (p ∷ more) ∙ ap (λ ts. texts_of (part_of p) ps ++ ts) (texts_here p more)
 
--- a text with no meaning leaves the whole with none
+-- so does a text with no meaning
 pub spoilt : (ps : List Piece) (p : Piece) (more : List Piece) → has_meaning (text_of p) ≡ false → task_in (ps ++ p ∷ more) ≡ None
-spoilt ps (Value key text) more h = part_none (Valued key) (ps ++ Value key text ∷ more) (no_source key)
-    (ap at_most_once (texts_at ps (Value key text) more) ∙ once_bad (texts_of (Valued key) ps) text _ h)
-spoilt ps Flag more h = absurd (true≢false h)
-spoilt ps (Plain word) more h = source_none (ps ++ Plain word ∷ more)
-    (ap sources_of (texts_at ps (Plain word) more) ∙ sources_bad (texts_of Source ps) word _ h)
+spoilt ps p more h = part_none (part_of p) (ps ++ p ∷ more) (ap (are_fit (part_of p)) (texts_at ps p more)
+    ∙ rw (bad_among (texts_of (part_of p) ps) (text_of p) (texts_of (part_of p) more) h) refl)
 
--- and so does an option or the flag that stands again
-pub twice : (ps : List Piece) (p : Piece) (more : List Piece) → (place (part_of p) == 5) ≡ false
-    → has_row (id_of (part_of p)) (rows_at ps) ≡ true → task_in (ps ++ p ∷ more) ≡ None
-twice ps p more other h = part_none (part_of p) (ps ++ p ∷ more) other
-    (ap at_most_once (texts_at ps p more) ∙ once_again (texts_of (part_of p) ps) (text_of p) _ (sym (has_row_is (part_of p) ps) ∙ h))
+-- and so does an option or a flag that stands again
+pub twice : (ps : List Piece) (p : Piece) (more : List Piece) → is_option (part_of p) ≡ true
+    → has_row (name_of (part_of p)) (rows_at ps) ≡ true → task_in (ps ++ p ∷ more) ≡ None
+twice ps p more option h =
+    let before = texts_of (part_of p) ps in
+    let all = before ++ text_of p ∷ texts_of (part_of p) more in
+    part_none (part_of p) (ps ++ p ∷ more) (ap (are_fit (part_of p)) (texts_at ps p more)
+    ∙ ap (λ n. list_all has_meaning all && nat_le (length all) n) (option_most (part_of p) option)
+    ∙ ap (λ b. list_all has_meaning all && b)
+    (again_among before (text_of p) (texts_of (part_of p) more) (sym (has_row_is (part_of p) ps) ∙ h))
+    ∙ and-false (list_all has_meaning all))

@@ -1,31 +1,28 @@
 -- clap's rules for the parts, and one use of each.
-use Rattle.std.proofs.Common.{refl, ap, ◌≡◌, ◌∙◌, ◌||◌, ◌++◌, Bool, true, false, cond, List, [], ◌∷◌, Some, None, true≢false, append-nil}
-use Rattle.std.specs.Prelude.{option_map, codes}
+use Rattle.std.proofs.Common.{refl, sym, ap, ◌≡◌, ◌∙◌, ◌&&◌, ◌||◌, ◌++◌, Bool, true, false, cond, map, List, [], ◌∷◌, Some}
+use Rattle.std.proofs.Common.{true≢false, append-nil}
+use Rattle.std.specs.Prelude.{find, is_some, not, option_map}
 use Rattle.std.specs.Str.{bytes_eq}
-use Rattle.clap.specs.Walk.{Row, Rule, arg_by_id, arg_by_long, at_row, has_row, used, without}
+use Rattle.clap.specs.Walk.{Row, Rule, arg_by_id, arg_by_long, at_row, has_long, has_row, used, without}
 use Rattle.clap.specs.Simple.{Shape, built, filled, with_index}
 use Rattle.clap.specs.Faults.{use_fault}
 use Rattle.clap.specs.declared.error.kind.ErrorKind.TheVariants as kind
-use Rattle.cqual_words.specs.Words.{Key, Part, Piece, Text, Valued, Lattice, Prelude, Report, Number, Annotation, Source, Value, Flag}
-use Rattle.cqual_words.specs.Words.{Plain, named}
-use Rattle.cqual_words.specs.Tool.{flag_rule, id_of, option_rule, source_rule, tool}
-use Rattle.cqual_words.proofs.Pieces.{each, with_piece}
+use Rattle.clap.proofs.WalkLemmas.{find-map}
+use Rattle.cqual_words.specs.Words.{Flag, Key, Part, Piece, Text, Valued, Flagged, Source, Plain, Set, Value, flag_name, key_name}
+use Rattle.cqual_words.specs.Words.{name_of, named, parts, spells}
+use Rattle.cqual_words.specs.Tool.{rule_of_part, tool}
+use Rattle.cqual_words.proofs.Pieces.{found, with_piece}
 
 abbrev pub rule_for : Part → Rule
-rule_for (Valued Lattice) = filled (option_rule (codes "lattice"))
-rule_for (Valued Prelude) = filled (option_rule (codes "prelude"))
-rule_for (Valued Report) = filled (option_rule (codes "check"))
-rule_for (Valued Number) = filled (option_rule (codes "generate"))
-rule_for Annotation = filled (flag_rule (codes "annotate"))
-rule_for Source = with_index 1 (filled source_rule)
+rule_for (Valued key) = filled (rule_of_part (Valued key))
+rule_for (Flagged flag) = filled (rule_of_part (Flagged flag))
+rule_for Source = with_index 1 (filled (rule_of_part Source))
 
 abbrev pub shape : Shape
 shape = (built tool).top
 
 abbrev pub all_rules : List Rule
-all_rules =
-    rule_for (Valued Lattice) ∷ rule_for (Valued Prelude) ∷ rule_for (Valued Report) ∷ rule_for
-    (Valued Number) ∷ rule_for Annotation ∷ rule_for Source ∷ []
+all_rules = map rule_for parts
 
 pub rules_are : shape.rules ≡ all_rules
 rules_are = refl
@@ -56,71 +53,69 @@ piece_of (OfKey key text) = Value key text
 piece_of (OfSource text) = Plain text
 
 -- a use of an option that is not there yet adds its row
-pub used_key : (key : Key) (text : Text) (rows : List Row) → has_row (id_of (Valued key)) rows ≡ false
+pub used_key : (key : Key) (text : Text) (rows : List Row) → has_row (key_name key) rows ≡ false
     → used (rule_for (Valued key)) (text ∷ []) rows ≡ with_piece rows (Value key text)
-used_key Lattice text rows h = ap (λ rs. with_piece rs (Value Lattice text)) (without_none (codes "lattice") rows h)
-used_key Prelude text rows h = ap (λ rs. with_piece rs (Value Prelude text)) (without_none (codes "prelude") rows h)
-used_key Report text rows h = ap (λ rs. with_piece rs (Value Report text)) (without_none (codes "check") rows h)
-used_key Number text rows h = ap (λ rs. with_piece rs (Value Number text)) (without_none (codes "generate") rows h)
+used_key key text rows h = ap (λ rs. with_piece rs (Value key text)) (without_none (key_name key) rows h)
 
--- and so does a use of the flag
-pub used_flag : (rows : List Row) → has_row (id_of Annotation) rows ≡ false → used (rule_for Annotation) [] rows ≡ with_piece rows Flag
-used_flag rows h = ap (λ rs. with_piece rs Flag) (without_none (codes "annotate") rows h)
+-- and so does a use of a flag
+pub used_flag : (flag : Flag) (rows : List Row) → has_row (flag_name flag) rows ≡ false
+    → used (rule_for (Flagged flag)) [] rows ≡ with_piece rows (Set flag)
+used_flag flag rows h = ap (λ rs. with_piece rs (Set flag)) (without_none (flag_name flag) rows h)
 
 -- a word that is no option joins those before it
 pub used_source : (text : Text) (rows : List Row) → used (rule_for Source) (text ∷ []) rows ≡ with_piece rows (Plain text)
 used_source text rows = refl
 
 -- the faults of these uses
-pub key_fine : (key : Key) (text : Text) (rows : List Row) → has_row (id_of (Valued key)) rows ≡ false
+pub key_fine : (key : Key) (text : Text) (rows : List Row) → has_row (key_name key) rows ≡ false
     → use_fault false (rule_for (Valued key)) (text ∷ []) rows ≡ []
-key_fine Lattice text rows h = rw h refl
-key_fine Prelude text rows h = rw h refl
-key_fine Report text rows h = rw h refl
-key_fine Number text rows h = rw h refl
+key_fine key text rows h = rw h refl
 
-pub key_again : (key : Key) (text : Text) (rows : List Row) → has_row (id_of (Valued key)) rows ≡ true
+pub key_again : (key : Key) (text : Text) (rows : List Row) → has_row (key_name key) rows ≡ true
     → use_fault false (rule_for (Valued key)) (text ∷ []) rows ≡ kind.ArgumentConflict ∷ []
-key_again Lattice text rows h = rw h refl
-key_again Prelude text rows h = rw h refl
-key_again Report text rows h = rw h refl
-key_again Number text rows h = rw h refl
+key_again key text rows h = rw h refl
 
 pub source_fine : (text : Text) (rows : List Row) → use_fault false (rule_for Source) (text ∷ []) rows ≡ []
 source_fine text rows = refl
 
-pub flag_fine : (rows : List Row) → has_row (id_of Annotation) rows ≡ false → use_fault false (rule_for Annotation) [] rows ≡ []
-flag_fine rows h = rw h refl
+pub flag_fine : (flag : Flag) (rows : List Row) → has_row (flag_name flag) rows ≡ false
+    → use_fault false (rule_for (Flagged flag)) [] rows ≡ []
+flag_fine flag rows h = rw h refl
 
-pub flag_again : (rows : List Row) → has_row (id_of Annotation) rows ≡ true
-    → use_fault false (rule_for Annotation) [] rows ≡ kind.ArgumentConflict ∷ []
-flag_again rows h = rw h refl
+pub flag_again : (flag : Flag) (rows : List Row) → has_row (flag_name flag) rows ≡ true
+    → use_fault false (rule_for (Flagged flag)) [] rows ≡ kind.ArgumentConflict ∷ []
+flag_again flag rows h = rw h refl
 
 -- an option that has no value
 pub none_faulty : (key : Key) (rows : List Row) → use_fault false (rule_for (Valued key)) [] rows ≡ kind.InvalidValue ∷ []
-none_faulty Lattice rows = refl
-none_faulty Prelude rows = refl
-none_faulty Report rows = refl
-none_faulty Number rows = refl
+none_faulty key rows = refl
 
 -- ---- look-ups
 
-pub by_id : (a : Part) → arg_by_id all_rules (id_of a) ≡ Some (rule_for a)
-by_id a = each (λ a. arg_by_id all_rules (id_of a) ≡ Some (rule_for a)) refl refl refl refl refl refl a
+-- the rule that passes a test is that of the part whose rule does
+rule_found : (test : Rule → Bool) → find test all_rules ≡ option_map rule_for (find (λ a. test (rule_for a)) parts)
+rule_found test = sym (find-map test rule_for parts)
 
-pub by_name : (name : Text) → arg_by_long all_rules name ≡ option_map rule_for (named name)
-by_name name = go (bytes_eq (codes "lattice") name) (bytes_eq (codes "prelude") name) (bytes_eq (codes "check") name)
-    (bytes_eq (codes "generate") name) (bytes_eq (codes "annotate") name)
+-- the part of a name has the rule of that name
+pub by_id : (a : Part) → arg_by_id all_rules (name_of a) ≡ Some (rule_for a)
+by_id a = rule_found (λ r. bytes_eq r.id (name_of a))
+    ∙ ap (option_map rule_for) ((λ i. find (λ b. bytes_eq (id_is b i) (name_of a)) parts) ∙ found a)
   where
-    go : (l p r n a : Bool)
-        → cond (l || false) (Some (rule_for (Valued Lattice))) (cond (p || false) (Some (rule_for (Valued Prelude)))
-        (cond (r || false) (Some (rule_for (Valued Report))) (cond (n || false) (Some (rule_for (Valued Number)))
-        (cond (a || false) (Some (rule_for Annotation)) None))))
-        ≡ option_map rule_for (cond l (Some (Valued Lattice)) (cond p (Some (Valued Prelude)) (cond r (Some (Valued Report))
-        (cond n (Some (Valued Number)) (cond a (Some Annotation) None)))))
-    go true p r n a = refl
-    go false true r n a = refl
-    go false false true n a = refl
-    go false false false true a = refl
-    go false false false false true = refl
-    go false false false false false = refl
+    id_is : (b : Part) → (rule_for b).id ≡ name_of b
+    id_is (Valued key) = refl
+    id_is (Flagged flag) = refl
+    id_is Source = refl
+
+or_false : (b : Bool) → (b || false) ≡ b
+or_false true = refl
+or_false false = refl
+
+-- a name finds the rule of its option or flag
+pub by_name : (name : Text) → arg_by_long all_rules name ≡ option_map rule_for (named name)
+by_name name = rule_found (λ r. not (is_some r.index) && has_long r name)
+    ∙ ap (option_map rule_for) (λ i. find (λ b. spelt b i) parts)
+  where
+    spelt : (b : Part) → (not (is_some (rule_for b).index) && has_long (rule_for b) name) ≡ spells name b
+    spelt (Valued key) = or_false (bytes_eq (key_name key) name)
+    spelt (Flagged flag) = or_false (bytes_eq (flag_name flag) name)
+    spelt Source = refl

@@ -3,26 +3,27 @@ use Rattle.std.proofs.Common.{refl, sym, ap, ap₂, subst, ◌≡◌, ◌∙◌,
 use Rattle.std.proofs.Common.{Option, Some, None, true≢false, append-nil, append_assoc}
 use Rattle.std.specs.Prelude.{codes, fold}
 use Rattle.clap.specs.Values.{bool_text}
-use Rattle.clap.specs.Walk.{Held, Row, Step, Waiting, Walk, word_met, pushed, after_step, all_of, finished, first_of, has_row}
+use Rattle.clap.specs.Walk.{Held, Row, Step, Waiting, Walk, word_met, pushed, after_step, all_of, finished, first_of}
 use Rattle.clap.specs.Walk.{next, one_of, positional, settled, trailing, value, walked, is_pending, with_default}
 use Rattle.clap.specs.Faults.{check_fault, defaults_fault, settle_fault, step_fault, turn_fault, walk_fault, word_fault}
 use Rattle.clap.specs.Kinds.{Kinds, or_else}
 use Rattle.clap.specs.declared.error.kind.ErrorKind.{ErrorKind}
 use Rattle.clap.specs.declared.error.kind.ErrorKind.TheVariants as kind
-use Rattle.cqual_words.specs.Words.{Key, Piece, Task, Text, Source, Plain, task_in}
+use Rattle.cqual_words.specs.Words.{Flag, Key, Piece, Task, Text, Source, Plain, flag_name, stands_among, task_in}
 use Rattle.cqual_words.specs.Tool.{asked_by}
 use Rattle.cqual_words.proofs.Pieces.{rows_at}
 use Rattle.cqual_words.proofs.Rules.{OfSource, all_rules, rule_for, shape}
 use Rattle.cqual_words.proofs.Lexing.{faults, meets}
 use Rattle.cqual_words.proofs.States.{Pend, Holds, Wants, OnceEach, Settling, Settles, Repeats, Lacks, all_at, held_at, settling}
 use Rattle.cqual_words.proofs.States.{walk_at}
-use Rattle.cqual_words.proofs.Ends.{asked_is, check_fine, defaults_fine, end_rows, finished_is, flag_reads}
+use Rattle.cqual_words.proofs.Ends.{asked_is, check_fine, defaults_fine, end_rows, flag_reads}
 
 -- ---- what is claimed
 
--- with no fault the rows ask the task, and with a fault there is none
+-- with no fault the rows say which flags stand and ask the task, and with a fault there is none
 abbrev pub Judged : Kinds → List Row → Option Task → Type 0
-Judged [] rows task = (on : Bool) × (one_of (codes "annotate") rows ≡ Some (bool_text on)) × (asked_by on (λ id. first_of id rows) (all_of (codes "source") rows) ≡ task)
+Judged [] rows task = (stands : Flag → Bool) × ((flag : Flag) → one_of (flag_name flag) rows ≡ Some (bool_text (stands flag)))
+    × (asked_by stands (λ id. first_of id rows) (all_of (codes "source") rows) ≡ task)
 Judged (k ∷ ks) rows task = task ≡ None
 
 abbrev pub end_fault : Held → Kinds
@@ -146,20 +147,15 @@ module _ (ps : List Piece) (pend : Pend) (waiting : Waiting) (t : Bool) (task : 
   end_read (Repeats fault none) lacks again is = end_faulty kind.ArgumentConflict fault (again none)
   end_read (Settles fine held once) lacks again is =
       let rows : finished all_rules (held_at ps pend) ≡ end_rows (rows_at (all_at ps pend)) =
-      ap (λ (h : Held). fold with_default h.rows all_rules) held ∙ finished_is (rows_at (all_at ps pend)) in
+      ap (λ (h : Held). fold with_default h.rows all_rules) held in
       let faults_are : end_fault (held_at ps pend) ≡ [] =
       ap (λ ks. or_else ks (or_else (defaults_fault (settled all_rules (held_at ps pend)).rows all_rules) (check_fault shape
       (finished all_rules (held_at ps pend)) false))) fine
       ∙ ap (λ ks. or_else ks (check_fault shape (finished all_rules (held_at ps pend)) false)) (defaults_fine (settled all_rules
       (held_at ps pend)).rows)
       ∙ check_fine (finished all_rules (held_at ps pend)) in
-      let on = has_row (codes "annotate") (rows_at (all_at ps pend)) in
-      let judged : Judged [] (end_rows (rows_at (all_at ps pend))) task = (
-        on,
-        flag_reads (all_at ps pend) on refl,
-        asked_is
-            (all_at ps pend) on once refl ∙ is,
-      ) in
+      let judged : Judged [] (end_rows (rows_at (all_at ps pend))) task =
+      (stands_among (all_at ps pend), flag_reads (all_at ps pend), asked_is (all_at ps pend) once ∙ is) in
       subst (λ ks. Judged ks (finished all_rules (held_at ps pend)) task) (sym faults_are) (subst (λ rs. Judged [] rs task)
       (sym rows) judged)
 

@@ -1,8 +1,9 @@
 -- The induction over the words.
 use Rattle.std.proofs.Common.{refl, sym, ap, ap₂, subst, ◌≡◌, ◌∙◌, ◌++◌, Bool, true, false, cond, List, [], ◌∷◌, Option, Some}
 use Rattle.std.proofs.Common.{None, true≢false, append-nil, append_assoc}
-use Rattle.std.specs.Prelude.{option_map, codes}
+use Rattle.std.specs.Prelude.{find, option_map}
 use Rattle.std.specs.Str.{bytes_eq}
+use Rattle.std.proofs.lemmas.Option.{none-some, same_Some}
 use Rattle.clap.specs.Lexer.{long_of}
 use Rattle.clap.specs.Walk.{Held, Outcome, Row, Rule, Step, Waiting, after_flag, done, has_row, idle, long_met, next, option, plain_word}
 use Rattle.clap.specs.Walk.{positional, reacted, settled, used, value, waits}
@@ -10,11 +11,10 @@ use Rattle.clap.specs.Faults.{long_fault, react_fault, settle_fault, use_fault}
 use Rattle.clap.specs.Kinds.{or_else}
 use Rattle.clap.specs.declared.error.kind.ErrorKind.{ErrorKind}
 use Rattle.clap.specs.declared.error.kind.ErrorKind.TheVariants as kind
-use Rattle.cqual_words.specs.Words.{Key, Part, Piece, Task, Text, Word, Valued, Lattice, Prelude, Report, Number, Annotation, Source}
-use Rattle.cqual_words.specs.Words.{Value, Flag, Plain, Whole, has_meaning, named, option_word, part_of, pieces_from, task_in}
-use Rattle.cqual_words.specs.Words.{with_word, word_of}
-use Rattle.cqual_words.specs.Tool.{id_of}
-use Rattle.cqual_words.proofs.Pieces.{no_source, rows_at, rows_more, spoilt, twice, with_piece}
+use Rattle.cqual_words.specs.Words.{Flag, Key, Part, Piece, Task, Text, Word, Valued, Flagged, Source, Plain, Set, Value, Whole}
+use Rattle.cqual_words.specs.Words.{flag_name, has_meaning, key_name, name_of, named, option_word, part_of, parts, pieces_from}
+use Rattle.cqual_words.specs.Words.{spells, task_in, with_word, word_of}
+use Rattle.cqual_words.proofs.Pieces.{rows_at, rows_more, spoilt, twice, with_piece}
 use Rattle.cqual_words.proofs.Rules.{OfKey, OfSource, all_rules, by_name, flag_again, flag_fine, key_again, key_fine, piece_of}
 use Rattle.cqual_words.proofs.Rules.{rule_for, used_flag, used_key}
 use Rattle.cqual_words.proofs.Lexing.{Looks, Dashes, Long, Short, Other, ReadsShort, Refuses, Passes, dashes_fine, dashes_met, faults}
@@ -30,90 +30,44 @@ use Rattle.cqual_words.proofs.Steps.{trails, end_faulty}
 long_faulty : (o : Option Part) (v : Option Text) (h : Held) (k : ErrorKind) → settle_fault all_rules false h ≡ k ∷ []
     → (l : ErrorKind) × (long_fault all_rules false (option_map rule_for o) v h ≡ l ∷ [])
 long_faulty None v h k e = (kind.UnknownArgument, refl)
-long_faulty (Some Annotation) (Some t) h k e = (kind.TooManyValues, refl)
-long_faulty (Some Annotation) None h k e = (
-  k,
-  ap (λ ks. or_else ks (use_fault false (rule_for Annotation) []
-      (settled all_rules h).rows)) e,
-)
-long_faulty (Some Source) (Some t) h k e = (
-  k,
-  ap (λ ks. or_else ks (use_fault false (rule_for Source) (t ∷ [])
-      (settled all_rules h).rows)) e,
-)
+long_faulty (Some (Flagged flag)) (Some t) h k e = (kind.TooManyValues, refl)
+long_faulty (Some (Flagged flag)) None h k e =
+    (k, ap (λ ks. or_else ks (use_fault false (rule_for (Flagged flag)) [] (settled all_rules h).rows)) e)
+long_faulty (Some Source) (Some t) h k e =
+    (k, ap (λ ks. or_else ks (use_fault false (rule_for Source) (t ∷ []) (settled all_rules h).rows)) e)
 long_faulty (Some Source) None h k e = (k, e)
-long_faulty (Some (Valued Lattice)) (Some t) h k e = (
-  k,
-  ap (λ ks. or_else ks (use_fault false (rule_for (Valued Lattice)) (t ∷ [])
-      (settled all_rules h).rows)) e,
-)
-long_faulty (Some (Valued Prelude)) (Some t) h k e = (
-  k,
-  ap (λ ks. or_else ks (use_fault false (rule_for (Valued Prelude)) (t ∷ [])
-      (settled all_rules h).rows)) e,
-)
-long_faulty (Some (Valued Report)) (Some t) h k e = (
-  k,
-  ap (λ ks. or_else ks (use_fault false (rule_for (Valued Report)) (t ∷ [])
-      (settled all_rules h).rows)) e,
-)
-long_faulty (Some (Valued Number)) (Some t) h k e = (
-  k,
-  ap (λ ks. or_else ks (use_fault false (rule_for (Valued Number)) (t ∷ [])
-      (settled all_rules h).rows)) e,
-)
-long_faulty (Some (Valued Lattice)) None h k e = (k, e)
-long_faulty (Some (Valued Prelude)) None h k e = (k, e)
-long_faulty (Some (Valued Report)) None h k e = (k, e)
-long_faulty (Some (Valued Number)) None h k e = (k, e)
+long_faulty (Some (Valued key)) (Some t) h k e =
+    (k, ap (λ ks. or_else ks (use_fault false (rule_for (Valued key)) (t ∷ []) (settled all_rules h).rows)) e)
+long_faulty (Some (Valued key)) None h k e = (k, e)
 
 value_fault : (key : Key) (t : Text) (h : Held)
     → long_fault all_rules false (Some (rule_for (Valued key))) (Some t) h ≡ react_fault all_rules false (rule_for (Valued key)) (t ∷ []) h
-value_fault Lattice t h = refl
-value_fault Prelude t h = refl
-value_fault Report t h = refl
-value_fault Number t h = refl
+value_fault key t h = refl
 
 opens_fault : (key : Key) (h : Held) → long_fault all_rules false (Some (rule_for (Valued key))) None h ≡ settle_fault all_rules false h
-opens_fault Lattice h = refl
-opens_fault Prelude h = refl
-opens_fault Report h = refl
-opens_fault Number h = refl
+opens_fault key h = refl
 
 value_met : (key : Key) (t : Text) (h : Held)
     → long_met all_rules (Some (rule_for (Valued key))) (Some t) h ≡ (reacted all_rules (rule_for (Valued key)) (t ∷ []) h, done)
-value_met Lattice t h = refl
-value_met Prelude t h = refl
-value_met Report t h = refl
-value_met Number t h = refl
+value_met key t h = refl
 
-opens_met : (key : Key) (h : Held) → long_met all_rules (Some (rule_for (Valued key))) None h ≡ (
-  record
-      (settled all_rules h) { pending = Some (id_of (Valued key), []) },
-  waits (id_of (Valued key)),
-)
-opens_met Lattice h = refl
-opens_met Prelude h = refl
-opens_met Report h = refl
-opens_met Number h = refl
+opens_met : (key : Key) (h : Held) → long_met all_rules (Some (rule_for (Valued key))) None h
+    ≡ (record (settled all_rules h) { pending = Some (key_name key, []) }, waits (key_name key))
+opens_met key h = refl
 
-abbrev is_source : Option Part → Bool
-is_source (Some Source) = true
-is_source _ = false
-
-never_source : (name : Text) → named name ≡ Some Source → {T : Type 0} → T
-never_source name e = absurd (true≢false (sym (ap is_source e)
-    ∙ go (bytes_eq (codes "lattice") name) (bytes_eq (codes "prelude") name) (bytes_eq (codes "check") name)
-    (bytes_eq (codes "generate") name) (bytes_eq (codes "annotate") name)))
+-- what is found by a name is spelt by it
+spelt_by : (name : Text) (bs : List Part) (a : Part) → find (spells name) bs ≡ Some a → spells name a ≡ true
+spelt_by name [] a e = absurd (none-some a e)
+spelt_by name (b ∷ bs) a e = go (spells name b) refl e (spelt_by name bs a)
   where
-    go : (l p r n a : Bool) → is_source (cond l (Some (Valued Lattice)) (cond p (Some (Valued Prelude)) (cond r (Some (Valued Report))
-        (cond n (Some (Valued Number)) (cond a (Some Annotation) None))))) ≡ false
-    go true p r n a = refl
-    go false true r n a = refl
-    go false false true n a = refl
-    go false false false true a = refl
-    go false false false false true = refl
-    go false false false false false = refl
+    go : (t : Bool) → spells name b ≡ t → cond t (Some b) (find (spells name) bs) ≡ Some a
+        → (find (spells name) bs ≡ Some a → spells name a ≡ true) → spells name a ≡ true
+    go true spell is rest = ap (spells name) (sym (same_Some b a is)) ∙ spell
+    go false spell is rest = rest is
+
+-- no name behind two hyphens is that of the words that are no options
+never_source : (name : Text) → named name ≡ Some Source → {T : Type 0} → T
+never_source name e = absurd (true≢false (sym (spelt_by name parts Source e)))
 
 -- what is held after a use of a new part
 used_held : (all : List Piece) (p : Piece) (rows : List Row) → rows ≡ with_piece (rows_at all) p
@@ -171,28 +125,30 @@ module _ (ps : List Piece) (pend : Pend) (waiting : Waiting) (word : Text) (word
         ap (λ (g : Held). (record { rows = used a values g.rows; pending = None; skip = 0 }, next idle)) held
         ∙ ap (λ (g : Held). (g, next idle)) (used_held all p _ e)
 
-    goes_with : (p : Piece) → has_row (id_of (part_of p)) (rows_at all) ≡ false
+    goes_with : (p : Piece) → has_row (name_of (part_of p)) (rows_at all) ≡ false
         → Claim (walk_at (held_at (all ++ p ∷ []) Free) idle false) words (task_in (all ++ p ∷ pieces_from None words))
     goes_with p e = subst (λ qs. Claim (walk_at (held_at (all ++ p ∷ []) Free) idle false) words (task_in qs))
         (append_assoc all (p ∷ []) (pieces_from None words))
         (next_words (all ++ p ∷ []) Free (once_more all p once (λ other. e)))
 
-    flag_case : named name ≡ Some Annotation → v ≡ None → (b : Bool) → has_row (codes "annotate") (rows_at all) ≡ b
-        → Claim (walk_at h waiting false) (word ∷ words) (task_as (Some Annotation) None)
-    flag_case e f true r = refuses h waiting word words _ kind.ArgumentConflict
-        (fault_as (Some Annotation) None e f ∙ uses_fault (rule_for Annotation) []
-        ∙ flag_again (rows_at all) r) (twice all Flag (pieces_from None words) refl r)
-    flag_case e f false r = reads h waiting word words _ (held_at (all ++ Flag ∷ []) Free) idle
-        (fault_as (Some Annotation) None e f ∙ uses_fault (rule_for Annotation) [] ∙ flag_fine (rows_at all) r)
-        (met_as (Some Annotation) None e f ∙ uses_held (rule_for Annotation) [] Flag (used_flag (rows_at all) r)) (goes_with Flag r)
+    flag_case : (flag : Flag) → named name ≡ Some (Flagged flag) → v ≡ None → (b : Bool)
+        → has_row (flag_name flag) (rows_at all) ≡ b
+        → Claim (walk_at h waiting false) (word ∷ words) (task_as (Some (Flagged flag)) None)
+    flag_case flag e f true r = refuses h waiting word words _ kind.ArgumentConflict
+        (fault_as (Some (Flagged flag)) None e f ∙ uses_fault (rule_for (Flagged flag)) [] ∙ flag_again flag (rows_at all) r)
+        (twice all (Set flag) (pieces_from None words) refl r)
+    flag_case flag e f false r = reads h waiting word words _ (held_at (all ++ Set flag ∷ []) Free) idle
+        (fault_as (Some (Flagged flag)) None e f ∙ uses_fault (rule_for (Flagged flag)) [] ∙ flag_fine flag (rows_at all) r)
+        (met_as (Some (Flagged flag)) None e f
+        ∙ uses_held (rule_for (Flagged flag)) [] (Set flag) (used_flag flag (rows_at all) r)) (goes_with (Set flag) r)
 
     value_case : (key : Key) (t : Text) → named name ≡ Some (Valued key) → v ≡ Some t → (b : Bool)
-        → has_row (id_of (Valued key)) (rows_at all) ≡ b
+        → has_row (key_name key) (rows_at all) ≡ b
         → Claim (walk_at h waiting false) (word ∷ words) (task_as (Some (Valued key)) (Some t))
     value_case key t e f true r = refuses h waiting word words _ kind.ArgumentConflict
         (fault_as (Some (Valued key)) (Some t) e f ∙ value_fault key t h ∙ uses_fault (rule_for (Valued key)) (t ∷ [])
         ∙ key_again key t (rows_at all) r)
-        (twice all (Value key t) (pieces_from None words) (no_source key) r)
+        (twice all (Value key t) (pieces_from None words) refl r)
     value_case key t e f false r = reads h waiting word words _ (held_at (all ++ Value key t ∷ []) Free) idle
         (fault_as (Some (Valued key)) (Some t) e f ∙ value_fault key t h ∙ uses_fault (rule_for (Valued key)) (t ∷ [])
         ∙ key_fine key t (rows_at all) r)
@@ -205,15 +161,14 @@ module _ (ps : List Piece) (pend : Pend) (waiting : Waiting) (word : Text) (word
     long_settled None w e f = refuses h waiting word words _ kind.UnknownArgument (fault_as None w e f) (spoilt all (Plain word)
         (pieces_from None words) bad)
     long_settled (Some Source) w e f = never_source name e
-    long_settled (Some Annotation) (Some t) e f =
-        refuses h waiting word words _ kind.TooManyValues (fault_as (Some Annotation) (Some t) e f) (spoilt all (Plain word)
-        (pieces_from None words) bad)
-    long_settled (Some Annotation) None e f = flag_case e f (has_row (codes "annotate") (rows_at all)) refl
-    long_settled (Some (Valued key)) (Some t) e f = value_case key t e f (has_row (id_of (Valued key)) (rows_at all)) refl
-    long_settled (Some (Valued key)) None e f = reads h waiting word words _ (held_at all (Wants key)) (option (id_of (Valued key)))
+    long_settled (Some (Flagged flag)) (Some t) e f = refuses h waiting word words _ kind.TooManyValues
+        (fault_as (Some (Flagged flag)) (Some t) e f) (spoilt all (Plain word) (pieces_from None words) bad)
+    long_settled (Some (Flagged flag)) None e f = flag_case flag e f (has_row (flag_name flag) (rows_at all)) refl
+    long_settled (Some (Valued key)) (Some t) e f = value_case key t e f (has_row (key_name key) (rows_at all)) refl
+    long_settled (Some (Valued key)) None e f = reads h waiting word words _ (held_at all (Wants key)) (option (key_name key))
         (fault_as (Some (Valued key)) None e f ∙ opens_fault key h ∙ fine)
         (met_as (Some (Valued key)) None e f ∙ ap flagged (opens_met key h)
-        ∙ ap (λ (g : Held). (record g { pending = Some (id_of (Valued key), []) }, next (option (id_of (Valued key))))) held)
+        ∙ ap (λ (g : Held). (record g { pending = Some (key_name key, []) }, next (option (key_name key)))) held)
         (next_words all (Wants key) once)
 
 -- ---- one word
@@ -289,7 +244,7 @@ module _ (words : List Text) (next_words : Walks words) (word : Text) (ps : List
   held = held_at ps (Wants key)
 
   abbrev waiting : Waiting
-  waiting = option (id_of (Valued key))
+  waiting = option (key_name key)
 
   abbrev task : Option Task
   task = task_in (ps ++ Value key word ∷ pieces_from None words)
@@ -331,7 +286,7 @@ walks [] ps Free once = end_read ps Free idle false _ (settling ps Free once) (�
 walks [] ps (Holds hand) once = end_read ps (Holds hand) (waits_for (Holds hand)) false _ (settling ps (Holds hand) once)
     (λ key e. not_wanting (Holds hand) refl key e)
     (λ none. none []) (ap task_in (sym (append-nil (ps ++ piece_of hand ∷ []))))
-walks [] ps (Wants key) once = end_faulty ps (Wants key) (option (id_of (Valued key))) false _ kind.InvalidValue
+walks [] ps (Wants key) once = end_faulty ps (Wants key) (option (key_name key)) false _ kind.InvalidValue
     (wants_fault ps key) (spoilt ps (Value key []) [] refl)
 walks (word ∷ words) ps Free once = step words (walks words) word ps Free refl once
 walks (word ∷ words) ps (Holds hand) once = step words (walks words) word ps (Holds hand) refl once

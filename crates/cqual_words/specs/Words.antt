@@ -1,6 +1,6 @@
 -- What the words of a command line mean.
-use Rattle.std.specs.Prelude.{◌≤◌, ℕ, Bool, false, ◌==◌, ◌&&◌, not, List, [], ◌∷◌, length, map, Option, Some, None, codes, nat_le}
-use Rattle.std.specs.Prelude.{if◌then◌else◌, option_and_then, option_map}
+use Rattle.std.specs.Prelude.{◌≤◌, ℕ, Bool, true, false, ◌==◌, ◌&&◌, not, List, [], ◌∷◌, length, map, Option, Some, None, codes}
+use Rattle.std.specs.Prelude.{nat_le, if◌then◌else◌, find, is_some, option_map, slice_get}
 use Rattle.std.specs.List.{list_all, list_any, before_first, after_first}
 use Rattle.std.specs.Str.{bytes_eq}
 use Rattle.std.specs.Str.Parse.{digits_value}
@@ -31,7 +31,7 @@ pub data Task : Type 0 where
 
 -- ---- the pieces that words spell
 
--- the options that have a value: `--lattice`, `--prelude`, `--check`, `--verify` and `--generate`
+-- the options that have a value, with their names
 pub data Key : Type 0 where
   Lattice : Key
   Prelude : Key
@@ -39,16 +39,39 @@ pub data Key : Type 0 where
   Certificate : Key
   Number : Key
 
--- the options that have none: `--annotate` and `--certify`
+abbrev pub key_name : Key → Text
+key_name Lattice = codes "lattice"
+key_name Prelude = codes "prelude"
+key_name Report = codes "check"
+key_name Certificate = codes "verify"
+key_name Number = codes "generate"
+
+-- the options that have none, with their names
 pub data Flag : Type 0 where
   Annotation : Flag
   Certification : Flag
+
+abbrev pub flag_name : Flag → Text
+flag_name Annotation = codes "annotate"
+flag_name Certification = codes "certify"
 
 -- the parts of a command line: the options with a value, the flags, and the words that are no options
 pub data Part : Type 0 where
   Valued : Key → Part
   Flagged : Flag → Part
   Source : Part
+
+-- Each part has a name of its own. That of an option or a flag stands behind two hyphens, and no word spells `source`.
+abbrev pub name_of : Part → Text
+name_of (Valued key) = key_name key
+name_of (Flagged flag) = flag_name flag
+name_of Source = codes "source"
+
+-- all parts, in the order in which the reader of the command line is given them
+abbrev pub parts : List Part
+parts =
+    Valued Lattice ∷ Valued Prelude ∷ Valued Report ∷ Valued Certificate ∷ Valued Number
+    ∷ Flagged Annotation ∷ Flagged Certification ∷ Source ∷ []
 
 -- what words give: an option with its value, a flag, or a word that is no option
 pub data Piece : Type 0 where
@@ -79,16 +102,15 @@ behind_hyphens [] = None
 behind_hyphens (a ∷ []) = None
 behind_hyphens (a ∷ b ∷ more) = if a == 45 && b == 45 then Some more else None
 
+-- the name behind two hyphens is that of this option or flag
+abbrev pub spells : Text → Part → Bool
+spells name (Valued key) = bytes_eq (key_name key) name
+spells name (Flagged flag) = bytes_eq (flag_name flag) name
+spells name Source = false
+
 -- the option or the flag of this name, in full
 abbrev pub named : Text → Option Part
-named name =
-    if bytes_eq (codes "lattice") name then Some (Valued Lattice)
-    else (if bytes_eq (codes "prelude") name then Some (Valued Prelude)
-    else (if bytes_eq (codes "check") name then Some (Valued Report)
-    else (if bytes_eq (codes "verify") name then Some (Valued Certificate)
-    else (if bytes_eq (codes "generate") name then Some (Valued Number)
-    else (if bytes_eq (codes "annotate") name then Some (Flagged Annotation)
-    else (if bytes_eq (codes "certify") name then Some (Flagged Certification) else None))))))
+named name = find (spells name) parts
 
 -- what stands before the first `=`, and what stands behind it where there is one
 abbrev pub is_equals : ℕ → Bool
@@ -136,38 +158,30 @@ pieces_of words = pieces_from None words
 
 -- ---- what the pieces ask
 
-abbrev pub key_place : Key → ℕ
-key_place Lattice = 0
-key_place Prelude = 1
-key_place Report = 2
-key_place Certificate = 3
-key_place Number = 4
-
-abbrev pub flag_place : Flag → ℕ
-flag_place Annotation = 5
-flag_place Certification = 6
-
-abbrev pub place : Part → ℕ
-place (Valued key) = key_place key
-place (Flagged flag) = flag_place flag
-place Source = 7
+-- two parts are the same where they have one name
+abbrev pub is_part : Part → Part → Bool
+is_part a b = bytes_eq (name_of a) (name_of b)
 
 -- the texts of a part, in the order of the words
 abbrev pub texts_of : Part → List Piece → List Text
 texts_of part [] = []
 texts_of part (piece ∷ pieces) =
-    if place (part_of piece) == place part then text_of piece ∷ texts_of part pieces else texts_of part pieces
+    if is_part (part_of piece) part then text_of piece ∷ texts_of part pieces else texts_of part pieces
 
 -- a text that has a meaning: it is not empty and does not begin with a hyphen
 abbrev pub has_meaning : Text → Bool
 has_meaning [] = false
 has_meaning (b ∷ more) = not (b == 45)
 
--- a part stands at most once, with a text that has a meaning
-abbrev pub at_most_once : List Text → Option (Option Text)
-at_most_once [] = Some None
-at_most_once (text ∷ []) = if has_meaning text then Some (Some text) else None
-at_most_once (text ∷ other ∷ more) = None
+-- how often a part may stand: an option or a flag once, sources 256 times
+abbrev pub most_of : Part → ℕ
+most_of (Valued key) = 1
+most_of (Flagged flag) = 1
+most_of Source = 256
+
+-- the texts that a part may have: at most so many, and each has a meaning
+abbrev pub are_fit : Part → List Text → Bool
+are_fit part texts = list_all has_meaning texts && nat_le (length texts) (most_of part)
 
 -- a decimal numeral with no sign and no 0 at its start
 abbrev pub begins_number : Text → Bool
@@ -191,22 +205,18 @@ IsMade number = (1 ≤ number) × (number ≤ 1000)
 abbrev pub files_of : Text → Option Text → List Text → FileNames
 files_of lattice prelude sources = record { lattice = lattice; prelude = prelude; sources = sources }
 
--- the sources, where there are at most 256 and each has a meaning
-abbrev pub sources_of : List Text → Option (List Text)
-sources_of texts = if list_all has_meaning texts && nat_le (length texts) 256 then Some texts else None
-
 -- as many sources as words may name
 abbrev pub IsSourceCount : ℕ → Type 0
 IsSourceCount count = (1 ≤ count) × (count ≤ 256)
 
--- What is asked of a program, by what is there of a report, a certificate, the flag `--annotate` and the flag `--certify`: at most
--- one of them.
-abbrev pub question_of : Option Text → Option Text → Option Text → Option Text → Option Question
-question_of None None None None = Some Infer
-question_of None None (Some on) None = Some Annotate
-question_of None None None (Some on) = Some Certify
-question_of (Some r) None None None = Some (Check r)
-question_of None (Some v) None None = Some (Verify v)
+-- What is asked of a program, by what is there of a report and of a certificate, and by whether the flags `--annotate` and
+-- `--certify` stand: at most one of them.
+abbrev pub question_of : Option Text → Option Text → Bool → Bool → Option Question
+question_of None None false false = Some Infer
+question_of None None true false = Some Annotate
+question_of None None false true = Some Certify
+question_of (Some r) None false false = Some (Check r)
+question_of None (Some v) false false = Some (Verify v)
 question_of r v annotate certify = None
 
 -- as many sources as a question may have: one where it is annotated
@@ -227,23 +237,29 @@ abbrev pub made_of : Text → Option Text → Option Question → List Text → 
 made_of n None (Some Infer) [] = option_map (λ number. Generate number) (number_of n)
 made_of n prelude question sources = None
 
--- what the parts ask together, by what is there of the lattice, the prelude and the number, by the question, and by the sources
-abbrev pub task_of_parts : Option Text → Option Text → Option Text → Option Question → List Text → Option Task
-task_of_parts (Some l) p None question sources = asked_of (files_of l p sources) question
-task_of_parts None p (Some n) question sources = made_of n p question sources
-task_of_parts (Some l) p (Some n) question sources = None
-task_of_parts None p None question sources = None
+-- by what is there of the lattice, the prelude and the number: files are of a lattice, and a number has none
+abbrev pub task_with : Option Text → Option Text → Option Text → Option Question → List Text → Option Task
+task_with (Some l) p None question sources = asked_of (files_of l p sources) question
+task_with None p (Some n) question sources = made_of n p question sources
+task_with (Some l) p (Some n) question sources = None
+task_with None p None question sources = None
 
--- what comes of an option among the pieces, where it stands at most once
-abbrev pub with_part : Part → List Piece → (Option Text → Option Task) → Option Task
-with_part part pieces next = option_and_then next (at_most_once (texts_of part pieces))
+-- what the parts ask together, by the value of each option, by which flags stand, and by the sources
+abbrev pub task_of_parts : (Key → Option Text) → (Flag → Bool) → List Text → Option Task
+task_of_parts value stands sources = task_with (value Lattice) (value Prelude) (value Number)
+    (question_of (value Report) (value Certificate) (stands Annotation) (stands Certification)) sources
 
+-- the value of an option among the pieces, where it stands once, and whether a flag stands
+abbrev pub value_among : List Piece → Key → Option Text
+value_among pieces key = slice_get (texts_of (Valued key) pieces) 0
+
+abbrev pub stands_among : List Piece → Flag → Bool
+stands_among pieces flag = is_some (slice_get (texts_of (Flagged flag) pieces) 0)
+
+-- what the pieces ask: nothing where a part stands too often or with a text that has no meaning
 abbrev pub task_in : List Piece → Option Task
-task_in pieces =
-    with_part (Valued Lattice) pieces (λ l. with_part (Valued Prelude) pieces (λ p. with_part (Valued Report) pieces (λ r.
-    with_part (Valued Certificate) pieces (λ v. with_part (Valued Number) pieces (λ n.
-    with_part (Flagged Annotation) pieces (λ annotate. with_part (Flagged Certification) pieces (λ certify.
-    option_and_then (λ sources. task_of_parts l p n (question_of r v annotate certify) sources) (sources_of (texts_of Source pieces)))))))))
+task_in pieces = if list_all (λ part. are_fit part (texts_of part pieces)) parts
+    then task_of_parts (value_among pieces) (stands_among pieces) (texts_of Source pieces) else None
 
 -- what the words behind the program's name ask, or nothing where they have no meaning
 abbrev pub meaning_of : List Text → Option Task

@@ -2,7 +2,7 @@
 
 ghost use Rattle.std.specs.Prelude.{◌≡◌, IfOk, false};
 ghost use Rattle.clap.specs.Words.{app_of, rule_of};
-ghost use Rattle.cqual_words.specs.Tool.{flag_rule, option_rule, source_rule, tool};
+ghost use Rattle.cqual_words.specs.Tool.{bare, flag_rule, option_rule, source_rule, tool};
 
 use clap::{Arg, ArgAction, Command};
 use std::alloc::{AllocError, Global};
@@ -31,14 +31,21 @@ fn source<'a>(alloc: Global) -> Arg<'a>
     Arg::new(alloc, "source").action(ArgAction::Append)
 }
 
-/// The options, the flags and the words that are neither.
-pub fn command<'a>(alloc: Global) -> Result<Command<'a>, AllocError>
-    ensures { IfOk result (λ c. app_of c ≡ tool) }
+/// The program before it has options: its words begin behind its name, and it adds no option of its own.
+fn bare<'a>(alloc: Global) -> Command<'a>
+    ensures { app_of result ≡ bare }
 {
     Command::new(alloc, "cqual")
         .no_binary_name(true)
         .disable_help_flag(true)
         .disable_version_flag(true)
+}
+
+/// The options, the flags and the words that are neither.
+pub fn command<'a>(alloc: Global) -> Result<Command<'a>, AllocError>
+    ensures { IfOk result (λ c. app_of c ≡ tool) }
+{
+    bare(alloc)
         .arg(option(alloc, "lattice"))?
         .arg(option(alloc, "prelude"))?
         .arg(option(alloc, "check"))?

@@ -17,6 +17,7 @@ fn begins_number(text: &str) -> bool
 }
 
 /// The number of a text: a decimal numeral of 1 to 1000, with no sign and no 0 before it.
+#[tactic(auto, using(crate::proofs::Numerals::read_number, crate::proofs::Numerals::read_some, crate::proofs::Numerals::no_number))]
 pub fn number(text: &str) -> Option<u32>
     ensures number { result ≡ number_of text.now }
     ensures made { IfSome result IsMade }

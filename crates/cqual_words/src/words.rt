@@ -1,16 +1,16 @@
 //! What the words mean together.
 
 ghost use Rattle.std.specs.Prelude.{◌≡◌, ◌≤◌, Bool, Some, None, Option, List, ℕ, codes, length, map};
-ghost use Rattle.std.specs.Prelude.{IfOk, IfSome, string_bytes};
+ghost use Rattle.std.specs.Prelude.{IfOk, IfSome, is_some, string_bytes};
 ghost use Rattle.std.specs.List.{list_all};
 ghost use Rattle.std.specs.Option.{option_map};
 ghost use Rattle.clap.specs.Words.{FailsBy, HasMatchesOf, fault_of, first_value, found_of, one_text};
 ghost use Rattle.clap.specs.Values.{bool_text};
 ghost use Rattle.cqual_words.specs.Asked.{AsksMade, NamesSources, names_in, question_in, task_of};
 ghost use Rattle.cqual_words.specs.Words as rules;
-ghost use Rattle.cqual_words.specs.Words.{meaning_of};
-ghost use Rattle.cqual_words.specs.Tool.{Flags, HasFlags, asked_by, asked_with, flag_text, given};
-ghost use Rattle.cqual_words.specs.Tool.{plain_texts, raw_of, tool};
+ghost use Rattle.cqual_words.specs.Words.{Flag, meaning_of};
+ghost use Rattle.cqual_words.specs.Tool.{HasFlags, asked_by, asked_with, is_fit, plain_texts};
+ghost use Rattle.cqual_words.specs.Tool.{raw_of, sources_of, tool};
 
 use crate::asked::{Asked, FileWords, Question};
 use crate::command::command;
@@ -34,8 +34,9 @@ fn has_meaning(text: &str) -> bool
 
 /// The text of a part, where there is one. A text with no meaning makes the whole have none.
 fn text_of<'a>(matches: &ArgMatches<'a>, id: &str) -> Option<Option<&'a str>>
-    ensures { option_map (λ text. option_map (λ s. s.now) text) result
-        ≡ given (first_value (found_of matches.now) id.now) }
+    ensures fit { is_some result ≡ is_fit (first_value (found_of matches.now) id.now) }
+    ensures text { IfSome result (λ text. option_map (λ s. s.now) text
+        ≡ first_value (found_of matches.now) id.now) }
 {
     match matches.get_str(id) {
         None => Some(None),
@@ -62,7 +63,7 @@ fn sources_of<'a>(
     matches: &ArgMatches<'a>,
 ) -> Result<Option<Vec<&'a str>>, AllocError>
     ensures { IfOk result (λ found. option_map (λ sources. map (λ s. s.now) sources.items) found
-        ≡ rules.sources_of (plain_texts (raw_of (found_of matches.now) (codes "source")))) }
+        ≡ sources_of (plain_texts (raw_of (found_of matches.now) (codes "source")))) }
 {
     match matches.get_strs("source") {
         None => Ok(Some(Vec::new(alloc))),
@@ -84,7 +85,7 @@ fn question<'a>(
 ) -> Option<Question<'a>>
     ensures { option_map question_in result ≡ rules.question_of
         (option_map (λ s. s.now) report.entry) (option_map (λ s. s.now) certificate.entry)
-        (flag_text annotate) (flag_text certify) }
+        annotate certify }
 {
     match (report, certificate, annotate, certify) {
         (None, None, false, false) => Some(Question::Infer),
@@ -131,7 +132,7 @@ fn of_number<'a>(
     sources: &[&str],
 ) -> Option<Asked<'a>>
     ensures task { option_map task_of result ≡ rules.made_of text.now
-        (option_map (λ s. s.now) prelude.now) (option_map question_in question.now)
+        (option_map (λ s. s.now) prelude.entry) (option_map question_in question.entry)
         (map (λ s. s.now) sources.now) }
     ensures made { IfSome result AsksMade }
     ensures sources { IfSome result NamesSources }
@@ -144,8 +145,8 @@ fn of_number<'a>(
 
 /// What the texts of the parts ask, with these sources.
 fn of_parts<'a>(matches: &ArgMatches<'a>, sources: Vec<&'a str>) -> Option<Asked<'a>>
-    ensures task { (flags : Flags) → HasFlags (found_of matches.now) flags → option_map task_of result
-        ≡ asked_with flags (λ id. first_value (found_of matches.now) id)
+    ensures task { (stands : Flag → Bool) → HasFlags (found_of matches.now) stands
+        → option_map task_of result ≡ asked_with stands (λ id. first_value (found_of matches.now) id)
         (map (λ s. s.now) sources.entry.items) }
     ensures made { IfSome result AsksMade }
     ensures sources { length sources.entry.items ≤ 256 → IfSome result NamesSources }
@@ -177,8 +178,9 @@ fn of_parts<'a>(matches: &ArgMatches<'a>, sources: Vec<&'a str>) -> Option<Asked
 
 /// What the matches ask.
 fn of_matches<'a>(alloc: Global, matches: &ArgMatches<'a>) -> Result<Option<Asked<'a>>, AllocError>
-    ensures task { IfOk result (λ found. (flags : Flags) → HasFlags (found_of matches.now) flags →
-        option_map task_of found ≡ asked_by flags (λ id. first_value (found_of matches.now) id)
+    ensures task { IfOk result (λ found. (stands : Flag → Bool) →
+        HasFlags (found_of matches.now) stands →
+        option_map task_of found ≡ asked_by stands (λ id. first_value (found_of matches.now) id)
         (raw_of (found_of matches.now) (codes "source"))) }
     ensures made { IfOk result (λ found. IfSome found AsksMade) }
     ensures sources { IfOk result (λ found. IfSome found NamesSources) }

@@ -1,0 +1,59 @@
+-- What holds of all words that ask something, for crates above.
+use Rattle.std.proofs.Common.{refl, subst, ◌≡◌, ℕ, Bool, true, false, cond, List, [], ◌∷◌, Option, Some, None, option_map}
+use Rattle.std.specs.Prelude.{⊤}
+use Rattle.std.specs.List.{list_all}
+use Rattle.cqual_words.specs.Words.{FileNames, Piece, Question, Task, Text, Ask, Generate, Infer, Annotate, Check, Certify, Verify}
+use Rattle.cqual_words.specs.Words.{Lattice, Number, Prelude, Source, are_fit, asked_of, files_of, fits, made_of, meaning_of, number_of}
+use Rattle.cqual_words.specs.Words.{parts, pieces_of, stands_among, task_of_parts, task_with, texts_of, value_among}
+
+-- a task's question has as many sources as it may have
+abbrev HasFit : Task → Type 0
+HasFit (Ask question files) = fits question files.sources ≡ true
+HasFit (Generate number) = ⊤
+
+abbrev AllFit : Option Task → Type 0
+AllFit None = ⊤
+AllFit (Some task) = HasFit task
+
+asked_has : (files : FileNames) (question : Option Question) → AllFit (asked_of files question)
+asked_has files None = tt
+asked_has files (Some question) = go (fits question files.sources) refl
+  where
+    go : (b : Bool) → fits question files.sources ≡ b → AllFit (cond b (Some (Ask question files)) None)
+    go true e = e
+    go false e = tt
+
+made_has : (n : Text) (p : Option Text) (question : Option Question) (sources : List Text) → AllFit (made_of n p question sources)
+made_has n (Some p) question sources = tt
+made_has n None None sources = tt
+made_has n None (Some Infer) [] = go (number_of n)
+  where
+    go : (o : Option ℕ) → AllFit (option_map (λ number. Generate number) o)
+    go None = tt
+    go (Some number) = tt
+made_has n None (Some Infer) (s ∷ sources) = tt
+made_has n None (Some Annotate) sources = tt
+made_has n None (Some (Check r)) sources = tt
+made_has n None (Some Certify) sources = tt
+made_has n None (Some (Verify v)) sources = tt
+
+task_has : (l p n : Option Text) (question : Option Question) (sources : List Text) → AllFit (task_with l p n question sources)
+task_has (Some l) p None question sources = asked_has (files_of l p sources) question
+task_has (Some l) p (Some n) question sources = tt
+task_has None p (Some n) question sources = made_has n p question sources
+task_has None p None question sources = tt
+
+words_have : (words : List Text) → AllFit (meaning_of words)
+words_have words = go (list_all (λ part. are_fit part (texts_of part pieces)) parts)
+  where
+    pieces : List Piece
+    pieces = pieces_of words
+
+    go : (b : Bool) → AllFit (cond b (task_of_parts (value_among pieces) (stands_among pieces) (texts_of Source pieces)) None)
+    go true = task_has (value_among pieces Lattice) (value_among pieces Prelude) (value_among pieces Number) _ (texts_of Source pieces)
+    go false = tt
+
+-- a question that words ask has as many sources as it may have
+pub asked_fits : (words : List Text) (question : Question) (files : FileNames) → meaning_of words ≡ Some (Ask question files)
+    → fits question files.sources ≡ true
+asked_fits words question files is = subst AllFit is (words_have words)
