@@ -38,8 +38,8 @@ judged_as unit it sys accepted status text words system same spelled is =
 -- the report of a program that is not accepted, where its certificate is asked for
 pub uncertified : (it : Judging) (status : Status) (text : List ℕ) → (IsAccepted it.system (orders_of it.scene.lattices) → ⊥)
     → IsReport None it status text → IsCertified it status text
-uncertified it Accepted text never (IsRight text (AcceptedWith text report is spelled)) = absurd (never is.accepted)
-uncertified it Rejected text never (IsWrong text is) = Uncertified text is
+uncertified it Accepted text never (IsRight _ (AcceptedWith _ report is spelled)) = absurd (never is.accepted)
+uncertified it Rejected text never (IsWrong _ is) = Uncertified text is
 
 -- where no saved file is asked of, the report or the certificate is what is asked for
 pub alone_of : (asked : Question) (it : Judging) (status : Status) (text : List ℕ) → saved_of asked ≡ None → IsReport None it status text

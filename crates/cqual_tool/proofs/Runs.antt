@@ -5,10 +5,10 @@ use Rattle.outside.specs.Readings.{Agrees, MayGive, Reading, ReadsAs, Standing, 
 use Rattle.cqual_words.specs.Words.{Generate, Task, meaning_of}
 use Rattle.cqual_tool.specs.declared.answer.Answer.{Answer}
 use Rattle.cqual_tool.specs.declared.status.Status.{Status}
-use Rattle.cqual_tool.specs.declared.status.Status.TheVariants.{Accepted, Rejected, PathsHold, PathBad, Malformed, BadWords, ReadFault, WriteFault, NoMemory}
+use Rattle.cqual_tool.specs.declared.status.Status.TheVariants.{Accepted, Rejected, PathsHold, PathBad, CertificateHolds, CertificateBad, Malformed, BadWords, ReadFault, WriteFault, NoMemory}
 use Rattle.cqual_tool.specs.declared.taking.Stop.{Stop}
 use Rattle.cqual_tool.specs.declared.taking.Stop.TheVariants as stops
-use Rattle.cqual_tool.specs.Words.{FileNames, names_of}
+use Rattle.cqual_tool.specs.Words.{FileNames, names_of, saved_in}
 use Rattle.cqual_tool.specs.Texts.{usage_line}
 use Rattle.cqual_tool.specs.Inputs.{Inputs, asked, behind_first, content_named, files_asked, files_named, files_with, first_of, inputs_asked, inputs_in, inputs_of, one_file}
 use Rattle.cqual_tool.specs.Outcome.{Answers, ForTask, IsAnswer, IsDecided, NoFile, NoMeaningYet, OfTask, StartsFor, TaskStarts, WithMeaning, WithoutMeaning}
@@ -22,6 +22,8 @@ decided_answers Accepted is = tt
 decided_answers Rejected is = tt
 decided_answers PathsHold is = tt
 decided_answers PathBad is = tt
+decided_answers CertificateHolds is = tt
+decided_answers CertificateBad is = tt
 decided_answers Malformed is = tt
 decided_answers BadWords is = absurd is
 decided_answers ReadFault is = absurd is

@@ -13,7 +13,7 @@ use Rattle.cqual_tool.specs.declared.status.Status.TheVariants.{Malformed}
 use Rattle.cqual_tool.specs.declared.taking.Stop.{Stop}
 use Rattle.cqual_tool.specs.declared.taking.Stop.TheVariants.{ReadFault, NoMemory}
 use Rattle.cqual_words.specs.Words.{Generate, Task}
-use Rattle.cqual_tool.specs.Words.{FileNames, names_of}
+use Rattle.cqual_tool.specs.Words.{FileNames, names_of, saved_in}
 use Rattle.cqual_tool.specs.Programs.{Judging, judging_of}
 use Rattle.cqual_tool.specs.Inputs.{Inputs, behind_first, files_named, files_of, files_with, first_of, from_prelude, from_saved, from_sources, one_file}
 use Rattle.cqual_tool.specs.Outcome.{AreBefore, AreCounted, InOrder, IsEnd, LatticeAlone, LatticesRead, MadeAlone, NoPrelude, NoSource, NotCounted, NotParsed, OfFiles, OfProgram, OfSources, OfTask, OfUnits, PreludeRead, Refused, SourceParses, SourceRefused, SourcesRead, Starts, TooLarge, UnitsRefused, limit_in, named_one, sources_of, total_limit}

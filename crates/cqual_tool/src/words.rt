@@ -2,7 +2,7 @@
 
 ghost use Rattle.std.specs.Prelude.{◌≡◌};
 ghost use Rattle.std.specs.Option.{option_map};
-ghost use Rattle.cqual_words.specs.Asked as asked;
+ghost use Rattle.cqual_words.specs.Asked as words;
 ghost use Rattle.cqual_tool.specs.Words as rules;
 ghost use Rattle.cqual_tool.specs.Words.{names_in};
 
@@ -32,8 +32,8 @@ impl<'a> Named<'a> {
 
 /// The files of words, with what is asked.
 pub fn of_files<'a>(files: &'a FileWords<'a>, asked: Question<'a>) -> Named<'a>
-    ensures { names_in result ≡ rules.of_files (asked.names_in files.now)
-        (asked.question_in asked.entry) }
+    ensures { names_in result ≡ rules.of_files (words.names_in files.now)
+        (words.question_in asked.entry) }
 {
     Named {
         lattice: files.lattice,
