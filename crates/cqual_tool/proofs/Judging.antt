@@ -1,11 +1,16 @@
 -- Programs that are judged, and reports that are checked.
 use Rattle.std.proofs.Common.{◌≡◌, ℕ, Bool, true, false, List, Some, None, true≢false, refl, sym, ap, subst}
-use Rattle.std.specs.Prelude.{is_some}
+use Rattle.std.specs.Prelude.{is_some, IfOk, IfSome}
+use Rattle.std.specs.declared.alloc.Global.{Global}
 use Rattle.std.specs.declared.option.Option.{Option}
+use Rattle.std.specs.declared.result.Result.{Result}
+use Rattle.std.specs.declared.vec.Vec.{Vec}
+use Rattle.std.proofs.lemmas.Result.{IfOk-weaker}
 use Rattle.lattice_core.specs.View.{LatticeView, orders_of}
 use Rattle.flow_graph.specs.System.{System}
 use Rattle.flow_graph.specs.Unfolding.{IsAccepted}
 use Rattle.annotate.specs.Reports.{IsJudgedWith, AcceptedWith}
+use Rattle.certificate_maker.specs.Certified.{IsCertificate}
 use Rattle.certificate_checks.specs.declared.judging.Verdict.{Verdict}
 use Rattle.certificate_checks.specs.declared.judging.Verdict.TheVariants.{Holds, Fails, Unread}
 use Rattle.certificate_checks.specs.Checks.{ComesTo as IsProof}
@@ -16,7 +21,8 @@ use Rattle.report_checks.specs.Checks.{ComesTo}
 use Rattle.report_checks.specs.Texts.{checked_text}
 use Rattle.cqual_words.specs.Words.{Question, Infer, Annotate, Check, Certify, Verify}
 use Rattle.cqual_tool.specs.declared.status.Status.{Status}
-use Rattle.cqual_tool.specs.declared.status.Status.TheVariants.{Accepted, Rejected}
+use Rattle.cqual_tool.specs.declared.status.Status.TheVariants.{Accepted, Rejected, PathsHold, PathBad, CertificateHolds, CertificateBad, Malformed, BadWords, ReadFault, WriteFault, NoMemory}
+use Rattle.cqual_tool.specs.declared.answer.Answer.{Answer}
 use Rattle.cqual_tool.specs.Statuses.{status_of, checked_status, verdict_status}
 use Rattle.cqual_tool.specs.Programs.{Judging}
 use Rattle.cqual_tool.specs.Words.{saved_of}
@@ -40,6 +46,38 @@ pub uncertified : (it : Judging) (status : Status) (text : List ℕ) → (IsAcce
     → IsReport None it status text → IsCertified it status text
 uncertified it Accepted text never (IsRight _ (AcceptedWith _ report is spelled)) = absurd (never is.accepted)
 uncertified it Rejected text never (IsWrong _ is) = Uncertified text is
+uncertified it PathsHold text never is = elim is [ ]
+uncertified it PathBad text never is = elim is [ ]
+uncertified it CertificateHolds text never is = elim is [ ]
+uncertified it CertificateBad text never is = elim is [ ]
+uncertified it Malformed text never is = elim is [ ]
+uncertified it BadWords text never is = elim is [ ]
+uncertified it ReadFault text never is = elim is [ ]
+uncertified it WriteFault text never is = elim is [ ]
+uncertified it NoMemory text never is = elim is [ ]
+
+-- what is made of certificates, where there are some, and where there are none
+pub certified_as : (it : Judging) (lattices : List LatticeView) (sys : System) (found : Option (Vec ℕ Global)) (text : Vec ℕ Global)
+    → it.scene.lattices ≡ lattices → sys ≡ it.system → found ≡ Some text
+    → IfSome found (λ t. IsCertificate sys (orders_of lattices) t.items) → IfSome found (λ t. IsAccepted sys (orders_of lattices))
+    → IsCertified it Accepted text.items
+certified_as it lattices sys found text same system some written accepted =
+    let is = subst (λ (o : Option (Vec ℕ Global)). IfSome o (λ t. IsCertificate sys (orders_of lattices) t.items)) some written in
+    let holds = subst (λ (o : Option (Vec ℕ Global)). IfSome o (λ t. IsAccepted sys (orders_of lattices))) some accepted in
+    Certified text.items
+    (subst (λ (s : System). IsAccepted s (orders_of it.scene.lattices)) system
+    (subst (λ (ls : List LatticeView). IsAccepted sys (orders_of ls)) (sym same) holds))
+    (subst (λ (s : System). IsCertificate s (orders_of it.scene.lattices) text.items) system
+    (subst (λ (ls : List LatticeView). IsCertificate sys (orders_of ls) text.items) (sym same) is))
+
+pub uncertified_as : {E : Type 0} (it : Judging) (lattices : List LatticeView) (sys : System) (result : Result Answer E)
+    → it.scene.lattices ≡ lattices → sys ≡ it.system → (IsAccepted sys (orders_of lattices) → ⊥)
+    → IfOk result (λ answer. IsReport None it answer.status answer.text.items)
+    → IfOk result (λ answer. IsCertified it answer.status answer.text.items)
+uncertified_as it lattices sys result same system never is =
+    let refuted = subst (λ (s : System). IsAccepted s (orders_of it.scene.lattices) → ⊥) system
+    (subst (λ (ls : List LatticeView). IsAccepted sys (orders_of ls) → ⊥) (sym same) never) in
+    IfOk-weaker result _ _ (λ answer report. uncertified it answer.status answer.text.items refuted report) is
 
 -- where no saved file is asked of, the report or the certificate is what is asked for
 pub alone_of : (asked : Question) (it : Judging) (status : Status) (text : List ℕ) → saved_of asked ≡ None → IsReport None it status text
