@@ -1,9 +1,10 @@
 -- A certificate that is written, checked over the same files.
-use Rattle.std.proofs.Common.{◌≡◌, ℕ, ◌≤◌, List, length, Some, refl, sym, subst, ap, ◌∙◌}
-use Rattle.lattice_core.specs.View.{LatticeView}
+use Rattle.std.proofs.Common.{◌≡◌, ℕ, zero, suc, ◌≤◌, List, [], ◌∷◌, length, Some, refl, sym, subst, ap, ◌∙◌}
+use Rattle.lattice_core.specs.Order.{IsOrder}
+use Rattle.lattice_core.specs.View.{LatticeView, AreLattices, orders_of}
 use Rattle.c_types.specs.Sources.{UnitRead}
 use Rattle.index_words.specs.Marks.{IndexMark}
-use Rattle.certificate_answers.specs.Laws.{WrittenHolds}
+use Rattle.certificate_answers.specs.Laws.{AreOrders, WrittenReads}
 use Rattle.certificate_checks.specs.declared.judging.Verdict.TheVariants.{Holds}
 use Rattle.certificate_checks.specs.Texts.{verdict_text}
 use Rattle.cqual_words.specs.Words.{FileNames as Names, Certify, Verify, Task, Ask, Generate}
@@ -15,13 +16,20 @@ use Rattle.cqual_tool.specs.Outcome.{SourcesRead, PreludeRead, OfFiles, LatticeR
 use Rattle.answer_laws.specs.Laws.{ProgramsAreOwned, CertifiedIsVerified, judged}
 use Rattle.answer_laws.proofs.Owned.{built_lattices}
 
+-- the orders of lattices are orders
+are_orders : (lattices : List LatticeView) → AreLattices lattices → AreOrders (orders_of lattices)
+are_orders [] are n order there = absurd cc
+are_orders (view ∷ lattices) are zero order there =
+    let same : view.order ≡ order = cc in subst IsOrder same (are 0 view refl).order
+are_orders (view ∷ lattices) are (suc n) order there = are_orders lattices (λ m. are (suc m)) n order there
+
 before_on : (names : Names) (file : List ℕ) (inputs : Inputs) (text : List ℕ) (lattices : List LatticeView) (before : List UnitRead)
     (marks : List IndexMark) → AreBefore (of_files names Certify) inputs lattices before marks
     → AreBefore (of_files names (Verify file)) (record inputs { saved = text }) lattices before marks
 before_on names file inputs text lattices _ _ (NoPrelude none) = NoPrelude none
 before_on names file inputs text lattices _ _ (OnePrelude name unit marks is reads) = OnePrelude name unit marks is reads
 
-module _ (owned : ProgramsAreOwned) (law : WrittenHolds) (names : Names) (file : List ℕ) (inputs : Inputs) (text : List ℕ)
+module _ (owned : ProgramsAreOwned) (law : WrittenReads) (names : Names) (file : List ℕ) (inputs : Inputs) (text : List ℕ)
     (few : length text ≤ saved_limit) where
   of_files_certified : OfFiles (of_files names Certify) inputs Accepted text
       → OfFiles (of_files names (Verify file)) (record inputs { saved = text }) CertificateHolds (verdict_text Holds)
@@ -43,7 +51,8 @@ module _ (owned : ProgramsAreOwned) (law : WrittenHolds) (names : Names) (file :
       (SourcesRead units CertificateHolds (verdict_text Holds) parse
       (record { shaped = counted.shaped; few_variables = counted.few_variables; few_constraints = counted.few_constraints })
       (SavedJudged file CertificateHolds (verdict_text Holds) refl few
-      (Proving (law sys lattices text (built_lattices read.read.blocks lattices read.read.built) of.0 of.1 accepted is) accepted))))
+      (Proving (law sys (orders_of lattices) text of.0 (are_orders lattices (built_lattices read.read.blocks lattices read.read.built)) accepted is)
+      accepted))))
   of_files_certified (LatticeRead lattices _ _ read (PreludeRead before marks _ _ are (SourcesRead units _ _ parse counted (SavedJudged name _ _ there short is)))) =
       absurd is
 
@@ -53,7 +62,7 @@ some_task e = cc
 some_names : {x y : FileNames} → Some x ≡ Some y → x ≡ y
 some_names e = cc
 
-pub certified_is_verified : ProgramsAreOwned → WrittenHolds → CertifiedIsVerified
+pub certified_is_verified : ProgramsAreOwned → WrittenReads → CertifiedIsVerified
 certified_is_verified owned law words others names certificate inputs text means other few (WithMeaning task _ _ is outcome) =
     by (some_task (sym is ∙ means)) outcome
   where

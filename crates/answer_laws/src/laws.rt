@@ -4,7 +4,7 @@ ghost use Rattle.answer_laws.specs.Laws.{AnnotatedGivesTheSource, CertifiedIsVer
 ghost use Rattle.answer_laws.specs.Laws.{ProgramsAreOwned, RejectedIsChecked};
 
 use annotate::comments_come_out;
-use certificate_answers::written_holds;
+use certificate_answers::written_reads;
 use element_laws::elements_are_named;
 use owned_laws::systems_are_owned;
 use report_laws::{rejected_reads_back, tokens_have_no_feed};
@@ -41,5 +41,5 @@ pub fn certified_is_verified()
     ensures { CertifiedIsVerified }
 {
     programs_are_owned();
-    written_holds();
+    written_reads();
 }
