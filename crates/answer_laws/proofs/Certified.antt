@@ -20,7 +20,7 @@ use Rattle.answer_laws.proofs.Owned.{built_lattices}
 are_orders : (lattices : List LatticeView) → AreLattices lattices → AreOrders (orders_of lattices)
 are_orders [] are n order there = absurd cc
 are_orders (view ∷ lattices) are zero order there =
-    let same : view.order ≡ order = cc in subst IsOrder same (are 0 view refl).order
+    let same : view.order ≡ order = cc in subst IsOrder same (are 0 view refl).ordered
 are_orders (view ∷ lattices) are (suc n) order there = are_orders lattices (λ m. are (suc m)) n order there
 
 before_on : (names : Names) (file : List ℕ) (inputs : Inputs) (text : List ℕ) (lattices : List LatticeView) (before : List UnitRead)
