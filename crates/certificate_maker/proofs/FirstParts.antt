@@ -7,7 +7,7 @@ use Rattle.std.proofs.lemmas.Option.{slice_get-map, slice_get_within}
 use Rattle.lattice_core.specs.Order.{Order}
 use Rattle.lattice_core.specs.View.{LatticeView, orders_of}
 use Rattle.flow_graph.specs.System.{System}
-use Rattle.flow_graph.specs.Unfolding.{IsAccepted, IsAcceptedIn, IsExceeded, NamesElements, NamesElementsIn}
+use Rattle.flow_graph.specs.Unfolding.{IsAccepted, IsAcceptedIn, IsExceeded}
 use Rattle.certificate_laws.specs.Certificates.{IsWritten}
 use Rattle.closure_check.specs.declared.part.Part.{Part}
 use Rattle.closure_check.specs.Parts.{certificate_of, IsPart}
@@ -25,19 +25,6 @@ of_found Is found part is said = subst (λ (f : Option Part). IfSome f Is) is sa
 
 pub order_there : (lattices : List LatticeView) (n : ℕ) (view : LatticeView) → slice_get lattices n ≡ Some view → slice_get (orders_of lattices) n ≡ Some view.order
 order_there lattices n view is = slice_get-map (λ (lattice : LatticeView). lattice.order) lattices n ∙ ap (option_map (λ (lattice : LatticeView). lattice.order)) is
-
--- what names elements of its lattices, names elements of each of them
-pub named_in : (sys : System) (orders : List Order) (n : ℕ) (order : Order) → slice_get orders n ≡ Some order → NamesElements sys orders → NamesElementsIn sys n order
-named_in sys orders n order there named = record {
-  const = λ m e v stands.
-      let found = named.const m n e v (record { constraint = stands.constraint; there = stands.there; link_is = stands.link_is }) in
-      let same : found.0 ≡ order = some_order (sym found.1 ∙ there) in
-      subst (λ (o : Order). e < length o.above) same found.2;
-  bound = λ m v b stands.
-      let found = named.bound m n b v (record { constraint = stands.constraint; there = stands.there; link_is = stands.link_is }) in
-      let same : found.0 ≡ order = some_order (sym found.1 ∙ there) in
-      subst (λ (o : Order). b < length o.above) same found.2;
-}
 
 -- where a bound is exceeded, no assignment meets the unfolding at some depth
 pub exceeded_unmet : (sys : System) (lattice : ℕ) (order : Order) (n : ℕ) → IsExceeded sys lattice order n → IsAcceptedIn sys lattice order → ⊥

@@ -4,13 +4,14 @@ use Rattle.flow_graph.specs.Unfolding.{IsAcceptedIn}
 use Rattle.certificate_laws.specs.Certificates.{IsWritten}
 use Rattle.closure_check.specs.declared.part.Part.{Part}
 use Rattle.closure_check.specs.Parts.{certificate_of, IsPart}
-use Rattle.certificate_maker.proofs.FirstParts.{of_found, order_there, all_orders, named_in, next_first, accepted_of_all}
+use Rattle.flow_laws.proofs.Leads.{names_in_each}
+use Rattle.certificate_maker.proofs.FirstParts.{of_found, order_there, all_orders, next_first, accepted_of_all}
 use Rattle.certificate_maker.proofs.all.all_parts.Goals as goal
 
 pub part_in-requires-clause-named : goal.part_in-requires-clause-named
 part_in-requires-clause-named c =
-    named_in c.args.graph.now (orders_of c.args.lattices.now) c.new-at.result c.get.result.now.order
-    (order_there c.args.lattices.now c.new-at.result c.get.result.now c.get.ensures) c.requires.named
+    names_in_each c.args.graph.now (orders_of c.args.lattices.now) c.new-at.result c.get.result.now.order c.requires.named
+    (order_there c.args.lattices.now c.new-at.result c.get.result.now c.get.ensures)
 
 pub returns-in-None-clause-rejected : goal.returns-in-None-clause-rejected
 returns-in-None-clause-rejected c = λ none accepted.
