@@ -23,8 +23,11 @@ abbrev pub code_text : CertCode → List ℕ
 code_text V1 = codes "V1"
 code_text V2 = codes "V2"
 
--- with its line feed
+-- a line that says where a certificate is bad, and why, with its line feed
+abbrev pub bad_text : List ℕ → ℕ → List ℕ → List ℕ
+bad_text front number name = front ++ decimal number ++ codes ": " ++ name ++ 10 ∷ []
+
 abbrev pub verdict_text : Verdict → List ℕ
 verdict_text Holds = codes "certificate holds" ++ 10 ∷ []
-verdict_text (Fails lattice rule) = codes "certificate bad in lattice " ++ decimal lattice ++ codes ": " ++ rule_text rule ++ 10 ∷ []
-verdict_text (Unread line code) = codes "certificate bad at line " ++ decimal line ++ codes ": " ++ code_text code ++ 10 ∷ []
+verdict_text (Fails lattice rule) = bad_text (codes "certificate bad in lattice ") lattice (rule_text rule)
+verdict_text (Unread line code) = bad_text (codes "certificate bad at line ") line (code_text code)

@@ -1,6 +1,7 @@
 //! Reading a certificate and checking it.
 
-ghost use Rattle.std.specs.Prelude.{◌≡◌, ◌<◌, ◌-◌, ◌^◌, ℕ, IfOk, MatchOption, length};
+ghost use Rattle.std.specs.Prelude.{◌≡◌, ◌<◌, ◌-◌, ◌^◌, ℕ, None, Some, IfOk, IfSome};
+ghost use Rattle.std.specs.Prelude.{MatchOption, length, slice_get};
 ghost use Rattle.lattice_core.specs.View.{orders_of};
 ghost use Rattle.flow_graph.specs.Index.{IsIndexOf};
 ghost use Rattle.flow_graph.specs.Unfolding.{IsAccepted, NamesElements};
@@ -35,6 +36,14 @@ pub enum Verdict {
     Unread { line: u32, code: CertCode },
 }
 
+/// The certificate of a lattice.
+fn part_of(parts: &[Part], lattice: LatticeNo) -> &Part
+    requires { lattice < length parts.now }
+    ensures { slice_get parts.now lattice ≡ Some result.now }
+{
+    &parts[usize::from(lattice.number())]
+}
+
 /// The first lattice in which a certificate breaks a rule, and the lowest that it breaks there.
 fn first_failing(
     graph: &FlowGraph,
@@ -49,8 +58,8 @@ fn first_failing(
         ((n : ℕ) → ObeysAt graph.now (orders_of lattices.now) parts.now n)
         (λ found. FailsFirst graph.now (orders_of lattices.now) parts.now found.0 found.1) }
     ensures accepted { result ≡ None → IsAccepted graph.now (orders_of lattices.now) }
+    ensures few { IfSome result (λ found. found.0 < 16) }
 {
-    let mut number: u32 = 0;
     for at in 0..lattices.len() {
         let lattice = LatticeNo::new(at);
         if let Err(rule) = check_part(
@@ -58,11 +67,10 @@ fn first_failing(
             adjacency,
             lattices.get(lattice),
             lattice,
-            &parts[usize::from(at)],
+            part_of(parts, lattice),
         ) {
-            return Some((number, rule));
+            return Some((u32::from(at), rule));
         }
-        number += 1;
     }
     None
 }

@@ -3,6 +3,8 @@
 #![tactic(auto)]
 
 mod judging;
+#[cfg(test)]
+mod tests;
 mod texts;
 
 pub use judging::{CertCode, Verdict, judge_certificate};

@@ -2,7 +2,7 @@
 
 ghost use Rattle.std.specs.Prelude.{◌≡◌, ◌++◌, OnOk};
 ghost use Rattle.std.specs.Fmt.{decimal};
-ghost use Rattle.certificate_checks.specs.Texts.{code_text, rule_text, verdict_text};
+ghost use Rattle.certificate_checks.specs.Texts.{bad_text, code_text, rule_text, verdict_text};
 
 use crate::judging::{CertCode, Verdict};
 use certificate_laws::CertRule;
@@ -25,6 +25,7 @@ fn name_of_rule(rule: CertRule) -> &'static [u8]
     }
 }
 
+/// The name of a reason why a text is no certificate.
 fn name_of(code: CertCode) -> &'static [u8]
     ensures { result.now ≡ code_text code }
 {
@@ -34,17 +35,31 @@ fn name_of(code: CertCode) -> &'static [u8]
     }
 }
 
+/// Puts bytes behind a text.
 fn put(out: &mut Vec<u8>, bytes: &[u8]) -> Result<(), AllocError>
     ensures { OnOk result (out.new.items ≡ out.old.items ++ bytes.now) }
 {
     out.extend_from_slice(bytes)
 }
 
+/// Puts a number behind a text, in decimal digits.
 fn put_decimal(out: &mut Vec<u8>, number: u32) -> Result<(), AllocError>
     ensures { OnOk result (out.new.items ≡ out.old.items ++ decimal number) }
 {
     let text = format!(in *out.allocator(); "{number}")?;
     put(out, text.as_bytes())
+}
+
+/// Puts a line that says where a certificate is bad, and why.
+fn put_bad(out: &mut Vec<u8>, front: &[u8], number: u32, name: &[u8]) -> Result<(), AllocError>
+    ensures { OnOk result
+        (out.new.items ≡ out.old.items ++ bad_text front.now number name.now) }
+{
+    put(out, front)?;
+    put_decimal(out, number)?;
+    put(out, b": ")?;
+    put(out, name)?;
+    put(out, b"\n")
 }
 
 /// Puts the line that says what a certificate comes to behind a text, with its line feed: `certificate holds`,
@@ -58,29 +73,14 @@ pub fn put_verdict(out: &mut Vec<u8>, verdict: Verdict) -> Result<(), AllocError
 {
     match verdict {
         Verdict::Holds => put(out, b"certificate holds\n"),
-        Verdict::Fails { lattice, rule } => put_fails(out, lattice, rule),
-        Verdict::Unread { line, code } => put_unread(out, line, code),
+        Verdict::Fails { lattice, rule } => put_bad(
+            out,
+            b"certificate bad in lattice ",
+            lattice,
+            name_of_rule(rule),
+        ),
+        Verdict::Unread { line, code } => {
+            put_bad(out, b"certificate bad at line ", line, name_of(code))
+        }
     }
-}
-
-fn put_fails(out: &mut Vec<u8>, lattice: u32, rule: CertRule) -> Result<(), AllocError>
-    ensures { OnOk result
-        (out.new.items ≡ out.old.items ++ verdict_text (Verdict.Fails lattice rule)) }
-{
-    put(out, b"certificate bad in lattice ")?;
-    put_decimal(out, lattice)?;
-    put(out, b": ")?;
-    put(out, name_of_rule(rule))?;
-    put(out, b"\n")
-}
-
-fn put_unread(out: &mut Vec<u8>, line: u32, code: CertCode) -> Result<(), AllocError>
-    ensures { OnOk result
-        (out.new.items ≡ out.old.items ++ verdict_text (Verdict.Unread line code)) }
-{
-    put(out, b"certificate bad at line ")?;
-    put_decimal(out, line)?;
-    put(out, b": ")?;
-    put(out, name_of(code))?;
-    put(out, b"\n")
 }

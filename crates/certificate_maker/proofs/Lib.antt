@@ -3,3 +3,4 @@ mod Collecting
 mod Rising
 mod Solved
 mod Written
+mod FirstParts

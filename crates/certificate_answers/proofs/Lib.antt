@@ -1,0 +1,4 @@
+mod Naming
+mod Sets
+mod Reading
+mod Same

@@ -1,0 +1,6 @@
+//! What is written as certificates, and what texts of certificates come to: laws without code.
+#![tactic(auto)]
+
+mod laws;
+
+pub use laws::{one_certificate, written_reads};
