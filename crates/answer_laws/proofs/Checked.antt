@@ -112,11 +112,11 @@ module _ (owned : ProgramsAreOwned) (elements : ElementsAreNamed) (back : Reject
   saved_not it (Check file) is = rejects is
     where
       rejects : IsChecked (judged (of_files names question) inputs it) inputs.saved Rejected text → ⊥
-      rejects ()
+      rejects it_is = elim it_is [ ]
   saved_not it (Verify file) is = rejects is
     where
       rejects : IsVerified (judged (of_files names question) inputs it) inputs.saved Rejected text → ⊥
-      rejects ()
+      rejects it_is = elim it_is [ ]
 
   of_files_wrong : OfFiles (of_files names question) inputs Rejected text
       → OfFiles (with_saved names report) (record inputs { saved = text }) PathsHold (checked_text Hold)
