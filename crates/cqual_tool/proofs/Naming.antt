@@ -24,17 +24,21 @@ last_is names name is = ap text_or is ∙ last_name names
 
 -- the sources from one on
 
-pub drop_from : (names : List (Bor (List ℕ))) (i : ℕ) (name : Bor (List ℕ)) → i < length names → name ≡ slice_index_or names i name
-    → drop i (map (λ name. name.now) names) ≡ name.now ∷ drop (i + 1) (map (λ name. name.now) names)
-drop_from [] i name lt is = absurd (omega arith)
-drop_from (n ∷ names) zero name lt is = ap (λ (m : Bor (List ℕ)). m.now ∷ map (λ name. name.now) names) (sym is)
-drop_from (n ∷ names) (suc i) name lt is =
-    let e : suc i + 1 ≡ suc (i + 1) = omega arith in rw e (drop_from names i name (omega arith) is)
+pub drop_from : (names : List (List ℕ)) (i : ℕ) (name : List ℕ) → slice_get names i ≡ Some name → drop i names ≡ name ∷ drop (i + 1) names
+drop_from [] i name is = absurd cc
+drop_from (n ∷ names) zero name is = let same : n ≡ name = cc in ap (λ (m : List ℕ). m ∷ names) same
+drop_from (n ∷ names) (suc i) name is = let e : suc i + 1 ≡ suc (i + 1) = omega arith in rw e (drop_from names i name is)
 
-pub none_left : (names : List (Bor (List ℕ))) (i : ℕ) → length names ≤ i → drop i (map (λ name. name.now) names) ≡ []
-none_left names i le =
-    let same = length-map names (λ name. name.now) in
-    drop_all i (map (λ name. name.now) names) (omega (arith, le, same))
+pub within : (names : List (List ℕ)) (i : ℕ) (name : List ℕ) → slice_get names i ≡ Some name → i < length names
+within [] i name is = absurd cc
+within (n ∷ names) zero name is = omega arith
+within (n ∷ names) (suc i) name is = let deeper = within names i name is in omega (arith, deeper)
+
+pub none_left : (names : List (List ℕ)) (i : ℕ) → slice_get names i ≡ None → drop i names ≡ []
+none_left [] zero none = refl
+none_left [] (suc i) none = refl
+none_left (n ∷ names) zero none = absurd cc
+none_left (n ∷ names) (suc i) none = none_left names i none
 
 -- the most bytes of a source where so many are left
 pub limit_is : (left limit : ℕ) → limit ≡ min left source_limit → limit ≡ limit_in left

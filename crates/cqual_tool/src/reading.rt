@@ -84,27 +84,27 @@ fn take_sources<F: Files>(
         (drop index (files_in named.now).sources) result }
     ensures decided { IfOk result (λ answer. IsDecided answer.status) }
 {
-    let Some(file) = named.sources.get(index as usize) else {
-        return finish(alloc, named, lattices, earlier, files);
-    };
-    match taken(alloc, files, file, left.min(SOURCE_LIMIT))? {
-        Some(bytes) => {
-            let unit = UnitNo::new(index + 1);
-            match read_source(alloc, file, words, unit, earlier, &bytes)? {
-                Joined::Refused(answer) => Ok(answer),
-                Joined::Units(earlier) => take_sources(
-                    alloc,
-                    named,
-                    lattices,
-                    words,
-                    index + 1,
-                    left - bytes.len(),
-                    earlier,
-                    files,
-                ),
+    match named.source(index) {
+        None => finish(alloc, named, lattices, earlier, files),
+        Some(file) => match taken(alloc, files, file, left.min(SOURCE_LIMIT))? {
+            Some(bytes) => {
+                let unit = UnitNo::new(index + 1);
+                match read_source(alloc, file, words, unit, earlier, &bytes)? {
+                    Joined::Refused(answer) => Ok(answer),
+                    Joined::Units(earlier) => take_sources(
+                        alloc,
+                        named,
+                        lattices,
+                        words,
+                        index + 1,
+                        left - bytes.len(),
+                        earlier,
+                        files,
+                    ),
+                }
             }
-        }
-        None => Ok(too_large(alloc, file)?),
+            None => Ok(too_large(alloc, file)?),
+        },
     }
 }
 

@@ -1,6 +1,6 @@
 //! The files that are named.
 
-ghost use Rattle.std.specs.Prelude.{◌≡◌};
+ghost use Rattle.std.specs.Prelude.{◌≡◌, slice_get};
 ghost use Rattle.std.specs.Option.{option_map};
 ghost use Rattle.cqual_words.specs.Asked as words;
 ghost use Rattle.cqual_tool.specs.Words as rules;
@@ -19,6 +19,14 @@ pub struct Named<'a> {
 }
 
 impl<'a> Named<'a> {
+    /// The source with this number, from 0. Constant time.
+    pub fn source(&self, index: u32) -> Option<&'a str>
+        ensures { option_map (λ name. name.now) result
+            ≡ slice_get (names_in self.now).sources index }
+    {
+        self.sources.get(index as usize).copied()
+    }
+
     /// The file of the report or the certificate that is to be checked.
     pub fn saved(&self) -> Option<&'a str>
         ensures { option_map (λ name. name.now) result ≡ rules.saved_in (names_in self.now) }

@@ -1,4 +1,5 @@
-use Rattle.std.proofs.Common.{◌≡◌, arith, ◌+◌, ◌-◌, ◌<◌, ◌≤◌, Bor, ℕ, List, [], ◌∷◌, ◌++◌, drop, length, refl, sym, ◌∙◌, subst}
+use Rattle.std.proofs.Common.{◌≡◌, arith, ◌+◌, ◌-◌, ◌<◌, ◌≤◌, Bor, ℕ, List, [], ◌∷◌, ◌++◌, drop, length, refl, sym, ◌∙◌, ap, subst}
+use Rattle.std.specs.Option.{option_map}
 use Rattle.std.proofs.lemmas.List.{length-map}
 use Rattle.std.proofs.lemmas.Result.{err_from_is_err_and}
 use Rattle.cqual_tool.specs.declared.taking.Stop.TheVariants.{NoMemory}
@@ -6,25 +7,24 @@ use Rattle.cqual_tool.specs.Words.{names_in}
 use Rattle.cqual_tool.specs.Outcome.{IsDecided, limit_in}
 use Rattle.cqual_tool.specs.Preparing.{IsEarlier, IsOneMore}
 use Rattle.cqual_tool.proofs.Joining.{at_number}
-use Rattle.cqual_tool.proofs.Naming.{drop_from, limit_is, none_left}
+use Rattle.cqual_tool.proofs.Naming.{drop_from, limit_is, none_left, within}
 use Rattle.cqual_tool.proofs.Stages.{at_sources, found_none, found_some, going_stands, source_joins, source_lacks, source_refused, source_stops, source_too_large, whole_stands}
 use Rattle.cqual_tool.proofs.reading.+take_sources.Goals as goal
 
-pub returns-in_default-clause-reads : goal.returns-in_default-clause-reads
-returns-in_default-clause-reads g t c = λ before earlier.
+pub returns-in-None-clause-reads : goal.returns-in-None-clause-reads
+returns-in-None-clause-reads g t c = λ before earlier.
     let named = names_in c.args.named.now in
-    let names = c.args.named.now.sources.now in
-    let past : length names ≤ c.args.index = c.in_default.ensures.lookup.3 in
+    let none = sym c.source.ensures ∙ ap (option_map (λ name. name.now)) c.in-None.is in
     at_sources _ _ named c.args.lattices.now before c.args.earlier.prelude (c.args.index + 1) c.args.left [] (drop c.args.index named.sources)
-    c.finish.result (none_left names c.args.index past) (c.finish.ensures.reads (c.args.index + 1) c.args.left before earlier)
+    c.finish.result (none_left named.sources c.args.index none) (c.finish.ensures.reads (c.args.index + 1) c.args.left before earlier)
 
 pub returns-in_err-bytes-clause-reads : goal.returns-in_err-bytes-clause-reads
 returns-in_err-bytes-clause-reads g t c = λ before earlier.
     let named = names_in c.args.named.now in
-    let names = c.args.named.now.sources.now in
-    let file = c.in-Some.file.now.now in
+    let file = c.in-Some.file.now in
+    let some = sym c.source.ensures ∙ ap (option_map (λ name. name.now)) c.in-Some.is in
     let rest = drop (c.args.index + 1) named.sources in
-    let there = drop_from names c.args.index c.in-Some.file.now c.in-Some.ensures.lookup.3.0 c.in-Some.ensures.lookup.1 in
+    let there = drop_from named.sources c.args.index file some in
     let read = c.in_err-bytes.ensures.read in
     let gives = err_from_is_err_and c.from_residual.result c.from_residual.ensures.1 in
     rw (gives.1, gives.2)
@@ -36,10 +36,10 @@ returns-in_err-bytes-clause-reads g t c = λ before earlier.
 pub returns-in_err-answer-in-Some-2-clause-reads : goal.returns-in_err-answer-in-Some-2-clause-reads
 returns-in_err-answer-in-Some-2-clause-reads g t c = λ before earlier.
     let named = names_in c.args.named.now in
-    let names = c.args.named.now.sources.now in
-    let file = c.in-Some.file.now.now in
+    let file = c.in-Some.file.now in
+    let some = sym c.source.ensures ∙ ap (option_map (λ name. name.now)) c.in-Some.is in
     let rest = drop (c.args.index + 1) named.sources in
-    let there = drop_from names c.args.index c.in-Some.file.now c.in-Some.ensures.lookup.3.0 c.in-Some.ensures.lookup.1 in
+    let there = drop_from named.sources c.args.index file some in
     let read = c.in_ok-bytes.ensures.read in
     let found = found_some c.min.result read.0 c.in_ok-bytes.field-0 c.in-Some-2.bytes c.in-Some-2.is read.3 in
     let gives = err_from_is_err_and c.from_residual-in_err-answer-in-Some-2.result c.from_residual-in_err-answer-in-Some-2.ensures.1 in
@@ -56,11 +56,11 @@ returns-in-Refused-clause-reads g t c = λ before earlier.
     let marks = c.args.earlier.prelude in
     let number = c.args.index + 1 in
     let left = c.args.left in
-    let names = c.args.named.now.sources.now in
-    let file = c.in-Some.file.now.now in
+    let file = c.in-Some.file.now in
+    let some = sym c.source.ensures ∙ ap (option_map (λ name. name.now)) c.in-Some.is in
     let rest = drop (c.args.index + 1) named.sources in
     let bytes = c.deref.result.now in
-    let there = drop_from names c.args.index c.in-Some.file.now c.in-Some.ensures.lookup.3.0 c.in-Some.ensures.lookup.1 in
+    let there = drop_from named.sources c.args.index file some in
     let read = c.in_ok-bytes.ensures.read in
     let found = found_some c.min.result read.0 c.in_ok-bytes.field-0 c.in-Some-2.bytes c.in-Some-2.is read.3 in
     let same : read.0.bytes ≡ bytes = found.1 ∙ sym c.deref.ensures.value in
@@ -78,7 +78,8 @@ returns-in-Refused-clause-decided g t c =
     let marks = c.args.earlier.prelude in
     let number = c.args.index + 1 in
     let before = c.requires.before.0 in
-    let file = c.in-Some.file.now.now in
+    let file = c.in-Some.file.now in
+    let some = sym c.source.ensures ∙ ap (option_map (λ name. name.now)) c.in-Some.is in
     let bytes = c.deref.result.now in
     let one =
     at_number lattices number c.new-unit.result file bytes before marks c.args.earlier c.in_ok-answer-in-Some-2.field-0 c.new-unit.ensures
@@ -87,23 +88,23 @@ returns-in-Refused-clause-decided g t c =
     subst IsDecided (sym is.0) tt
 
 pub take_sources-requires : goal.take_sources-requires
-take_sources-requires g t c κs within =
+take_sources-requires g t c κs below =
     let lattices = c.args.lattices.now in
     let marks = c.args.earlier.prelude in
     let number = c.args.index + 1 in
     let before = c.requires.before.0 in
-    let names = c.args.named.now.sources.now in
-    let file = c.in-Some.file.now.now in
+    let file = c.in-Some.file.now in
+    let some = sym c.source.ensures ∙ ap (option_map (λ name. name.now)) c.in-Some.is in
     let bytes = c.deref.result.now in
     let one =
     at_number lattices number c.new-unit.result file bytes before marks c.args.earlier c.in_ok-answer-in-Some-2.field-0 c.new-unit.ensures
     c.requires.before.1 (c.in_ok-answer-in-Some-2.ensures lattices before c.requires.words) in
     let is = subst (IsOneMore lattices number file bytes before marks) c.in-Units.is one in
-    let there : c.args.index < length names = c.in-Some.ensures.lookup.3.0 in
-    let same = length-map names (λ (name : Bor (List ℕ)). name.now) in
+    let there = within (names_in c.args.named.now).sources c.args.index file some in
+    let same = length-map c.args.named.now.sources.now (λ (name : Bor (List ℕ)). name.now) in
     let measure = c.decreases in (
-      omega (arith, there, measure),
-      (within, (c.requires.words, (c.requires.few, (omega (arith, there, same), (before ++ is.0 ∷ [], is.2))))),
+      omega (arith, there, same, measure),
+      (below, (c.requires.words, (c.requires.few, (omega (arith, there, same), (before ++ is.0 ∷ [], is.2))))),
     )
 
 pub returns-in-Some-2-clause-reads : goal.returns-in-Some-2-clause-reads
@@ -113,11 +114,11 @@ returns-in-Some-2-clause-reads g t c = λ before earlier.
     let marks = c.args.earlier.prelude in
     let number = c.args.index + 1 in
     let left = c.args.left in
-    let names = c.args.named.now.sources.now in
-    let file = c.in-Some.file.now.now in
+    let file = c.in-Some.file.now in
+    let some = sym c.source.ensures ∙ ap (option_map (λ name. name.now)) c.in-Some.is in
     let rest = drop (c.args.index + 1) named.sources in
     let bytes = c.deref.result.now in
-    let there = drop_from names c.args.index c.in-Some.file.now c.in-Some.ensures.lookup.3.0 c.in-Some.ensures.lookup.1 in
+    let there = drop_from named.sources c.args.index file some in
     let read = c.in_ok-bytes.ensures.read in
     let found = found_some c.min.result read.0 c.in_ok-bytes.field-0 c.in-Some-2.bytes c.in-Some-2.is read.3 in
     let same : read.0.bytes ≡ c.in-Some-2.bytes.items = found.1 in
@@ -135,16 +136,16 @@ returns-in-Some-2-clause-reads g t c = λ before earlier.
     (source_joins _ _ read.0 read.1 named file read.2 lattices before marks number left rest _ c.in-Units.earlier c.in-Some-2.bytes.items
     (left - c.len.result) found.0 same within less joins c.take_sources.result (c.take_sources.ensures.reads (before ++ joins.0 ∷ []) joins.2))
 
-pub returns-in_err-too_large-in-None-clause-reads : goal.returns-in_err-too_large-in-None-clause-reads
-returns-in_err-too_large-in-None-clause-reads g t c = λ before earlier.
+pub returns-in_err-too_large-in-None-2-clause-reads : goal.returns-in_err-too_large-in-None-2-clause-reads
+returns-in_err-too_large-in-None-2-clause-reads g t c = λ before earlier.
     let named = names_in c.args.named.now in
-    let names = c.args.named.now.sources.now in
-    let file = c.in-Some.file.now.now in
+    let file = c.in-Some.file.now in
+    let some = sym c.source.ensures ∙ ap (option_map (λ name. name.now)) c.in-Some.is in
     let rest = drop (c.args.index + 1) named.sources in
-    let there = drop_from names c.args.index c.in-Some.file.now c.in-Some.ensures.lookup.3.0 c.in-Some.ensures.lookup.1 in
+    let there = drop_from named.sources c.args.index file some in
     let read = c.in_ok-bytes.ensures.read in
-    let found = found_none c.min.result read.0 c.in_ok-bytes.field-0 c.in-None.is read.3 in
-    let gives = err_from_is_err_and c.from_residual-in_err-too_large-in-None.result c.from_residual-in_err-too_large-in-None.ensures.1 in
+    let found = found_none c.min.result read.0 c.in_ok-bytes.field-0 c.in-None-2.is read.3 in
+    let gives = err_from_is_err_and c.from_residual-in_err-too_large-in-None-2.result c.from_residual-in_err-too_large-in-None-2.ensures.1 in
     rw (gives.1, gives.2)
     (at_sources _ _ named c.args.lattices.now before c.args.earlier.prelude (c.args.index + 1) c.args.left (file ∷ rest)
     (drop c.args.index named.sources) _ there
@@ -155,15 +156,15 @@ pub returns-clause-reads : goal.returns-clause-reads
 returns-clause-reads g t c = λ before earlier.
     let named = names_in c.args.named.now in
     let left = c.args.left in
-    let names = c.args.named.now.sources.now in
-    let file = c.in-Some.file.now.now in
+    let file = c.in-Some.file.now in
+    let some = sym c.source.ensures ∙ ap (option_map (λ name. name.now)) c.in-Some.is in
     let rest = drop (c.args.index + 1) named.sources in
-    let there = drop_from names c.args.index c.in-Some.file.now c.in-Some.ensures.lookup.3.0 c.in-Some.ensures.lookup.1 in
+    let there = drop_from named.sources c.args.index file some in
     let read = c.in_ok-bytes.ensures.read in
-    let found = found_none c.min.result read.0 c.in_ok-bytes.field-0 c.in-None.is read.3 in
+    let found = found_none c.min.result read.0 c.in_ok-bytes.field-0 c.in-None-2.is read.3 in
     let over : limit_in left < length read.0.bytes =
     subst (λ (n : ℕ). n < length read.0.bytes) (limit_is left c.min.result c.min.ensures) found.1 in
     at_sources _ _ named c.args.lattices.now before c.args.earlier.prelude (c.args.index + 1) left (file ∷ rest)
     (drop c.args.index named.sources) _ there
     (source_too_large _ _ read.0 read.1 named file read.2 c.args.lattices.now before c.args.earlier.prelude (c.args.index + 1) left rest
-    c.in_ok-too_large-in-None.field-0 (found.0, over) c.in_ok-too_large-in-None.ensures)
+    c.in_ok-too_large-in-None-2.field-0 (found.0, over) c.in_ok-too_large-in-None-2.ensures)
