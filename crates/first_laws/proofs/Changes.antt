@@ -34,8 +34,8 @@ firsts_more es (x ∷ more) d h g = (h.0, firsts_more es more d h.1 g)
 last_found : (ds : List Declared) (d : Declared) → Differ (ds ++ d ∷ []) → declared_at (ds ++ d ∷ []) d.at ≡ Some d
 last_found ds d differ = at_new ds d (last_is_new ds d differ)
 
-same_name : (m n : ℕ) → nat_eq m n ≡ false → nat_eq n m ≡ false
-same_name m n e = by (nat_eq n m) refl
+other_way : (m n : ℕ) → nat_eq m n ≡ false → nat_eq n m ≡ false
+other_way m n e = by (nat_eq n m) refl
   where
     by : (b : Bool) → nat_eq n m ≡ b → b ≡ false
     by false is = refl
@@ -46,6 +46,7 @@ abbrev pub holding : Option Named → Option ℕ → Option ℕ
 holding None q = q
 holding (Some it) q = Some it.name
 
+-- a declaration of a name in its scope
 abbrev here_d : Names → Place → ℕ → Role → CType → Option Place → Declared
 here_d s at name role t own = record {
   at = at;
@@ -59,15 +60,6 @@ here_d s at name role t own = record {
 abbrev with_thing : List Keyword → Place → ℕ → Names → Names
 with_thing words at name s =
     static_where (has_word keywords.Static words) at.0 name (thing_where (is_place (linked name at s) at) name at s)
-
-abbrev thing_d : Names → List Keyword → Place → ℕ → CType → Declared
-thing_d s words at name t = record {
-  at = at;
-  role = if is_function t then function_role else object_role;
-  first = linked name at s;
-  type = t;
-  owner = owner_where (with_thing words at name s) (linked name at s) at (if is_function t then Some at else None);
-}
 
 module _ (u : Spelling) (N : ℕ → Type 0) (keys : (m n : ℕ) → N m → N n → u.key m ≡ u.key n → m ≡ n) where
   abbrev A : Option ℕ → List (Option ℕ) → Option HeldScope → HeldScopes → Names → Type 0
@@ -130,6 +122,7 @@ module _ (u : Spelling) (N : ℕ → Type 0) (keys : (m n : ℕ) → N m → N n
         F q qs k h (begun_body at kind tag it).names ts
     body_fits at kind tag it f = begun_fits (has_body (body_of it.names.aggregates it.number)) at kind tag it f
 
+  -- tags of the innermost scope are no names
   tagged_fit : (ds : List Declared) (q : Option ℕ) (qs : List (Option ℕ)) (h : HeldScopes) (scopes : List Scope)
       (tags : List Tagged) → S ds (q ∷ qs) h scopes →
       S ds (q ∷ qs) h (record (innermost scopes) { tags = tags } ∷ outer_scopes scopes)
@@ -221,6 +214,7 @@ module _ (u : Spelling) (N : ℕ → Type 0) (keys : (m n : ℕ) → N m → N n
   inner_fits ds q qs (scope ∷ h) [] f = absurd f
   inner_fits ds q qs (scope ∷ h) (names ∷ scopes) f = f.0
 
+  -- where the name is no enumerator, what it means already has a skeleton, and so has what is declared anew
   first_is : (ds : List Declared) (o : Option Meaning) (kind : Option Kind) (at : Place) → Agrees ds o kind →
       (kind ≡ Some Constant → ⊥) → HasSkeletonAt ds at → HasSkeletonAt ds (the_thing o at)
   first_is ds None kind at h g here = here
@@ -228,6 +222,7 @@ module _ (u : Spelling) (N : ℕ → Type 0) (keys : (m n : ℕ) → N m → N n
   first_is ds (Some (means_thing p)) kind at (inl h) g here = h
   first_is ds (Some (means_thing p)) kind at (inr h) g here = absurd (g h.1)
 
+  -- where the name is an enumerator, what it means already may be one
   first_stands : (ds : List Declared) (o : Option Meaning) (kind : Option Kind) (at : Place) (d : Declared) →
       Agrees ds o kind → declared_at ds at ≡ Some d → Stands ds (the_thing o at) (Some Constant)
   first_stands ds None kind at d h here = inr ((d, here), refl)
@@ -466,7 +461,7 @@ module _ (u : Spelling) (N : ℕ → Type 0) (keys : (m n : ℕ) → N m → N n
               (
                 g.1.0,
                 λ is. g.1.1
-                    (sym (kind_other (held.innermost h) m Constant n (same_name n m apart)) ∙ is),
+                    (sym (kind_other (held.innermost h) m Constant n (other_way n m apart)) ∙ is),
               ),
             )
 

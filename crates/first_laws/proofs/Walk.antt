@@ -167,9 +167,8 @@ module _ (u : Spelling) (N : ℕ → Type 0) (keys : (m n : ℕ) → N m → N n
   unnamed_by_fits (typedef_name name) n t f = f
   unnamed_by_fits (attribute attr) n t f = f
 
-  unnamed_among_fits : (ws : SpecWords) (n : ℕ) (t : CType) {q : Option ℕ} {qs : List (Option ℕ)} {k : Option HeldScope} {h : HeldScopes} {s : Names}
-      {ts : List Lexeme} → F q qs k h s ts →
-      F q qs k h (unnamed_among u ws n t s) ts
+  unnamed_among_fits : (ws : SpecWords) (n : ℕ) (t : CType) {q : Option ℕ} {qs : List (Option ℕ)} {k : Option HeldScope} {h : HeldScopes}
+      {s : Names} {ts : List Lexeme} → F q qs k h s ts → F q qs k h (unnamed_among u ws n t s) ts
   unnamed_among_fits no_words n t f = f
   unnamed_among_fits (more_words word ws) n t f = unnamed_among_fits ws n t (unnamed_by_fits word n t f)
 
@@ -180,17 +179,20 @@ module _ (u : Spelling) (N : ℕ → Type 0) (keys : (m n : ℕ) → N m → N n
   unnamed_where_fits (more_mem_declrs attrs d ds) ws n t f = f
 
   mutual
-    pub expr_fits : (e : Expr) (c : Bool) {q : Option ℕ} {qs : List (Option ℕ)} {k : Option HeldScope} {s : Names} {ts : List Lexeme} (h : HeldScopes) →
+    pub expr_fits : (e : Expr) (c : Bool)
+        {q : Option ℕ} {qs : List (Option ℕ)} {k : Option HeldScope} {s : Names} {ts : List Lexeme} (h : HeldScopes) →
         F q qs k h s (expr_text all e ts) →
         Fine u N q qs k (expr_scopes e h) (expr_named u c e s) ts
     expr_fits (operation e op token e2) c h f =
         step (step (expr_fits e false h f) (operator_fits op token)) (expr_fits e2 false)
     expr_fits (cast opening ws d closing e) c h f =
-        step (step (words_fit ws false _ _ h (eat f)) (some_declr_fits None d tt)) (λ h g. expr_fits e false h (type_fits u N keys _ _ (eat g)))
+        step (step (words_fit ws false _ _ h (eat f)) (some_declr_fits None d tt))
+        (λ h g. expr_fits e false h (type_fits u N keys _ _ (eat g)))
     expr_fits (prefix token p e) c h f = expr_fits e false h (eat f)
     expr_fits (sizeof_value word e) c h f = expr_fits e false h (eat f)
     expr_fits (sizeof_type word opening ws d closing) c h f =
-        also (step (words_fit ws false _ _ h (eat (eat f))) (some_declr_fits None d tt)) (λ h g. type_fits u N keys _ _ (eat g))
+        also (step (words_fit ws false _ _ h (eat (eat f))) (some_declr_fits None d tt))
+        (λ h g. type_fits u N keys _ _ (eat g))
     expr_fits (extension keyword e) c h f = expr_fits e false h (eat f)
     expr_fits (index e opening e2 closing) c h f =
         step (expr_fits e false h f) (λ h g. ends (expr_fits e2 false h (eat g)))
@@ -199,7 +201,8 @@ module _ (u : Spelling) (N : ℕ → Type 0) (keys : (m n : ℕ) → N m → N n
     expr_fits (arrow e token name) c h f = also (expr_fits e false h f) (λ h g. eat (eat g))
     expr_fits (post e token p) c h f = ends (expr_fits e false h f)
     expr_fits (compound opening ws d closing list) c h f =
-        step (step (words_fit ws false _ _ h (eat f)) (some_declr_fits None d tt)) (λ h g. init_list_fits list h (type_fits u N keys _ _ (eat g)))
+        step (step (words_fit ws false _ _ h (eat f)) (some_declr_fits None d tt))
+        (λ h g. init_list_fits list h (type_fits u N keys _ _ (eat g)))
     expr_fits (name_use token name) c h f = tested (not (held.names_type h name)) (used_fits u N keys c token name (eat f))
     expr_fits (number_use token) c h f = done (eat f)
     expr_fits (char_use token) c h f = done (eat f)
@@ -218,7 +221,8 @@ module _ (u : Spelling) (N : ℕ → Type 0) (keys : (m n : ℕ) → N m → N n
         step (step (words_fit ws false _ _ h (eat (eat f))) (some_declr_fits None d tt))
         (λ h g. ends (desigs_fit steps h (type_fits u N keys _ _ (eat (eat g)))))
 
-    pub operator_fits : (op : Operator) (token : ℕ) {q : Option ℕ} {qs : List (Option ℕ)} {k : Option HeldScope} {s : Names} {ts : List Lexeme} (h : HeldScopes) →
+    pub operator_fits : (op : Operator) (token : ℕ)
+        {q : Option ℕ} {qs : List (Option ℕ)} {k : Option HeldScope} {s : Names} {ts : List Lexeme} (h : HeldScopes) →
         F q qs k h s (operator_text all op token ts) →
         Fine u N q qs k (operator_scopes op h) (operator_named u op s) ts
     operator_fits comma token h f = done (eat f)
@@ -226,31 +230,36 @@ module _ (u : Spelling) (N : ℕ → Type 0) (keys : (m n : ℕ) → N m → N n
     operator_fits (cond e colon) token h f = ends (some_expr_fits e h (eat f))
     operator_fits (binary p) token h f = done (eat f)
 
-    pub some_expr_fits : (e : SomeExpr) {q : Option ℕ} {qs : List (Option ℕ)} {k : Option HeldScope} {s : Names} {ts : List Lexeme} (h : HeldScopes) →
+    pub some_expr_fits : (e : SomeExpr)
+        {q : Option ℕ} {qs : List (Option ℕ)} {k : Option HeldScope} {s : Names} {ts : List Lexeme} (h : HeldScopes) →
         F q qs k h s (some_expr_text all e ts) →
         Fine u N q qs k (some_expr_scopes e h) (some_expr_named u e s) ts
     some_expr_fits no_expr h f = done f
     some_expr_fits (some_expr e) h f = expr_fits e false h f
 
-    pub exprs_fit : (es : Exprs) {q : Option ℕ} {qs : List (Option ℕ)} {k : Option HeldScope} {s : Names} {ts : List Lexeme} (h : HeldScopes) →
+    pub exprs_fit : (es : Exprs)
+        {q : Option ℕ} {qs : List (Option ℕ)} {k : Option HeldScope} {s : Names} {ts : List Lexeme} (h : HeldScopes) →
         F q qs k h s (exprs_text all es ts) →
         Fine u N q qs k (exprs_scopes es h) (exprs_named u es s) ts
     exprs_fit no_exprs h f = done f
     exprs_fit (more_exprs e es) h f = step (expr_fits e false h f) (other_exprs_fit es)
 
-    pub other_exprs_fit : (es : Exprs) {q : Option ℕ} {qs : List (Option ℕ)} {k : Option HeldScope} {s : Names} {ts : List Lexeme} (h : HeldScopes) →
+    pub other_exprs_fit : (es : Exprs)
+        {q : Option ℕ} {qs : List (Option ℕ)} {k : Option HeldScope} {s : Names} {ts : List Lexeme} (h : HeldScopes) →
         F q qs k h s (other_exprs_text all es ts) →
         Fine u N q qs k (exprs_scopes es h) (exprs_named u es s) ts
     other_exprs_fit no_exprs h f = done f
     other_exprs_fit (more_exprs e es) h f = step (expr_fits e false h (eat f)) (other_exprs_fit es)
 
-    pub words_fit : (ws : SpecWords) (alone : Bool) (t : CType) (words : Words) {q : Option ℕ} {qs : List (Option ℕ)} {k : Option HeldScope} {s : Names} {ts : List Lexeme} (h : HeldScopes) →
+    pub words_fit : (ws : SpecWords) (alone : Bool) (t : CType) (words : Words)
+        {q : Option ℕ} {qs : List (Option ℕ)} {k : Option HeldScope} {s : Names} {ts : List Lexeme} (h : HeldScopes) →
         F q qs k h s (spec_words_text all ws ts) →
         Fine u N q qs k (spec_words_scopes ws h) ((words_named u alone ws t words s).names) ts
     words_fit no_words alone t words h f = done f
     words_fit (more_words word ws) alone t words h f = step (word_fits word alone t h f) (words_fit ws alone _ _)
 
-    pub word_fits : (word : SpecWord) (alone : Bool) (t : CType) {q : Option ℕ} {qs : List (Option ℕ)} {k : Option HeldScope} {s : Names} {ts : List Lexeme} (h : HeldScopes) →
+    pub word_fits : (word : SpecWord) (alone : Bool) (t : CType)
+        {q : Option ℕ} {qs : List (Option ℕ)} {k : Option HeldScope} {s : Names} {ts : List Lexeme} (h : HeldScopes) →
         F q qs k h s (spec_word_text all word ts) →
         Fine u N q qs k (spec_word_scopes word h) ((word_named u alone word t s).names) ts
     word_fits (storage word) alone t h f = done (eat f)
@@ -265,20 +274,23 @@ module _ (u : Spelling) (N : ℕ → Type 0) (keys : (m n : ℕ) → N m → N n
     word_fits (typedef_name name) alone t h f = tested (held.names_type h name.name) (eat f)
     word_fits (attribute attr) alone t h f = done (attr_past all attr f)
 
-    pub body_of_fits : (body : SomeBody) (alone : Bool) (kind : TagKind) (keyword : ℕ) (tag : Option Identifier) (t : CType) {q : Option ℕ} {qs : List (Option ℕ)} {k : Option HeldScope} {s : Names} {ts : List Lexeme} (h : HeldScopes) →
+    pub body_of_fits : (body : SomeBody) (alone : Bool) (kind : TagKind) (keyword : ℕ) (tag : Option Identifier) (t : CType)
+        {q : Option ℕ} {qs : List (Option ℕ)} {k : Option HeldScope} {s : Names} {ts : List Lexeme} (h : HeldScopes) →
         F q qs k h s (some_body_text all body ts) →
         Fine u N q qs k (some_body_scopes body h) ((struct_named u alone kind keyword tag body t s).names) ts
     body_of_fits no_body alone kind keyword tag t h f = done (tag_fits alone kind tag t f)
     body_of_fits (some_body opening items closing) alone kind keyword tag t h f =
         ends (struct_items_fit items _ h (begun_fits kind keyword tag (eat f)))
 
-    pub struct_items_fit : (items : StructItems) (n : ℕ) {q : Option ℕ} {qs : List (Option ℕ)} {k : Option HeldScope} {s : Names} {ts : List Lexeme} (h : HeldScopes) →
+    pub struct_items_fit : (items : StructItems) (n : ℕ)
+        {q : Option ℕ} {qs : List (Option ℕ)} {k : Option HeldScope} {s : Names} {ts : List Lexeme} (h : HeldScopes) →
         F q qs k h s (struct_items_text all items ts) →
         Fine u N q qs k (struct_items_scopes items h) (struct_items_named u n items s) ts
     struct_items_fit no_struct_items n h f = done f
     struct_items_fit (more_struct_items item items) n h f = step (struct_item_fits item n h f) (struct_items_fit items n)
 
-    pub struct_item_fits : (item : StructItem) (n : ℕ) {q : Option ℕ} {qs : List (Option ℕ)} {k : Option HeldScope} {s : Names} {ts : List Lexeme} (h : HeldScopes) →
+    pub struct_item_fits : (item : StructItem) (n : ℕ)
+        {q : Option ℕ} {qs : List (Option ℕ)} {k : Option HeldScope} {s : Names} {ts : List Lexeme} (h : HeldScopes) →
         F q qs k h s (struct_item_text all item ts) →
         Fine u N q qs k (struct_item_scopes item h) (struct_item_named u n item s) ts
     struct_item_fits (member exts ws ds semi) n h f =
@@ -287,21 +299,24 @@ module _ (u : Spelling) (N : ℕ → Type 0) (keys : (m n : ℕ) → N m → N n
     struct_item_fits (member_semi semi) n h f = done (eat f)
     struct_item_fits (member_assert it) n h f = done (assert_past all it f)
 
-    pub mem_declrs_fit : (ds : MemDeclrs) (n : ℕ) (t : CType) {q : Option ℕ} {qs : List (Option ℕ)} {k : Option HeldScope} {s : Names} {ts : List Lexeme} (h : HeldScopes) →
+    pub mem_declrs_fit : (ds : MemDeclrs) (n : ℕ) (t : CType)
+        {q : Option ℕ} {qs : List (Option ℕ)} {k : Option HeldScope} {s : Names} {ts : List Lexeme} (h : HeldScopes) →
         F q qs k h s (mem_declrs_text all ds ts) →
         Fine u N q qs k (mem_declrs_scopes ds h) (mem_declrs_named u n t ds s) ts
     mem_declrs_fit no_mem_declrs n t h f = done f
     mem_declrs_fit (more_mem_declrs attrs d ds) n t h f =
         step (mem_declr_fits d n t h (attrs_past all attrs f)) (other_mem_declrs_fit ds n t)
 
-    pub other_mem_declrs_fit : (ds : MemDeclrs) (n : ℕ) (t : CType) {q : Option ℕ} {qs : List (Option ℕ)} {k : Option HeldScope} {s : Names} {ts : List Lexeme} (h : HeldScopes) →
+    pub other_mem_declrs_fit : (ds : MemDeclrs) (n : ℕ) (t : CType)
+        {q : Option ℕ} {qs : List (Option ℕ)} {k : Option HeldScope} {s : Names} {ts : List Lexeme} (h : HeldScopes) →
         F q qs k h s (other_mem_declrs_text all ds ts) →
         Fine u N q qs k (mem_declrs_scopes ds h) (mem_declrs_named u n t ds s) ts
     other_mem_declrs_fit no_mem_declrs n t h f = done f
     other_mem_declrs_fit (more_mem_declrs attrs d ds) n t h f =
         step (mem_declr_fits d n t h (attrs_past all attrs (eat f))) (other_mem_declrs_fit ds n t)
 
-    pub mem_declr_fits : (d : MemDeclr) (n : ℕ) (t : CType) {q : Option ℕ} {qs : List (Option ℕ)} {k : Option HeldScope} {s : Names} {ts : List Lexeme} (h : HeldScopes) →
+    pub mem_declr_fits : (d : MemDeclr) (n : ℕ) (t : CType)
+        {q : Option ℕ} {qs : List (Option ℕ)} {k : Option HeldScope} {s : Names} {ts : List Lexeme} (h : HeldScopes) →
         F q qs k h s (mem_declr_text all d ts) →
         Fine u N q qs k (mem_declr_scopes d h) (mem_declr_named u n t d s) ts
     mem_declr_fits (named d width attrs) n t h f =
@@ -310,13 +325,15 @@ module _ (u : Spelling) (N : ℕ → Type 0) (keys : (m n : ℕ) → N m → N n
     mem_declr_fits (unnamed colon e attrs) n t h f =
         also (expr_fits e false h (eat f)) (λ h g. attrs_past all attrs g)
 
-    pub some_value_fits : (mark : Punct) (v : SomeValue) {q : Option ℕ} {qs : List (Option ℕ)} {k : Option HeldScope} {s : Names} {ts : List Lexeme} (h : HeldScopes) →
+    pub some_value_fits : (mark : Punct) (v : SomeValue)
+        {q : Option ℕ} {qs : List (Option ℕ)} {k : Option HeldScope} {s : Names} {ts : List Lexeme} (h : HeldScopes) →
         F q qs k h s (some_value_text all mark v ts) →
         Fine u N q qs k (some_value_scopes v h) (some_value_named u v s) ts
     some_value_fits mark no_value h f = done f
     some_value_fits mark (some_value token e) h f = expr_fits e false h (eat f)
 
-    pub enum_fits : (enum : EnumType) {q : Option ℕ} {qs : List (Option ℕ)} {k : Option HeldScope} {s : Names} {ts : List Lexeme} (h : HeldScopes) →
+    pub enum_fits : (enum : EnumType)
+        {q : Option ℕ} {qs : List (Option ℕ)} {k : Option HeldScope} {s : Names} {ts : List Lexeme} (h : HeldScopes) →
         F q qs k h s (enum_type_text all enum ts) →
         Fine u N q qs k (enum_type_scopes enum h) (enum_named u enum s) ts
     enum_fits (enum_of keyword attrs tag no_enum_body) h f =
@@ -325,7 +342,8 @@ module _ (u : Spelling) (N : ℕ → Type 0) (keys : (m n : ℕ) → N m → N n
         also (enumerators_fit es h (begun_fits tags.Enum keyword tag (eat (tag_past tag (attrs_past all attrs (eat f))))))
         (λ h g. eat (some_sign_past Comma last g))
 
-    pub enumerators_fit : (es : Enumerators) {q : Option ℕ} {qs : List (Option ℕ)} {k : Option HeldScope} {s : Names} {ts : List Lexeme} (h : HeldScopes) →
+    pub enumerators_fit : (es : Enumerators)
+        {q : Option ℕ} {qs : List (Option ℕ)} {k : Option HeldScope} {s : Names} {ts : List Lexeme} (h : HeldScopes) →
         F q qs k h s (enumerators_text all es ts) →
         Fine u N q qs k (enumerators_scopes es h) (enumerators_named u es s) ts
     enumerators_fit no_enumerators h f = done f
@@ -334,7 +352,8 @@ module _ (u : Spelling) (N : ℕ → Type 0) (keys : (m n : ℕ) → N m → N n
         (step (step (some_value_fits Equal value h (attrs_past all attrs (eat f)))
         (λ h g. enumerator_fits u N keys name.name _ _ None f.names.0 g)) (other_enumerators_fit es))
 
-    pub other_enumerators_fit : (es : Enumerators) {q : Option ℕ} {qs : List (Option ℕ)} {k : Option HeldScope} {s : Names} {ts : List Lexeme} (h : HeldScopes) →
+    pub other_enumerators_fit : (es : Enumerators)
+        {q : Option ℕ} {qs : List (Option ℕ)} {k : Option HeldScope} {s : Names} {ts : List Lexeme} (h : HeldScopes) →
         F q qs k h s (other_enumerators_text all es ts) →
         Fine u N q qs k (enumerators_scopes es h) (enumerators_named u es s) ts
     other_enumerators_fit no_enumerators h f = done f
@@ -343,7 +362,8 @@ module _ (u : Spelling) (N : ℕ → Type 0) (keys : (m n : ℕ) → N m → N n
         (step (step (some_value_fits Equal value h (attrs_past all attrs (eat (eat f))))
         (λ h g. enumerator_fits u N keys name.name _ _ None f.names.1.0 g)) (other_enumerators_fit es))
 
-    pub declr_fits : (kind : Option Kind) (d : Declr) → IsWanted kind → {q : Option ℕ} {qs : List (Option ℕ)} {k : Option HeldScope} {s : Names} {ts : List Lexeme} (h : HeldScopes) →
+    pub declr_fits : (kind : Option Kind) (d : Declr) → IsWanted kind →
+        {q : Option ℕ} {qs : List (Option ℕ)} {k : Option HeldScope} {s : Names} {ts : List Lexeme} (h : HeldScopes) →
         F q qs k h s (declr_text all d ts) →
         Fine u N (held_then kind (declared_name d) q) qs k (declr_scopes kind d h) ((declr_named u None d s).names) ts
     declr_fits kind (pointer star words d) want h f = declr_fits kind d want h (pointer_words_past all words (eat f))
@@ -367,26 +387,30 @@ module _ (u : Spelling) (N : ℕ → Type 0) (keys : (m n : ℕ) → N m → N n
         step (some_declr_fits kind d want h f)
         (λ h g. own (also (params_fit ps 0 None _ (entered (eat g))) (λ h g. eat (dots_past all dots g))))
 
-    pub some_declr_fits : (kind : Option Kind) (d : SomeDeclr) → IsWanted kind → {q : Option ℕ} {qs : List (Option ℕ)} {k : Option HeldScope} {s : Names} {ts : List Lexeme} (h : HeldScopes) →
+    pub some_declr_fits : (kind : Option Kind) (d : SomeDeclr) → IsWanted kind →
+        {q : Option ℕ} {qs : List (Option ℕ)} {k : Option HeldScope} {s : Names} {ts : List Lexeme} (h : HeldScopes) →
         F q qs k h s (some_declr_text all d ts) →
         Fine u N (held_then kind (some_declared_name d) q) qs k (some_declr_scopes kind d h) ((some_declr_named u d s).names) ts
     some_declr_fits None no_declr want h f = done f
     some_declr_fits (Some kind) no_declr want h f = done f
     some_declr_fits kind (some_declr d) want h f = declr_fits kind d want h f
 
-    pub some_size_fits : (size : SomeSize) {q : Option ℕ} {qs : List (Option ℕ)} {k : Option HeldScope} {s : Names} {ts : List Lexeme} (h : HeldScopes) →
+    pub some_size_fits : (size : SomeSize)
+        {q : Option ℕ} {qs : List (Option ℕ)} {k : Option HeldScope} {s : Names} {ts : List Lexeme} (h : HeldScopes) →
         F q qs k h s (some_size_text all size ts) →
         Fine u N q qs k (some_size_scopes size h) (some_size_named u size s) ts
     some_size_fits no_size h f = done f
     some_size_fits (some_size size) h f = array_size_fits size h f
 
-    pub array_size_fits : (size : ArraySize) {q : Option ℕ} {qs : List (Option ℕ)} {k : Option HeldScope} {s : Names} {ts : List Lexeme} (h : HeldScopes) →
+    pub array_size_fits : (size : ArraySize)
+        {q : Option ℕ} {qs : List (Option ℕ)} {k : Option HeldScope} {s : Names} {ts : List Lexeme} (h : HeldScopes) →
         F q qs k h s (array_size_text all size ts) →
         Fine u N q qs k (array_size_scopes size h) (array_size_named u size s) ts
     array_size_fits (size_value e) h f = expr_fits e false h f
     array_size_fits (size_star star) h f = done (eat f)
 
-    pub params_fit : (ps : Params) (i : ℕ) (owner : Option Place) {qs : List (Option ℕ)} {k : Option HeldScope} {s : Names} {ts : List Lexeme} (h : HeldScopes) →
+    pub params_fit : (ps : Params) (i : ℕ) (owner : Option Place)
+        {qs : List (Option ℕ)} {k : Option HeldScope} {s : Names} {ts : List Lexeme} (h : HeldScopes) →
         F None qs k h s (params_text all ps ts) →
         Fine u N None qs k (params_scopes ps h) ((params_named u i owner ps s).names) ts
     params_fit no_params i owner h f = done f
@@ -395,7 +419,8 @@ module _ (u : Spelling) (N : ℕ → Type 0) (keys : (m n : ℕ) → N m → N n
         (λ h g. other_params_fit ps (suc i) owner _
         (param_fits u N keys (some_declared_name d) i owner _ (attrs_past all attrs g)))
 
-    pub other_params_fit : (ps : Params) (i : ℕ) (owner : Option Place) {qs : List (Option ℕ)} {k : Option HeldScope} {s : Names} {ts : List Lexeme} (h : HeldScopes) →
+    pub other_params_fit : (ps : Params) (i : ℕ) (owner : Option Place)
+        {qs : List (Option ℕ)} {k : Option HeldScope} {s : Names} {ts : List Lexeme} (h : HeldScopes) →
         F None qs k h s (other_params_text all ps ts) →
         Fine u N None qs k (params_scopes ps h) ((params_named u i owner ps s).names) ts
     other_params_fit no_params i owner h f = done f
@@ -404,51 +429,60 @@ module _ (u : Spelling) (N : ℕ → Type 0) (keys : (m n : ℕ) → N m → N n
         (λ h g. other_params_fit ps (suc i) owner _
         (param_fits u N keys (some_declared_name d) i owner _ (attrs_past all attrs g)))
 
-    pub init_fits : (init : Init) {q : Option ℕ} {qs : List (Option ℕ)} {k : Option HeldScope} {s : Names} {ts : List Lexeme} (h : HeldScopes) →
+    pub init_fits : (init : Init)
+        {q : Option ℕ} {qs : List (Option ℕ)} {k : Option HeldScope} {s : Names} {ts : List Lexeme} (h : HeldScopes) →
         F q qs k h s (init_text all init ts) →
         Fine u N q qs k (init_scopes init h) (init_named u init s) ts
     init_fits (init_value e) h f = expr_fits e false h f
     init_fits (init_braced list) h f = init_list_fits list h f
 
-    pub init_list_fits : (list : InitList) {q : Option ℕ} {qs : List (Option ℕ)} {k : Option HeldScope} {s : Names} {ts : List Lexeme} (h : HeldScopes) →
+    pub init_list_fits : (list : InitList)
+        {q : Option ℕ} {qs : List (Option ℕ)} {k : Option HeldScope} {s : Names} {ts : List Lexeme} (h : HeldScopes) →
         F q qs k h s (init_list_text all list ts) →
         Fine u N q qs k (init_list_scopes list h) (init_list_named u list s) ts
     init_list_fits (init_list opening items last closing) h f =
         also (init_items_fit items h (eat f)) (λ h g. eat (some_sign_past Comma last g))
 
-    pub init_items_fit : (items : InitItems) {q : Option ℕ} {qs : List (Option ℕ)} {k : Option HeldScope} {s : Names} {ts : List Lexeme} (h : HeldScopes) →
+    pub init_items_fit : (items : InitItems)
+        {q : Option ℕ} {qs : List (Option ℕ)} {k : Option HeldScope} {s : Names} {ts : List Lexeme} (h : HeldScopes) →
         F q qs k h s (init_items_text all items ts) →
         Fine u N q qs k (init_items_scopes items h) (init_items_named u items s) ts
     init_items_fit no_init_items h f = done f
     init_items_fit (more_init_items ds equal init items) h f =
         step (step (desigs_fit ds h f) (λ h g. init_fits init h (some_sign_past Equal equal g))) (other_init_items_fit items)
 
-    pub other_init_items_fit : (items : InitItems) {q : Option ℕ} {qs : List (Option ℕ)} {k : Option HeldScope} {s : Names} {ts : List Lexeme} (h : HeldScopes) →
+    pub other_init_items_fit : (items : InitItems)
+        {q : Option ℕ} {qs : List (Option ℕ)} {k : Option HeldScope} {s : Names} {ts : List Lexeme} (h : HeldScopes) →
         F q qs k h s (other_init_items_text all items ts) →
         Fine u N q qs k (init_items_scopes items h) (init_items_named u items s) ts
     other_init_items_fit no_init_items h f = done f
     other_init_items_fit (more_init_items ds equal init items) h f =
         step (step (desigs_fit ds h (eat f)) (λ h g. init_fits init h (some_sign_past Equal equal g))) (other_init_items_fit items)
 
-    pub desigs_fit : (ds : Desigs) {q : Option ℕ} {qs : List (Option ℕ)} {k : Option HeldScope} {s : Names} {ts : List Lexeme} (h : HeldScopes) →
+    pub desigs_fit : (ds : Desigs)
+        {q : Option ℕ} {qs : List (Option ℕ)} {k : Option HeldScope} {s : Names} {ts : List Lexeme} (h : HeldScopes) →
         F q qs k h s (desigs_text all ds ts) →
         Fine u N q qs k (desigs_scopes ds h) (desigs_named u ds s) ts
     desigs_fit no_desigs h f = done f
     desigs_fit (more_desigs d ds) h f = step (desig_fits d h f) (desigs_fit ds)
 
-    pub desig_fits : (d : Desig) {q : Option ℕ} {qs : List (Option ℕ)} {k : Option HeldScope} {s : Names} {ts : List Lexeme} (h : HeldScopes) →
+    pub desig_fits : (d : Desig)
+        {q : Option ℕ} {qs : List (Option ℕ)} {k : Option HeldScope} {s : Names} {ts : List Lexeme} (h : HeldScopes) →
         F q qs k h s (desig_text all d ts) →
         Fine u N q qs k (desig_scopes d h) (desig_named u d s) ts
     desig_fits (member_desig token name) h f = done (eat (eat f))
     desig_fits (index_desig opening e closing) h f = ends (expr_fits e false h (eat f))
 
-    pub some_init_fits : (init : SomeInit) {q : Option ℕ} {qs : List (Option ℕ)} {k : Option HeldScope} {s : Names} {ts : List Lexeme} (h : HeldScopes) →
+    pub some_init_fits : (init : SomeInit)
+        {q : Option ℕ} {qs : List (Option ℕ)} {k : Option HeldScope} {s : Names} {ts : List Lexeme} (h : HeldScopes) →
         F q qs k h s (some_init_text all init ts) →
         Fine u N q qs k (some_init_scopes init h) (some_init_named u init s) ts
     some_init_fits no_init h f = done f
     some_init_fits (some_init equal init) h f = init_fits init h (eat f)
 
-    pub init_declrs_fit : (kind : Kind) (ds : InitDeclrs) (words : List Keyword) (is_untagged : Bool) (t : CType) → is_same Constant kind ≡ false → {qs : List (Option ℕ)} {k : Option HeldScope} {s : Names} {ts : List Lexeme} (h : HeldScopes) →
+    pub init_declrs_fit : (kind : Kind) (ds : InitDeclrs) (words : List Keyword) (is_untagged : Bool) (t : CType) →
+        is_same Constant kind ≡ false →
+        {qs : List (Option ℕ)} {k : Option HeldScope} {s : Names} {ts : List Lexeme} (h : HeldScopes) →
         F None qs k h s (init_declrs_text all ds ts) →
         Fine u N None qs k (init_declrs_scopes kind ds h) (init_declrs_named u words is_untagged t ds s) ts
     init_declrs_fit kind no_init_declrs words is_untagged t want h f = done f
@@ -457,7 +491,9 @@ module _ (u : Spelling) (N : ℕ → Type 0) (keys : (m n : ℕ) → N m → N n
         (some_fits u N keys kind _ (declared_name d) words _ (attrs_past all attrs2 (label_past all asm_label g)))))
         (other_init_declrs_fit kind ds words false t want)
 
-    pub other_init_declrs_fit : (kind : Kind) (ds : InitDeclrs) (words : List Keyword) (is_untagged : Bool) (t : CType) → is_same Constant kind ≡ false → {qs : List (Option ℕ)} {k : Option HeldScope} {s : Names} {ts : List Lexeme} (h : HeldScopes) →
+    pub other_init_declrs_fit : (kind : Kind) (ds : InitDeclrs) (words : List Keyword) (is_untagged : Bool) (t : CType) →
+        is_same Constant kind ≡ false →
+        {qs : List (Option ℕ)} {k : Option HeldScope} {s : Names} {ts : List Lexeme} (h : HeldScopes) →
         F None qs k h s (other_init_declrs_text all ds ts) →
         Fine u N None qs k (init_declrs_scopes kind ds h) (init_declrs_named u words is_untagged t ds s) ts
     other_init_declrs_fit kind no_init_declrs words is_untagged t want h f = done f
@@ -466,32 +502,37 @@ module _ (u : Spelling) (N : ℕ → Type 0) (keys : (m n : ℕ) → N m → N n
         (some_fits u N keys kind _ (declared_name d) words _ (attrs_past all attrs2 (label_past all asm_label g)))))
         (other_init_declrs_fit kind ds words false t want)
 
-    pub declaration_fits : (d : Declaration) {qs : List (Option ℕ)} {k : Option HeldScope} {s : Names} {ts : List Lexeme} (h : HeldScopes) →
+    pub declaration_fits : (d : Declaration)
+        {qs : List (Option ℕ)} {k : Option HeldScope} {s : Names} {ts : List Lexeme} (h : HeldScopes) →
         F None qs k h s (declaration_text all d ts) →
         Fine u N None qs k (declaration_scopes d h) (declaration_named u d s) ts
     declaration_fits (declaration exts ws ds semi) h f =
         step (words_fit ws _ _ _ h (extensions_past exts f)) (λ h g. ends (init_declrs_fit (declared_kind ws) ds _ _ _
         (no_enumerator (has_typedef_word (storage_words ws))) h g))
 
-    pub decl_fits : (d : Decl) {qs : List (Option ℕ)} {k : Option HeldScope} {s : Names} {ts : List Lexeme} (h : HeldScopes) →
+    pub decl_fits : (d : Decl)
+        {qs : List (Option ℕ)} {k : Option HeldScope} {s : Names} {ts : List Lexeme} (h : HeldScopes) →
         F None qs k h s (decl_text all d ts) →
         Fine u N None qs k (decl_scopes d h) (decl_named u d s) ts
     decl_fits (decl_declaration d) h f = declaration_fits d h f
     decl_fits (decl_assert it) h f = done (assert_past all it f)
 
-    pub block_items_fit : (items : BlockItems) {qs : List (Option ℕ)} {k : Option HeldScope} {s : Names} {ts : List Lexeme} (h : HeldScopes) →
+    pub block_items_fit : (items : BlockItems)
+        {qs : List (Option ℕ)} {k : Option HeldScope} {s : Names} {ts : List Lexeme} (h : HeldScopes) →
         F None qs k h s (block_items_text all items ts) →
         Fine u N None qs k (block_items_scopes items h) (block_items_named u items s) ts
     block_items_fit no_block_items h f = done f
     block_items_fit (more_block_items item items) h f = step (block_item_fits item h f) (block_items_fit items)
 
-    pub block_item_fits : (item : BlockItem) {qs : List (Option ℕ)} {k : Option HeldScope} {s : Names} {ts : List Lexeme} (h : HeldScopes) →
+    pub block_item_fits : (item : BlockItem)
+        {qs : List (Option ℕ)} {k : Option HeldScope} {s : Names} {ts : List Lexeme} (h : HeldScopes) →
         F None qs k h s (block_item_text all item ts) →
         Fine u N None qs k (block_item_scopes item h) (block_item_named u item s) ts
     block_item_fits (block_decl d) h f = decl_fits d h f
     block_item_fits (block_stmt t) h f = stmt_fits t h f
 
-    pub stmt_fits : (t : Stmt) {qs : List (Option ℕ)} {k : Option HeldScope} {s : Names} {ts : List Lexeme} (h : HeldScopes) →
+    pub stmt_fits : (t : Stmt)
+        {qs : List (Option ℕ)} {k : Option HeldScope} {s : Names} {ts : List Lexeme} (h : HeldScopes) →
         F None qs k h s (stmt_text all t ts) →
         Fine u N None qs k (stmt_scopes t h) (stmt_named u t s) ts
     stmt_fits (block opening items closing) h f = own (ends (block_items_fit items _ (entered (eat f))))
@@ -518,13 +559,15 @@ module _ (u : Spelling) (N : ℕ → Type 0) (keys : (m n : ℕ) → N m → N n
     stmt_fits (return_stmt keyword e semi) h f = ends (some_expr_fits e h (eat f))
     stmt_fits (asm_stmt keyword words group semi) h f = done (eat (group_past all group (words_past words (eat f))))
 
-    pub some_else_fits : (e : SomeElse) {qs : List (Option ℕ)} {k : Option HeldScope} {s : Names} {ts : List Lexeme} (h : HeldScopes) →
+    pub some_else_fits : (e : SomeElse)
+        {qs : List (Option ℕ)} {k : Option HeldScope} {s : Names} {ts : List Lexeme} (h : HeldScopes) →
         F None qs k h s (some_else_text all e ts) →
         Fine u N None qs k (some_else_scopes e h) (some_else_named u e s) ts
     some_else_fits no_else h f = done f
     some_else_fits (some_else keyword t) h f = own (stmt_fits t _ (entered (eat f)))
 
-    pub for_start_fits : (start : ForStart) {qs : List (Option ℕ)} {k : Option HeldScope} {s : Names} {ts : List Lexeme} (h : HeldScopes) →
+    pub for_start_fits : (start : ForStart)
+        {qs : List (Option ℕ)} {k : Option HeldScope} {s : Names} {ts : List Lexeme} (h : HeldScopes) →
         F None qs k h s (for_start_text all start ts) →
         Fine u N None qs k (for_start_scopes start h) (for_start_named u start s) ts
     for_start_fits (start_declaration d) h f = declaration_fits d h f

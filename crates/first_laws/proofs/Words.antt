@@ -1,5 +1,5 @@
 -- Kinds of names in a scope, and the names among tokens.
-use Rattle.std.proofs.Common.{◌≡◌, ℕ, nat_eq, Bool, true, false, List, [], ◌∷◌, Option, None, Some, refl, ◌∙◌, ap, subst}
+use Rattle.std.proofs.Common.{◌≡◌, ℕ, nat_eq, Bool, true, false, List, [], ◌∷◌, Option, None, Some, refl, ◌∙◌, ap}
 use Rattle.std.specs.Prelude.{if◌then◌else◌}
 use Rattle.std.proofs.lemmas.Bool.{eq-eqb}
 use Rattle.c_words.specs.declared.kinds.TokenKind.{TokenKind}
@@ -50,25 +50,6 @@ no_constant None kind other h e = absurd cc
 no_constant (Some Constant) kind other h e = absurd cc
 no_constant (Some Typedef) kind other h e = absurd cc
 no_constant (Some Value) kind other h e = absurd cc
-
--- whichever name is declared as an object or a type's name, enumerators stay those that they were
-pub constant_before : (scope : HeldScope) (m : ℕ) (kind : Kind) (n : ℕ) → is_same Constant kind ≡ false →
-    kind_in (with_name scope m kind).names n ≡ Some Constant → kind_in scope.names n ≡ Some Constant
-constant_before scope m kind n other h = by (kind_in scope.names m) h
-  where
-    picked : (b : Bool) → (if b then Some kind else kind_in scope.names n) ≡ Some Constant →
-        kind_in scope.names n ≡ Some Constant
-    picked true e = let same : kind ≡ Constant = cc in
-        absurd (never (subst (λ (k : Kind). is_same Constant k ≡ false) same other))
-      where
-        never : true ≡ false → ⊥
-        never e = cc
-    picked false e = e
-
-    by : (o : Option Kind) → kind_in (with_kind o scope m kind).names n ≡ Some Constant →
-        kind_in scope.names n ≡ Some Constant
-    by None e = picked (nat_eq m n) e
-    by (Some known) e = e
 
 -- names among tokens
 

@@ -24,7 +24,8 @@ pub record AreSettled (w : World) (items : List Item) : Type 0 where
 -- each expression has a type
 abbrev pub ExpressionsHaveTypes : Type 0
 ExpressionsHaveTypes =
-    (w : World) (items : List Item) → AreSettled w items → ItemsHave (HasType w) (TokenBegins w) (FirstIsMet w) (RoleHasSkeleton w) items
+    (w : World) (items : List Item) → AreSettled w items →
+    ItemsHave (HasType w) (TokenBegins w) (FirstIsMet w) (RoleHasSkeleton w) items
 
 -- an expression that has a type has a skeleton of it
 abbrev pub TypedHaveSkeletons : Type 0
@@ -40,7 +41,8 @@ HasOne w e = (t : CType) × ((shape_of w.spelling w.names e).type ≡ Some t) ×
 -- each expression has a skeleton of its type
 abbrev pub ExpressionsHaveSkeletons : Type 0
 ExpressionsHaveSkeletons =
-    (w : World) (items : List Item) → AreSettled w items → ItemsHave (HasOne w) (TokenBegins w) (FirstIsMet w) (RoleHasSkeleton w) items
+    (w : World) (items : List Item) → AreSettled w items →
+    ItemsHave (HasOne w) (TokenBegins w) (FirstIsMet w) (RoleHasSkeleton w) items
 
 -- Look-ups take the first that they find, so what stands behind all others is seen by those alone that find nothing.
 abbrev pub NothingIsMissing : Type 0

@@ -51,7 +51,8 @@ EachSettled p (it ∷ sources) = AreSettled (world_of p it) it.items × EachSett
 abbrev pub EachHasSkeletons : Program → List Source → Type 0
 EachHasSkeletons p [] = Unit {0}
 EachHasSkeletons p (it ∷ sources) =
-    ItemsHave (HasOne (world_of p it)) (TokenBegins (world_of p it)) (FirstIsMet (world_of p it)) (RoleHasSkeleton (world_of p it)) it.items
+    ItemsHave (HasOne (world_of p it)) (TokenBegins (world_of p it)) (FirstIsMet (world_of p it))
+    (RoleHasSkeleton (world_of p it)) it.items
     × EachHasSkeletons p sources
 
 abbrev pub EachMissesNothing : Program → List Source → Type 0
