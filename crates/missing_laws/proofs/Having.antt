@@ -11,17 +11,17 @@ use Rattle.row_rules.specs.Worlds.{World}
 use Rattle.constraint_rules.specs.Starts.{expr_starts, some_expr_starts, exprs_starts, words_starts, declr_starts, some_declr_starts, init_starts, init_list_starts, init_items_starts, desigs_starts, some_init_starts, init_declrs_starts, declaration_starts, decl_starts, block_items_starts, block_item_starts, stmt_starts, some_else_starts, for_start_starts, item_starts, items_starts}
 use Rattle.constraint_rules.specs.Values.{val}
 use Rattle.missing_laws.specs.Everywhere.{ExprHas, SomeExprHas, ExprsHave, InitHas, InitListHas, InitItemsHave, SomeInitHas, InitDeclrsHave, DeclarationHas, DeclHas, BlockItemsHave, BlockItemHas, StmtHas, SomeElseHas, ForStartHas, ItemHas, ItemsHave}
-use Rattle.missing_laws.specs.Finding.{AreFound, FirstIsMet, HasType, HasItsSkeleton, IsSettled, MembersBegin, TokenBegins, loud, of_type}
+use Rattle.missing_laws.specs.Finding.{AreFound, FirstIsMet, HasType, HasItsSkeleton, IsSettled, MembersBegin, RoleHasSkeleton, TokenBegins, loud, of_type}
 use Rattle.missing_laws.specs.Laws.{HasOne}
 use Rattle.missing_laws.proofs.Found.{front, back}
 use Rattle.missing_laws.proofs.Values.{agrees}
 use Rattle.missing_laws.proofs.Items.{more_none}
 
-pub has_its : (w : World) (U V : ℕ → Type 0) (f : Option Place) (e : Expr) (t : CType) → MembersBegin w →
-    ExprHas (IsSettled w) U V e → AreFound w (expr_starts (loud w f) e) →
+pub has_its : (w : World) (U V W : ℕ → Type 0) (f : Option Place) (e : Expr) (t : CType) → MembersBegin w →
+    ExprHas (IsSettled w) U V W e → AreFound w (expr_starts (loud w f) e) →
     (shape_of w.spelling w.names e).type ≡ Some t → HasItsSkeleton w e t
-has_its w U V f e t members s h is =
-    let one = agrees w U V f members e s h t is in (
+has_its w U V W f e t members s h is =
+    let one = agrees w U V W f members e s h t is in (
       one.0,
       subst (λ (it : World). val it e ≡ of_type (shape_of w.spelling w.names e) t one.0) (more_none w)
           (one.1 ([], [], w.own)),
@@ -33,6 +33,9 @@ module _ (w : World) (members : MembersBegin w) where
 
   abbrev V : ℕ → Type 0
   V token = FirstIsMet w token
+
+  abbrev W : ℕ → Type 0
+  W token = RoleHasSkeleton w token
 
   abbrev S : Expr → Type 0
   S e = IsSettled w e
@@ -47,11 +50,11 @@ module _ (w : World) (members : MembersBegin w) where
     abbrev b : Around
     b = loud w f
 
-    it_has : (e : Expr) → T e → ExprHas S U V e → AreFound w (expr_starts b e) → H e
-    it_has e t s h = (t.0, t.1, has_its w U V f e t.0 members s h t.1)
+    it_has : (e : Expr) → T e → ExprHas S U V W e → AreFound w (expr_starts b e) → H e
+    it_has e t s h = (t.0, t.1, has_its w U V W f e t.0 members s h t.1)
 
     mutual
-      pub expr_has : (e : Expr) → ExprHas S U V e → ExprHas T U V e → AreFound w (expr_starts b e) → ExprHas H U V e
+      pub expr_has : (e : Expr) → ExprHas S U V W e → ExprHas T U V W e → AreFound w (expr_starts b e) → ExprHas H U V W e
       expr_has (operation e comma token e2) s t h = (
         it_has (operation e comma token e2) t.0 s h,
         (
@@ -168,28 +171,28 @@ module _ (w : World) (members : MembersBegin w) where
       expr_has (offset keyword opening ws d separator name steps closing) s t h =
           it_has (offset keyword opening ws d separator name steps closing) t s h
 
-      some_expr_has : (e : SomeExpr) → SomeExprHas S U V e → SomeExprHas T U V e → AreFound w (some_expr_starts b e) →
-          SomeExprHas H U V e
+      some_expr_has : (e : SomeExpr) → SomeExprHas S U V W e → SomeExprHas T U V W e → AreFound w (some_expr_starts b e) →
+          SomeExprHas H U V W e
       some_expr_has no_expr s t h = tt
       some_expr_has (some_expr e) s t h = expr_has e s t h
 
-      exprs_have : (es : Exprs) → ExprsHave S U V es → ExprsHave T U V es → AreFound w (exprs_starts b es) → ExprsHave H U V es
+      exprs_have : (es : Exprs) → ExprsHave S U V W es → ExprsHave T U V W es → AreFound w (exprs_starts b es) → ExprsHave H U V W es
       exprs_have no_exprs s t h = tt
       exprs_have (more_exprs e es) s t h = (
         expr_has e s.0 t.0 (front w (expr_starts b e) _ h),
         exprs_have es s.1 t.1 (back w (expr_starts b e) _ h),
       )
 
-      init_has : (it : Init) → InitHas S U V it → InitHas T U V it → AreFound w (init_starts b it) → InitHas H U V it
+      init_has : (it : Init) → InitHas S U V W it → InitHas T U V W it → AreFound w (init_starts b it) → InitHas H U V W it
       init_has (init_value e) s t h = expr_has e s t h
       init_has (init_braced list) s t h = list_has list s t h
 
-      list_has : (list : InitList) → InitListHas S U V list → InitListHas T U V list → AreFound w (init_list_starts b list) →
-          InitListHas H U V list
+      list_has : (list : InitList) → InitListHas S U V W list → InitListHas T U V W list → AreFound w (init_list_starts b list) →
+          InitListHas H U V W list
       list_has (init_list opening items last closing) s t h = init_items_have items s t h
 
-      init_items_have : (items : InitItems) → InitItemsHave S U V items → InitItemsHave T U V items →
-          AreFound w (init_items_starts b items) → InitItemsHave H U V items
+      init_items_have : (items : InitItems) → InitItemsHave S U V W items → InitItemsHave T U V W items →
+          AreFound w (init_items_starts b items) → InitItemsHave H U V W items
       init_items_have no_init_items s t h = tt
       init_items_have (more_init_items ds equal it items) s t h =
           let behind = back w (desigs_starts b ds) _ h in (
@@ -197,13 +200,13 @@ module _ (w : World) (members : MembersBegin w) where
             init_items_have items s.1 t.1 (back w (init_starts b it) _ behind),
           )
 
-      some_init_has : (it : SomeInit) → SomeInitHas S U V it → SomeInitHas T U V it → AreFound w (some_init_starts b it) →
-          SomeInitHas H U V it
+      some_init_has : (it : SomeInit) → SomeInitHas S U V W it → SomeInitHas T U V W it → AreFound w (some_init_starts b it) →
+          SomeInitHas H U V W it
       some_init_has no_init s t h = tt
       some_init_has (some_init equal it) s t h = init_has it s t h
 
-      init_declrs_have : (ds : InitDeclrs) → InitDeclrsHave S U V ds → InitDeclrsHave T U V ds →
-          AreFound w (init_declrs_starts b ds) → InitDeclrsHave H U V ds
+      init_declrs_have : (ds : InitDeclrs) → InitDeclrsHave S U V W ds → InitDeclrsHave T U V W ds →
+          AreFound w (init_declrs_starts b ds) → InitDeclrsHave H U V W ds
       init_declrs_have no_init_declrs s t h = tt
       init_declrs_have (more_init_declrs attrs d asm_label attrs2 it ds) s t h =
           let behind = back w (declr_starts b with_skeleton without_skeleton d) _ h in (
@@ -217,29 +220,29 @@ module _ (w : World) (members : MembersBegin w) where
             ),
           )
 
-      declaration_has : (d : Declaration) → DeclarationHas S U V d → DeclarationHas T U V d →
-          AreFound w (declaration_starts b d) → DeclarationHas H U V d
+      declaration_has : (d : Declaration) → DeclarationHas S U V W d → DeclarationHas T U V W d →
+          AreFound w (declaration_starts b d) → DeclarationHas H U V W d
       declaration_has (declaration exts ws ds semi) s t h =
           (s.0, init_declrs_have ds s.1 t.1 (back w (words_starts b ws) _ h))
 
-      pub decl_has : (d : Decl) → DeclHas S U V d → DeclHas T U V d → AreFound w (decl_starts b d) → DeclHas H U V d
+      pub decl_has : (d : Decl) → DeclHas S U V W d → DeclHas T U V W d → AreFound w (decl_starts b d) → DeclHas H U V W d
       decl_has (decl_declaration d) s t h = declaration_has d s t h
       decl_has (decl_assert it) s t h = tt
 
-      pub block_items_have : (items : BlockItems) → BlockItemsHave S U V items → BlockItemsHave T U V items →
-          AreFound w (block_items_starts b items) → BlockItemsHave H U V items
+      pub block_items_have : (items : BlockItems) → BlockItemsHave S U V W items → BlockItemsHave T U V W items →
+          AreFound w (block_items_starts b items) → BlockItemsHave H U V W items
       block_items_have no_block_items s t h = tt
       block_items_have (more_block_items item items) s t h = (
         block_item_has item s.0 t.0 (front w (block_item_starts b item) _ h),
         block_items_have items s.1 t.1 (back w (block_item_starts b item) _ h),
       )
 
-      block_item_has : (item : BlockItem) → BlockItemHas S U V item → BlockItemHas T U V item →
-          AreFound w (block_item_starts b item) → BlockItemHas H U V item
+      block_item_has : (item : BlockItem) → BlockItemHas S U V W item → BlockItemHas T U V W item →
+          AreFound w (block_item_starts b item) → BlockItemHas H U V W item
       block_item_has (block_decl d) s t h = decl_has d s t h
       block_item_has (block_stmt it) s t h = stmt_has it s t h
 
-      stmt_has : (it : Stmt) → StmtHas S U V it → StmtHas T U V it → AreFound w (stmt_starts b it) → StmtHas H U V it
+      stmt_has : (it : Stmt) → StmtHas S U V W it → StmtHas T U V W it → AreFound w (stmt_starts b it) → StmtHas H U V W it
       stmt_has (block opening items closing) s t h = block_items_have items s t h
       stmt_has (expr_stmt e semi) s t h = some_expr_has e s t h
       stmt_has (attr_stmt attrs semi) s t h = tt
@@ -282,18 +285,18 @@ module _ (w : World) (members : MembersBegin w) where
       stmt_has (return_stmt keyword e semi) s t h = some_expr_has e s t h
       stmt_has (asm_stmt keyword words group semi) s t h = tt
 
-      some_else_has : (it : SomeElse) → SomeElseHas S U V it → SomeElseHas T U V it → AreFound w (some_else_starts b it) →
-          SomeElseHas H U V it
+      some_else_has : (it : SomeElse) → SomeElseHas S U V W it → SomeElseHas T U V W it → AreFound w (some_else_starts b it) →
+          SomeElseHas H U V W it
       some_else_has no_else s t h = tt
       some_else_has (some_else keyword it) s t h = stmt_has it s t h
 
-      for_start_has : (start : ForStart) → ForStartHas S U V start → ForStartHas T U V start →
-          AreFound w (for_start_starts b start) → ForStartHas H U V start
+      for_start_has : (start : ForStart) → ForStartHas S U V W start → ForStartHas T U V W start →
+          AreFound w (for_start_starts b start) → ForStartHas H U V W start
       for_start_has (start_declaration d) s t h = declaration_has d s t h
       for_start_has (start_value e semi) s t h = some_expr_has e s t h
 
-  item_has : (item : Item) → ItemHas S U V item → ItemHas T U V item → AreFound w (item_starts w.spelling w.names item) →
-      ItemHas H U V item
+  item_has : (item : Item) → ItemHas S U V W item → ItemHas T U V W item → AreFound w (item_starts w.spelling w.names item) →
+      ItemHas H U V W item
   item_has (function_item exts ws d attrs opening items closing) s t h =
       let f = declared_function w.spelling w.names (declared_name d) in
       let hd = back w (words_starts (loud w None) ws) _ h in (
@@ -314,8 +317,8 @@ module _ (w : World) (members : MembersBegin w) where
   item_has (asm_item keyword group semi) s t h = tt
   item_has (semi_item semi) s t h = tt
 
-  pub items_have : (items : List Item) → ItemsHave S U V items → ItemsHave T U V items →
-      AreFound w (items_starts w.spelling w.names items) → ItemsHave H U V items
+  pub items_have : (items : List Item) → ItemsHave S U V W items → ItemsHave T U V W items →
+      AreFound w (items_starts w.spelling w.names items) → ItemsHave H U V W items
   items_have [] s t h = tt
   items_have (item ∷ items) s t h = (
     item_has item s.0 t.0 (front w (item_starts w.spelling w.names item) _ h),

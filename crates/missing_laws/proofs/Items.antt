@@ -13,20 +13,22 @@ use Rattle.row_rules.specs.Worlds.{World, Numbered, at}
 use Rattle.constraint_rules.specs.Starts.{words_starts, declr_starts, item_starts, items_starts}
 use Rattle.constraint_rules.specs.Demands.{block_items_demand, declr_demand, item_demand, items_demand, words_demand}
 use Rattle.missing_laws.specs.Everywhere.{NamedHas, ItemHas, ItemsHave}
-use Rattle.missing_laws.specs.Finding.{AreFound, Avoids, HasType, FirstIsMet, IsSettled, LinksAreMet, MembersBegin, TokenBegins, loud, more}
+use Rattle.missing_laws.specs.Finding.{AreFound, HasType, FirstIsMet, IsSettled, LinksAreMet, MembersBegin, RoleHasSkeleton, TokenBegins, loud, more}
 use Rattle.missing_laws.proofs.Found.{Further, world, front, back}
 use Rattle.missing_laws.proofs.Marks.{ap2, joined}
 use Rattle.missing_laws.proofs.Rows.{found_same}
 use Rattle.missing_laws.proofs.Declaring.{OwnFits, declr_is, words_is}
 use Rattle.missing_laws.proofs.Demands.{block_items_is, decl_is}
 
-module _ (w : World) (members : MembersBegin w) (links : LinksAreMet w) (k l : Further) (ka : Avoids w k.0)
-    (la : Avoids w l.0) (same_own : k.2 ≡ l.2) where
+module _ (w : World) (members : MembersBegin w) (links : LinksAreMet w) (k l : Further) (same_own : k.2 ≡ l.2) where
   abbrev U : ℕ → Type 0
   U token = TokenBegins w token
 
   abbrev pub V : ℕ → Type 0
   V token = FirstIsMet w token
+
+  abbrev pub W : ℕ → Type 0
+  W token = RoleHasSkeleton w token
 
   abbrev P : Expr → Type 0
   P e = IsSettled w e
@@ -36,7 +38,7 @@ module _ (w : World) (members : MembersBegin w) (links : LinksAreMet w) (k l : F
 
   own_is : (o : Option Named) → NamedHas U o → own_skeleton (world w k) o ≡ own_skeleton (world w l) o
   own_is None h = refl
-  own_is (Some it) h = ap (λ s. Some (contents s)) (found_same w members k l ka la (at w it.token) h.0 h.1)
+  own_is (Some it) h = ap (λ s. Some (contents s)) (found_same w members k l (at w it.token) h.0 h.1)
 
   own_fits : (o : Option Skel) (f : Option Place) → OwnFits o (of_function f)
   own_fits None f = tt
@@ -53,7 +55,7 @@ module _ (w : World) (members : MembersBegin w) (links : LinksAreMet w) (k l : F
   function_is ws d items f c e same p q r = joined _ _ _ _ p (joined _ _ _ _
       (q ∙ ap (λ o. declr_demand (world w l) row_of_name o d) same) r)
 
-  item_is : (item : Item) → ItemHas P U V item → ItemHas T U V item → AreFound w (item_starts w.spelling w.names item) →
+  item_is : (item : Item) → ItemHas P U V W item → ItemHas T U V W item → AreFound w (item_starts w.spelling w.names item) →
       item_demand (world w k) item ≡ item_demand (world w l) item
   item_is (function_item exts ws d attrs opening items closing) s t h =
       let f = declared_function w.spelling w.names (declared_name d) in
@@ -62,16 +64,16 @@ module _ (w : World) (members : MembersBegin w) (links : LinksAreMet w) (k l : F
       let c = own_skeleton (world w k) (declared_name d) in
       let e = own_skeleton (world w l) (declared_name d) in
       function_is ws d items f c e same
-      (words_is w members links k l ka la false None ws s.1.1.0 (front w (words_starts (loud w None) ws) _ h))
-      (declr_is w members links k l ka la false None row_of_name c with_skeleton (of_function f) d tt (own_fits c f)
+      (words_is w members links k l false None ws s.1.1.0 (front w (words_starts (loud w None) ws) _ h))
+      (declr_is w members links k l false None row_of_name c with_skeleton (of_function f) d tt (own_fits c f)
       s.1.0 s.1.1.1.0 (front w (declr_starts (loud w None) with_skeleton (of_function f) d) _ hd))
-      (block_items_is w members links (k.0, k.1, c) (l.0, l.1, e) ka la same f items s.1.1.1.1 t.1.1.1.1
+      (block_items_is w members links (k.0, k.1, c) (l.0, l.1, e) same f items s.1.1.1.1 t.1.1.1.1
       (back w (declr_starts (loud w None) with_skeleton (of_function f) d) _ hd))
-  item_is (decl_item d) s t h = decl_is w members links k l ka la same_own None d s t h
+  item_is (decl_item d) s t h = decl_is w members links k l same_own None d s t h
   item_is (asm_item keyword group semi) s t h = refl
   item_is (semi_item semi) s t h = refl
 
-  pub items_are : (items : List Item) → ItemsHave P U V items → ItemsHave T U V items →
+  pub items_are : (items : List Item) → ItemsHave P U V W items → ItemsHave T U V W items →
       AreFound w (items_starts w.spelling w.names items) →
       items_demand (world w k) items ≡ items_demand (world w l) items
   items_are [] s t h = refl
@@ -79,18 +81,15 @@ module _ (w : World) (members : MembersBegin w) (links : LinksAreMet w) (k l : F
       (item_is item s.0 t.0 (front w (item_starts w.spelling w.names item) _ h))
       (items_are items s.1 t.1 (back w (item_starts w.spelling w.names item) _ h))
 
-none_avoids : (w : World) → Avoids w []
-none_avoids w p d e is = refl
-
 -- with nothing more it is the same world
 pub more_none : (w : World) → more w [] [] ≡ w
 more_none w = ap2 (λ (xs : List Numbered) (ps : List Place). record w { skeletons = xs; sites = ps }) _ _ _ _
     (append-nil w.skeletons) (append-nil w.sites)
 
 pub missing_nothing : (w : World) (items : List Item) → MembersBegin w → LinksAreMet w →
-    ItemsHave (IsSettled w) (TokenBegins w) (FirstIsMet w) items → ItemsHave (HasType w) (TokenBegins w) (FirstIsMet w) items →
+    ItemsHave (IsSettled w) (TokenBegins w) (FirstIsMet w) (RoleHasSkeleton w) items → ItemsHave (HasType w) (TokenBegins w) (FirstIsMet w) (RoleHasSkeleton w) items →
     AreFound w (items_starts w.spelling w.names items) → (skeletons : List Numbered) (sites : List Place) →
-    Avoids w skeletons → items_demand (more w skeletons sites) items ≡ items_demand w items
-missing_nothing w items members links s t h skeletons sites avoids =
-    items_are w members links (skeletons, sites, w.own) ([], [], w.own) avoids (none_avoids w) refl items s t h
+    items_demand (more w skeletons sites) items ≡ items_demand w items
+missing_nothing w items members links s t h skeletons sites =
+    items_are w members links (skeletons, sites, w.own) ([], [], w.own) refl items s t h
     ∙ ap (λ (it : World). items_demand it items) (more_none w)

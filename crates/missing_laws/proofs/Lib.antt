@@ -16,5 +16,5 @@ mod Meant
 mod Links
 mod Uses
 mod Settling
-mod Places
+pub mod Places
 mod Programs

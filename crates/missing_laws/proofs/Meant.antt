@@ -15,8 +15,9 @@ use Rattle.meaning_laws.specs.Meanings.{Differ, KeptIs, MeaningIs, NamesAre, Thi
 use Rattle.meaning_laws.proofs.Lists.{place_is, place_itself}
 use Rattle.row_rules.specs.Starting.{declared_start, name_start, some_declared_start}
 use Rattle.row_rules.specs.Worlds.{World, at}
+use Rattle.first_laws.specs.Firsts.{FirstsHaveSkeletons, HasSkeletonAt, has_skeleton}
 use Rattle.missing_laws.specs.Everywhere.{NamedHas}
-use Rattle.missing_laws.specs.Finding.{AreFound, Begins, FirstIsMet, IsMet, MembersBegin, NameBegins, TokenBegins, has_skeleton}
+use Rattle.missing_laws.specs.Finding.{AreFound, Begins, FirstIs, FirstIsMet, MembersBegin, NameBegins, PlaceBegins, RoleHasSkeleton, TokenBegins}
 use Rattle.missing_laws.proofs.Growth.{Behind, Grows, joins, known_grows}
 use Rattle.missing_laws.proofs.Rows.{around, declared_there}
 
@@ -41,7 +42,12 @@ placed [] ys d h = ap (λ (b : Bool). if b then Some d else declared_at ys d.at)
 placed (x ∷ xs) ys d h = placed_where (is_place x.at d.at) x d _
     (λ e. clash (xs ++ d ∷ ys) x.at d.at d (place_is x.at d.at e) h.0 (placed xs ys d h.1)) (placed xs ys d h.1)
 
-module _ (w : World) (differ : Differ w.names.declared) where
+-- no two declarations are at one place, and what has a skeleton was first declared as what has one
+pub record AreWell (ds : List Declared) : Type 0 where
+  pub differ : Differ ds
+  pub firsts : FirstsHaveSkeletons ds
+
+module _ (w : World) (well : AreWell w.names.declared) where
   abbrev S : Names
   S = w.names
 
@@ -52,31 +58,60 @@ module _ (w : World) (differ : Differ w.names.declared) where
       let all : S.declared ≡ old ++ d ∷ h.0 =
       h.1 ∙ (ap (λ (ds : List Declared). ds ++ h.0) e ∙ append_assoc old (d ∷ []) h.0) in
       subst (λ (ds : List Declared). declared_at ds d.at ≡ Some d) (sym all)
-      (placed old h.0 d (subst Differ all differ))
+      (placed old h.0 d (subst Differ all well.differ))
 
   -- a name means what has a skeleton, or an enumerator
   abbrev pub Meant : Place → Type 0
   Meant p = (d : Declared) × (declared_at S.declared p ≡ Some d) × NameBegins w d d.role
 
+  -- what has a skeleton is declared at the place, and it begins there
+  abbrev pub Stands : Place → Type 0
+  Stands p = (d : Declared) × (declared_at S.declared p ≡ Some d)
+      × ((has_skeleton d.role ≡ true) × Begins w d.at (pointer [] d.type))
+
   here_begins : (p : Place) (d : Declared) → declared_at S.declared p ≡ Some d → Begins w d.at (pointer [] d.type) →
-      IsMet w p
-  here_begins p d e h = inl (
+      PlaceBegins w p
+  here_begins p d e h = (
     pointer [] d.type,
     subst (λ (q : Place). Begins w q (pointer [] d.type))
         (declared_there S.declared p d e) h,
   )
 
-  pub met : (p : Place) → Meant p → IsMet w p
-  met p h = by h.0 h.0.role refl h.1 h.2
+  pub stood : (p : Place) → Stands p → PlaceBegins w p
+  stood p h = here_begins p h.0 h.1 h.2.1
+
+  role_begins : (d : Declared) (role : Role) → has_skeleton role ≡ true → NameBegins w d role →
+      Begins w d.at (pointer [] d.type)
+  role_begins d enumerator_role is h = absurd cc
+  role_begins d typedef_role is h = absurd cc
+  role_begins d object_role is h = h
+  role_begins d function_role is h = h
+  role_begins d (parameter_role i) is h = h
+  role_begins d (field_role n i) is h = h
+
+  named_as : (d : Declared) (role : Role) → Begins w d.at (pointer [] d.type) → NameBegins w d role
+  named_as d typedef_role h = h
+  named_as d enumerator_role h = tt
+  named_as d object_role h = h
+  named_as d function_role h = h
+  named_as d (parameter_role i) h = h
+  named_as d (field_role n i) h = h
+
+  one_declared : (p : Place) (c d : Declared) → declared_at S.declared p ≡ Some c → declared_at S.declared p ≡ Some d → c ≡ d
+  one_declared p c d e k = by (sym e ∙ k)
     where
-      by : (d : Declared) (role : Role) → d.role ≡ role → declared_at S.declared p ≡ Some d → NameBegins w d role →
-          IsMet w p
-      by d enumerator_role is e h = inr (d, e, ap has_skeleton is)
-      by d typedef_role is e h = here_begins p d e h
-      by d object_role is e h = here_begins p d e h
-      by d function_role is e h = here_begins p d e h
-      by d (parameter_role i) is e h = here_begins p d e h
-      by d (field_role n i) is e h = here_begins p d e h
+      by : Some c ≡ Some d → c ≡ d
+      by is = cc
+
+  -- what a name means is declared as what has a skeleton
+  pub met : (p : Place) → Meant p → HasSkeletonAt S.declared p → PlaceBegins w p
+  met p h k =
+      let same = one_declared p k.0 h.0 k.1 h.1 in
+      here_begins p h.0 h.1 (role_begins h.0 h.0.role
+      (subst (λ (d : Declared). has_skeleton d.role ≡ true) same k.2) h.2)
+
+  pub meant : (p : Place) → Stands p → Meant p
+  meant p h = (h.0, h.1, named_as h.0 h.0.role h.2.1)
 
   -- scopes of which some are not looked at; those past the list are
   abbrev pub ScopesAre : List Bool → List Scope → Type 0
@@ -102,7 +137,7 @@ module _ (w : World) (differ : Differ w.names.declared) where
 
   pub record Good (bs : List Bool) (s : Names) : Type 0 where
     pub scopes : ScopesAre bs s.scopes
-    pub things : ThingsAre Meant s.things
+    pub things : ThingsAre Stands s.things
     pub round : ThingsAre Meant s.round
     pub kept : KeptIs Meant s.kept
     pub members : AllGood s.aggregates
@@ -121,6 +156,10 @@ module _ (w : World) (differ : Differ w.names.declared) where
   SomeThing None = Unit {0}
   SomeThing (Some p) = Meant p
 
+  abbrev pub SomeStands : Option Place → Type 0
+  SomeStands None = Unit {0}
+  SomeStands (Some p) = Stands p
+
   picked : {A : Type 0} (P : A → Type 0) (b : Bool) (x y : A) → P x → P y → P (if b then x else y)
   picked P true x y h k = h
   picked P false x y h k = k
@@ -135,14 +174,14 @@ module _ (w : World) (differ : Differ w.names.declared) where
   in_things (it ∷ things) name h = picked SomeThing (nat_eq it.0 name) (Some it.1) (thing_named things name) h.0
       (in_things things name h.1)
 
-  in_things_of : (unit : ℕ) (things : List (ℕ × Place)) (name : ℕ) → ThingsAre Meant things →
-      SomeThing (thing_of unit things name)
+  in_things_of : (unit : ℕ) (things : List (ℕ × Place)) (name : ℕ) → ThingsAre Stands things →
+      SomeStands (thing_of unit things name)
   in_things_of unit [] name h = tt
   in_things_of unit (it ∷ things) name h =
-      picked SomeThing (nat_eq it.0 name && nat_eq it.1.0 unit) (Some it.1) (thing_of unit things name) h.0
+      picked SomeStands (nat_eq it.0 name && nat_eq it.1.0 unit) (Some it.1) (thing_of unit things name) h.0
       (in_things_of unit things name h.1)
 
-  or_thing : (o p : Option Place) → SomeThing o → SomeThing p → SomeThing (or_place o p)
+  or_thing : (o p : Option Place) → SomeStands o → SomeStands p → SomeStands (or_place o p)
   or_thing None p h k = k
   or_thing (Some at) p h k = h
 
@@ -379,18 +418,18 @@ module _ (w : World) (differ : Differ w.names.declared) where
         members = h.members;
       })
 
-  linked_at : (o : Option Place) (at : Place) → SomeThing o → Meant at → Meant (or_at o at)
+  linked_at : (o : Option Place) (at : Place) → SomeStands o → Stands at → Stands (or_at o at)
   linked_at None at h k = k
   linked_at (Some first) at h k = h
 
-  pub linked_meant : (bs : List Bool) (at : Place) (name : ℕ) (s : Names) → Good bs s → Meant at →
-      Meant (linked name at s)
-  linked_meant bs at name s h k =
+  pub linked_stands : (bs : List Bool) (at : Place) (name : ℕ) (s : Names) → Good bs s → Stands at →
+      Stands (linked name at s)
+  linked_stands bs at name s h k =
       linked_at (or_place (thing_of at.0 s.things name) (thing_of 0 s.things name)) at
       (or_thing (thing_of at.0 s.things name) (thing_of 0 s.things name) (in_things_of at.0 s.things name h.things)
       (in_things_of 0 s.things name h.things)) k
 
-  good_new : (bs : List Bool) (is_new : Bool) (name : ℕ) (at : Place) (s : Names) → Meant at → Good bs s →
+  good_new : (bs : List Bool) (is_new : Bool) (name : ℕ) (at : Place) (s : Names) → Stands at → Good bs s →
       Good bs (thing_where is_new name at s)
   good_new bs false name at s k h = h
   good_new bs true name at s k h = record {
@@ -417,16 +456,16 @@ module _ (w : World) (differ : Differ w.names.declared) where
   with_thing words at name s =
       static_where (has_word keywords.Static words) at.0 name (thing_where (is_place (linked name at s) at) name at s)
 
-  good_with_thing : (bs : List Bool) (words : List Keyword) (at : Place) (name : ℕ) (s : Names) → Meant at →
+  good_with_thing : (bs : List Bool) (words : List Keyword) (at : Place) (name : ℕ) (s : Names) → Stands at →
       Good bs s → Good bs (with_thing words at name s)
   good_with_thing bs words at name s k h =
       good_static bs (has_word keywords.Static words) at.0 name _ (good_new bs (is_place (linked name at s) at) name at s k h)
 
   pub good_thing : (b : Bool) (bs : List Bool) (words : List Keyword) (at : Place) (name : ℕ) (t : CType) (s : Names) →
-      Meant at → Good (b ∷ bs) s → Good (b ∷ bs) (declared_thing words at name t s)
+      Stands at → Good (b ∷ bs) s → Good (b ∷ bs) (declared_thing words at name t s)
   good_thing b bs words at name t s k h =
       let old = good_with_thing (b ∷ bs) words at name s k h in
-      good_bound b bs name (means_thing (linked name at s)) _ (λ e. linked_meant (b ∷ bs) at name s h k) (record {
+      good_bound b bs name (means_thing (linked name at s)) _ (λ e. meant (linked name at s) (linked_stands (b ∷ bs) at name s h k)) (record {
         scopes = old.scopes;
         things = old.things;
         round = old.round;
@@ -594,14 +633,14 @@ module _ (w : World) (differ : Differ w.names.declared) where
   begins_there q f token d there is h = begins_as f d d.role is
       (subst (λ (o : Option Declared). AreFound w (some_declared_start S f o)) there h)
 
-  pub first_met : (token : ℕ) (d : Declared) → declared_at S.declared (at w token) ≡ Some d →
-      (has_skeleton d.role ≡ true → IsMet w d.first) → FirstIsMet w token
-  first_met token d there g other e is =
-      let same : d ≡ other = found d other (sym there ∙ e) in
-      subst (λ (it : Declared). has_skeleton it.role ≡ true → IsMet w it.first) same g is
-    where
-      found : (c d : Declared) → Some c ≡ Some d → c ≡ d
-      found c d e = cc
+  pub first_met : (token : ℕ) (d : Declared) → declared_at S.declared (at w token) ≡ Some d → FirstIs w d →
+      FirstIsMet w token
+  first_met token d there g other e =
+      subst (λ (it : Declared). FirstIs w it) (one_declared (at w token) d other there e) g
+
+  -- of a declaration that has a skeleton
+  first_begins : (d : Declared) → has_skeleton d.role ≡ true → PlaceBegins w d.first → FirstIs w d
+  first_begins d is h = (λ same. h, λ other. absurd cc)
 
   role_of : Bool → Role
   role_of c = if c then function_role else object_role
@@ -610,19 +649,15 @@ module _ (w : World) (differ : Differ w.names.declared) where
   thing_has true = refl
   thing_has false = refl
 
-  named_as : (d : Declared) (role : Role) → d.role ≡ role → has_skeleton role ≡ true →
-      Begins w d.at (pointer [] d.type) → NameBegins w d role
-  named_as d typedef_role e is h = h
-  named_as d enumerator_role e is h = tt
-  named_as d object_role e is h = h
-  named_as d function_role e is h = h
-  named_as d (parameter_role i) e is h = h
-  named_as d (field_role n i) e is h = h
+  pub stands_there : (q : Bool) (f : Option Place) (token : ℕ) (d : Declared) →
+      declared_at S.declared (at w token) ≡ Some d → has_skeleton d.role ≡ true →
+      AreFound w (name_start (around w q f) token) → Stands (at w token)
+  stands_there q f token d there is h = (d, there, (is, begins_there q f token d there is h))
 
   pub meant_there : (q : Bool) (f : Option Place) (token : ℕ) (d : Declared) →
       declared_at S.declared (at w token) ≡ Some d → has_skeleton d.role ≡ true →
       AreFound w (name_start (around w q f) token) → Meant (at w token)
-  meant_there q f token d there is h = (d, there, named_as d d.role refl is (begins_there q f token d there is h))
+  meant_there q f token d there is h = meant (at w token) (stands_there q f token d there is h)
 
   abbrev pub thing_d : List Keyword → Place → ℕ → CType → Names → Declared
   thing_d words at name t s = record {
@@ -659,10 +694,11 @@ module _ (w : World) (differ : Differ w.names.declared) where
   thing_good q f b bs words token name t s g found h =
       let there = thing_there words (at w token) name t s g in
       let d = thing_d words (at w token) name t s in
-      let means_it = meant_there q f token d there (thing_has (is_function t)) found in (
-        good_thing b bs words (at w token) name t s means_it h,
+      let stands = stands_there q f token d there (thing_has (is_function t)) found in (
+        good_thing b bs words (at w token) name t s stands h,
         (
-          first_met token d there (λ is. met d.first (linked_meant (b ∷ bs) (at w token) name s h means_it)),
+          first_met token d there (first_begins d (thing_has (is_function t))
+              (stood d.first (linked_stands (b ∷ bs) (at w token) name s h stands))),
           (pointer [] t, begins_there q f token d there (thing_has (is_function t)) found),
         ),
       )
@@ -677,7 +713,8 @@ module _ (w : World) (differ : Differ w.names.declared) where
       let d = here_d (at w token) name object_role t own s in
       let means_it = meant_there q f token d there refl found in (
         good_here true bs (at w token) name object_role t own s (λ e. means_it) h,
-        first_met token d there (λ is. met d.first (here_meant true bs (at w token) name s h refl means_it)),
+        first_met token d there (first_begins d refl
+            (met d.first (here_meant true bs (at w token) name s h refl means_it) (well.firsts (at w token) d there refl))),
       )
 
   pub typedef_good : (b : Bool) (bs : List Bool) (token name : ℕ) (t : CType) (s : Names) →
@@ -692,7 +729,12 @@ module _ (w : World) (differ : Differ w.names.declared) where
         owner = owner_where s (at w token) (at w token) None;
       } in (
         good_typedef b bs (at w token) name t s h,
-        first_met token d (found_there s.declared _ d refl g.declared) (λ is. absurd cc),
+        first_met token d (found_there s.declared _ d refl g.declared) (
+          λ is. absurd cc,
+          λ is first e.
+              subst (λ (it : Declared). has_skeleton it.role ≡ false)
+              (one_declared (at w token) d first (found_there s.declared _ d refl g.declared) e) refl,
+        ),
       )
 
   pub enumerator_good : (b : Bool) (bs : List Bool) (token name : ℕ) (t : CType) (own : Option Place) (s : Names) →
@@ -716,6 +758,17 @@ module _ (w : World) (differ : Differ w.names.declared) where
       good_here c bs (at w it.token) (w.spelling.key it.name) (parameter_role i) t own old
       (λ e. let one = found it refl e in meant_there q one.0 it.token d there refl one.1)
       (good_sized (c ∷ bs) (at w it.token) t s h)
+
+  -- what is declared at its token is a parameter
+  pub param_has : (it : Option Named) (i : ℕ) (own : Option Place) (t : CType) (s : Names) →
+      Grows (declared_param w.spelling it i own t s) S → NamedHas (RoleHasSkeleton w) it
+  param_has None i own t s g = tt
+  param_has (Some it) i own t s g =
+      let old = sized (at w it.token) t s in
+      let there = here_there (at w it.token) (w.spelling.key it.name) (parameter_role i) t own old g in
+      λ d e. subst (λ (other : Declared). has_skeleton other.role ≡ true)
+      (one_declared (at w it.token) (here_d (at w it.token) (w.spelling.key it.name) (parameter_role i) t own old) d there e)
+      refl
 
   -- a name of a declaration
   pub some_good : (q : Bool) (f : Option Place) (bs : List Bool) (untagged : Option ℕ) (it : Option Named)
@@ -769,7 +822,7 @@ module _ (w : World) (differ : Differ w.names.declared) where
       let there = found_there s.declared _ d refl g.declared in
       let begun = begins_there q f it.token d there refl (found it refl) in (
         good_member bs w.spelling it n t s begun h,
-        first_met it.token d there (λ is. inl (pointer [] t, begun)),
+        first_met it.token d there (first_begins d refl (pointer [] t, begun)),
       )
 
   pub unnamed_good : (q : Bool) (f : Option Place) (bs : List Bool) (token n : ℕ) (t : CType) (s : Names) →

@@ -28,8 +28,9 @@ use Rattle.row_rules.specs.Worlds.{World, all_lattices, at, in_all, number_among
 use Rattle.constraint_rules.specs.Starts.{expr_starts, some_declr_starts, declr_starts, some_declr_starts}
 use Rattle.constraint_rules.specs.Values.{val}
 use Rattle.constraint_rules.specs.Demands.{desig_skel, desigs_skel, item_skel, next_behind}
-use Rattle.missing_laws.specs.Everywhere.{ExprHas}
-use Rattle.missing_laws.specs.Finding.{AreFound, Avoids, HasType, FirstIsMet, IsSettled, MembersBegin, NameBegins, TokenBegins, UseBegins, loud}
+use Rattle.first_laws.specs.Firsts.{has_skeleton}
+use Rattle.missing_laws.specs.Everywhere.{ExprHas, NamedHas}
+use Rattle.missing_laws.specs.Finding.{AreFound, HasType, FirstIsMet, IsSettled, MembersBegin, NameBegins, RoleHasSkeleton, TokenBegins, UseBegins, loud}
 use Rattle.missing_laws.proofs.Readings.{ref_where}
 use Rattle.missing_laws.proofs.Found.{Further, world, front}
 use Rattle.missing_laws.proofs.Types.{Is, valued}
@@ -84,8 +85,7 @@ pub some_name_found : (w : World) (a : Around) (h : Having) (d : SomeDeclr) (it 
     AreFound w (some_declr_starts a h d) → AreFound w (had_name h a it.token)
 some_name_found = some_named_found
 
-module _ (w : World) (members : MembersBegin w) (k l : Further) (ka : Avoids w k.0)
-    (la : Avoids w l.0) (same_own : k.2 ≡ l.2) (f : Option Place) where
+module _ (w : World) (members : MembersBegin w) (k l : Further) (same_own : k.2 ≡ l.2) (f : Option Place) where
   abbrev pub wk : World
   wk = world w k
 
@@ -101,14 +101,17 @@ module _ (w : World) (members : MembersBegin w) (k l : Further) (ka : Avoids w k
   abbrev pub V : ℕ → Type 0
   V token = FirstIsMet w token
 
+  abbrev pub W : ℕ → Type 0
+  W token = RoleHasSkeleton w token
+
   abbrev pub sh : Expr → Shape
   sh e = shape_of w.spelling w.names e
 
   abbrev pub S : Expr → Type 0
-  S e = ExprHas (IsSettled w) U V e
+  S e = ExprHas (IsSettled w) U V W e
 
   abbrev pub T : Expr → Type 0
-  T e = ExprHas (HasType w) U V e
+  T e = ExprHas (HasType w) U V W e
 
   -- values
 
@@ -139,7 +142,7 @@ module _ (w : World) (members : MembersBegin w) (k l : Further) (ka : Avoids w k
   pub v_is : (e : Expr) → S e → T e → AreFound w (expr_starts a e) → val wk e ≡ val wl e
   v_is e s t h =
       let type = top e t in
-      let one = agrees w U V f members e s h type.0 type.1 in one.1 k ∙ sym (one.1 l)
+      let one = agrees w U V W f members e s h type.0 type.1 in one.1 k ∙ sym (one.1 l)
 
   pub x_is : (e : Expr) → S e → T e → AreFound w (expr_starts a e) → value (val wk e) ≡ value (val wl e)
   x_is e s t h = ap value (v_is e s t h)
@@ -148,11 +151,11 @@ module _ (w : World) (members : MembersBegin w) (k l : Further) (ka : Avoids w k
       is_ref (value (val wl e)) ≡ is_some_pointer (shapes.value (sh e))
   ref_is e s t h =
       let type = valued (sh e) (top e t) in
-      let one = reads w U V f members e (agrees w U V f members e s h) type.0 type.1 in
+      let one = reads w U V W f members e (agrees w U V W f members e s h) type.0 type.1 in
       ap is_ref (one.1 l) ∙ (ref_where type.0 one.0 ∙ ap is_some_pointer (sym type.1))
 
   pub own_is_same : (token : ℕ) (t : CType) → AreFound w (fresh a token t) → own wk token ≡ own wl token
-  own_is_same token t h = found_same w members k l ka la (at w token) t h.0.0
+  own_is_same token t h = found_same w members k l (at w token) t h.0.0
 
   pub some_own_is : (token : ℕ) (o : Option CType) → Is o → AreFound w (some_fresh a token o) → own wk token ≡ own wl token
   some_own_is token None is h = absurd cc
@@ -168,7 +171,7 @@ module _ (w : World) (members : MembersBegin w) (k l : Further) (ka : Avoids w k
   there false starts h e = absurd cc
 
   pub formed_is : (where_ : Span) (s t : Skel) → s ≡ t → formed wk where_ s ≡ formed wl where_ t
-  formed_is where_ s t e = formed_same w members k l ka la where_ s t e
+  formed_is where_ s t e = formed_same w members k l where_ s t e
 
   -- rows
 
@@ -242,9 +245,9 @@ module _ (w : World) (members : MembersBegin w) (k l : Further) (ka : Avoids w k
   pub instance_is : (token : ℕ) (d : Declared) (role : Role) → NameBegins w d role →
       AreFound w (use_by_role a token d role) → instance wk token d.at role ≡ instance wl token d.at role
   instance_is token d function_role is h =
-      let e = found_same w members k l ka la (at w token) (pointer [] d.type) h.0.0 in
+      let e = found_same w members k l (at w token) (pointer [] d.type) h.0.0 in
       joined _ _ _ _ (here_is token e) (crossed_is token d.at h.0.1
-      (found_same w members k l ka la d.at (pointer [] d.type) is) e)
+      (found_same w members k l d.at (pointer [] d.type) is) e)
   instance_is token d typedef_role is h = refl
   instance_is token d object_role is h = refl
   instance_is token d (parameter_role i) is h = refl
@@ -265,7 +268,7 @@ module _ (w : World) (members : MembersBegin w) (k l : Further) (ka : Avoids w k
   -- what initialisers initialise
 
   pub desig_is : (s : Skel) (d : Desig) → desig_skel wk s d ≡ desig_skel wl s d
-  desig_is s (member_desig token name) = ap contents (member_same w members k l ka la s name.name)
+  desig_is s (member_desig token name) = ap contents (member_same w members k l s name.name)
   desig_is s (index_desig opening e closing) = refl
 
   pub desigs_is : (s : Skel) (ds : Desigs) → desigs_skel wk s ds ≡ desigs_skel wl s ds
@@ -275,7 +278,7 @@ module _ (w : World) (members : MembersBegin w) (k l : Further) (ka : Avoids w k
   pub item_is : (s : Skel) (first : Bool) (next : ℕ) (ds : Desigs) →
       item_skel wk s first next ds ≡ item_skel wl s first next ds
   item_is (ref v s) first next ds = refl
-  item_is (flat v (kinds.Struct n)) first next no_desigs = next_same w members k l ka la n next
+  item_is (flat v (kinds.Struct n)) first next no_desigs = next_same w members k l n next
   item_is (flat v (kinds.Struct n)) first next (more_desigs d ds) =
       ap (λ (x : Skel). Some x) (desigs_is (flat v (kinds.Struct n)) (more_desigs d ds))
   item_is (flat v kinds.Base) first next ds = refl
@@ -301,13 +304,31 @@ module _ (w : World) (members : MembersBegin w) (k l : Further) (ka : Avoids w k
   first_is d None e = refl
   first_is d (Some first) e = role_is d first.role e
 
-  pub initialised_is : (o : Option Named) → ((it : Named) → o ≡ Some it → AreFound w (name_start a it.token)) →
-      initialised wk o ≡ initialised wl o
-  initialised_is None g = refl
-  initialised_is (Some it) g = by (declared_at w.names.declared (at w it.token)) refl
+  bare_role_is : (d : Declared) (role : Role) → has_skeleton role ≡ false → by_role wk d role ≡ by_role wl d role
+  bare_role_is d typedef_role e = refl
+  bare_role_is d function_role e = refl
+  bare_role_is d object_role e = absurd cc
+  bare_role_is d (parameter_role i) e = absurd cc
+  bare_role_is d (field_role n i) e = absurd cc
+  bare_role_is d enumerator_role e = refl
+
+  bare_first_is : (d : Declared) (o : Option Declared) →
+      ((first : Declared) → o ≡ Some first → has_skeleton first.role ≡ false) → by_first wk d o ≡ by_first wl d o
+  bare_first_is d None e = refl
+  bare_first_is d (Some first) e = bare_role_is d first.role (e first refl)
+
+  pub initialised_is : (o : Option Named) → NamedHas V o →
+      ((it : Named) → o ≡ Some it → AreFound w (name_start a it.token)) → initialised wk o ≡ initialised wl o
+  initialised_is None v g = refl
+  initialised_is (Some it) v g = by (declared_at w.names.declared (at w it.token)) refl
     where
+      by_role_of : (d : Declared) → declared_at w.names.declared (at w it.token) ≡ Some d → (b : Bool) →
+          has_skeleton d.role ≡ b → initialised_at wk (Some d) ≡ initialised_at wl (Some d)
+      by_role_of d e true is = first_is d (declared_at w.names.declared d.first)
+          (name_same w members k l false f it.token d e is (g it refl))
+      by_role_of d e false is = bare_first_is d (declared_at w.names.declared d.first) ((v d e).1 is)
+
       by : (o : Option Declared) → declared_at w.names.declared (at w it.token) ≡ o →
           initialised_at wk o ≡ initialised_at wl o
       by None e = refl
-      by (Some d) e = first_is d (declared_at w.names.declared d.first)
-          (name_same w members k l ka la false f it.token d e (g it refl))
+      by (Some d) e = by_role_of d e (has_skeleton d.role) refl

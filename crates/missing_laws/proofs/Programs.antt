@@ -10,7 +10,6 @@ use Rattle.name_rules.specs.Spellings.{Named, Place, Spelling, place}
 use Rattle.name_rules.specs.Scopes.{Names}
 use Rattle.name_rules.specs.Linking.{body_faults}
 use Rattle.name_rules.specs.Units.{no_names, unit_begun}
-use Rattle.meaning_laws.specs.Meanings.{Differ}
 use Rattle.type_rules.specs.Tokens.{declared_name}
 use Rattle.type_rules.specs.Naming.{said_words, function_by, item_named, items_named}
 use Rattle.type_rules.specs.Judging.{items_faults_of}
@@ -19,8 +18,9 @@ use Rattle.row_rules.specs.Starting.{Start, declared_function, of_function, with
 use Rattle.row_rules.specs.Worlds.{World}
 use Rattle.constraint_rules.specs.Starts.{block_items_starts, declr_starts, item_starts, items_starts, words_starts}
 use Rattle.constraint_rules.specs.Systems.{Program, starts_among, starts_of, world_of}
+use Rattle.first_laws.specs.Firsts.{FirstsHaveSkeletons}
 use Rattle.missing_laws.specs.Everywhere.{BlockItemsHave, DeclrHas, ItemHas, ItemsHave, NamedHas, WordsHave}
-use Rattle.missing_laws.specs.Finding.{AreFound, FirstIsMet, IsSettled, TokenBegins, loud}
+use Rattle.missing_laws.specs.Finding.{AreFound, FirstIsMet, IsSettled, RoleHasSkeleton, TokenBegins, loud}
 use Rattle.missing_laws.specs.Programs.{AreFormed, EachHasSkeletons, EachMissesNothing, EachSettled, IsAccepted, PlacesDiffer}
 use Rattle.missing_laws.proofs.Found.{front, back}
 use Rattle.missing_laws.proofs.Types.{first_none, last_none}
@@ -30,7 +30,7 @@ use Rattle.missing_laws.proofs.Having.{items_have}
 use Rattle.missing_laws.proofs.Parts.{name_found}
 use Rattle.missing_laws.proofs.Growth.{Grows, stays, joins, sized_grows, thing_grows, entered_grows, left_grows, unit_grows}
 use Rattle.missing_laws.proofs.Growing.{block_items_grow, declr_grows, items_grow}
-use Rattle.missing_laws.proofs.Meant.{Good, good_entered, good_left, good_none, good_sized, good_unit, members_begin, thing_good}
+use Rattle.missing_laws.proofs.Meant.{AreWell, Good, good_entered, good_left, good_none, good_sized, good_unit, members_begin, thing_good}
 use Rattle.missing_laws.proofs.Links.{links_met}
 use Rattle.missing_laws.proofs.Uses.{UsesDiffer, named_round}
 use Rattle.missing_laws.proofs.Settling.{block_items_ok, decl_ok, declr_ok, words_ok}
@@ -39,7 +39,7 @@ use Rattle.missing_laws.proofs.Places.{all_found, declared_differ, uses_differ}
 some_named : (it name : Named) → Some it ≡ Some name → it ≡ name
 some_named it name e = cc
 
-module _ (w : World) (differ : Differ w.names.declared) (uses : UsesDiffer w.names.uses)
+module _ (w : World) (well : AreWell w.names.declared) (uses : UsesDiffer w.names.uses)
     (clean : w.names.faults ≡ []) (all : List Lexeme) where
   abbrev u : Spelling
   u = w.spelling
@@ -50,18 +50,21 @@ module _ (w : World) (differ : Differ w.names.declared) (uses : UsesDiffer w.nam
   abbrev V : ℕ → Type 0
   V token = FirstIsMet w token
 
+  abbrev W : ℕ → Type 0
+  W token = RoleHasSkeleton w token
+
   abbrev P : Expr → Type 0
   P e = IsSettled w e
 
   abbrev G : Names → Type 0
-  G s = Good w differ (true ∷ []) s
+  G s = Good w well (true ∷ []) s
 
   function_ok : (ws : SpecWords) (d : Declr) (items : BlockItems) (f : Option Place) (o : Option Named) (s : Names) →
       declared_name d ≡ o → ((it : Named) × (declared_name d ≡ Some it)) → AreBlockItems all items →
       AreFound w (words_starts (loud w None) ws) → AreFound w (declr_starts (loud w None) with_skeleton (of_function f) d) →
       AreFound w (block_items_starts (loud w f) items) → Grows (function_by u o ws d items s) w.names → G s →
       G (function_by u o ws d items s)
-      × (NamedHas U o × (NamedHas V o × (WordsHave U V ws × (DeclrHas U V d × BlockItemsHave P U V items))))
+      × (NamedHas U o × (NamedHas V o × (WordsHave U V W ws × (DeclrHas U V W d × BlockItemsHave P U V W items))))
   function_ok ws d items f None s e some wf fw fd fi g h = absurd (never (sym e ∙ some.1))
     where
       never : None ≡ Some some.0 → ⊥
@@ -71,18 +74,18 @@ module _ (w : World) (differ : Differ w.names.declared) (uses : UsesDiffer w.nam
       let gt = joins (entered_grows (place u it.token) _ _ _) (joins (block_items_grow u items _) gl) in
       let gd = joins (sized_grows (place u it.token) _ _)
       (joins (thing_grows (said_words ws) (place u it.token) (u.key it.name) _ _) gt) in
-      let one = words_ok w differ uses clean all None false false ws (base []) [] true [] s fw
+      let one = words_ok w well uses clean all None false false ws (base []) [] true [] s fw
       (joins (declr_grows u _ d _) gd) h in
-      let two = declr_ok w differ uses clean all None false _ with_skeleton (of_function f) d true [] _ tt fd gd one.0 in
-      let three = thing_good w differ false None true [] (said_words ws) it.token (u.key it.name) _ _ gt
+      let two = declr_ok w well uses clean all None false _ with_skeleton (of_function f) d true [] _ tt fd gd one.0 in
+      let three = thing_good w well false None true [] (said_words ws) it.token (u.key it.name) _ _ gt
       (name_found w (loud w None) with_skeleton (of_function f) d it e fd)
-      (good_sized w differ (true ∷ []) (place u it.token) _ _ two.0) in
-      let four = block_items_ok w differ uses clean all f false items (true ∷ []) _ (λ is. (refl, tt)) (λ is. wf) fi gl
-      (good_entered w differ (place u it.token) _ _ _ three.0) in
-      (good_left w differ true (true ∷ []) _ four.0, (three.1.1, (three.1.0, (one.1, (two.1, four.1 refl)))))
+      (good_sized w well (true ∷ []) (place u it.token) _ _ two.0) in
+      let four = block_items_ok w well uses clean all f false items (true ∷ []) _ (λ is. (refl, tt)) (λ is. wf) fi gl
+      (good_entered w well (place u it.token) _ _ _ three.0) in
+      (good_left w well true (true ∷ []) _ four.0, (three.1.1, (three.1.0, (one.1, (two.1, four.1 refl)))))
 
   item_ok : (item : Item) (s : Names) → IsItem all item → AreFound w (item_starts u w.names item) →
-      Grows (item_named u item s) w.names → G s → G (item_named u item s) × ItemHas P U V item
+      Grows (item_named u item s) w.names → G s → G (item_named u item s) × ItemHas P U V W item
   item_ok (function_item exts ws d attrs opening items closing) s wf found g h =
       let f = declared_function u w.names (declared_name d) in
       let behind = back w (words_starts (loud w None) ws) _ found in
@@ -91,12 +94,12 @@ module _ (w : World) (differ : Differ w.names.declared) (uses : UsesDiffer w.nam
       (front w (declr_starts (loud w None) with_skeleton (of_function f) d) _ behind)
       (back w (declr_starts (loud w None) with_skeleton (of_function f) d) _ behind) g h
   item_ok (decl_item d) s wf found g h =
-      let one = decl_ok w differ uses clean all None false d [] s (λ is. tt) (λ is. wf) found g h in (one.0, one.1 refl)
+      let one = decl_ok w well uses clean all None false d [] s (λ is. tt) (λ is. wf) found g h in (one.0, one.1 refl)
   item_ok (asm_item keyword group semi) s wf found g h = (h, tt)
   item_ok (semi_item semi) s wf found g h = (h, tt)
 
   pub items_ok : (items : List Item) (s : Names) → All (IsItem all) items → AreFound w (items_starts u w.names items) →
-      Grows (items_named u items s) w.names → G s → G (items_named u items s) × ItemsHave P U V items
+      Grows (items_named u items s) w.names → G s → G (items_named u items s) × ItemsHave P U V W items
   items_ok [] s wf found g h = (h, tt)
   items_ok (item ∷ items) s wf found g h =
       let one = item_ok item s (All-head (IsItem all) item items wf) (front w (item_starts u w.names item) _ found)
@@ -110,12 +113,12 @@ sources_grow [] s = stays s
 sources_grow (it ∷ sources) s = joins (unit_grows it.spelling.unit s) (joins (items_grow it.spelling it.items _) (sources_grow sources _))
 
 module _ (p : Program) (formed : AreFormed p.sources) (no_fault : HasNoFault p.sources)
-    (places : PlacesDiffer p.sources) where
+    (places : PlacesDiffer p.sources) (firsts : FirstsHaveSkeletons (names_of p.sources).declared) where
   abbrev S : Names
   S = names_of p.sources
 
-  differ : Differ S.declared
-  differ = declared_differ S.declared places.declared
+  well : AreWell S.declared
+  well = record { differ = declared_differ S.declared places.declared; firsts = firsts }
 
   uses : UsesDiffer S.uses
   uses = uses_differ S.uses places.uses
@@ -125,7 +128,7 @@ module _ (p : Program) (formed : AreFormed p.sources) (no_fault : HasNoFault p.s
 
   -- names are good for each unit alike
   abbrev GoodFor : Source → Names → Type 0
-  GoodFor it s = Good (world_of p it) differ (true ∷ []) s
+  GoodFor it s = Good (world_of p it) well (true ∷ []) s
 
   moved : (it other : Source) (s : Names) → GoodFor it s → GoodFor other s
   moved it other s h = record {
@@ -146,7 +149,7 @@ module _ (p : Program) (formed : AreFormed p.sources) (no_fault : HasNoFault p.s
   abbrev EachHas : List Source → Type 0
   EachHas [] = Unit {0}
   EachHas (it ∷ sources) =
-      ItemsHave (IsSettled (world_of p it)) (TokenBegins (world_of p it)) (FirstIsMet (world_of p it)) it.items
+      ItemsHave (IsSettled (world_of p it)) (TokenBegins (world_of p it)) (FirstIsMet (world_of p it)) (RoleHasSkeleton (world_of p it)) it.items
       × EachHas sources
 
   run : (sources : List Source) (last : Source) (xs : List Start) (s : Names) → AreFormed sources →
@@ -157,8 +160,8 @@ module _ (p : Program) (formed : AreFormed p.sources) (no_fault : HasNoFault p.s
       let w = world_of p it in
       let next = items_named it.spelling it.items (unit_begun it.spelling.unit s) in
       let grown = subst (Grows next) is (sources_grow sources next) in
-      let one = items_ok w differ uses clean wf.0.0 it.items (unit_begun it.spelling.unit s) wf.0.1.parts
-      (found_of xs it sources e) grown (good_unit w differ it.spelling.unit s (moved last it s h)) in
+      let one = items_ok w well uses clean wf.0.0 it.items (unit_begun it.spelling.unit s) wf.0.1.parts
+      (found_of xs it sources e) grown (good_unit w well it.spelling.unit s (moved last it s h)) in
       let two = run sources last (xs ++ items_starts it.spelling S it.items) next wf.1
       (e ∙ sym (append_assoc xs (items_starts it.spelling S it.items) (starts_among S sources))) is
       (moved it last next one.0) in
@@ -173,8 +176,8 @@ module _ (p : Program) (formed : AreFormed p.sources) (no_fault : HasNoFault p.s
       clean = first_none (items_faults_of it.spelling S it.items) _ none;
       settled = has.0;
       starts = found_of xs it sources e;
-      members = members_begin (world_of p it) differ (moved last it S h).members;
-      links = links_met (world_of p it) differ (moved last it S h).things (moved last it S h).members;
+      members = members_begin (world_of p it) well (moved last it S h).members;
+      links = links_met (world_of p it) well (moved last it S h).things (moved last it S h).members;
     },
     settle last sources (xs ++ items_starts it.spelling S it.items)
         (e ∙ sym (append_assoc xs (items_starts it.spelling S it.items) (starts_among S sources)))
@@ -184,20 +187,20 @@ module _ (p : Program) (formed : AreFormed p.sources) (no_fault : HasNoFault p.s
   whole : (sources : List Source) → p.sources ≡ sources → EachSettled p p.sources
   whole [] e = subst (EachSettled p) (sym e) tt
   whole (it ∷ sources) e =
-      let done = run p.sources it [] no_names formed refl refl (good_none (world_of p it) differ) in
+      let done = run p.sources it [] no_names formed refl refl (good_none (world_of p it) well) in
       settle it p.sources [] refl
       (last_none (body_faults S) (judged p.sources S) (last_none S.faults (body_faults S ++ judged p.sources S) no_fault))
       done.1 done.0
 
 pub programs_are_settled : (p : Program) → IsAccepted p → EachSettled p p.sources
-programs_are_settled p h = whole p h.0 h.1 h.2 p.sources refl
+programs_are_settled p h = whole p h.0 h.1 h.2 h.3 p.sources refl
 
 each_has : (p : Program) (sources : List Source) → EachSettled p sources → EachHasSkeletons p sources
 each_has p [] h = tt
 each_has p (it ∷ sources) h =
     let w = world_of p it in (
       items_have w h.0.members it.items h.0.settled
-          (items_typed_of w (TokenBegins w) (FirstIsMet w) it.items h.0.settled h.0.clean) h.0.starts,
+          (items_typed_of w (TokenBegins w) (FirstIsMet w) (RoleHasSkeleton w) it.items h.0.settled h.0.clean) h.0.starts,
       each_has p sources h.1,
     )
 
@@ -209,7 +212,7 @@ each_misses p [] h = tt
 each_misses p (it ∷ sources) h =
     let w = world_of p it in (
       missing_nothing w it.items h.0.members h.0.links h.0.settled
-          (items_typed_of w (TokenBegins w) (FirstIsMet w) it.items h.0.settled h.0.clean) h.0.starts,
+          (items_typed_of w (TokenBegins w) (FirstIsMet w) (RoleHasSkeleton w) it.items h.0.settled h.0.clean) h.0.starts,
       each_misses p sources h.1,
     )
 

@@ -1,12 +1,12 @@
 -- Rows that are the same whatever stands behind the skeletons of a world.
-use Rattle.std.proofs.Common.{◌≡◌, ◌⊎◌, inl, inr, ℕ, zero, suc, Bool, true, false, List, [], ◌∷◌, ◌++◌, slice_get, Option, None, Some, refl, sym, ap, subst, ◌∙◌}
+use Rattle.std.proofs.Common.{◌≡◌, ◌⊎◌, inl, inr, ℕ, zero, suc, Bool, true, false, List, [], ◌∷◌, slice_get, Option, None, Some, refl, sym, ap, subst, ◌∙◌}
 use Rattle.std.specs.Prelude.{◌&&◌, ◌||◌, not, if◌then◌else◌}
 use Rattle.qual_base.specs.declared.places.Span.{Span}
 use Rattle.flow_graph.specs.declared.constraint.Constraint.{Constraint}
 use Rattle.type_table.specs.Types.{CType, pointer}
 use Rattle.qual_types.specs.declared.look.Kind.{Kind}
 use Rattle.qual_types.specs.declared.look.Kind.TheVariants as kinds
-use Rattle.qual_types.specs.Skel.{Skel, flat, ref, fun, Skels, no_skels, more_skels, no_skeleton, struct_of, param_at}
+use Rattle.qual_types.specs.Skel.{Skel, flat, ref, fun, Skels, no_skels, more_skels, struct_of, param_at}
 use Rattle.flow_rules.specs.Lists.{equal, flow}
 use Rattle.flow_rules.specs.declared.arrow.Arrow.TheVariants.{Flow}
 use Rattle.name_rules.specs.Spellings.{Place}
@@ -20,19 +20,11 @@ use Rattle.row_rules.specs.Rows.{annotating_name, branched, chosen, declared_row
 use Rattle.row_rules.specs.Indexing.{indexing}
 use Rattle.row_rules.specs.Starting.{is_some_function, Around, name_start, declared_start, some_declared_start}
 use Rattle.row_rules.specs.Vals.{contents, is_nothing, known_skeleton, member_of, member_skel, own}
-use Rattle.row_rules.specs.Worlds.{World, Numbered, at, in_all, skeleton, skeleton_among, word_span}
-use Rattle.missing_laws.specs.Finding.{AreFound, Avoids, Begins, FirstIsMet, IsMet, LinksAreMet, MembersBegin, has_skeleton}
+use Rattle.row_rules.specs.Worlds.{World, at, in_all, skeleton, word_span}
+use Rattle.first_laws.specs.Firsts.{has_skeleton}
+use Rattle.missing_laws.specs.Finding.{AreFound, Begins, FirstIsMet, LinksAreMet, MembersBegin, PlaceBegins, RoleHasSkeleton}
 use Rattle.missing_laws.proofs.Found.{Further, world, begins}
 use Rattle.missing_laws.proofs.Marks.{ap2, joined, annotating_is, indexing_is}
-
-unmoved_where : (b : Bool) (x y z : Skel) → y ≡ z → (if b then x else y) ≡ (if b then x else z)
-unmoved_where true x y z e = refl
-unmoved_where false x y z e = e
-
-pub unmoved : (xs ys : List Numbered) (p : Place) → skeleton_among ys p ≡ no_skeleton →
-    skeleton_among (xs ++ ys) p ≡ skeleton_among xs p
-unmoved [] ys p e = e
-unmoved (x ∷ xs) ys p e = unmoved_where (is_place x.start.at p) _ _ _ (unmoved xs ys p e)
 
 pub declared_there : (ds : List Declared) (p : Place) (d : Declared) → declared_at ds p ≡ Some d → d.at ≡ p
 declared_there [] p d e = absurd cc
@@ -51,8 +43,7 @@ held s = Some (contents s)
 abbrev pub around : World → Bool → Option Place → Around
 around w quiet f = record { spelling = w.spelling; names = w.names; enclosing = f; is_quiet = quiet }
 
-module _ (w : World) (members : MembersBegin w) (k l : Further) (ka : Avoids w k.0)
-    (la : Avoids w l.0) where
+module _ (w : World) (members : MembersBegin w) (k l : Further) where
   abbrev pub wk : World
   wk = world w k
 
@@ -64,19 +55,8 @@ module _ (w : World) (members : MembersBegin w) (k l : Further) (ka : Avoids w k
   pub found_same : (p : Place) (t : CType) → Begins w p t → skeleton wk p ≡ skeleton wl p
   found_same p t h = let one = begins w p t h in one.1 k ∙ sym (one.1 l)
 
-  pub bare_same : (p : Place) (d : Declared) → declared_at w.names.declared p ≡ Some d → has_skeleton d.role ≡ false →
-      skeleton wk p ≡ skeleton wl p
-  bare_same p d e is =
-      unmoved w.skeletons k.0 p (ka p d e is) ∙ sym (unmoved w.skeletons l.0 p (la p d e is))
-
-  bare_here : (p : Place) (d : Declared) → declared_at w.names.declared p ≡ Some d → has_skeleton d.role ≡ false →
-      skeleton wk d.at ≡ skeleton wl d.at
-  bare_here p d e is = subst (λ (r : Place). skeleton wk r ≡ skeleton wl r)
-      (sym (declared_there w.names.declared p d e)) (bare_same p d e is)
-
-  met_same : (p : Place) → IsMet w p → skeleton wk p ≡ skeleton wl p
-  met_same p (inl h) = found_same p h.0 h.1
-  met_same p (inr h) = bare_same p h.0 h.1 h.2
+  met_same : (p : Place) → PlaceBegins w p → skeleton wk p ≡ skeleton wl p
+  met_same p h = found_same p h.0 h.1
 
   pub known_same : (n : Option ℕ) (name : ℕ) → known_skeleton wk (member_of w n name) ≡ known_skeleton wl (member_of w n name)
   known_same None name = refl
@@ -150,30 +130,30 @@ module _ (w : World) (members : MembersBegin w) (k l : Further) (ka : Avoids w k
   tied_same d e is = ap2 (tied d) _ _ _ _ is e
 
   -- what a declaration is as
-  equal_met : LinksAreMet w → (d : Declared) → IsMet w d.first → IsMet w d.at → IsMet w (equal_to w d)
+  equal_met : LinksAreMet w → (d : Declared) → PlaceBegins w d.first → PlaceBegins w d.at → PlaceBegins w (equal_to w d)
   equal_met links d first here = by (is_place d.first d.at)
     where
-      linked : (link_of w.names d.at ≡ d.at) ⊎ IsMet w (link_of w.names d.at) → IsMet w (link_of w.names d.at)
-      linked (inl e) = subst (λ (p : Place). IsMet w p) (sym e) here
+      linked : (link_of w.names d.at ≡ d.at) ⊎ PlaceBegins w (link_of w.names d.at) → PlaceBegins w (link_of w.names d.at)
+      linked (inl e) = subst (λ (p : Place). PlaceBegins w p) (sym e) here
       linked (inr h) = h
 
-      by : (b : Bool) → IsMet w (if b then link_of w.names d.at else d.first)
+      by : (b : Bool) → PlaceBegins w (if b then link_of w.names d.at else d.first)
       by true = linked (links d.at)
       by false = first
 
   formed_name_same : (d : Declared) → skeleton wk d.at ≡ skeleton wl d.at → formed_name wk d ≡ formed_name wl d
   formed_name_same d e = formed_same (word_span d.at) _ _ e
 
-  name_row_same : LinksAreMet w → (d : Declared) → IsMet w d.first → Begins w d.at (pointer [] d.type) →
+  name_row_same : LinksAreMet w → (d : Declared) → PlaceBegins w d.first → Begins w d.at (pointer [] d.type) →
       name_row wk d ≡ name_row wl d
   name_row_same links d met h =
       let e = found_same d.at (pointer [] d.type) h in
       joined _ _ _ _ (formed_name_same d e) (joined _ _ _ _ (annotating_same d e) (joined _ _ _ _
       (ap (λ s. indexing wk (pointer [] d.type) s) e ∙ indexing_is w k l (pointer [] d.type) (skeleton wl d.at))
-      (tied_same d e (met_same (equal_to w d) (equal_met links d met (inl (pointer [] d.type, h)))))))
+      (tied_same d e (met_same (equal_to w d) (equal_met links d met (pointer [] d.type, h))))))
 
   declared_same : LinksAreMet w → (f : Option Place) (d : Declared) (role : Role) → d.role ≡ role →
-      (has_skeleton d.role ≡ true → IsMet w d.first) → AreFound w (declared_start w.names f d role) →
+      (has_skeleton d.role ≡ true → PlaceBegins w d.first) → AreFound w (declared_start w.names f d role) →
       declared_row wk d role ≡ declared_row wl d role
   declared_same links f d typedef_role is met h = refl
   declared_same links f d enumerator_role is met h = refl
@@ -191,23 +171,22 @@ module _ (w : World) (members : MembersBegin w) (k l : Further) (ka : Avoids w k
       by : (o : Option Declared) → declared_at w.names.declared (at w token) ≡ o →
           AreFound w (some_declared_start w.names f o) → some_declared_row wk o ≡ some_declared_row wl o
       by None there h = refl
-      by (Some d) there h = declared_same links f d d.role refl (met d there) h
+      by (Some d) there h = declared_same links f d d.role refl (met d there).0 h
 
-  at_role : (p : Place) (f : Option Place) (d : Declared) (role : Role) → d.role ≡ role →
-      declared_at w.names.declared p ≡ Some d → AreFound w (declared_start w.names f d role) →
-      skeleton wk d.at ≡ skeleton wl d.at
-  at_role p f d typedef_role is there h = bare_here p d there (ap has_skeleton is)
-  at_role p f d enumerator_role is there h = bare_here p d there (ap has_skeleton is)
-  at_role p f d object_role is there h = found_same d.at (pointer [] d.type) h.0.0
-  at_role p f d function_role is there h = found_same d.at (pointer [] d.type) h.0.0
-  at_role p f d (parameter_role i) is there h = found_same d.at (pointer [] d.type) h.0.0
-  at_role p f d (field_role n i) is there h = found_same d.at (pointer [] d.type) h.0.0
+  at_role : (f : Option Place) (d : Declared) (role : Role) → has_skeleton role ≡ true →
+      AreFound w (declared_start w.names f d role) → skeleton wk d.at ≡ skeleton wl d.at
+  at_role f d typedef_role is h = absurd cc
+  at_role f d enumerator_role is h = absurd cc
+  at_role f d object_role is h = found_same d.at (pointer [] d.type) h.0.0
+  at_role f d function_role is h = found_same d.at (pointer [] d.type) h.0.0
+  at_role f d (parameter_role i) is h = found_same d.at (pointer [] d.type) h.0.0
+  at_role f d (field_role n i) is h = found_same d.at (pointer [] d.type) h.0.0
 
-  -- what is declared at a token of a declarator that has a skeleton, where its declaration has one
+  -- what has a skeleton and is declared at a token of a declarator that has one, where its declaration has one
   pub name_same : (q : Bool) (f : Option Place) (token : ℕ) (d : Declared) →
-      declared_at w.names.declared (at w token) ≡ Some d → AreFound w (name_start (around w q f) token) →
-      skeleton wk d.at ≡ skeleton wl d.at
-  name_same q f token d there h = at_role (at w token) f d d.role refl there
+      declared_at w.names.declared (at w token) ≡ Some d → has_skeleton d.role ≡ true →
+      AreFound w (name_start (around w q f) token) → skeleton wk d.at ≡ skeleton wl d.at
+  name_same q f token d there is h = at_role f d d.role is
       (subst (λ (o : Option Declared). AreFound w (some_declared_start w.names f o)) there h)
 
   abbrev into : Declared → Option Skel → Skel → List Constraint
@@ -220,16 +199,16 @@ module _ (w : World) (members : MembersBegin w) (k l : Further) (ka : Avoids w k
   into_is k None d = refl
   into_is k (Some s) d = refl
 
-  pub param_same : (q : Bool) (f : Option Place) (own : Skel) (i token : ℕ) →
+  pub param_same : (q : Bool) (f : Option Place) (own : Skel) (i token : ℕ) → RoleHasSkeleton w token →
       AreFound w (name_start (around w q f) token) →
       param_row wk own i (declared_at w.names.declared (at w token))
       ≡ param_row wl own i (declared_at w.names.declared (at w token))
-  param_same q f own i token h = by (declared_at w.names.declared (at w token)) refl
+  param_same q f own i token has h = by (declared_at w.names.declared (at w token)) refl
     where
       by : (o : Option Declared) → declared_at w.names.declared (at w token) ≡ o →
           param_row wk own i o ≡ param_row wl own i o
       by None there = refl
-      by (Some d) there = let e = name_same q f token d there h in
+      by (Some d) there = let e = name_same q f token d there (has d there) h in
           joined _ _ _ _ (formed_name_same d e) (joined _ _ _ _ (annotating_same d e)
           (into_is k (param_at (parameters own) i) d ∙ (ap (λ s. into d (param_at (parameters own) i) s) e
           ∙ sym (into_is l (param_at (parameters own) i) d))))

@@ -132,7 +132,7 @@ membered all (Some t) name h p = by (member_of all t name) refl
     by None e = absurd cc
     by (Some it) e = (it.type, refl)
 
-module _ (w : World) (U V : ℕ → Type 0) where
+module _ (w : World) (U V W : ℕ → Type 0) where
   abbrev u : Spelling
   u = w.spelling
 
@@ -156,7 +156,7 @@ module _ (w : World) (U V : ℕ → Type 0) where
   prefixed token p e h none = (base [], refl)
 
   mutual
-    pub typed : (e : Expr) → ExprHas (IsSettled w) U V e → expr_faults u s e ≡ [] → Is (shape_of u s e).type
+    pub typed : (e : Expr) → ExprHas (IsSettled w) U V W e → expr_faults u s e ≡ [] → Is (shape_of u s e).type
     typed (operation e comma token e2) k h =
         valued (sh e2) (typed e2 k.1.1.1 (last_none (expr_faults u s e) _ h))
     typed (operation e (assign p) token e2) k h = assigned (sh e) (place u token)
@@ -221,7 +221,7 @@ module _ (w : World) (U V : ℕ → Type 0) where
     typed (va_copy keyword opening e separator e2 closing) k h = (void [], refl)
     typed (offset keyword opening ws d separator name steps closing) k h = (base [], refl)
 
-    items_typed : (items : BlockItems) → BlockItemsHave (IsSettled w) U V items → block_items_faults u s items ≡ [] →
+    items_typed : (items : BlockItems) → BlockItemsHave (IsSettled w) U V W items → block_items_faults u s items ≡ [] →
         Is (items_value u s items)
     items_typed no_block_items k h = (void [], refl)
     items_typed (more_block_items item no_block_items) k h =
@@ -229,12 +229,12 @@ module _ (w : World) (U V : ℕ → Type 0) where
     items_typed (more_block_items item (more_block_items item2 items)) k h =
         items_typed (more_block_items item2 items) k.1 (last_none (block_item_faults u s item) _ h)
 
-    item_typed : (item : BlockItem) → BlockItemHas (IsSettled w) U V item → block_item_faults u s item ≡ [] →
+    item_typed : (item : BlockItem) → BlockItemHas (IsSettled w) U V W item → block_item_faults u s item ≡ [] →
         Is (item_value u s item)
     item_typed (block_decl d) k h = (void [], refl)
     item_typed (block_stmt t) k h = stmt_typed t k h
 
-    stmt_typed : (t : Stmt) → StmtHas (IsSettled w) U V t → stmt_faults u s t ≡ [] → Is (stmt_value u s t)
+    stmt_typed : (t : Stmt) → StmtHas (IsSettled w) U V W t → stmt_faults u s t ≡ [] → Is (stmt_value u s t)
     stmt_typed (expr_stmt (some_expr e) semi) k h = valued (sh e) (typed e k h)
     stmt_typed (expr_stmt no_expr semi) k h = (void [], refl)
     stmt_typed (block opening items closing) k h = (void [], refl)

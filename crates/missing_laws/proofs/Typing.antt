@@ -17,7 +17,7 @@ use Rattle.row_rules.specs.Worlds.{World}
 use Rattle.missing_laws.specs.Finding.{IsSettled, HasType}
 use Rattle.missing_laws.proofs.Types.{first_none, last_none, typed}
 
-module _ (w : World) (U V : ℕ → Type 0) where
+module _ (w : World) (U V W : ℕ → Type 0) where
   abbrev u : Spelling
   u = w.spelling
 
@@ -30,11 +30,11 @@ module _ (w : World) (U V : ℕ → Type 0) where
   abbrev T : Expr → Type 0
   T e = HasType w e
 
-  is_typed : (e : Expr) → ExprHas K U V e → expr_faults u s e ≡ [] → HasType w e
-  is_typed e k h = typed w U V e k h
+  is_typed : (e : Expr) → ExprHas K U V W e → expr_faults u s e ≡ [] → HasType w e
+  is_typed e k h = typed w U V W e k h
 
   mutual
-    pub expr_typed : (e : Expr) → ExprHas K U V e → expr_faults u s e ≡ [] → ExprHas T U V e
+    pub expr_typed : (e : Expr) → ExprHas K U V W e → expr_faults u s e ≡ [] → ExprHas T U V W e
     expr_typed (operation e op token e2) k h =
         let behind = last_none (operator_faults u s op token (shape_of u s e)) _ h in
         let last = last_none (expr_faults u s e) _ behind in (
@@ -124,34 +124,34 @@ module _ (w : World) (U V : ℕ → Type 0) where
     expr_typed (offset keyword opening ws d separator name steps closing) k h =
         is_typed (offset keyword opening ws d separator name steps closing) k h
 
-    operator_typed : (op : Operator) → OperatorHas K U V op → middle_faults u s op ≡ [] → OperatorHas T U V op
+    operator_typed : (op : Operator) → OperatorHas K U V W op → middle_faults u s op ≡ [] → OperatorHas T U V W op
     operator_typed comma k h = tt
     operator_typed (assign p) k h = tt
     operator_typed (cond middle colon) k h = some_expr_typed middle k h
     operator_typed (binary p) k h = tt
 
-    some_expr_typed : (e : SomeExpr) → SomeExprHas K U V e → some_expr_faults u s e ≡ [] → SomeExprHas T U V e
+    some_expr_typed : (e : SomeExpr) → SomeExprHas K U V W e → some_expr_faults u s e ≡ [] → SomeExprHas T U V W e
     some_expr_typed no_expr k h = tt
     some_expr_typed (some_expr e) k h = expr_typed e k h
 
-    exprs_typed : (es : Exprs) → ExprsHave K U V es → exprs_faults u s es ≡ [] → ExprsHave T U V es
+    exprs_typed : (es : Exprs) → ExprsHave K U V W es → exprs_faults u s es ≡ [] → ExprsHave T U V W es
     exprs_typed no_exprs k h = tt
     exprs_typed (more_exprs e es) k h = (
       expr_typed e k.0 (first_none (expr_faults u s e) _ h),
       exprs_typed es k.1 (last_none (expr_faults u s e) _ h),
     )
 
-    init_typed : (t : Target) (it : Init) → InitHas K U V it → init_faults u s t it ≡ [] → InitHas T U V it
+    init_typed : (t : Target) (it : Init) → InitHas K U V W it → init_faults u s t it ≡ [] → InitHas T U V W it
     init_typed t (init_value e) k h = expr_typed e k h
     init_typed no_target (init_braced list) k h = untargeted_typed list k h
     init_typed (to t) (init_braced list) k h = list_typed t list k h
 
-    untargeted_typed : (list : InitList) → InitListHas K U V list → untargeted_faults u s list ≡ [] →
-        InitListHas T U V list
+    untargeted_typed : (list : InitList) → InitListHas K U V W list → untargeted_faults u s list ≡ [] →
+        InitListHas T U V W list
     untargeted_typed (init_list opening items last closing) k h = untargeted_items_typed items k h
 
-    untargeted_items_typed : (items : InitItems) → InitItemsHave K U V items → untargeted_items_faults u s items ≡ [] →
-        InitItemsHave T U V items
+    untargeted_items_typed : (items : InitItems) → InitItemsHave K U V W items → untargeted_items_faults u s items ≡ [] →
+        InitItemsHave T U V W items
     untargeted_items_typed no_init_items k h = tt
     untargeted_items_typed (more_init_items ds equal it items) k h =
         let behind = last_none (indices_faults u s ds) _ h in (
@@ -159,12 +159,12 @@ module _ (w : World) (U V : ℕ → Type 0) where
           untargeted_items_typed items k.1 (last_none (init_faults u s no_target it) _ behind),
         )
 
-    list_typed : (t : Option CType) (list : InitList) → InitListHas K U V list → list_faults u s t list ≡ [] →
-        InitListHas T U V list
+    list_typed : (t : Option CType) (list : InitList) → InitListHas K U V W list → list_faults u s t list ≡ [] →
+        InitListHas T U V W list
     list_typed t (init_list opening items last closing) k h = items_typed t true 0 items k h
 
-    items_typed : (t : Option CType) (is_first : Bool) (next : ℕ) (items : InitItems) → InitItemsHave K U V items →
-        items_faults u s t is_first next items ≡ [] → InitItemsHave T U V items
+    items_typed : (t : Option CType) (is_first : Bool) (next : ℕ) (items : InitItems) → InitItemsHave K U V W items →
+        items_faults u s t is_first next items ≡ [] → InitItemsHave T U V W items
     items_typed t is_first next no_init_items k h = tt
     items_typed t is_first next (more_init_items ds equal it items) k h =
         let behind = last_none (desigs_faults u s t ds) _ h in
@@ -173,13 +173,13 @@ module _ (w : World) (U V : ℕ → Type 0) where
           items_typed t false (next_behind u s t ds next) items k.1 (last_none (init_faults u s target it) _ behind),
         )
 
-    some_init_typed : (t : Option CType) (it : SomeInit) → SomeInitHas K U V it → some_init_faults u s t it ≡ [] →
-        SomeInitHas T U V it
+    some_init_typed : (t : Option CType) (it : SomeInit) → SomeInitHas K U V W it → some_init_faults u s t it ≡ [] →
+        SomeInitHas T U V W it
     some_init_typed t no_init k h = tt
     some_init_typed t (some_init equal it) k h = init_typed (to t) it k h
 
-    init_declrs_typed : (ds : InitDeclrs) → InitDeclrsHave K U V ds → init_declrs_faults u s ds ≡ [] →
-        InitDeclrsHave T U V ds
+    init_declrs_typed : (ds : InitDeclrs) → InitDeclrsHave K U V W ds → init_declrs_faults u s ds ≡ [] →
+        InitDeclrsHave T U V W ds
     init_declrs_typed no_init_declrs k h = tt
     init_declrs_typed (more_init_declrs attrs d asm_label attrs2 it ds) k h =
         let behind = last_none (declr_faults u s d) _ h in
@@ -194,27 +194,27 @@ module _ (w : World) (U V : ℕ → Type 0) where
           ),
         )
 
-    declaration_typed : (d : Declaration) → DeclarationHas K U V d → declaration_faults u s d ≡ [] → DeclarationHas T U V d
+    declaration_typed : (d : Declaration) → DeclarationHas K U V W d → declaration_faults u s d ≡ [] → DeclarationHas T U V W d
     declaration_typed (declaration exts ws ds semi) k h =
         (k.0, init_declrs_typed ds k.1 (last_none (words_faults u s ws) _ h))
 
-    decl_typed : (d : Decl) → DeclHas K U V d → decl_faults u s d ≡ [] → DeclHas T U V d
+    decl_typed : (d : Decl) → DeclHas K U V W d → decl_faults u s d ≡ [] → DeclHas T U V W d
     decl_typed (decl_declaration d) k h = declaration_typed d k h
     decl_typed (decl_assert it) k h = tt
 
-    block_items_typed : (items : BlockItems) → BlockItemsHave K U V items → block_items_faults u s items ≡ [] →
-        BlockItemsHave T U V items
+    block_items_typed : (items : BlockItems) → BlockItemsHave K U V W items → block_items_faults u s items ≡ [] →
+        BlockItemsHave T U V W items
     block_items_typed no_block_items k h = tt
     block_items_typed (more_block_items item items) k h = (
       block_item_typed item k.0 (first_none (block_item_faults u s item) _ h),
       block_items_typed items k.1 (last_none (block_item_faults u s item) _ h),
     )
 
-    block_item_typed : (item : BlockItem) → BlockItemHas K U V item → block_item_faults u s item ≡ [] → BlockItemHas T U V item
+    block_item_typed : (item : BlockItem) → BlockItemHas K U V W item → block_item_faults u s item ≡ [] → BlockItemHas T U V W item
     block_item_typed (block_decl d) k h = decl_typed d k h
     block_item_typed (block_stmt t) k h = stmt_typed t k h
 
-    stmt_typed : (t : Stmt) → StmtHas K U V t → stmt_faults u s t ≡ [] → StmtHas T U V t
+    stmt_typed : (t : Stmt) → StmtHas K U V W t → stmt_faults u s t ≡ [] → StmtHas T U V W t
     stmt_typed (block opening items closing) k h = block_items_typed items k h
     stmt_typed (expr_stmt e semi) k h = some_expr_typed e k h
     stmt_typed (attr_stmt attrs semi) k h = tt
@@ -253,15 +253,15 @@ module _ (w : World) (U V : ℕ → Type 0) where
     stmt_typed (return_stmt keyword e semi) k h = some_expr_typed e k h
     stmt_typed (asm_stmt keyword words group semi) k h = tt
 
-    some_else_typed : (it : SomeElse) → SomeElseHas K U V it → some_else_faults u s it ≡ [] → SomeElseHas T U V it
+    some_else_typed : (it : SomeElse) → SomeElseHas K U V W it → some_else_faults u s it ≡ [] → SomeElseHas T U V W it
     some_else_typed no_else k h = tt
     some_else_typed (some_else keyword t) k h = stmt_typed t k h
 
-    for_start_typed : (start : ForStart) → ForStartHas K U V start → for_start_faults u s start ≡ [] → ForStartHas T U V start
+    for_start_typed : (start : ForStart) → ForStartHas K U V W start → for_start_faults u s start ≡ [] → ForStartHas T U V W start
     for_start_typed (start_declaration d) k h = declaration_typed d k h
     for_start_typed (start_value e semi) k h = some_expr_typed e k h
 
-  pub item_typed : (item : Item) → ItemHas K U V item → item_faults u s item ≡ [] → ItemHas T U V item
+  pub item_typed : (item : Item) → ItemHas K U V W item → item_faults u s item ≡ [] → ItemHas T U V W item
   item_typed (function_item exts ws d attrs opening items closing) k h = (
     k.0,
     (
@@ -279,7 +279,7 @@ module _ (w : World) (U V : ℕ → Type 0) where
   item_typed (asm_item keyword group semi) k h = tt
   item_typed (semi_item semi) k h = tt
 
-  pub items_typed_of : (items : List Item) → ItemsHave K U V items → items_faults_of u s items ≡ [] → ItemsHave T U V items
+  pub items_typed_of : (items : List Item) → ItemsHave K U V W items → items_faults_of u s items ≡ [] → ItemsHave T U V W items
   items_typed_of [] k h = tt
   items_typed_of (item ∷ items) k h = (
     item_typed item k.0 (first_none (item_faults u s item) _ h),

@@ -24,7 +24,7 @@ use Rattle.missing_laws.specs.Finding.{AreFound, IsSettled, IsPrefix, MembersBeg
 use Rattle.missing_laws.proofs.Readings.{IsOf, Reads, Agrees, as_value, as_place, value_reads, target_reads, contents_read, result_reads, address_reads, assigned_agrees, index_reads, binary_reads, cond_reads}
 use Rattle.missing_laws.proofs.Found.{Further, world, front, back, member_reads, own_is, own_reads, some_own_reads, use_agrees}
 
-module _ (w : World) (U V : ℕ → Type 0) (f : Option Place) (members : MembersBegin w) where
+module _ (w : World) (U V W : ℕ → Type 0) (f : Option Place) (members : MembersBegin w) where
   abbrev pub a : Around
   a = loud w f
 
@@ -103,7 +103,7 @@ module _ (w : World) (U V : ℕ → Type 0) (f : Option Place) (members : Member
   void_reads token h = own_reads w f token (void []) h
 
   mutual
-    pub agrees : (e : Expr) → ExprHas (IsSettled w) U V e → AreFound w (expr_starts a e) → Good e
+    pub agrees : (e : Expr) → ExprHas (IsSettled w) U V W e → AreFound w (expr_starts a e) → Good e
     agrees (operation e comma token e2) k h = as_value (shapes.value (sh e2)) (x e2)
         (reads e2 (agrees e2 k.1.1.1 (back w (expr_starts a e) (expr_starts a e2) h)))
     agrees (operation e (assign p) token e2) k h =
@@ -171,7 +171,7 @@ module _ (w : World) (U V : ℕ → Type 0) (f : Option Place) (members : Member
     agrees (offset keyword opening ws d separator name steps closing) k h =
         fresh_prefix keyword (back w (desigs_starts a steps) _ (back w (some_declr_starts _ _ d) _ (back w (words_starts _ ws) _ h)))
 
-    items_read : (token : ℕ) (items : BlockItems) → BlockItemsHave (IsSettled w) U V items →
+    items_read : (token : ℕ) (items : BlockItems) → BlockItemsHave (IsSettled w) U V W items →
         AreFound w (block_items_starts a items) →
         (not (ends_in_value items) ≡ true → AreFound w (fresh a token (void []))) →
         Reads (typed.items_value w.spelling w.names items) (λ (k : Further). skels.items_value (world w k) token items)
@@ -181,14 +181,14 @@ module _ (w : World) (U V : ℕ → Type 0) (f : Option Place) (members : Member
     items_read token (more_block_items item (more_block_items item2 items)) k h g =
         items_read token (more_block_items item2 items) k.1 (back w (block_item_starts a item) _ h) g
 
-    item_reads : (token : ℕ) (item : BlockItem) → BlockItemHas (IsSettled w) U V item →
+    item_reads : (token : ℕ) (item : BlockItem) → BlockItemHas (IsSettled w) U V W item →
         AreFound w (block_item_starts a item) →
         (not (is_value item) ≡ true → AreFound w (fresh a token (void []))) →
         Reads (typed.item_value w.spelling w.names item) (λ (k : Further). skels.item_value (world w k) token item)
     item_reads token (block_decl d) k h g = void_reads token (g refl)
     item_reads token (block_stmt t) k h g = stmt_reads token t k h g
 
-    stmt_reads : (token : ℕ) (t : Stmt) → StmtHas (IsSettled w) U V t → AreFound w (stmt_starts a t) →
+    stmt_reads : (token : ℕ) (t : Stmt) → StmtHas (IsSettled w) U V W t → AreFound w (stmt_starts a t) →
         (not (is_value_stmt t) ≡ true → AreFound w (fresh a token (void []))) →
         Reads (typed.stmt_value w.spelling w.names t) (λ (k : Further). skels.stmt_value (world w k) token t)
     stmt_reads token (expr_stmt (some_expr e) semi) k h g = reads e (agrees e k h)

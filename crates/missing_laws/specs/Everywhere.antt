@@ -5,15 +5,15 @@ use Rattle.std.specs.Prelude.{ℕ, List, [], ◌∷◌, Option, None, Some}
 use Rattle.c_tree.specs.Tree.{Expr, operation, cast, prefix, sizeof_value, sizeof_type, extension, index, call, dot, arrow, post, compound, name_use, number_use, char_use, text_use, paren, statement_expr, va_arg, va_start, va_copy, offset, Operator, comma, assign, cond, binary, SomeExpr, no_expr, some_expr, Exprs, no_exprs, more_exprs, SpecWords, no_words, more_words, SpecWord, storage, thread, inline_word, noreturn, qualifier, basic, struct_type, enum_type, typedef_name, attribute, SomeBody, no_body, some_body, StructItems, no_struct_items, more_struct_items, StructItem, member, member_semi, member_assert, MemDeclrs, no_mem_declrs, more_mem_declrs, MemDeclr, named, unnamed, Declr, pointer, declr_name, declr_paren, array, params, abs_pointer, abs_paren, abs_array, abs_params, SomeDeclr, no_declr, some_declr, Params, no_params, more_params, Init, init_value, init_braced, InitList, init_list, InitItems, no_init_items, more_init_items, SomeInit, no_init, some_init, InitDeclrs, no_init_declrs, more_init_declrs, Declaration, declaration, Decl, decl_declaration, decl_assert, BlockItems, no_block_items, more_block_items, BlockItem, block_decl, block_stmt, Stmt, block, expr_stmt, attr_stmt, label, case_stmt, default_stmt, if_stmt, switch_stmt, while_stmt, do_stmt, for_stmt, goto_stmt, continue_stmt, break_stmt, return_stmt, asm_stmt, SomeElse, no_else, some_else, ForStart, start_declaration, start_value}
 use Rattle.c_tree.specs.Unit.{Item, function_item, decl_item, asm_item, semi_item}
 use Rattle.name_rules.specs.Spellings.{Named}
-use Rattle.type_rules.specs.Tokens.{declared_name}
+use Rattle.type_rules.specs.Tokens.{declared_name, some_declared_name}
 
 abbrev pub NamedHas : (ℕ → Type 0) → Option Named → Type 0
 NamedHas Q None = Unit {0}
 NamedHas Q (Some it) = Q it.token
 
 -- `U`: at the keyword of a struct or union without a tag that is a member, and at the name of a function with a body;
--- `V`: at each name that a declaration or a member declares
-module _ (U V : ℕ → Type 0) where
+-- `V`: at each name that a declaration or a member declares; `W`: at each name of a parameter
+module _ (U V W : ℕ → Type 0) where
   abbrev pub UnnamedHas : SpecWord → Type 0
   UnnamedHas (struct_type word attrs None body) = U word.token
   UnnamedHas (struct_type word attrs (Some tag) body) = Unit {0}
@@ -90,15 +90,16 @@ module _ (U V : ℕ → Type 0) where
 
     pub ParamsHave : Params → Type 0
     ParamsHave no_params = Unit {0}
-    ParamsHave (more_params ws d attrs ps) = WordsHave ws × (SomeDeclrHas d × ParamsHave ps)
+    ParamsHave (more_params ws d attrs ps) =
+        NamedHas W (some_declared_name d) × (WordsHave ws × (SomeDeclrHas d × ParamsHave ps))
 
 -- `P`: at an expression
-module _ (P : Expr → Type 0) (U V : ℕ → Type 0) where
+module _ (P : Expr → Type 0) (U V W : ℕ → Type 0) where
   abbrev mutual
     pub ExprHas : Expr → Type 0
     ExprHas (operation e op token e2) = P (operation e op token e2) × (ExprHas e × (OperatorHas op × ExprHas e2))
     ExprHas (cast opening ws d closing e) =
-        P (cast opening ws d closing e) × (WordsHave U V ws × (SomeDeclrHas U V d × ExprHas e))
+        P (cast opening ws d closing e) × (WordsHave U V W ws × (SomeDeclrHas U V W d × ExprHas e))
     ExprHas (prefix token p e) = P (prefix token p e) × ExprHas e
     ExprHas (sizeof_value word e) = P (sizeof_value word e)
     ExprHas (sizeof_type word opening ws d closing) = P (sizeof_type word opening ws d closing)
@@ -109,7 +110,7 @@ module _ (P : Expr → Type 0) (U V : ℕ → Type 0) where
     ExprHas (arrow e token name) = P (arrow e token name) × ExprHas e
     ExprHas (post e token p) = P (post e token p) × ExprHas e
     ExprHas (compound opening ws d closing list) =
-        P (compound opening ws d closing list) × (WordsHave U V ws × (SomeDeclrHas U V d × InitListHas list))
+        P (compound opening ws d closing list) × (WordsHave U V W ws × (SomeDeclrHas U V W d × InitListHas list))
     ExprHas (name_use token name) = P (name_use token name)
     ExprHas (number_use token) = P (number_use token)
     ExprHas (char_use token) = P (char_use token)
@@ -118,7 +119,7 @@ module _ (P : Expr → Type 0) (U V : ℕ → Type 0) where
     ExprHas (statement_expr opening opening2 items closing closing2) =
         P (statement_expr opening opening2 items closing closing2) × BlockItemsHave items
     ExprHas (va_arg keyword opening e separator ws d closing) =
-        P (va_arg keyword opening e separator ws d closing) × (ExprHas e × (WordsHave U V ws × SomeDeclrHas U V d))
+        P (va_arg keyword opening e separator ws d closing) × (ExprHas e × (WordsHave U V W ws × SomeDeclrHas U V W d))
     ExprHas (va_start keyword opening e separator e2 closing) =
         P (va_start keyword opening e separator e2 closing) × (ExprHas e × ExprHas e2)
     ExprHas (va_copy keyword opening e separator e2 closing) =
@@ -158,10 +159,10 @@ module _ (P : Expr → Type 0) (U V : ℕ → Type 0) where
     pub InitDeclrsHave : InitDeclrs → Type 0
     InitDeclrsHave no_init_declrs = Unit {0}
     InitDeclrsHave (more_init_declrs attrs d asm_label attrs2 init ds) =
-        NamedHas V (declared_name d) × (DeclrHas U V d × (SomeInitHas init × InitDeclrsHave ds))
+        NamedHas V (declared_name d) × (DeclrHas U V W d × (SomeInitHas init × InitDeclrsHave ds))
 
     pub DeclarationHas : Declaration → Type 0
-    DeclarationHas (declaration exts ws ds semi) = WordsHave U V ws × InitDeclrsHave ds
+    DeclarationHas (declaration exts ws ds semi) = WordsHave U V W ws × InitDeclrsHave ds
 
     pub DeclHas : Decl → Type 0
     DeclHas (decl_declaration d) = DeclarationHas d
@@ -204,7 +205,7 @@ module _ (P : Expr → Type 0) (U V : ℕ → Type 0) where
 
   abbrev pub ItemHas : Item → Type 0
   ItemHas (function_item exts ws d attrs opening items closing) =
-      NamedHas U (declared_name d) × (NamedHas V (declared_name d) × (WordsHave U V ws × (DeclrHas U V d × BlockItemsHave items)))
+      NamedHas U (declared_name d) × (NamedHas V (declared_name d) × (WordsHave U V W ws × (DeclrHas U V W d × BlockItemsHave items)))
   ItemHas (decl_item d) = DeclHas d
   ItemHas (asm_item keyword group semi) = Unit {0}
   ItemHas (semi_item semi) = Unit {0}

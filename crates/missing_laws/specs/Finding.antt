@@ -4,7 +4,7 @@ use Rattle.c_words.specs.declared.kinds.Punct.{Punct}
 use Rattle.c_words.specs.declared.kinds.Punct.TheVariants as signs
 use Rattle.c_tree.specs.Tree.{Expr, operation, cast, prefix, sizeof_value, sizeof_type, extension, index, call, dot, arrow, post, compound, name_use, number_use, char_use, text_use, paren, statement_expr, va_arg, va_start, va_copy, offset, SpecWords, SomeDeclr}
 use Rattle.type_table.specs.Types.{CType, pointer}
-use Rattle.qual_types.specs.Skel.{no_skeleton, numbered, within}
+use Rattle.qual_types.specs.Skel.{numbered, within}
 use Rattle.name_rules.specs.Spellings.{Place}
 use Rattle.name_rules.specs.Scopes.{Role, typedef_role, object_role, function_role, parameter_role, field_role, enumerator_role, Declared, declared_at, means, Known, Own, body_of}
 use Rattle.name_rules.specs.Linking.{link_of}
@@ -15,8 +15,9 @@ use Rattle.type_rules.specs.Shapes.{shape_of}
 use Rattle.row_rules.specs.Sites.{has_place}
 use Rattle.row_rules.specs.Starting.{Around, Start}
 use Rattle.row_rules.specs.Vals.{Val}
-use Rattle.row_rules.specs.Worlds.{World, Numbered, at, skeleton, skeleton_among}
+use Rattle.row_rules.specs.Worlds.{World, Numbered, at, skeleton}
 use Rattle.constraint_rules.specs.Values.{val}
+use Rattle.first_laws.specs.Firsts.{has_skeleton}
 
 -- the same world, with other skeletons and call sites behind those that it has
 abbrev pub more : World → List Numbered → List Place → World
@@ -129,35 +130,30 @@ of_type s t n = record { is_place = s.is_place; skel = numbered (within s.is_pla
 abbrev pub HasItsSkeleton : World → Expr → CType → Type 0
 HasItsSkeleton w e t = (n : ℕ) × (val w e ≡ of_type (shape_of w.spelling w.names e) t n)
 
--- whether a declaration has a skeleton: those of types' names and of enumerators have none
-abbrev pub has_skeleton : Role → Bool
-has_skeleton typedef_role = false
-has_skeleton enumerator_role = false
-has_skeleton object_role = true
-has_skeleton function_role = true
-has_skeleton (parameter_role i) = true
-has_skeleton (field_role n i) = true
+-- a skeleton begins at a place
+abbrev pub PlaceBegins : World → Place → Type 0
+PlaceBegins w p = (t : CType) × Begins w p t
 
--- none of the skeletons is at a declaration that has none
-abbrev pub Avoids : World → List Numbered → Type 0
-Avoids w skeletons =
-    (p : Place) (d : Declared) → declared_at w.names.declared p ≡ Some d → has_skeleton d.role ≡ false →
-    skeleton_among skeletons p ≡ no_skeleton
+-- What has a skeleton was first declared where one begins. What has none was first declared as what has none.
+abbrev pub FirstIs : World → Declared → Type 0
+FirstIs w d =
+    (has_skeleton d.role ≡ true → PlaceBegins w d.first)
+    × (has_skeleton d.role ≡ false → (first : Declared) → declared_at w.names.declared d.first ≡ Some first →
+    has_skeleton first.role ≡ false)
 
--- a skeleton begins at the place, or what is declared there has none
-abbrev pub IsMet : World → Place → Type 0
-IsMet w p = ((t : CType) × Begins w p t)
-    ⊎ ((d : Declared) × (declared_at w.names.declared p ≡ Some d) × (has_skeleton d.role ≡ false))
-
--- Where the declaration at a token has a skeleton, the first one of what it declares has one too, or is that of an enumerator.
+-- what is declared at a token was first declared as what it is
 abbrev pub FirstIsMet : World → ℕ → Type 0
-FirstIsMet w token =
-    (d : Declared) → declared_at w.names.declared (at w token) ≡ Some d → has_skeleton d.role ≡ true → IsMet w d.first
+FirstIsMet w token = (d : Declared) → declared_at w.names.declared (at w token) ≡ Some d → FirstIs w d
 
--- Where a declaration is linked with another, a skeleton begins at that too, or it is that of an enumerator.
+-- what is declared at a token is of a role that has a skeleton
+abbrev pub RoleHasSkeleton : World → ℕ → Type 0
+RoleHasSkeleton w token =
+    (d : Declared) → declared_at w.names.declared (at w token) ≡ Some d → has_skeleton d.role ≡ true
+
+-- where a declaration is linked with another, a skeleton begins at that too
 abbrev pub LinksAreMet : World → Type 0
-LinksAreMet w = (p : Place) → (link_of w.names p ≡ p) ⊎ IsMet w (link_of w.names p)
+LinksAreMet w = (p : Place) → (link_of w.names p ≡ p) ⊎ PlaceBegins w (link_of w.names p)
 
 -- a skeleton begins at a token
 abbrev pub TokenBegins : World → ℕ → Type 0
-TokenBegins w token = (t : CType) × Begins w (at w token) t
+TokenBegins w token = PlaceBegins w (at w token)

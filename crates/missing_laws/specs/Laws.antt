@@ -10,13 +10,13 @@ use Rattle.row_rules.specs.Worlds.{World, Numbered}
 use Rattle.constraint_rules.specs.Starts.{expr_starts, items_starts}
 use Rattle.constraint_rules.specs.Demands.{items_demand}
 use Rattle.missing_laws.specs.Everywhere.{ExprHas, ItemsHave}
-use Rattle.missing_laws.specs.Finding.{AreFound, Avoids, FirstIsMet, HasItsSkeleton, HasType, IsSettled, LinksAreMet, MembersBegin, TokenBegins, loud, more}
+use Rattle.missing_laws.specs.Finding.{AreFound, FirstIsMet, HasItsSkeleton, HasType, IsSettled, LinksAreMet, MembersBegin, RoleHasSkeleton, TokenBegins, loud, more}
 
 -- The items of a unit in a world: names and types' names in them are known, their expressions have no faults, and what they
 -- declare, what that is linked with and what is fresh in them begins where it is looked for.
 pub record AreSettled (w : World) (items : List Item) : Type 0 where
   pub clean : items_faults_of w.spelling w.names items ≡ []
-  pub settled : ItemsHave (IsSettled w) (TokenBegins w) (FirstIsMet w) items
+  pub settled : ItemsHave (IsSettled w) (TokenBegins w) (FirstIsMet w) (RoleHasSkeleton w) items
   pub starts : AreFound w (items_starts w.spelling w.names items)
   pub members : MembersBegin w
   pub links : LinksAreMet w
@@ -24,13 +24,14 @@ pub record AreSettled (w : World) (items : List Item) : Type 0 where
 -- each expression has a type
 abbrev pub ExpressionsHaveTypes : Type 0
 ExpressionsHaveTypes =
-    (w : World) (items : List Item) → AreSettled w items → ItemsHave (HasType w) (TokenBegins w) (FirstIsMet w) items
+    (w : World) (items : List Item) → AreSettled w items →
+    ItemsHave (HasType w) (TokenBegins w) (FirstIsMet w) (RoleHasSkeleton w) items
 
 -- an expression that has a type has a skeleton of it
 abbrev pub TypedHaveSkeletons : Type 0
 TypedHaveSkeletons =
     (w : World) (f : Option Place) (e : Expr) (t : CType) → MembersBegin w →
-    ExprHas (IsSettled w) (TokenBegins w) (FirstIsMet w) e → AreFound w (expr_starts (loud w f) e) →
+    ExprHas (IsSettled w) (TokenBegins w) (FirstIsMet w) (RoleHasSkeleton w) e → AreFound w (expr_starts (loud w f) e) →
     (shape_of w.spelling w.names e).type ≡ Some t → HasItsSkeleton w e t
 
 -- the expression has a skeleton of its type
@@ -40,10 +41,11 @@ HasOne w e = (t : CType) × ((shape_of w.spelling w.names e).type ≡ Some t) ×
 -- each expression has a skeleton of its type
 abbrev pub ExpressionsHaveSkeletons : Type 0
 ExpressionsHaveSkeletons =
-    (w : World) (items : List Item) → AreSettled w items → ItemsHave (HasOne w) (TokenBegins w) (FirstIsMet w) items
+    (w : World) (items : List Item) → AreSettled w items →
+    ItemsHave (HasOne w) (TokenBegins w) (FirstIsMet w) (RoleHasSkeleton w) items
 
 -- Look-ups take the first that they find, so what stands behind all others is seen by those alone that find nothing.
 abbrev pub NothingIsMissing : Type 0
 NothingIsMissing =
     (w : World) (items : List Item) → AreSettled w items → (skeletons : List Numbered) (sites : List Place) →
-    Avoids w skeletons → items_demand (more w skeletons sites) items ≡ items_demand w items
+    items_demand (more w skeletons sites) items ≡ items_demand w items

@@ -1,5 +1,5 @@
 -- Programs whose units are well formed and without faults, each of whose declarations, uses of names and skeletons is at a place
--- of its own.
+-- of its own, and in which what has a skeleton was first declared as what has one.
 use Rattle.std.specs.Prelude.{◌≡◌, List, [], ◌∷◌}
 use Rattle.c_tree.specs.declared.lexeme.Lexeme.{Lexeme}
 use Rattle.c_tree.specs.Unit.{IsUnit}
@@ -11,8 +11,9 @@ use Rattle.row_rules.specs.Starting.{Start}
 use Rattle.row_rules.specs.Worlds.{Numbered}
 use Rattle.constraint_rules.specs.Demands.{items_demand}
 use Rattle.constraint_rules.specs.Systems.{Program, starts_of, world_of}
+use Rattle.first_laws.specs.Firsts.{FirstsHaveSkeletons}
 use Rattle.missing_laws.specs.Everywhere.{ItemsHave}
-use Rattle.missing_laws.specs.Finding.{Avoids, FirstIsMet, TokenBegins, more}
+use Rattle.missing_laws.specs.Finding.{FirstIsMet, RoleHasSkeleton, TokenBegins, more}
 use Rattle.missing_laws.specs.Laws.{AreSettled, HasOne}
 
 abbrev pub declared_places : List Declared → List Place
@@ -39,7 +40,9 @@ AreFormed [] = Unit {0}
 AreFormed (it ∷ sources) = ((all : List Lexeme) × IsUnit all it.items) × AreFormed sources
 
 abbrev pub IsAccepted : Program → Type 0
-IsAccepted p = AreFormed p.sources × HasNoFault p.sources × PlacesDiffer p.sources
+IsAccepted p =
+    AreFormed p.sources × HasNoFault p.sources × PlacesDiffer p.sources
+    × FirstsHaveSkeletons (names_of p.sources).declared
 
 abbrev pub EachSettled : Program → List Source → Type 0
 EachSettled p [] = Unit {0}
@@ -48,13 +51,14 @@ EachSettled p (it ∷ sources) = AreSettled (world_of p it) it.items × EachSett
 abbrev pub EachHasSkeletons : Program → List Source → Type 0
 EachHasSkeletons p [] = Unit {0}
 EachHasSkeletons p (it ∷ sources) =
-    ItemsHave (HasOne (world_of p it)) (TokenBegins (world_of p it)) (FirstIsMet (world_of p it)) it.items
+    ItemsHave (HasOne (world_of p it)) (TokenBegins (world_of p it)) (FirstIsMet (world_of p it))
+    (RoleHasSkeleton (world_of p it)) it.items
     × EachHasSkeletons p sources
 
 abbrev pub EachMissesNothing : Program → List Source → Type 0
 EachMissesNothing p [] = Unit {0}
 EachMissesNothing p (it ∷ sources) =
-    ((skeletons : List Numbered) (sites : List Place) → Avoids (world_of p it) skeletons →
+    ((skeletons : List Numbered) (sites : List Place) →
     items_demand (more (world_of p it) skeletons sites) it.items ≡ items_demand (world_of p it) it.items)
     × EachMissesNothing p sources
 

@@ -30,7 +30,7 @@ pub fn expressions_have_skeletons()
 {}
 
 /// No constraint of items whose look-ups are settled stands on a skeleton or a call site that is missing: whatever is put behind
-/// those that there are, the constraints are the same, as long as it gives no skeleton to an enumerator or a type's name.
+/// those that there are, the constraints are the same.
 pub fn nothing_is_missing()
     ensures { NothingIsMissing }
 {}

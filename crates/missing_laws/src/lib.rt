@@ -6,11 +6,8 @@
 //! the constraints are the same.
 //!
 //! A program is accepted that is well formed and without faults, no two of whose declarations, uses of names or skeletons are at
-//! one place. That the last follows where the tokens of each unit have numbers of their own is a law of `whole_laws`.
-//!
-//! One look-up may miss: that of the first declaration of a name which its scope first declares as an enumerator and then as an
-//! object or a parameter, which C refuses (C99, 6.7 paragraph 3) and the reader too, but not the rules on trees. What is put behind gives no
-//! skeleton to an enumerator or a type's name.
+//! one place, and in which what has a skeleton was first declared as what has one. That programs which are read are so is a law of
+//! `whole_laws`.
 #![tactic(auto)]
 
 mod laws;

@@ -6,6 +6,7 @@ ghost use Rattle.whole_laws.specs.Programs.{
   ReadProgramsMissNothing,
 };
 
+use first_laws::firsts_have_skeletons;
 use key_laws::keys_differ;
 use missing_laws::{programs_have_skeletons, programs_miss_nothing};
 use name_laws::names_of_tapes;
@@ -29,6 +30,7 @@ pub fn read_programs_have_skeletons()
     ensures { ReadProgramsHaveSkeletons }
 {
     places_differ();
+    firsts_have_skeletons();
     programs_have_skeletons();
 }
 
@@ -37,5 +39,6 @@ pub fn read_programs_miss_nothing()
     ensures { ReadProgramsMissNothing }
 {
     places_differ();
+    firsts_have_skeletons();
     programs_miss_nothing();
 }

@@ -1,6 +1,6 @@
-use Rattle.missing_laws.specs.Finding.{FirstIsMet, TokenBegins}
+use Rattle.missing_laws.specs.Finding.{FirstIsMet, RoleHasSkeleton, TokenBegins}
 use Rattle.missing_laws.proofs.Typing.{items_typed_of}
 use Rattle.missing_laws.proofs.laws.expressions_have_types.Goals as goal
 
 pub returns : goal.returns
-returns c w items it = items_typed_of w (TokenBegins w) (FirstIsMet w) items it.settled it.clean
+returns c w items it = items_typed_of w (TokenBegins w) (FirstIsMet w) (RoleHasSkeleton w) items it.settled it.clean

@@ -1,0 +1,5 @@
+mod Words
+mod Fitting
+mod Changes
+mod Walk
+mod Units
