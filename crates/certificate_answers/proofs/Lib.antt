@@ -2,3 +2,4 @@ mod Naming
 mod Sets
 mod Reading
 mod Same
+mod Verdicts

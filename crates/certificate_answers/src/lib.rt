@@ -3,4 +3,4 @@
 
 mod laws;
 
-pub use laws::{one_certificate, written_reads};
+pub use laws::{one_certificate, one_verdict, written_reads};
