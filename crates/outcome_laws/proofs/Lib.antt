@@ -7,4 +7,5 @@ mod Programs
 mod Judging
 mod Checking
 mod Sources
+mod Bounds
 mod Outcomes

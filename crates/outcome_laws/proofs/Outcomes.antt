@@ -12,6 +12,7 @@ use Rattle.report_checks.specs.Texts.{checked_text}
 use Rattle.annotate.specs.Reports.{IsJudgedWith, RejectedWith}
 use Rattle.flow_graph.specs.Unfolding.{IsAccepted}
 use Rattle.certificate_answers.specs.Laws.{OneCertificate, OneVerdict}
+use Rattle.certificate_reader.specs.Laws.{IsBounded}
 use Rattle.certificate_checks.specs.declared.judging.Verdict.{Verdict}
 use Rattle.certificate_checks.specs.declared.judging.Verdict.TheVariants.{Holds, Fails, Unread}
 use Rattle.certificate_checks.specs.Checks.{ComesTo as IsProof}
@@ -26,8 +27,9 @@ use Rattle.cqual_tool.specs.Statuses.{verdict_status}
 use Rattle.cqual_tool.specs.Words.{FileNames, names_of}
 use Rattle.cqual_tool.specs.Inputs.{Inputs, files_with}
 use Rattle.cqual_tool.specs.Programs.{Judging, judging_of}
-use Rattle.cqual_tool.specs.Outcome.{source_limit, total_limit, made_names, sources_of, sum_status, LatticesRead, PreludeFails, AreBefore, NoPrelude, OnePrelude, SourcesParse, IsReport, IsRight, IsWrong, IsCertified, Certified, Uncertified, IsChecked, Holding, Failing, IsVerified, Proving, Breaking, NoProof, IsAlone, IsOfSaved, IsEnd, AnsweredAlone, SavedTooLarge, SavedJudged, OfSources, NotParsed, NotCounted, SourcesRead, OfUnits, PreludeTooLarge, PreludeRefused, PreludeRead, OfFiles, LatticeTooLarge, LatticeRefused, LatticeRead, IsSummed, SummedUp, OfMade, MadeLatticesRefused, MadeRead, OfTask, OfProgram, OfGenerated, WithoutMeaning, WithMeaning}
+use Rattle.cqual_tool.specs.Outcome.{source_limit, total_limit, made_names, sources_of, sum_status, LatticesRead, PreludeFails, AreBefore, AreCounted, NoPrelude, OnePrelude, SourcesParse, IsReport, IsRight, IsWrong, IsCertified, Certified, Uncertified, IsChecked, Holding, Failing, IsVerified, Proving, Breaking, NoProof, IsAlone, IsOfSaved, IsEnd, AnsweredAlone, SavedTooLarge, SavedJudged, OfSources, NotParsed, NotCounted, SourcesRead, OfUnits, PreludeTooLarge, PreludeRefused, PreludeRead, OfFiles, LatticeTooLarge, LatticeRefused, LatticeRead, IsSummed, SummedUp, OfMade, MadeLatticesRefused, MadeRead, OfTask, OfProgram, OfGenerated, WithoutMeaning, WithMeaning}
 use Rattle.outcome_laws.specs.Outcomes.{HasOneText, OneOutcome}
+use Rattle.outcome_laws.proofs.Bounds.{AreFew, bounded, read_few}
 use Rattle.outcome_laws.proofs.Lattices.{one_reading_of_lattices}
 use Rattle.outcome_laws.proofs.Judging.{one_judgement, one_error_count}
 use Rattle.outcome_laws.proofs.Checking.{one_check}
@@ -88,17 +90,18 @@ verdict_of it bytes _ _ (Proving h accepted) = (Holds, h, refl, refl)
 verdict_of it bytes _ _ (Breaking lattice rule h) = (Fails lattice rule, h, refl, refl)
 verdict_of it bytes _ _ (NoProof line code h) = (Unread line code, h, refl, refl)
 
-verified_once : OneVerdict → (it : Judging) (bytes : List ℕ) (s t : Status) (x y : List ℕ) → IsVerified it bytes s x → IsVerified it bytes t y
-    → Same s t x y
-verified_once law it bytes s t x y h k =
+verified_once : OneVerdict → (it : Judging) → IsBounded it.system (orders_of it.scene.lattices) → (bytes : List ℕ) (s t : Status) (x y : List ℕ)
+    → IsVerified it bytes s x → IsVerified it bytes t y → Same s t x y
+verified_once law it bounds bytes s t x y h k =
     let one = verdict_of it bytes s x h in
     let other = verdict_of it bytes t y k in
-    let same = law it.system (orders_of it.scene.lattices) bytes one.0 other.0 one.1 other.1 in (
+    let same = law it.system (orders_of it.scene.lattices) bytes one.0 other.0 bounds one.1 other.1 in (
       one.2.0 ∙ ap verdict_status same ∙ sym other.2.0,
       λ text. one.2.1 ∙ ap verdict_text same ∙ sym other.2.1,
     )
 
-module _ (one_certificate : OneCertificate) (one_verdict : OneVerdict) (it : Judging) (are : AreLattices it.scene.lattices) where
+module _ (one_certificate : OneCertificate) (one_verdict : OneVerdict) (it : Judging) (are : AreLattices it.scene.lattices)
+    (bounds : IsBounded it.system (orders_of it.scene.lattices)) where
   alone_once : (asked : Question) (s t : Status) (x y : List ℕ) → IsAlone asked it s x → IsAlone asked it t y → Same s t x y
   alone_once Infer s t x y h k = report_once None it are s t x y h k
   alone_once Annotate s t x y h k = report_once (Some 1) it are s t x y h k
@@ -112,13 +115,13 @@ module _ (one_certificate : OneCertificate) (one_verdict : OneVerdict) (it : Jud
   saved_once Annotate saved s t x y h k = absurd h
   saved_once (Check file) saved s t x y h k = check_once it saved s t x y h k
   saved_once Certify saved s t x y h k = absurd h
-  saved_once (Verify file) saved s t x y h k = verified_once one_verdict it saved s t x y h k
+  saved_once (Verify file) saved s t x y h k = verified_once one_verdict it bounds saved s t x y h k
 
 module _ (one_certificate : OneCertificate) (one_verdict : OneVerdict) (named : FileNames) (saved : List ℕ) (it : Judging)
-    (are : AreLattices it.scene.lattices) where
+    (are : AreLattices it.scene.lattices) (bounds : IsBounded it.system (orders_of it.scene.lattices)) where
   end_once : (s t : Status) (x y : List ℕ) → IsEnd named saved it s x → IsEnd named saved it t y → Same s t x y
   end_once _ _ _ _ (AnsweredAlone s x none h) (AnsweredAlone t y none_too k) =
-      alone_once one_certificate one_verdict it are named.asked s t x y h k
+      alone_once one_certificate one_verdict it are bounds named.asked s t x y h k
   end_once _ _ _ _ (AnsweredAlone s x none h) (SavedTooLarge file some over) = absurd cc
   end_once _ _ _ _ (AnsweredAlone s x none h) (SavedJudged file t y some within k) = absurd cc
   end_once _ _ _ _ (SavedTooLarge file some over) (AnsweredAlone t y none k) = absurd cc
@@ -127,7 +130,7 @@ module _ (one_certificate : OneCertificate) (one_verdict : OneVerdict) (named : 
   end_once _ _ _ _ (SavedJudged file s x some within h) (AnsweredAlone t y none k) = absurd cc
   end_once _ _ _ _ (SavedJudged file s x some within h) (SavedTooLarge other too over) = absurd (omega (arith, over, within))
   end_once _ _ _ _ (SavedJudged file s x some within h) (SavedJudged other t y too fits k) =
-      saved_once one_certificate one_verdict it are named.asked saved s t x y h k
+      saved_once one_certificate one_verdict it are bounds named.asked saved s t x y h k
 
 -- the sources
 
@@ -137,7 +140,7 @@ EndsOnce Ends it = (s t : Status) (x y : List ℕ) → Ends it s x → Ends it t
 
 module _ (one_unit : OneUnitAtMost) (named : FileNames) (lattices : List LatticeView) (before : List UnitRead) (Ends : Judging → Status → List ℕ → Type 0)
     (number left : ℕ) (sources : List (List ℕ × List ℕ)) (marks said : List IndexMark) (same : SameIndices marks said)
-    (once : (units : List UnitRead) → EndsOnce Ends (judging_of named lattices marks units)) where
+    (once : (units : List UnitRead) → AreCounted named lattices marks units → EndsOnce Ends (judging_of named lattices marks units)) where
   behind : (units others : List UnitRead) → SourcesParse lattices number left sources units → SourcesParse lattices number left sources others
       → before ++ units ≡ before ++ others
   behind units others h k =
@@ -159,12 +162,12 @@ module _ (one_unit : OneUnitAtMost) (named : FileNames) (lattices : List Lattice
   sources_one _ _ _ _ (SourcesRead units s x parse counted h) (NotCounted others y also refused) =
       absurd (never_uncounted named lattices marks said same (before ++ units) (before ++ others) (behind units others parse also) counted y refused)
   sources_one _ _ _ _ (SourcesRead units s x parse counted h) (SourcesRead others t y also too k) =
-      once (before ++ units) s t x y h
+      once (before ++ units) counted s t x y h
       (subst (λ (j : Judging). Ends j t y)
       (sym (judged_same named lattices marks said (before ++ units) (before ++ others) same (behind units others parse also))) k)
 
 module _ (one_unit : OneUnitAtMost) (one_certificate : OneCertificate) (one_verdict : OneVerdict) (named : FileNames) (inputs : Inputs)
-    (lattices : List LatticeView) (are : AreLattices lattices) where
+    (lattices : List LatticeView) (are : AreLattices lattices) (few : AreFew lattices) where
   -- the prelude
 
   before_once : (one other : List UnitRead) (marks said : List IndexMark) → AreBefore named inputs lattices one marks →
@@ -202,7 +205,8 @@ module _ (one_unit : OneUnitAtMost) (one_certificate : OneCertificate) (one_verd
   units_one _ _ _ _ (PreludeRead before marks s x reads h) (PreludeRead ahead said t y also k) =
       let same = before_once before ahead marks said reads also in
       sources_one one_unit named lattices before (IsEnd named inputs.saved) 1 total_limit (sources_of named inputs) marks said same.1
-      (λ units. end_once one_certificate one_verdict named inputs.saved (judging_of named lattices marks units) are) s t x y h
+      (λ units counted. end_once one_certificate one_verdict named inputs.saved (judging_of named lattices marks units) are
+      (bounded (judging_of named lattices marks units).system lattices few counted.few_constraints)) s t x y h
       (subst (λ (units : List UnitRead).
       OfSources named lattices units said (IsEnd named inputs.saved) 1 total_limit (sources_of named inputs) t y) (sym same.0) k)
 
@@ -233,7 +237,7 @@ module _ (one_unit : OneUnitAtMost) (one_certificate : OneCertificate) (one_verd
       absurd ((one_reading_of_lattices inputs.lattice lattices read.read).sound fault fails.reason fails.refused)
   files_one named inputs _ _ _ _ (LatticeRead lattices s x read h) (LatticeRead others t y also k) =
       let same : lattices ≡ others = (one_reading_of_lattices inputs.lattice lattices read.read).only others also.read in
-      units_one one_unit one_certificate one_verdict named inputs lattices (read_lattices inputs.lattice lattices read) s t x y h
+      units_one one_unit one_certificate one_verdict named inputs lattices (read_lattices inputs.lattice lattices read) (read_few inputs.lattice lattices read) s t x y h
       (subst (λ (ls : List LatticeView). OfUnits named inputs ls t y) (sym same) k)
 
   -- a source that the tool makes itself
@@ -261,7 +265,7 @@ module _ (one_unit : OneUnitAtMost) (one_certificate : OneCertificate) (one_verd
         let same : lattices ≡ others = (one_reading_of_lattices lattice_text lattices read.read).only others also.read in
         let files = files_with made_names.sources (generated_text number ∷ []) in
         sources_one one_unit made_names lattices [] (IsSummed number) 1 total_limit files [] [] (λ p. refl)
-        (λ units. sum_once number (judging_of made_names lattices [] units)) s t x y h
+        (λ units counted. sum_once number (judging_of made_names lattices [] units)) s t x y h
         (subst (λ (ls : List LatticeView). OfSources made_names ls [] [] (IsSummed number) 1 total_limit files t y) (sym same) k)
 
   -- what is asked
