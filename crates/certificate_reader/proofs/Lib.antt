@@ -1,0 +1,4 @@
+pub mod Numerals
+pub mod WordLemmas
+pub mod Places
+pub mod OneFault
