@@ -4,3 +4,5 @@ pub mod Places
 pub mod OneFault
 pub mod Shapes
 pub mod Placed
+pub mod Bytes
+pub mod Decimals

@@ -1,5 +1,6 @@
 use Rattle.certificate_reader.proofs.OneFault.{one_fault as no_other}
-use Rattle.certificate_reader.proofs.Placed.{fault_is_placed}
+use Rattle.certificate_reader.proofs.Bytes.{two_words}
+use Rattle.certificate_reader.proofs.Decimals.{decimal_of}
 use Rattle.certificate_reader.proofs.laws.one_fault.Goals as goal
 
 pub returns : goal.returns
