@@ -6,3 +6,4 @@ pub mod Shapes
 pub mod Placed
 pub mod Bytes
 pub mod Decimals
+pub mod Spelled
