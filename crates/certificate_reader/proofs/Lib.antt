@@ -7,3 +7,5 @@ pub mod Placed
 pub mod Bytes
 pub mod Decimals
 pub mod Spelled
+pub mod Plain
+pub mod Once
