@@ -9,3 +9,4 @@ pub mod Decimals
 pub mod Spelled
 pub mod Plain
 pub mod Once
+pub mod PartLemmas

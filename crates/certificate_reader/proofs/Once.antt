@@ -62,7 +62,7 @@ same_parts parts others same =
     sym (ap (λ (s : Said). s.parts) (parts_said parts 1)) ∙ ap (λ (ls : List Line). (said ls).parts) same ∙ ap (λ (s : Said). s.parts) (parts_said others 1)
 
 -- ascending pairs come one before the other
-among_there : {A : Type 0} → (xs : List A) (x : A) → Among x xs → (k : ℕ) × (slice_get xs k ≡ Some x)
+pub among_there : {A : Type 0} → (xs : List A) (x : A) → Among x xs → (k : ℕ) × (slice_get xs k ≡ Some x)
 among_there [] x there = absurd there
 among_there (y ∷ xs) x (inl same) = (0, ap Some (sym same))
 among_there (y ∷ xs) x (inr later) = let deeper = among_there xs x later in (suc deeper.0, deeper.1)
@@ -74,7 +74,7 @@ ascending_rises (p ∷ pairs) up = (
   ascending_rises pairs (λ i j q r low one other. up (suc i) (suc j) q r (omega (arith, low)) one other),
 )
 
-at_among : {A : Type 0} → (xs : List A) (k : ℕ) (x : A) → slice_get xs k ≡ Some x → Among x xs
+pub at_among : {A : Type 0} → (xs : List A) (k : ℕ) (x : A) → slice_get xs k ≡ Some x → Among x xs
 at_among [] k x there = absurd cc
 at_among (y ∷ xs) zero x there = let same : y ≡ x = cc in inl (sym same)
 at_among (y ∷ xs) (suc k) x there = inr (at_among xs k x there)
