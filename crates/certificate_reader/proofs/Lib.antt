@@ -10,3 +10,4 @@ pub mod Spelled
 pub mod Plain
 pub mod Once
 pub mod PartLemmas
+pub mod HeldLemmas

@@ -1,6 +1,6 @@
 -- What a reader of a certificate holds, and what a line adds to it.
-use Rattle.std.specs.Prelude.{◌≡◌, ℕ, ◌+◌, ◌-◌, Bool, true, false, not, ◌&&◌, ◌==◌, nat_lt, List, [], ◌∷◌, ◌++◌, length, slice_index, Option, Some, None, if◌then◌else◌}
-use Rattle.lattice_core.specs.Order.{Order}
+use Rattle.std.specs.Prelude.{◌≡◌, ℕ, ◌+◌, ◌-◌, ◌<◌, ◌≤◌, Bool, true, false, not, ◌&&◌, ◌==◌, nat_lt, List, [], ◌∷◌, ◌++◌, length, slice_get, slice_index, Option, Some, None, if◌then◌else◌}
+use Rattle.lattice_core.specs.Order.{Order, size}
 use Rattle.flow_graph.specs.System.{System}
 use Rattle.closure_check.specs.declared.part.Part.{Part}
 use Rattle.closure_check.specs.Parts.{IsPart}
@@ -133,3 +133,7 @@ pub record IsReadAs (sys : System) (alls bytes : List ℕ) (parts : List Part) :
   pub text_is : bytes ≡ certificate_text sys parts
   pub made : AreMade sys alls parts
   pub whole : length parts ≡ length alls
+
+-- the orders of the first lattices have at most 64 elements
+abbrev pub AreSmall : ℕ → List Order → Type 0
+AreSmall count orders = (n : ℕ) (order : Order) → n < count → slice_get orders n ≡ Some order → size order ≤ 64

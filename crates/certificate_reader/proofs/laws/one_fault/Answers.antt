@@ -1,5 +1,5 @@
 use Rattle.certificate_reader.proofs.OneFault.{one_fault as no_other}
-use Rattle.certificate_reader.proofs.Spelled.{spelled, text_lines}
+use Rattle.certificate_reader.proofs.HeldLemmas.{made_plain}
 use Rattle.certificate_reader.proofs.laws.one_fault.Goals as goal
 
 pub returns : goal.returns
