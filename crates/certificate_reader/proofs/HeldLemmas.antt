@@ -1,5 +1,5 @@
 -- What a reader keeps true from line to line.
-use Rattle.std.proofs.Common.{◌≡◌, ℕ, zero, suc, ◌+◌, ◌-◌, ◌^◌, ◌<◌, ◌≤◌, ◌==◌, ◌&&◌, Bool, true, false, nat_lt, List, [], ◌∷◌, ◌++◌, length, map, slice_get, slice_index, Option, Some, None, refl, sym, ◌∙◌, ap, subst, arith, cond, inl, inr, ◌⊎◌, append_assoc, append-nil, add-zero, length-append, codes}
+use Rattle.std.proofs.Common.{◌≡◌, ℕ, zero, suc, ◌+◌, ◌-◌, ◌^◌, ◌<◌, ◌≤◌, ◌==◌, ◌&&◌, Bool, true, false, nat_lt, List, [], ◌∷◌, ◌++◌, length, map, slice_get, slice_index, Option, Some, None, refl, sym, ◌∙◌, ap, subst, arith, cond, inl, inr, ◌⊎◌, append_assoc, append-nil, add-zero, length-append, codes, Result, Ok, Err, IfOk, OnOk}
 use Rattle.std.specs.List.{slice_split}
 use Rattle.lattice_core.specs.Order.{Order, size}
 use Rattle.flow_graph.specs.System.{System, most_constraints}
@@ -14,7 +14,7 @@ use Rattle.certificate_reader.specs.declared.section.Section.TheVariants.{Start,
 use Rattle.certificate_reader.specs.declared.section.CertFault.{CertFault}
 use Rattle.certificate_reader.specs.declared.section.CertFault.TheVariants.{Grammar, NoSuchVariable, NoMemory}
 use Rattle.certificate_reader.specs.Lines.{line_kind, lines_of}
-use Rattle.certificate_reader.specs.Grammar.{all_of, name_behind, pair_behind, sets_fit, SetsFit, PairsFit, is_name, is_known, AreNamed, HasNames}
+use Rattle.certificate_reader.specs.Grammar.{all_of, name_behind, pair_behind, sets_fit, SetsFit, PairsFit, is_name, is_known, AreNamed, HasNames, alls_of, ArePlain}
 use Rattle.certificate_reader.specs.Reader.{next, may_end, fault_behind, fault_from, AreLines, IsPartOf, Held, Closed, Closes, Keeps, Takes, FailsAt, IsMade, AreMade, IsReadAs}
 use Rattle.certificate_reader.proofs.Bytes.{first_part, lines_of-parts}
 use Rattle.certificate_reader.proofs.Shapes.{both_true}
@@ -303,6 +303,20 @@ module _ (sys : System) where
     goes (InPairs k x y) to (Set name first second) bytes ps ss qs parts sets pairs held follows known keeps is = absurd cc
     goes (InPairs k x y) to Other bytes ps ss qs parts sets pairs held follows known keeps is = absurd cc
 
+    -- The reader has taken the lines in front of number n: it holds what they say, and what fails behind them is what fails.
+    pub record StandsAt (bytes : List ℕ) (held : Held) (n : ℕ) (rest : List ℕ) : Type 0 where
+      pub held_is : IsHeld held.section held.parts held.sets held.pairs
+      pub text_is : bytes ≡ held_text held.section held.parts held.sets held.pairs ++ rest
+      pub fault_is : fault_from sys alls held.section n (lines_of rest) ≡ fault_from sys alls Start 1 (lines_of bytes)
+
+    pub stands_first : (bytes : List ℕ) → StandsAt bytes (record { section = Start; parts = []; sets = []; pairs = [] }) 1 bytes
+    stands_first bytes = record { held_is = (refl, refl, refl); text_is = refl; fault_is = refl }
+
+    -- the text that is left begins with a line
+    pub record IsNext (rest part behind : List ℕ) (kind : Line) : Type 0 where
+      pub cut : slice_split (λ b. b == 10) rest ≡ part ∷ slice_split (λ b. b == 10) behind
+      pub kind_is : kind ≡ line_kind part
+
     -- the names and the number of a line that may stand there are small
     module _ (few : length sys.constraints ≤ most_constraints) (short : length alls ≤ 16) where
       number_small : (k n : ℕ) (to : Section) → cond ((n == k + 1) && nat_lt k (length alls)) (Some (InSets n None)) None ≡ Some to → n < 2 ^ 32 - 1
@@ -321,15 +335,6 @@ module _ (sys : System) where
       line_small section to (Pair u v) follows known = both_true (is_name sys u) (is_name sys v) known (λ one two. (small_name sys u few one, small_name sys v few two))
       line_small section to Other follows known = tt
 
-      -- The reader has taken the lines in front of number n: it holds what they say, and what fails behind them is what fails.
-      pub record StandsAt (bytes : List ℕ) (held : Held) (n : ℕ) (rest : List ℕ) : Type 0 where
-        pub held_is : IsHeld held.section held.parts held.sets held.pairs
-        pub text_is : bytes ≡ held_text held.section held.parts held.sets held.pairs ++ rest
-        pub fault_is : fault_from sys alls held.section n (lines_of rest) ≡ fault_from sys alls Start 1 (lines_of bytes)
-
-      pub stands_first : (bytes : List ℕ) → StandsAt bytes (record { section = Start; parts = []; sets = []; pairs = [] }) 1 bytes
-      stands_first bytes = record { held_is = (refl, refl, refl); text_is = refl; fault_is = refl }
-
       -- the fault behind a line that was taken
       fault_moves : (section to : Section) (n : ℕ) (kind : Line) (lines : List Line) (first : Option CertFault) → next alls section kind ≡ Some to → is_known sys kind ≡ true →
           fault_from sys alls section n (kind ∷ lines) ≡ first → fault_from sys alls to (n + 1) lines ≡ first
@@ -337,11 +342,6 @@ module _ (sys : System) where
           let met : fault_behind sys n kind (Some to) (λ s. fault_from sys alls s (n + 1) lines) ≡ first =
           subst (λ (o : Option Section). fault_behind sys n kind o (λ s. fault_from sys alls s (n + 1) lines) ≡ first) follows h in
           subst (λ (b : Bool). cond b (fault_from sys alls to (n + 1) lines) (Some (NoSuchVariable n)) ≡ first) known met
-
-      -- the text that is left begins with a line
-      pub record IsNext (rest part behind : List ℕ) (kind : Line) : Type 0 where
-        pub cut : slice_split (λ b. b == 10) rest ≡ part ∷ slice_split (λ b. b == 10) behind
-        pub kind_is : kind ≡ line_kind part
 
       next_line : (rest part behind : List ℕ) (kind : Line) → IsNext rest part behind kind → lines_of rest ≡ kind ∷ lines_of behind
       next_line rest part behind kind it = lines_of-parts rest part behind it.cut ∙ ap (λ (k : Line). k ∷ lines_of behind) (sym it.kind_is)
@@ -415,9 +415,30 @@ module _ (sys : System) where
           whole held.section bytes held.parts held.sets held.pairs parts closes.0 closes.1 stands.held_is
           (stands.text_is ∙ ap (λ (t : List ℕ). held_text held.section held.parts held.sets held.pairs ++ t) none) all closes.2
 
+-- the lines of a certificate that ends are made it
+pub closed_by : (sys : System) (old : Held) (sets : List SetLine) (pairs : List (ℕ × ℕ)) (part : Part) (parts : List Part) (no_sets : List SetLine) (no_pairs : List (ℕ × ℕ)) →
+    sets ≡ old.sets → pairs ≡ old.pairs → IsPartOf sys sets pairs part → parts ≡ old.parts ++ part ∷ [] → no_sets ≡ [] → no_pairs ≡ [] → Closed sys old parts no_sets no_pairs
+closed_by sys old sets pairs part parts no_sets no_pairs one two is more none also = record {
+  part = part;
+  is = subst (λ (q : List (ℕ × ℕ)). IsPartOf sys old.sets q part) two (subst (λ (s : List SetLine). IsPartOf sys s pairs part) one is);
+  parts_are = more;
+  sets_are = none;
+  pairs_are = also;
+}
+
+-- a text that is empty
+pub none_left : (rest : List ℕ) (b : Bool) → b ≡ true → b ≡ (length rest == 0) → rest ≡ []
+none_left [] b is empty = refl
+none_left (x ∷ rest) b is empty = let wrong : true ≡ false = sym is ∙ empty in absurd cc
+
+-- what is so of a value, from two facts
+pub both_ok : {X E A : Type 0} → (P Q : X → Type 0) (r : Result X E) → ((x : X) → A → P x → Q x) → OnOk r A → IfOk r P → IfOk r Q
+both_ok P Q (Ok x) f one two = f x one two
+both_ok P Q (Err e) f one two = tt
+
 -- what a reader gives is plain
-pub made_plain : (sys : System) (orders : List Order) (parts : List Part) → AreMade sys (map (λ order. all_of order) orders) parts → length parts ≡ length (map (λ order. all_of order) orders) →
-    Rattle.certificate_reader.specs.Grammar.ArePlain sys orders parts
+pub made_plain : (sys : System) (orders : List Order) (parts : List Part) → AreMade sys (alls_of orders) parts → length parts ≡ length (alls_of orders) →
+    ArePlain sys orders parts
 made_plain sys [] [] made many = tt
 made_plain sys [] (part ∷ parts) made many = absurd made
 made_plain sys (order ∷ orders) [] made many = absurd (omega (arith, many))

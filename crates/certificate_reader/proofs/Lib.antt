@@ -11,3 +11,4 @@ pub mod Plain
 pub mod Once
 pub mod PartLemmas
 pub mod HeldLemmas
+pub mod OrderLemmas

@@ -23,6 +23,7 @@ use path_checker::split_at_first;
 use qual_base::{LatticeNo, Numbered};
 use std::alloc::{AllocError, Global};
 use std::marker::Model;
+use std::mem::replace;
 
 /// What a reader looks at: the constraints, the names of their variables, and for each lattice the set of its elements.
 #[derive(Clone, Copy)]
@@ -108,17 +109,13 @@ impl Reader {
             (Closed graph.now self.old self.new.parts self.new.sets self.new.pairs) }
         ensures err { IfErr result (λ e. e ≡ CertFault.NoMemory) }
     {
-        let sets = self.sets.as_slice();
-        let pairs = self.pairs.as_slice();
-        let Ok(part) = part_of(alloc, graph, sets, pairs) else {
+        let sets = replace(&mut self.sets, Vec::new(alloc));
+        let pairs = replace(&mut self.pairs, Vec::new(alloc));
+        let Ok(part) = part_of(alloc, graph, sets.as_slice(), pairs.as_slice()) else {
             return Err(CertFault::NoMemory);
         };
         match self.parts.push(part) {
-            Ok(()) => {
-                self.sets.clear();
-                self.pairs.clear();
-                Ok(())
-            }
+            Ok(()) => Ok(()),
             Err(_) => Err(CertFault::NoMemory),
         }
     }
