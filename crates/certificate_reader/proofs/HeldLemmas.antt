@@ -1,6 +1,7 @@
 -- What a reader keeps true from line to line.
 use Rattle.std.proofs.Common.{◌≡◌, ℕ, zero, suc, ◌+◌, ◌-◌, ◌^◌, ◌<◌, ◌≤◌, ◌==◌, ◌&&◌, Bool, true, false, nat_lt, List, [], ◌∷◌, ◌++◌, length, map, slice_get, slice_index, Option, Some, None, refl, sym, ◌∙◌, ap, subst, arith, cond, inl, inr, ◌⊎◌, append_assoc, append-nil, add-zero, length-append, codes, Result, Ok, Err, IfOk, OnOk}
 use Rattle.std.specs.List.{slice_split}
+use Rattle.std.proofs.lemmas.List.{nil_from_length}
 use Rattle.lattice_core.specs.Order.{Order, size}
 use Rattle.flow_graph.specs.System.{System, most_constraints}
 use Rattle.closure_check.specs.declared.part.Part.{Part}
@@ -211,7 +212,7 @@ module _ (sys : System) where
         let long = length-append old.parts (closed.part ∷ []) in
         let one : IsMade sys (slice_index alls (length old.parts)) closed.part = (
           λ order same. closed.is.plain order
-            (subst (λ (all : ℕ). SetsFit all None old.sets) (ap (λ (j : ℕ). slice_index alls j) less ∙ same) open_.sets_fit),
+              (subst (λ (all : ℕ). SetsFit all None old.sets) (ap (λ (j : ℕ). slice_index alls j) less ∙ same) open_.sets_fit),
           closed.is.names,
         ) in
         let now : Ends k (old.parts ++ closed.part ∷ []) (open_text k old.parts old.sets old.pairs) = record {
@@ -426,10 +427,12 @@ closed_by sys old sets pairs part parts no_sets no_pairs one two is more none al
   pairs_are = also;
 }
 
+zero_is : (n : ℕ) → (n == 0) ≡ true → n ≡ 0
+zero_is n h = grind (arith, h)
+
 -- a text that is empty
 pub none_left : (rest : List ℕ) (b : Bool) → b ≡ true → b ≡ (length rest == 0) → rest ≡ []
-none_left [] b is empty = refl
-none_left (x ∷ rest) b is empty = let wrong : true ≡ false = sym is ∙ empty in absurd cc
+none_left rest b is empty = nil_from_length rest (zero_is (length rest) (sym empty ∙ is))
 
 -- what is so of a value, from two facts
 pub both_ok : {X E A : Type 0} → (P Q : X → Type 0) (r : Result X E) → ((x : X) → A → P x → Q x) → OnOk r A → IfOk r P → IfOk r Q

@@ -12,3 +12,4 @@ pub mod Once
 pub mod PartLemmas
 pub mod HeldLemmas
 pub mod OrderLemmas
+pub mod WholeLemmas

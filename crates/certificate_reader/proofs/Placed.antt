@@ -101,15 +101,18 @@ module _ (sys : System) (alls : List ℕ) where
   at_end section n fault true within is h = absurd cc
   at_end section n fault false within is h =
       let done = completes alls section within in
-      let placed : Placed section n [] (Grammar n) =
-      (0, omega arith, record {
-        within = omega arith;
-        behind = done.0;
-        begins = done.1;
-        known = tt;
-        none = λ below others passed. omega (arith, below);
-        short = λ end passed. (let wrong : true ≡ false = sym passed ∙ is in absurd cc);
-      }) in
+      let placed : Placed section n [] (Grammar n) = (
+        0,
+        omega arith,
+        record {
+          within = omega arith;
+          behind = done.0;
+          begins = done.1;
+          known = tt;
+          none = λ below others passed. omega (arith, below);
+          short = λ end passed. (let wrong : true ≡ false = sym passed ∙ is in absurd cc);
+        },
+      ) in
       let same : Grammar n ≡ fault = cc in
       subst (λ (f : CertFault). Placed section n [] f) same placed
 

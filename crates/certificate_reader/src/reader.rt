@@ -222,7 +222,7 @@ fn read_lines(alloc: Global, bytes: &[u8], scene: &Scene) -> Result<Vec<Part>, C
         IsReadAs scene.now.graph.now scene.now.alls.now bytes.now parts.items) }
     ensures fault { IfErr result (λ e. (e ≡ CertFault.NoMemory)
         ⊎ (fault_from scene.now.graph.now scene.now.alls.now Section.Start 1 (lines_of bytes.now)
-            ≡ Some e)) }
+        ≡ Some e)) }
 {
     scene.graph.law();
     let mut reader = Reader::new(alloc);

@@ -1,5 +1,4 @@
 use Rattle.certificate_reader.proofs.OneFault.{one_fault as no_other}
-use Rattle.certificate_reader.proofs.HeldLemmas.{made_plain}
 use Rattle.certificate_reader.proofs.laws.one_fault.Goals as goal
 
 pub returns : goal.returns

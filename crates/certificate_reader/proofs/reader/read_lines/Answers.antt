@@ -1,5 +1,6 @@
 use Rattle.std.proofs.Common.{arith}
 use Rattle.std.proofs.lemmas.Result.{err_from_is_err_and}
+use Rattle.certificate_reader.specs.Reader.{IsReadAs}
 use Rattle.certificate_reader.proofs.HeldLemmas.{IsNext, takes_here, fails_here, reads_whole, none_left, both_ok}
 use Rattle.certificate_reader.proofs.reader.read_lines.Goals as goal
 
@@ -25,4 +26,11 @@ lines-preserved c =
     }
 
 pub returns-clause-reads : goal.returns-clause-reads
-returns-clause-reads c = let e = c.finish.ensures in let v = c.reader-2.view_is in let f = c.if-not-is_empty.false in let g = c.is_empty.ensures in ?
+returns-clause-reads c =
+    let sys = c.args.scene.now.graph.now in
+    let alls = c.args.scene.now.alls.now in
+    both_ok _ (λ parts. IsReadAs sys alls c.args.bytes.now parts.items) c.finish.result
+    (λ parts ends closes.
+    reads_whole sys alls c.law.ensures.few c.requires.few c.args.bytes.now c.lines.reader c.lines.number c.lines.rest.now parts.items c.lines.invariant.stands
+    (none_left c.lines.rest.now c.is_empty.result c.if-not-is_empty.false c.is_empty.ensures) ends closes)
+    c.finish.ensures.ends c.finish.ensures.parts
