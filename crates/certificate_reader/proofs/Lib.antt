@@ -1,3 +1,15 @@
 pub mod Numerals
 pub mod WordLemmas
 pub mod Places
+pub mod OneFault
+pub mod Shapes
+pub mod Placed
+pub mod Bytes
+pub mod Decimals
+pub mod Spelled
+pub mod Plain
+pub mod Once
+pub mod PartLemmas
+pub mod HeldLemmas
+pub mod OrderLemmas
+pub mod WholeLemmas

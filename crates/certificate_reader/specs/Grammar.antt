@@ -87,7 +87,9 @@ is_name sys end = names_at sys end (slice_get (ends_in sys) end)
 abbrev pub is_known : System → Line → Bool
 is_known sys (Set name first second) = is_name sys name
 is_known sys (Pair from to) = is_name sys from && is_name sys to
-is_known sys _ = true
+is_known sys Certificate = true
+is_known sys (Lattice n) = true
+is_known sys Other = true
 
 abbrev pub AreKnown : System → List Line → Type 0
 AreKnown sys [] = Unit {0}

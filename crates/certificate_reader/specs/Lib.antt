@@ -1,3 +1,5 @@
 pub mod Lines
 pub mod Grammar
 pub mod Reader
+pub mod Laws
+pub mod Making

@@ -40,12 +40,17 @@ lattice_line (Some n) = Lattice (min n (2 ^ 32 - 1))
 lattice_line None = Other
 
 abbrev pub set_kind : List (List ℕ) → Line
+set_kind [] = Other
+set_kind (name ∷ []) = Other
+set_kind (name ∷ first ∷ []) = Other
 set_kind (name ∷ first ∷ second ∷ []) = set_line (end_in name) (bits_of (number_of first)) (bits_of (number_of second))
-set_kind _ = Other
+set_kind (name ∷ first ∷ second ∷ more ∷ others) = Other
 
 abbrev pub pair_kind : List (List ℕ) → Line
+pair_kind [] = Other
+pair_kind (from ∷ []) = Other
 pair_kind (from ∷ to ∷ []) = pair_line (end_in from) (end_in to)
-pair_kind _ = Other
+pair_kind (from ∷ to ∷ more ∷ others) = Other
 
 abbrev pub words : List ℕ → List (List ℕ)
 words bytes = slice_split (λ b. b == 32) bytes

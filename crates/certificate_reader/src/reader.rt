@@ -1,12 +1,16 @@
 //! The reader of certificates.
 
-ghost use Rattle.std.specs.Prelude.{◌≡◌, ◌<◌, ◌-◌, ◌^◌, ◌⊎◌, None, Some, IfErr, IfOk, OnErr, OnOk, length};
+ghost use Rattle.std.specs.Prelude.{◌≡◌, ◌≢◌, ◌<◌, ◌≤◌, ◌-◌, ◌^◌, ◌⊎◌, ◌++◌, ◌∷◌, [], ℕ, List};
+ghost use Rattle.std.specs.Prelude.{None, Some, true, false, IfErr, IfOk, OnErr, OnOk, length, map};
+ghost use Rattle.lattice_core.specs.Order.{size};
 ghost use Rattle.lattice_core.specs.View.{orders_of};
+ghost use Rattle.flow_graph.specs.System.{most_constraints};
+ghost use Rattle.closure_check.specs.declared.part.Part.{Part};
 ghost use Rattle.certificate_text.specs.Names.{AreNames};
-ghost use Rattle.certificate_text.specs.Text.{certificate_text};
-ghost use Rattle.certificate_reader.specs.Grammar.{IsPlaced, ReadsAs, ArePlain, alls_of, is_known};
-ghost use Rattle.certificate_reader.specs.Grammar.{is_name};
+ghost use Rattle.certificate_text.specs.declared.putting.SetLine.{SetLine};
+ghost use Rattle.certificate_reader.specs.Grammar.{IsPlaced, ReadsAs, alls_of, is_known, is_name};
 ghost use Rattle.certificate_reader.specs.Lines.{lines_of};
+ghost use Rattle.certificate_reader.specs.Reader.{fault_from, may_end, AreLines, AreSmall, IsReadAs};
 
 use crate::lines::{Line, line_kind};
 use crate::making::part_of;
@@ -14,10 +18,11 @@ use crate::section::{CertFault, Section, may_end, next};
 use certificate_text::{SetLine, end_at, ends, name_in, name_table};
 use closure_check::Part;
 use flow_graph::FlowGraph;
-use lattice_core::Lattices;
+use lattice_core::{Lattice, Lattices};
 use path_checker::split_at_first;
 use qual_base::{LatticeNo, Numbered};
 use std::alloc::{AllocError, Global};
+use std::marker::Model;
 use std::mem::replace;
 
 /// What a reader looks at: the constraints, the names of their variables, and for each lattice the set of its elements.
@@ -57,8 +62,25 @@ struct Reader {
     pairs: Vec<(u32, u32)>,
 }
 
+impl Model for Reader {
+    ghost use Rattle.certificate_reader.specs.Reader.{Held};
+
+    ghost Value = { Held };
+
+    ghost view = { λ r. record {
+      section = r.section;
+      parts = r.parts.items;
+      sets = r.sets.items;
+      pairs = r.pairs.items;
+    } };
+}
+
 impl Reader {
-    fn new(alloc: Global) -> Self {
+    ghost use Rattle.certificate_reader.specs.Reader.{Closed, Closes, FailsAt, Held, Keeps, Takes};
+
+    fn new(alloc: Global) -> Self
+        ensures { result ≡ record { section = Section.Start; parts = []; sets = []; pairs = [] } }
+    {
         Reader {
             section: Section::Start,
             parts: Vec::new(alloc),
@@ -68,7 +90,12 @@ impl Reader {
     }
 
     /// Ends the lattice that is being read, if there is one.
-    fn close(&mut self, alloc: Global, graph: &FlowGraph) -> Result<(), CertFault> {
+    fn close(&mut self, alloc: Global, graph: &FlowGraph) -> Result<(), CertFault>
+        requires { AreLines graph.now self.old.sets self.old.pairs }
+        ensures ok { OnOk result (Closes graph.now self.old.section self.old
+            self.new.parts self.new.sets self.new.pairs) }
+        ensures err { IfErr result (λ e. e ≡ CertFault.NoMemory) }
+    {
         match self.section {
             Section::Start | Section::Opened => Ok(()),
             Section::InSets(_, _) | Section::InPairs(_, _, _) => self.close_part(alloc, graph),
@@ -76,7 +103,12 @@ impl Reader {
     }
 
     /// Ends the lattice that is being read.
-    fn close_part(&mut self, alloc: Global, graph: &FlowGraph) -> Result<(), CertFault> {
+    fn close_part(&mut self, alloc: Global, graph: &FlowGraph) -> Result<(), CertFault>
+        requires { AreLines graph.now self.old.sets self.old.pairs }
+        ensures ok { OnOk result
+            (Closed graph.now self.old self.new.parts self.new.sets self.new.pairs) }
+        ensures err { IfErr result (λ e. e ≡ CertFault.NoMemory) }
+    {
         let sets = replace(&mut self.sets, Vec::new(alloc));
         let pairs = replace(&mut self.pairs, Vec::new(alloc));
         let Ok(part) = part_of(alloc, graph, sets.as_slice(), pairs.as_slice()) else {
@@ -89,7 +121,12 @@ impl Reader {
     }
 
     /// Adds what a line says.
-    fn keep_line(&mut self, alloc: Global, graph: &FlowGraph, line: Line) -> Result<(), CertFault> {
+    fn keep_line(&mut self, alloc: Global, graph: &FlowGraph, line: Line) -> Result<(), CertFault>
+        requires { AreLines graph.now self.old.sets self.old.pairs }
+        ensures ok { OnOk result (Keeps graph.now line self.old
+            self.new.parts self.new.sets self.new.pairs) }
+        ensures err { IfErr result (λ e. e ≡ CertFault.NoMemory) }
+    {
         match line {
             Line::Certificate | Line::Other => Ok(()),
             Line::Lattice(_) => self.close(alloc, graph),
@@ -102,14 +139,24 @@ impl Reader {
         }
     }
 
-    fn push_set(&mut self, set: SetLine) -> Result<(), CertFault> {
+    fn push_set(&mut self, set: SetLine) -> Result<(), CertFault>
+        ensures parts { OnOk result (self.new.parts ≡ self.old.parts) }
+        ensures sets { OnOk result (self.new.sets ≡ self.old.sets ++ set ∷ []) }
+        ensures pairs { OnOk result (self.new.pairs ≡ self.old.pairs) }
+        ensures err { IfErr result (λ e. e ≡ CertFault.NoMemory) }
+    {
         match self.sets.push(set) {
             Ok(()) => Ok(()),
             Err(_) => Err(CertFault::NoMemory),
         }
     }
 
-    fn push_pair(&mut self, pair: (u32, u32)) -> Result<(), CertFault> {
+    fn push_pair(&mut self, pair: (u32, u32)) -> Result<(), CertFault>
+        ensures parts { OnOk result (self.new.parts ≡ self.old.parts) }
+        ensures sets { OnOk result (self.new.sets ≡ self.old.sets) }
+        ensures pairs { OnOk result (self.new.pairs ≡ self.old.pairs ++ pair ∷ []) }
+        ensures err { IfErr result (λ e. e ≡ CertFault.NoMemory) }
+    {
         match self.pairs.push(pair) {
             Ok(()) => Ok(()),
             Err(_) => Err(CertFault::NoMemory),
@@ -123,7 +170,15 @@ impl Reader {
         scene: &Scene,
         line: Line,
         number: u32,
-    ) -> Result<(), CertFault> {
+    ) -> Result<(), CertFault>
+        requires names { AreNames scene.now.graph.now scene.now.names.now }
+        requires few { length scene.now.alls.now ≤ 16 }
+        requires lines { AreLines scene.now.graph.now self.old.sets self.old.pairs }
+        ensures ok { OnOk result
+            (Takes scene.now.graph.now scene.now.alls.now line self.old self.new) }
+        ensures err { IfErr result (λ e. (e ≡ CertFault.NoMemory)
+            ⊎ FailsAt scene.now.graph.now scene.now.alls.now self.old.section number line e) }
+    {
         let Some(section) = next(scene.alls, self.section, line) else {
             return Err(CertFault::Grammar(number));
         };
@@ -136,7 +191,14 @@ impl Reader {
     }
 
     /// The certificates of a text that has no line from number `end` on.
-    fn finish(mut self, alloc: Global, scene: &Scene, end: u32) -> Result<Vec<Part>, CertFault> {
+    fn finish(mut self, alloc: Global, scene: &Scene, end: u32) -> Result<Vec<Part>, CertFault>
+        requires { AreLines scene.now.graph.now self.sets self.pairs }
+        ensures ends { OnOk result (may_end scene.now.alls.now self.section ≡ true) }
+        ensures parts { IfOk result (λ parts. (sets : List SetLine) × (pairs : List (ℕ × ℕ))
+            × Closes scene.now.graph.now self.section self parts.items sets pairs) }
+        ensures err { IfErr result (λ e. (e ≡ CertFault.NoMemory)
+            ⊎ ((may_end scene.now.alls.now self.section ≡ false) × (e ≡ CertFault.Grammar end))) }
+    {
         if !may_end(scene.alls, self.section) {
             return Err(CertFault::Grammar(end));
         }
@@ -153,8 +215,16 @@ impl Reader {
 
 /// Reads the lines of a certificate one by one.
 fn read_lines(alloc: Global, bytes: &[u8], scene: &Scene) -> Result<Vec<Part>, CertFault>
-    requires { length bytes.now < 2 ^ 32 - 1 }
+    requires names { AreNames scene.now.graph.now scene.now.names.now }
+    requires few { length scene.now.alls.now ≤ 16 }
+    requires short { length bytes.now < 2 ^ 32 - 1 }
+    ensures reads { IfOk result (λ parts.
+        IsReadAs scene.now.graph.now scene.now.alls.now bytes.now parts.items) }
+    ensures fault { IfErr result (λ e. (e ≡ CertFault.NoMemory)
+        ⊎ (fault_from scene.now.graph.now scene.now.alls.now Section.Start 1 (lines_of bytes.now)
+        ≡ Some e)) }
 {
+    scene.graph.law();
     let mut reader = Reader::new(alloc);
     let mut rest = bytes;
     let mut number: u32 = 1;
@@ -170,12 +240,25 @@ fn read_lines(alloc: Global, bytes: &[u8], scene: &Scene) -> Result<Vec<Part>, C
 }
 
 /// The sets of all elements of lattices.
-fn all_sets(alloc: Global, lattices: &Lattices) -> Result<Vec<u64>, AllocError> {
+fn all_sets(alloc: Global, lattices: &Lattices) -> Result<Vec<u64>, AllocError>
+    ensures sets { IfOk result (λ alls. alls.items ≡ alls_of (orders_of lattices.now)) }
+    ensures few { length lattices.now ≤ 16 }
+    ensures small { OnOk result (AreSmall (length lattices.now) (orders_of lattices.now)) }
+{
     let mut alls = Vec::new(alloc);
     for at in 0..lattices.len() {
-        alls.push(u64::MAX >> (64 - lattices.get(LatticeNo::new(at)).size()))?;
+        alls.push(all_of(lattices.get(LatticeNo::new(at))))?;
     }
     Ok(alls)
+}
+
+/// The set of all elements of a lattice.
+fn all_of(lattice: &Lattice) -> u64
+    ensures set { result ≡ Rattle.certificate_reader.specs.Grammar.all_of lattice.now.order }
+    ensures small { size lattice.now.order ≤ 64 }
+{
+    lattice.law();
+    u64::MAX >> (64 - lattice.size())
 }
 
 /// Reads the text of the certificates of lattices over a graph.
@@ -196,9 +279,12 @@ pub fn read_certificate(
     requires { length bytes.now < 2 ^ 32 - 1 }
     ensures reads { IfOk result
         (λ parts. ReadsAs graph.now (orders_of lattices.now) bytes.now parts.items) }
+    ensures whole { IfErr result (λ fault. fault ≢ CertFault.NoMemory → (parts : List Part) →
+        ReadsAs graph.now (orders_of lattices.now) bytes.now parts → ⊥) }
     ensures fault { IfErr result
         (IsPlaced graph.now (orders_of lattices.now) (lines_of bytes.now)) }
 {
+    graph.law();
     let Ok(names) = name_table(alloc, graph) else {
         return Err(CertFault::NoMemory);
     };

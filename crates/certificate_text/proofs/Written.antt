@@ -216,7 +216,7 @@ module _ (sys : System) where
       one true = (λ q none. absurd none, tt)
       one false = tt
 
-  pairs_rise : (pairs : List (ℕ × ℕ)) (names others : List Named) → Rises Lower names → Rises Lower others → Rises Earlier (pairs_of pairs names others)
+  pub pairs_rise : (pairs : List (ℕ × ℕ)) (names others : List Named) → Rises Lower names → Rises Lower others → Rises Earlier (pairs_of pairs names others)
   pairs_rise pairs [] others one other = tt
   pairs_rise pairs (x ∷ names) others one other = rises_append Earlier (pairs_with pairs x others) (pairs_of pairs names others) (with_rise pairs x others other)
       (pairs_rise pairs names others one.1 other)

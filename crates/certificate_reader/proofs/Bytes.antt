@@ -1,0 +1,106 @@
+-- Texts that lack a byte, and the words and the lines that are cut at it.
+use Rattle.std.proofs.Common.{◌≡◌, ℕ, zero, suc, ◌+◌, ◌-◌, ◌/◌, ◌%◌, ◌<◌, ◌==◌, Bool, true, false, ◌||◌, List, [], ◌∷◌, ◌++◌, length, take, slice_index, All, refl, sym, ◌∙◌, ap, arith, cond, decimal, append_assoc, if◌then◌else◌}
+use Rattle.std.proofs.lemmas.List.Elements.{All-nil, All-cons}
+use Rattle.std.proofs.lemmas.List.Splits.{slice_split_at, slice_split_none, join_with_byte-slice_split}
+use Rattle.std.specs.List.{slice_split, join_with_byte}
+use Rattle.std.specs.Str.{bytes_eq}
+use Rattle.std.specs.Fmt.{digits, digits_onto, digit_glyph}
+use Rattle.certificate_text.specs.Text.{line}
+use Rattle.certificate_reader.specs.declared.lines.Line.{Line}
+use Rattle.certificate_reader.specs.declared.lines.Line.TheVariants.{Other}
+use Rattle.certificate_reader.specs.Lines.{line_kind, lines_in, lines_of, words}
+use Rattle.certificate_reader.proofs.WordLemmas.{split_parts}
+
+both_false : (a b : Bool) → a ≡ false → b ≡ false → (a || b) ≡ false
+both_false true b p q = absurd cc
+both_false false b p q = q
+
+neither : (a b : Bool) → (a || b) ≡ false → (a ≡ false) × (b ≡ false)
+neither true b e = absurd cc
+neither false b e = (refl, e)
+
+module _ (c : ℕ) where
+  abbrev pub has : List ℕ → Bool
+  has [] = false
+  has (b ∷ bs) = b == c || has bs
+
+  pub lacks_append : (xs ys : List ℕ) → has xs ≡ false → has ys ≡ false → has (xs ++ ys) ≡ false
+  lacks_append [] ys p q = q
+  lacks_append (x ∷ xs) ys p q =
+      let parts = neither (x == c) (has xs) p in
+      both_false (x == c) (has (xs ++ ys)) parts.0 (lacks_append xs ys parts.1 q)
+
+  pub all_lack : (text : List ℕ) → has text ≡ false → All (λ b. (b == c) ≡ false) text
+  all_lack [] p = All-nil (λ b. (b == c) ≡ false)
+  all_lack (b ∷ bs) p =
+      let parts = neither (b == c) (has bs) p in
+      All-cons (λ b. (b == c) ≡ false) b bs parts.0 (all_lack bs parts.1)
+
+  glyph_lacks : (d : ℕ) → c < 48 → d < 10 → (digit_glyph false d == c) ≡ false
+  glyph_lacks d low small = grind arith
+
+  onto_lacks : (k n : ℕ) (acc : List ℕ) → c < 48 → has acc ≡ false → has (digits_onto k 10 false n acc) ≡ false
+  onto_lacks zero n acc low p = p
+  onto_lacks (suc k) n acc low p =
+      let small : n % 10 < 10 = omega arith in
+      let more : has (digit_glyph false (n % 10) ∷ acc) ≡ false = both_false _ (has acc) (glyph_lacks (n % 10) low small) p in
+      elim (n / 10 == 0) as (λ b. has (cond b (digit_glyph false (n % 10) ∷ acc) (digits_onto k 10 false (n / 10) (digit_glyph false (n % 10) ∷ acc))) ≡ false)
+      [ true ↦ more | false ↦ onto_lacks k (n / 10) (digit_glyph false (n % 10) ∷ acc) low more ]
+
+  pub decimal_lacks : (n : ℕ) → c < 48 → has (decimal n) ≡ false
+  unfolding digits
+  decimal_lacks n low = onto_lacks 64 n [] low refl
+
+-- words that have no space, cut apart
+pub two_words : (a b : List ℕ) → has 32 a ≡ false → has 32 b ≡ false → words (a ++ 32 ∷ b) ≡ a ∷ b ∷ []
+two_words a b p q =
+    slice_split_at (λ c. c == 32) a 32 b (all_lack 32 a p) refl ∙ ap (λ (ws : List (List ℕ)). a ∷ ws) (slice_split_none (λ c. c == 32) b (all_lack 32 b q))
+
+pub three_words : (a b c : List ℕ) → has 32 a ≡ false → has 32 b ≡ false → has 32 c ≡ false → words (a ++ 32 ∷ (b ++ 32 ∷ c)) ≡ a ∷ b ∷ c ∷ []
+three_words a b c p q r =
+    slice_split_at (λ d. d == 32) a 32 (b ++ 32 ∷ c) (all_lack 32 a p) refl ∙ ap (λ (ws : List (List ℕ)). a ∷ ws) (two_words b c q r)
+
+-- and joined
+pub joined : (bytes : List ℕ) (ws : List (List ℕ)) → words bytes ≡ ws → bytes ≡ join_with_byte 32 ws
+joined bytes ws is = sym (join_with_byte-slice_split 32 bytes) ∙ ap (join_with_byte 32) is
+
+-- a text whose first part ends before a line feed
+pub first_part : (text part rest : List ℕ) → slice_split (λ b. b == 10) text ≡ part ∷ slice_split (λ b. b == 10) rest → text ≡ part ++ 10 ∷ rest
+first_part text part rest is =
+    let more = split_parts (λ b. b == 10) rest in
+    sym (join_with_byte-slice_split 10 text) ∙ ap (join_with_byte 10) is ∙ ap (λ (ps : List (List ℕ)). join_with_byte 10 (part ∷ ps)) more.2
+    ∙ ap (λ (ps : List (List ℕ)). part ++ 10 ∷ join_with_byte 10 ps) (sym more.2)
+    ∙ ap (λ (bs : List ℕ). part ++ 10 ∷ bs) (join_with_byte-slice_split 10 rest)
+
+two_parts : (x part : List ℕ) (parts : List (List ℕ)) → lines_in (x ∷ part ∷ parts) ≡ line_kind x ∷ lines_in (part ∷ parts)
+two_parts [] part parts = refl
+two_parts (b ∷ bs) part parts = refl
+
+-- a text whose first part is a line has it as its first
+pub lines_of-parts : (text part rest : List ℕ) → slice_split (λ b. b == 10) text ≡ part ∷ slice_split (λ b. b == 10) rest → lines_of text ≡ line_kind part ∷ lines_of rest
+lines_of-parts text part rest is =
+    let more = split_parts (λ b. b == 10) rest in
+    ap lines_in is ∙ ap (λ (ps : List (List ℕ)). lines_in (part ∷ ps)) more.2 ∙ two_parts part more.0 more.1
+    ∙ ap (λ (ps : List (List ℕ)). line_kind part ∷ lines_in ps) (sym more.2)
+
+pub line_first : (x rest : List ℕ) → has 10 x ≡ false → lines_of (line x ++ rest) ≡ line_kind x ∷ lines_of rest
+line_first x rest free =
+    ap lines_of (append_assoc x (10 ∷ []) rest) ∙ lines_of-parts (x ++ 10 ∷ rest) x rest (slice_split_at (λ b. b == 10) x 10 rest (all_lack 10 x free) refl)
+
+-- what stands behind the last line feed is no line that fits
+pub lines_of-whole : (text : List ℕ) → slice_split (λ b. b == 10) text ≡ text ∷ [] → lines_of text ≡ (if bytes_eq text [] then [] else Other ∷ [])
+lines_of-whole [] whole = refl
+lines_of-whole (b ∷ text) whole = ap lines_in whole
+
+-- the last byte and those before it
+pub take_own : (xs ys : List ℕ) → take (length xs) (xs ++ ys) ≡ xs
+take_own [] ys = refl
+take_own (x ∷ xs) ys = ap (λ (zs : List ℕ). x ∷ zs) (take_own xs ys)
+
+pub index_own : (xs : List ℕ) (c : ℕ) → slice_index (xs ++ c ∷ []) (length xs) ≡ c
+index_own [] c = refl
+index_own (x ∷ xs) c = index_own xs c
+
+pub last_apart : (x : ℕ) (xs : List ℕ) → take (length xs) (x ∷ xs) ++ slice_index (x ∷ xs) (length xs) ∷ [] ≡ x ∷ xs
+last_apart x [] = refl
+last_apart x (y ∷ ys) = ap (λ (zs : List ℕ). x ∷ zs) (last_apart y ys)
