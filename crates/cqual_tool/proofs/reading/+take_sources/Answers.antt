@@ -18,14 +18,14 @@ returns-in-None-clause-reads g t c = λ before earlier.
     at_sources _ _ named c.args.lattices.now before c.args.earlier.prelude (c.args.index + 1) c.args.left [] (drop c.args.index named.sources)
     c.finish.result (none_left named.sources c.args.index none) (c.finish.ensures.reads (c.args.index + 1) c.args.left before earlier)
 
-pub returns-in_err-bytes-clause-reads : goal.returns-in_err-bytes-clause-reads
-returns-in_err-bytes-clause-reads g t c = λ before earlier.
+pub returns-in_err-bytes-in-Some-clause-reads : goal.returns-in_err-bytes-in-Some-clause-reads
+returns-in_err-bytes-in-Some-clause-reads g t c = λ before earlier.
     let named = names_in c.args.named.now in
     let file = c.in-Some.file.now in
     let some = sym c.source.ensures ∙ ap (option_map (λ name. name.now)) c.in-Some.is in
     let rest = drop (c.args.index + 1) named.sources in
     let there = drop_from named.sources c.args.index file some in
-    let read = c.in_err-bytes.ensures.read in
+    let read = c.in_err-bytes-in-Some.ensures.read in
     let gives = err_from_is_err_and c.from_residual.result c.from_residual.ensures.1 in
     rw (gives.1, gives.2)
     (at_sources _ _ named c.args.lattices.now before c.args.earlier.prelude (c.args.index + 1) c.args.left (file ∷ rest)
@@ -40,8 +40,8 @@ returns-in_err-answer-in-Some-2-clause-reads g t c = λ before earlier.
     let some = sym c.source.ensures ∙ ap (option_map (λ name. name.now)) c.in-Some.is in
     let rest = drop (c.args.index + 1) named.sources in
     let there = drop_from named.sources c.args.index file some in
-    let read = c.in_ok-bytes.ensures.read in
-    let found = found_some c.min.result read.0 c.in_ok-bytes.field-0 c.in-Some-2.bytes c.in-Some-2.is read.3 in
+    let read = c.in_ok-bytes-in-Some.ensures.read in
+    let found = found_some c.min.result read.0 c.in_ok-bytes-in-Some.field-0 c.in-Some-2.bytes c.in-Some-2.is read.3 in
     let gives = err_from_is_err_and c.from_residual-in_err-answer-in-Some-2.result c.from_residual-in_err-answer-in-Some-2.ensures.1 in
     rw (gives.1, gives.2)
     (at_sources _ _ named c.args.lattices.now before c.args.earlier.prelude (c.args.index + 1) c.args.left (file ∷ rest)
@@ -61,8 +61,8 @@ returns-in-Refused-clause-reads g t c = λ before earlier.
     let rest = drop (c.args.index + 1) named.sources in
     let bytes = c.deref.result.now in
     let there = drop_from named.sources c.args.index file some in
-    let read = c.in_ok-bytes.ensures.read in
-    let found = found_some c.min.result read.0 c.in_ok-bytes.field-0 c.in-Some-2.bytes c.in-Some-2.is read.3 in
+    let read = c.in_ok-bytes-in-Some.ensures.read in
+    let found = found_some c.min.result read.0 c.in_ok-bytes-in-Some.field-0 c.in-Some-2.bytes c.in-Some-2.is read.3 in
     let same : read.0.bytes ≡ bytes = found.1 ∙ sym c.deref.ensures.value in
     let within : length read.0.bytes ≤ limit_in left = subst (λ (n : ℕ). length read.0.bytes ≤ n) (limit_is left c.min.result c.min.ensures) found.2 in
     let one =
@@ -119,8 +119,8 @@ returns-in-Some-2-clause-reads g t c = λ before earlier.
     let rest = drop (c.args.index + 1) named.sources in
     let bytes = c.deref.result.now in
     let there = drop_from named.sources c.args.index file some in
-    let read = c.in_ok-bytes.ensures.read in
-    let found = found_some c.min.result read.0 c.in_ok-bytes.field-0 c.in-Some-2.bytes c.in-Some-2.is read.3 in
+    let read = c.in_ok-bytes-in-Some.ensures.read in
+    let found = found_some c.min.result read.0 c.in_ok-bytes-in-Some.field-0 c.in-Some-2.bytes c.in-Some-2.is read.3 in
     let same : read.0.bytes ≡ c.in-Some-2.bytes.items = found.1 in
     let within : length read.0.bytes ≤ limit_in left = subst (λ (n : ℕ). length read.0.bytes ≤ n) (limit_is left c.min.result c.min.ensures) found.2 in
     let one =
@@ -143,8 +143,8 @@ returns-in_err-too_large-in-None-2-clause-reads g t c = λ before earlier.
     let some = sym c.source.ensures ∙ ap (option_map (λ name. name.now)) c.in-Some.is in
     let rest = drop (c.args.index + 1) named.sources in
     let there = drop_from named.sources c.args.index file some in
-    let read = c.in_ok-bytes.ensures.read in
-    let found = found_none c.min.result read.0 c.in_ok-bytes.field-0 c.in-None-2.is read.3 in
+    let read = c.in_ok-bytes-in-Some.ensures.read in
+    let found = found_none c.min.result read.0 c.in_ok-bytes-in-Some.field-0 c.in-None-2.is read.3 in
     let gives = err_from_is_err_and c.from_residual-in_err-too_large-in-None-2.result c.from_residual-in_err-too_large-in-None-2.ensures.1 in
     rw (gives.1, gives.2)
     (at_sources _ _ named c.args.lattices.now before c.args.earlier.prelude (c.args.index + 1) c.args.left (file ∷ rest)
@@ -160,8 +160,8 @@ returns-clause-reads g t c = λ before earlier.
     let some = sym c.source.ensures ∙ ap (option_map (λ name. name.now)) c.in-Some.is in
     let rest = drop (c.args.index + 1) named.sources in
     let there = drop_from named.sources c.args.index file some in
-    let read = c.in_ok-bytes.ensures.read in
-    let found = found_none c.min.result read.0 c.in_ok-bytes.field-0 c.in-None-2.is read.3 in
+    let read = c.in_ok-bytes-in-Some.ensures.read in
+    let found = found_none c.min.result read.0 c.in_ok-bytes-in-Some.field-0 c.in-None-2.is read.3 in
     let over : limit_in left < length read.0.bytes =
     subst (λ (n : ℕ). n < length read.0.bytes) (limit_is left c.min.result c.min.ensures) found.1 in
     at_sources _ _ named c.args.lattices.now before c.args.earlier.prelude (c.args.index + 1) left (file ∷ rest)
