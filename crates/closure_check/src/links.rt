@@ -25,6 +25,60 @@ pub fn all_links(given: &Claim, rule: CertRule) -> bool
     true
 }
 
+/// Whether each constraint is as every rule asks that asks something of it, by going over them once.
+pub fn all_met(given: &Claim) -> bool
+    requires { IsFit given.now }
+    ensures { IsTrue result → (rule : CertRule) → AsksLinks given.now rule }
+{
+    for n in 0..given.graph.len() {
+        if !are_met_at(given, EdgeId::new(n)) {
+            return false;
+        }
+    }
+    true
+}
+
+/// Whether each constraint is as a rule asks, where it may be known that each is as every rule asks.
+pub fn links_met(given: &Claim, known: bool, rule: CertRule) -> bool
+    requires fit { IsFit given.now }
+    requires known { IsTrue known → (other : CertRule) → AsksLinks given.now other }
+    ensures { IsTrue result ↔ AsksLinks given.now rule }
+{
+    if known {
+        return true;
+    }
+    all_links(given, rule)
+}
+
+/// Whether a constraint is as all rules ask.
+fn are_met_at(given: &Claim, at: EdgeId) -> bool
+    requires fit { IsFit given.now }
+    requires at { at < length given.now.graph.now.constraints }
+    ensures { IsTrue result → (rule : CertRule) → AsksAt given.now rule at }
+{
+    let constraint = given.graph.constraint(at);
+    if !constraint.is_in(given.at) {
+        return true;
+    }
+    are_met(given, constraint.link)
+}
+
+/// Whether a link is as all rules ask.
+fn are_met(given: &Claim, link: Link) -> bool
+    requires { IsFit given.now }
+    ensures { IsTrue result → (rule : CertRule) → Asks given.now rule link }
+{
+    match link {
+        Link::Le(from, to) => flows_on(given, from, to),
+        Link::Const(_, elem, at) => is_in_first(given, at, elem),
+        Link::Bound(at, _, limit) => is_bounded(given, at, limit),
+        Link::Enter(site, from, inner) => {
+            calls_on(given, from, inner) && goes_round(given, &Going::First(from), site, inner)
+        }
+        Link::Leave(_, from, to) => is_first_within(given, from, to),
+    }
+}
+
 /// Whether a constraint is as a rule asks.
 fn is_met_at(given: &Claim, rule: CertRule, at: EdgeId) -> bool
     requires fit { IsFit given.now }

@@ -5,32 +5,32 @@ use Rattle.closure_check.proofs.checks.is_obeyed.Goals as goal
 
 pub returns-in-A1 : goal.returns-in-A1
 returns-in-A1 c = (
-  λ yes. by_links c.args.given.now c.args.rule A1 c.in-A1.is (const_obeyed c.args.given.now) (c.all_links.ensures.0 yes),
-  λ obeyed. c.all_links.ensures.1 (each_link c.args.given.now c.args.rule obeyed),
+  λ yes. by_links c.args.given.now c.args.rule A1 c.in-A1.is (const_obeyed c.args.given.now) (c.links_met.ensures.0 yes),
+  λ obeyed. c.links_met.ensures.1 (each_link c.args.given.now c.args.rule obeyed),
 )
 
 pub returns-in-A3 : goal.returns-in-A3
 returns-in-A3 c = (
-  λ yes. by_links c.args.given.now c.args.rule A3 c.in-A3.is (flow_obeyed c.args.given.now) (c.all_links-in-A3.ensures.0 yes),
-  λ obeyed. c.all_links-in-A3.ensures.1 (each_link c.args.given.now c.args.rule obeyed),
+  λ yes. by_links c.args.given.now c.args.rule A3 c.in-A3.is (flow_obeyed c.args.given.now) (c.links_met-in-A3.ensures.0 yes),
+  λ obeyed. c.links_met-in-A3.ensures.1 (each_link c.args.given.now c.args.rule obeyed),
 )
 
 pub returns-in-A4 : goal.returns-in-A4
 returns-in-A4 c = (
-  λ yes. by_links c.args.given.now c.args.rule A4 c.in-A4.is (back_obeyed c.args.given.now) (c.all_links-in-A4.ensures.0 yes),
-  λ obeyed. c.all_links-in-A4.ensures.1 (each_link c.args.given.now c.args.rule obeyed),
+  λ yes. by_links c.args.given.now c.args.rule A4 c.in-A4.is (back_obeyed c.args.given.now) (c.links_met-in-A4.ensures.0 yes),
+  λ obeyed. c.links_met-in-A4.ensures.1 (each_link c.args.given.now c.args.rule obeyed),
 )
 
 pub returns-in-A5 : goal.returns-in-A5
 returns-in-A5 c = (
-  λ yes. by_links c.args.given.now c.args.rule A5 c.in-A5.is (call_obeyed c.args.given.now) (c.all_links-in-A5.ensures.0 yes),
-  λ obeyed. c.all_links-in-A5.ensures.1 (each_link c.args.given.now c.args.rule obeyed),
+  λ yes. by_links c.args.given.now c.args.rule A5 c.in-A5.is (call_obeyed c.args.given.now) (c.links_met-in-A5.ensures.0 yes),
+  λ obeyed. c.links_met-in-A5.ensures.1 (each_link c.args.given.now c.args.rule obeyed),
 )
 
 pub returns-in-A9 : goal.returns-in-A9
 returns-in-A9 c = (
-  λ yes. by_links c.args.given.now c.args.rule A9 c.in-A9.is (bound_obeyed c.args.given.now) (c.all_links-in-A9.ensures.0 yes),
-  λ obeyed. c.all_links-in-A9.ensures.1 (each_link c.args.given.now c.args.rule obeyed),
+  λ yes. by_links c.args.given.now c.args.rule A9 c.in-A9.is (bound_obeyed c.args.given.now) (c.links_met-in-A9.ensures.0 yes),
+  λ obeyed. c.links_met-in-A9.ensures.1 (each_link c.args.given.now c.args.rule obeyed),
 )
 
 pub returns-in-A6 : goal.returns-in-A6
@@ -51,14 +51,14 @@ returns-in-A2 c = (
   λ obeyed. c.all_vars.ensures.1 (vars_by c.args.given.now c.args.rule c.in-A2.is obeyed),
 )
 
-pub returns-then-all_links : goal.returns-then-all_links
-returns-then-all_links c = (
-  λ met. by_both c.args.given.now c.args.rule c.in-A7.is (c.all_links-in-A7.ensures.0 c.if-all_links.true) (c.all_pairs-then-all_links.ensures.0 met),
-  λ obeyed. c.all_pairs-then-all_links.ensures.1 (each_pair c.args.given.now c.args.rule obeyed),
+pub returns-then-links_met : goal.returns-then-links_met
+returns-then-links_met c = (
+  λ met. by_both c.args.given.now c.args.rule c.in-A7.is (c.links_met-in-A7.ensures.0 c.if-links_met.true) (c.all_pairs-then-links_met.ensures.0 met),
+  λ obeyed. c.all_pairs-then-links_met.ensures.1 (each_pair c.args.given.now c.args.rule obeyed),
 )
 
-pub returns-else-all_links : goal.returns-else-all_links
-returns-else-all_links c = (
-  λ met. let wrong : false ≡ true = sym c.if-all_links.false ∙ met in absurd cc,
-  λ obeyed. c.all_links-in-A7.ensures.1 (each_link c.args.given.now c.args.rule obeyed),
+pub returns-else-links_met : goal.returns-else-links_met
+returns-else-links_met c = (
+  λ met. let wrong : false ≡ true = sym c.if-links_met.false ∙ met in absurd cc,
+  λ obeyed. c.links_met-in-A7.ensures.1 (each_link c.args.given.now c.args.rule obeyed),
 )
