@@ -86,9 +86,9 @@ verdict_said found s x = (s ≡ verdict_status found) × (x ≡ verdict_text fou
 
 verdict_of : (it : Judging) (bytes : List ℕ) (s : Status) (x : List ℕ) → IsVerified it bytes s x
     → (found : Verdict) × IsProof it.system (orders_of it.scene.lattices) bytes found × verdict_said found s x
-verdict_of it bytes _ _ (Proving h accepted) = (Holds, h, refl, refl)
-verdict_of it bytes _ _ (Breaking lattice rule h) = (Fails lattice rule, h, refl, refl)
-verdict_of it bytes _ _ (NoProof line code h) = (Unread line code, h, refl, refl)
+verdict_of it bytes _ _ (Proving h accepted) = (Holds, h, (refl, refl))
+verdict_of it bytes _ _ (Breaking lattice rule h) = (Fails lattice rule, h, (refl, refl))
+verdict_of it bytes _ _ (NoProof line code h) = (Unread line code, h, (refl, refl))
 
 verified_once : OneVerdict → (it : Judging) → IsBounded it.system (orders_of it.scene.lattices) → (bytes : List ℕ) (s t : Status) (x y : List ℕ)
     → IsVerified it bytes s x → IsVerified it bytes t y → Same s t x y
