@@ -7,6 +7,8 @@ pub mod Paths
 pub mod PathRules
 pub mod PathProofs
 pub mod Parts
+pub mod Leading
+pub mod Walks
 pub mod Conditions
 pub mod Rows
 pub mod Index

@@ -48,15 +48,23 @@ pub data AreSubs (sys : System) (lattice : ℕ) : List (List PathStep) → Type 
   Next : (subs : List (List PathStep)) (u v : ℕ) (steps : List PathStep) → AreSubs sys lattice subs → IsSub sys lattice subs u v steps →
       AreSubs sys lattice (subs ++ steps ∷ [])
 
--- These steps lead on from a variable in a phase to a bound: parts, Leaves as long as no call is open, Enters, and the bound.
-pub data Onward (sys : System) (lattice : ℕ) (subs : List (List PathStep)) (bound : ℕ) : Phase → ℕ → List PathStep → Type 0 where
-  Ends : (p : Phase) (v limit : ℕ) → Stands sys lattice bound (Bound v lattice limit) → Onward sys lattice subs bound p v (Take bound 0 ∷ [])
-  Along : (p : Phase) (u v : ℕ) (front rest : List PathStep) → Part sys lattice subs u v front → Onward sys lattice subs bound (settled (owner_of sys v) p) v rest →
-      Onward sys lattice subs bound p u (front ++ rest)
-  Back : (u v s n : ℕ) (rest : List PathStep) → Stands sys lattice n (Leave s u v) → Onward sys lattice subs bound (settled (owner_of sys v) First) v rest →
-      Onward sys lattice subs bound First u (Take n 0 ∷ rest)
-  Into : (p : Phase) (u v s n : ℕ) (rest : List PathStep) → Stands sys lattice n (Enter s u v) → Onward sys lattice subs bound (settled (owner_of sys v) Second) v rest →
-      Onward sys lattice subs bound p u (Take n 0 ∷ rest)
+-- Where steps lead to: a bound, which is their last step, or a variable.
+pub data Goal : Type 0 where
+  ToBound : ℕ → Goal
+  ToVariable : ℕ → Goal
+
+-- These steps lead on from a variable in a phase to a goal: parts, Leaves as long as no call is open, Enters, and the bound, if it
+-- is one.
+pub data Onward (sys : System) (lattice : ℕ) (subs : List (List PathStep)) : Goal → Phase → ℕ → List PathStep → Type 0 where
+  Ends : (bound : ℕ) (p : Phase) (v limit : ℕ) → Stands sys lattice bound (Bound v lattice limit) →
+      Onward sys lattice subs (ToBound bound) p v (Take bound 0 ∷ [])
+  There : (p : Phase) (v : ℕ) → Onward sys lattice subs (ToVariable v) p v []
+  Along : (goal : Goal) (p : Phase) (u v : ℕ) (front rest : List PathStep) → Part sys lattice subs u v front →
+      Onward sys lattice subs goal (settled (owner_of sys v) p) v rest → Onward sys lattice subs goal p u (front ++ rest)
+  Back : (goal : Goal) (u v s n : ℕ) (rest : List PathStep) → Stands sys lattice n (Leave s u v) →
+      Onward sys lattice subs goal (settled (owner_of sys v) First) v rest → Onward sys lattice subs goal First u (Take n 0 ∷ rest)
+  Into : (goal : Goal) (p : Phase) (u v s n : ℕ) (rest : List PathStep) → Stands sys lattice n (Enter s u v) →
+      Onward sys lattice subs goal (settled (owner_of sys v) Second) v rest → Onward sys lattice subs goal p u (Take n 0 ∷ rest)
 
 -- These steps are a path from a constant of an element to a bound.
 pub record IsPath (sys : System) (lattice : ℕ) (subs : List (List PathStep)) (elem bound : ℕ) (steps : List PathStep) : Type 0 where
@@ -64,5 +72,5 @@ pub record IsPath (sys : System) (lattice : ℕ) (subs : List (List PathStep)) (
   pub from : ℕ
   pub constant : Stands sys lattice start (Const lattice elem from)
   pub rest : List PathStep
-  pub onward : Onward sys lattice subs bound (settled (owner_of sys from) First) from rest
+  pub onward : Onward sys lattice subs (ToBound bound) (settled (owner_of sys from) First) from rest
   pub steps_are : steps ≡ Take start 0 ∷ rest

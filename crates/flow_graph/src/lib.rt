@@ -20,4 +20,4 @@ pub use constraint::{Constraint, Crossing, Limit, Link, Site};
 pub use graph::{FlowGraph, GraphFault, MOST_CONSTRAINTS};
 pub use phase::Phase;
 pub use place::{Path, Place, Seen};
-pub use proof::{BadStep, PathProof, PathStep, SubPath, Why};
+pub use proof::{BadStep, PathProof, PathStep, SubPath, Walk, Why};

@@ -1,4 +1,4 @@
-//! Path proofs: lists of steps that show how a constant exceeds a bound.
+//! Path proofs: lists of steps that show how a constant exceeds a bound; and walks, which show how a variable leads to another.
 
 use qual_base::EdgeId;
 
@@ -21,6 +21,14 @@ pub struct SubPath {
 pub struct PathProof {
     pub subs: Vec<SubPath>,
     pub main: Vec<PathStep>,
+    pub end: u32,
+}
+
+/// The sub-paths in order, the steps from a variable to another, and the line after the last one.
+#[derive(Drop, Debug)]
+pub struct Walk {
+    pub subs: Vec<SubPath>,
+    pub steps: Vec<PathStep>,
     pub end: u32,
 }
 
