@@ -1,7 +1,7 @@
 //! Where the constraints of a graph begin and end.
 
 ghost use Rattle.std.specs.Prelude.{◌≡◌, IfOk};
-ghost use Rattle.flow_graph.specs.Index.{IsIndexOf};
+ghost use Rattle.flow_graph.specs.Index.{AreBeginnings, IsIndexOf};
 ghost use Rattle.flow_graph.specs.Rows.{row_in};
 
 use crate::graph::FlowGraph;
@@ -57,5 +57,37 @@ impl Adjacency {
         ensures { result.now ≡ row_in self.now.of_site at }
     {
         self.of_site.get(at.number())
+    }
+}
+
+/// For each variable the constraints that begin at it: what a check of a certificate asks of an `Adjacency`, at a third of its cost.
+#[derive(Drop)]
+pub struct Beginnings {
+    out: Rows,
+}
+
+impl Model for Beginnings {
+    ghost use Rattle.flow_graph.specs.Rows.{Table};
+
+    ghost Value = { Table };
+
+    ghost view = { λ b. b.out };
+}
+
+impl Beginnings {
+    /// A counting sort, stable and linear in the constraints and the variables. Memory: at most 4 bytes a constraint and 4 a
+    /// variable, and while the list is made 4 more a variable.
+    pub fn build(alloc: Global, graph: &FlowGraph) -> Result<Beginnings, NoMemory>
+        ensures { IfOk result (AreBeginnings graph.now) }
+    {
+        let out = Rows::by_key(alloc, graph, Key::Begin)?;
+        Ok(Beginnings { out })
+    }
+
+    /// The constraints that begin at a variable, ascending; a bound begins at its variable, a constant nowhere. Constant time.
+    pub fn out(&self, at: VarId) -> &[EdgeId]
+        ensures { result.now ≡ row_in self.now at }
+    {
+        self.out.get(at.number())
     }
 }

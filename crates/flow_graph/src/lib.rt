@@ -14,7 +14,7 @@ mod rows;
 #[cfg(test)]
 mod tests;
 
-pub use adjacency::Adjacency;
+pub use adjacency::{Adjacency, Beginnings};
 pub use conditions::{is_well_owned, names_elements};
 pub use constraint::{Constraint, Crossing, Limit, Link, Site};
 pub use graph::{FlowGraph, GraphFault, MOST_CONSTRAINTS};
