@@ -41,7 +41,7 @@ pub data Goes (sys : System) (lattice start : ℕ) : Phase → ℕ → Type 0 wh
   Flows : (p : Phase) (u v n : ℕ) (q : Phase) → q ≡ settled (owner_of sys v) p → Goes sys lattice start p u → Stands sys lattice n (Le u v) →
       Goes sys lattice start q v
   Returns : (u v s n : ℕ) → Goes sys lattice start First u → Stands sys lattice n (Leave s u v) → Goes sys lattice start First v
-  Calls : (p : Phase) (u v s n : ℕ) (q : Phase) → q ≡ settled (owner_of sys v) Second → Goes sys lattice start p u → Stands sys lattice n (Enter s u v) →
+  Enters : (p : Phase) (u v s n : ℕ) (q : Phase) → q ≡ settled (owner_of sys v) Second → Goes sys lattice start p u → Stands sys lattice n (Enter s u v) →
       Goes sys lattice start q v
   Rounds : (p : Phase) (u a b v s g n m : ℕ) (q : Phase) → q ≡ settled (owner_of sys v) p → Goes sys lattice start p u →
       Stands sys lattice n (Enter s u a) → Matches sys lattice g a b → Stands sys lattice m (Leave s b v) → Goes sys lattice start q v

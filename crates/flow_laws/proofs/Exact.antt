@@ -12,7 +12,7 @@ use Rattle.flow_graph.specs.declared.place.Path.TheVariants.{Main}
 use Rattle.flow_graph.specs.System.{System, owner_of, Stands}
 use Rattle.flow_graph.specs.PathRules.{is_const}
 use Rattle.flow_graph.specs.PathProofs.{look, edge_or, edge_at, last_of, line_of, first_failing, main_fault, first_fault, start_of, no_order, steps_of}
-use Rattle.flow_graph.specs.Parts.{None as NoSubs, Next, Onward}
+use Rattle.flow_graph.specs.Parts.{None as NoSubs, Next, Onward, ToBound}
 use Rattle.flow_laws.specs.PathForms.{without_lines, NoPaths, Stepped, LeadsOver, ShowsIn, SubsAreSubPaths, HoldsInSome, HoldsExactly}
 use Rattle.flow_laws.proofs.Links.{has_of, one_bound}
 use Rattle.flow_laws.proofs.Clear.{clear}
@@ -69,7 +69,7 @@ module _ (sys : System) (orders : List Order) (subs : List (List PathStep)) (mai
           from = v;
           constant = constant;
           rest = without_lines main;
-          onward = subst (λ p. Onward sys l named on.0 p v (without_lines main)) (sym (settled_is (owner_of sys v) false)) on.5;
+          onward = subst (λ p. Onward sys l named (ToBound on.0) p v (without_lines main)) (sym (settled_is (owner_of sys v) false)) on.5;
           steps_are = refl;
         };
         over = λ x limit st. subst (λ limit. leq order e limit ≡ false) (one_bound sys l on.0 on.1 on.2 x limit on.3 st).1 on.4;

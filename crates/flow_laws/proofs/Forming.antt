@@ -17,7 +17,7 @@ use Rattle.flow_graph.specs.declared.place.Path.TheVariants.{Main, Sub}
 use Rattle.flow_graph.specs.System.{System, owner_of, Stands}
 use Rattle.flow_graph.specs.PathRules.{begins, is_owned_by}
 use Rattle.flow_graph.specs.PathProofs.{is_nobodys, look, span_of, of_step, first_of, line_of, owner_at, home_of, first_failing, subs_fault}
-use Rattle.flow_graph.specs.Parts.{settled, Flow, Empty, Full, Inside, Done, More, IsSub, Onward, Ends, Along, Back, Into}
+use Rattle.flow_graph.specs.Parts.{settled, Flow, Empty, Full, Inside, Done, More, IsSub, Onward, ToBound, Ends, Along, Back, Into}
 use Rattle.flow_laws.specs.PathForms.{without_line, without_lines, AreSubPaths, NoSteps, Stepped}
 use Rattle.flow_laws.proofs.Clear.{clear, neither}
 use Rattle.flow_laws.proofs.Places.{not_false, edge, stays_const}
@@ -45,33 +45,33 @@ module _ (sys : System) (order : Order) (lattice elem : ℕ) (named : List (List
   -- steps of a main path that lead on to a bound which is exceeded
   abbrev pub MainOn : Bool → ℕ → List PathStep → Type 0
   MainOn c v steps = (bound : ℕ) × (x : ℕ) × (limit : ℕ) × Stands sys lattice bound (Bound x lattice limit) × (leq order elem limit ≡ false)
-      × Onward sys lattice named bound (phase_of c) v steps
+      × Onward sys lattice named (ToBound bound) (phase_of c) v steps
 
   pub onward : (c d : Bool) (u v : ℕ) (rest steps : List PathStep) →
-      ((bound : ℕ) → Onward sys lattice named bound (settled (owner_of sys v) (phase_of c)) v rest → Onward sys lattice named bound (phase_of d) u steps) →
+      ((bound : ℕ) → Onward sys lattice named (ToBound bound) (settled (owner_of sys v) (phase_of c)) v rest → Onward sys lattice named (ToBound bound) (phase_of d) u steps) →
       MainOn (settle sys v c) v rest → MainOn d u steps
   onward c d u v rest steps goes (bound, x, limit, st, over, on) =
-      (bound, x, limit, st, over, goes bound (subst (λ p. Onward sys lattice named bound p v rest) (sym (settled_is (owner_of sys v) c)) on))
+      (bound, x, limit, st, over, goes bound (subst (λ p. Onward sys lattice named (ToBound bound) p v rest) (sym (settled_is (owner_of sys v) c)) on))
 
   main_empty : (c : Bool) (u a v s n m : ℕ) (rest : List PathStep) → Stands sys lattice n (Enter s u a) → Stands sys lattice m (Leave s a v) → (o : Owner) → owner_of sys a ≡ o →
       MainOn (settle sys v (not (is_nobodys o) && c)) v rest → MainOn c u (Take n 0 ∷ Take m 0 ∷ rest)
   main_empty c u a v s n m rest st ts Nobody is r =
       onward false c u v rest (Take n 0 ∷ Take m 0 ∷ rest)
-      (λ bound on. Into (phase_of c) u a s n (Take m 0 ∷ rest) st
-      (subst (λ o. Onward sys lattice named bound (settled o Second) a (Take m 0 ∷ rest)) (sym is) (Back a v s m rest ts on))) r
+      (λ bound on. Into (ToBound bound) (phase_of c) u a s n (Take m 0 ∷ rest) st
+      (subst (λ o. Onward sys lattice named (ToBound bound) (settled o Second) a (Take m 0 ∷ rest)) (sym is) (Back (ToBound bound) a v s m rest ts on))) r
   main_empty c u a v s n m rest st ts (Function f) is r =
-      onward c c u v rest (Take n 0 ∷ Take m 0 ∷ rest) (λ bound on. Along (phase_of c) u v (Take n 0 ∷ Take m 0 ∷ []) rest (Empty u a v s n m st ts) on) r
+      onward c c u v rest (Take n 0 ∷ Take m 0 ∷ rest) (λ bound on. Along (ToBound bound) (phase_of c) u v (Take n 0 ∷ Take m 0 ∷ []) rest (Empty u a v s n m st ts) on) r
 
   pub main_builds : Builds sys order lattice elem Main named MainOn
   main_builds = record {
-    flow = λ c u v n rest st own r. onward c c u v rest (Take n 0 ∷ rest) (λ bound on. Along (phase_of c) u v (Take n 0 ∷ []) rest (Flow u v n st) on) r;
+    flow = λ c u v n rest st own r. onward c c u v rest (Take n 0 ∷ rest) (λ bound on. Along (ToBound bound) (phase_of c) u v (Take n 0 ∷ []) rest (Flow u v n st) on) r;
     empty = λ c u a v s n m rest st ts own owns r. main_empty c u a v s n m rest st ts (owner_of sys a) refl r;
     full = λ c u a b v s n k m rest st is ts own owns r.
         onward c c u v rest (Take n 0 ∷ SubStep k 0 ∷ Take m 0 ∷ rest)
-        (λ bound on. Along (phase_of c) u v (Take n 0 ∷ SubStep k 0 ∷ Take m 0 ∷ []) rest (Full u a b v s n m k st is ts) on) r;
-    call = λ main c u v s n rest st r. onward true c u v rest (Take n 0 ∷ rest) (λ bound on. Into (phase_of c) u v s n rest st on) r;
-    back = λ main u v s n rest st r. onward false false u v rest (Take n 0 ∷ rest) (λ bound on. Back u v s n rest st on) r;
-    bound = λ main c v b n st over. (n, v, b, st, over, Ends (phase_of c) v b st);
+        (λ bound on. Along (ToBound bound) (phase_of c) u v (Take n 0 ∷ SubStep k 0 ∷ Take m 0 ∷ []) rest (Full u a b v s n m k st is ts) on) r;
+    call = λ main c u v s n rest st r. onward true c u v rest (Take n 0 ∷ rest) (λ bound on. Into (ToBound bound) (phase_of c) u v s n rest st on) r;
+    back = λ main u v s n rest st r. onward false false u v rest (Take n 0 ∷ rest) (λ bound on. Back (ToBound bound) u v s n rest st on) r;
+    bound = λ main c v b n st over. (n, v, b, st, over, Ends n (phase_of c) v b st);
   }
 
   -- steps of a sub-path that stay inside a function

@@ -14,7 +14,7 @@ use Rattle.flow_graph.specs.declared.place.Seen.TheVariants.{Edge, Through, NoSu
 use Rattle.flow_graph.specs.System.{System, owner_of, Stands, IsWellOwned}
 use Rattle.flow_graph.specs.Unfolding.{NamesElements}
 use Rattle.flow_graph.specs.Paths.{Matches, stay, longer, Part as Piece, flow, group, Returning, start, flows, returns, grouped, anew, Calling, calls, calls_on, flows_on, grouped_on, Lead}
-use Rattle.flow_graph.specs.Parts.{settled, Part, Flow, Empty, Full, Inside, Done, More, IsSub, Onward, Ends, Along, Back, Into, IsPath}
+use Rattle.flow_graph.specs.Parts.{settled, Part, Flow, Empty, Full, Inside, Done, More, IsSub, Onward, ToBound, Ends, Along, Back, Into, IsPath}
 use Rattle.flow_graph.specs.PathProofs.{is_nobodys, last_of, look, span_of, steps_of, Holds}
 use Rattle.flow_laws.specs.PathForms.{without_line, without_lines, AreSubPaths, NoPaths, NoSteps, Stepped}
 use Rattle.flow_laws.specs.Holding.{LeadsToBound, steps_in, steps_in_proof, HoldsLeads, HoldsRefutes, HoldsRefutesWithin, HoldsIsUnmet, HoldsRejects}
@@ -178,15 +178,15 @@ module _ (sys : System) (lattice elem most total : ℕ) (owned : IsWellOwned sys
   settled_at : (left : ℕ) (p : Phase) (v : ℕ) → At left (is_second p) v → At left (is_second (settled (owner_of sys v) p)) v
   settled_at left p v led = subst (λ c. At left c v) (sym (second_on (owner_of sys v) p)) (settle_led sys lattice elem most total left (is_second p) v led)
 
-  reached : (bound : ℕ) (p : Phase) (u : ℕ) (steps : List PathStep) → Onward sys lattice subs bound p u steps → At (length steps) (is_second p) u → Reached bound
-  reached bound p u _ (Ends _ _ limit st) led =
+  reached : (bound : ℕ) (p : Phase) (u : ℕ) (steps : List PathStep) → Onward sys lattice subs (ToBound bound) p u steps → At (length steps) (is_second p) u → Reached bound
+  reached bound p u _ (Ends _ _ _ limit st) led =
       let end = either_led sys lattice elem most total (is_second p) u (later_led sys lattice elem most total 0 (is_second p) u led) in
       record { var = u; limit = limit; stands = st; lead = end.0; low = end.1 }
-  reached bound p u _ (Along _ _ v front rest part on) led =
+  reached bound p u _ (Along _ _ _ v front rest part on) led =
       reached bound (settled (owner_of sys v) p) v rest on (settled_at (length rest) p v (part_led (is_second p) u v front rest part led))
-  reached bound _ u _ (Back _ v s n rest st on) led =
+  reached bound _ u _ (Back _ _ v s n rest st on) led =
       reached bound (settled (owner_of sys v) First) v rest on (settled_at (length rest) First v (returns u v s n led.0 st, omega (arith, led.1), omega (arith, led.2)))
-  reached bound p u _ (Into _ _ v s n rest st on) led =
+  reached bound p u _ (Into _ _ _ v s n rest st on) led =
       reached bound (settled (owner_of sys v) Second) v rest on (settled_at (length rest) Second v (call_led sys lattice elem most total (length rest) (is_second p) u v s n led st))
 
 path_reaches : (sys : System) (lattice elem bound most : ℕ) (owned : IsWellOwned sys) (subs : List (List PathStep)) (all : AllJoin sys lattice owned most subs) (steps : List PathStep) →

@@ -18,7 +18,7 @@ use Rattle.flow_graph.specs.PathRules.{begins, ends, is_bound, rule_at}
 use Rattle.flow_graph.specs.PathProofs.{first_failing, main_fault, subs_fault, place, look, edge_at, first_of, last_of, of_step, through, span_of, home_of, owner_at, fault_or, or_else, end_fault, ends_in_bound}
 use Rattle.flow_graph.specs.declared.phase.Phase.{Phase}
 use Rattle.flow_graph.specs.declared.phase.Phase.TheVariants.{First, Second}
-use Rattle.flow_graph.specs.Parts.{settled, Part, Flow, Empty, Full, Inside, Done, More, IsSub, Onward, Ends, Along, Back, Into, IsPath}
+use Rattle.flow_graph.specs.Parts.{settled, Part, Flow, Empty, Full, Inside, Done, More, IsSub, Onward, ToBound, Ends, Along, Back, Into, IsPath}
 use Rattle.flow_laws.specs.PathForms.{AreSubPaths, NoPaths, NoSteps, Stepped}
 use Rattle.flow_laws.proofs.Places.{edge}
 use Rattle.flow_laws.proofs.Passing.{start_passes}
@@ -126,20 +126,20 @@ module _ (sys : System) (lattice : ℕ) (subs : List (List PathStep)) (bound : �
       last_more s (Take n 0) (Sub k 0 ∷ Take m 0 ∷ rest) ∙ last_more (Take n 0) (Sub k 0) (Take m 0 ∷ rest) ∙ last_more (Sub k 0) (Take m 0) rest ∙ more (Take m 0)
 
   -- the last step takes the bound
-  onward_last : (p : Phase) (u : ℕ) (steps : List PathStep) → Onward sys lattice subs bound p u steps → (s : PathStep) → last_of (s ∷ steps) ≡ Some (Take bound 0)
-  onward_last p u _ (Ends _ _ limit st) s = refl
-  onward_last p u _ (Along _ _ v front rest part more) s = last_part u v front rest part (onward_last (settled (owner_of sys v) p) v rest more) s
-  onward_last _ u _ (Back _ v t n rest st more) s = last_more s (Take n 0) rest ∙ onward_last (settled (owner_of sys v) First) v rest more (Take n 0)
-  onward_last p u _ (Into _ _ v t n rest st more) s = last_more s (Take n 0) rest ∙ onward_last (settled (owner_of sys v) Second) v rest more (Take n 0)
+  onward_last : (p : Phase) (u : ℕ) (steps : List PathStep) → Onward sys lattice subs (ToBound bound) p u steps → (s : PathStep) → last_of (s ∷ steps) ≡ Some (Take bound 0)
+  onward_last p u _ (Ends _ _ _ limit st) s = refl
+  onward_last p u _ (Along _ _ _ v front rest part more) s = last_part u v front rest part (onward_last (settled (owner_of sys v) p) v rest more) s
+  onward_last _ u _ (Back _ _ v t n rest st more) s = last_more s (Take n 0) rest ∙ onward_last (settled (owner_of sys v) First) v rest more (Take n 0)
+  onward_last p u _ (Into _ _ _ v t n rest st more) s = last_more s (Take n 0) rest ∙ onward_last (settled (owner_of sys v) Second) v rest more (Take n 0)
 
   pub path_last : (elem : ℕ) (steps : List PathStep) → IsPath sys lattice subs elem bound steps → last_of steps ≡ Some (Take bound 0)
   path_last elem steps path = ap last_of path.steps_are ∙ onward_last _ path.from path.rest path.onward (Take path.start 0)
 
-  onward_bound : (p : Phase) (u : ℕ) (steps : List PathStep) → Onward sys lattice subs bound p u steps → (v : ℕ) × (limit : ℕ) × Stands sys lattice bound (Bound v lattice limit)
-  onward_bound p u _ (Ends _ _ limit st) = (u, limit, st)
-  onward_bound p u _ (Along _ _ v front rest part more) = onward_bound (settled (owner_of sys v) p) v rest more
-  onward_bound _ u _ (Back _ v t n rest st more) = onward_bound (settled (owner_of sys v) First) v rest more
-  onward_bound p u _ (Into _ _ v t n rest st more) = onward_bound (settled (owner_of sys v) Second) v rest more
+  onward_bound : (p : Phase) (u : ℕ) (steps : List PathStep) → Onward sys lattice subs (ToBound bound) p u steps → (v : ℕ) × (limit : ℕ) × Stands sys lattice bound (Bound v lattice limit)
+  onward_bound p u _ (Ends _ _ _ limit st) = (u, limit, st)
+  onward_bound p u _ (Along _ _ _ v front rest part more) = onward_bound (settled (owner_of sys v) p) v rest more
+  onward_bound _ u _ (Back _ _ v t n rest st more) = onward_bound (settled (owner_of sys v) First) v rest more
+  onward_bound p u _ (Into _ _ _ v t n rest st more) = onward_bound (settled (owner_of sys v) Second) v rest more
 
   abbrev unended : ℕ → BadStep
   unended end = record { line = end; why = B1 }
@@ -148,7 +148,7 @@ module _ (sys : System) (lattice : ℕ) (subs : List (List PathStep)) (bound : �
   module _ (order : Order) (elem : ℕ) (good : AreSubPaths sys lattice subs)
       (over : (v limit : ℕ) → Stands sys lattice bound (Bound v lattice limit) → leq order elem limit ≡ false) where
     module _ (start from : ℕ) (rest : List PathStep) (end : ℕ) (constant : Stands sys lattice start (Const lattice elem from))
-        (onward : Onward sys lattice subs bound (settled (owner_of sys from) First) from rest) where
+        (onward : Onward sys lattice subs (ToBound bound) (settled (owner_of sys from) First) from rest) where
       abbrev first : Seen
       first = edge (Const lattice elem from) constant.constraint.lattices constant.constraint.span
 

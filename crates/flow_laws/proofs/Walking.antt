@@ -19,7 +19,7 @@ use Rattle.flow_graph.specs.PathRules.{rule_at, is_main, begins_group, is_unmatc
 use Rattle.flow_graph.specs.PathProofs.{first_failing, place, look, edge_or, first_of, second_of, fault_or, in_call_at, is_nobodys}
 use Rattle.flow_graph.specs.declared.phase.Phase.{Phase}
 use Rattle.flow_graph.specs.declared.phase.Phase.TheVariants.{First, Second}
-use Rattle.flow_graph.specs.Parts.{settled, Part, Flow, Empty, Full, Inside, Done, More, Onward, Ends, Along, Back, Into}
+use Rattle.flow_graph.specs.Parts.{settled, Part, Flow, Empty, Full, Inside, Done, More, Onward, ToBound, Ends, Along, Back, Into}
 use Rattle.flow_laws.proofs.Places.{and_false, edge}
 use Rattle.flow_laws.proofs.Passing.{Follows, placed, flow_passes, group_passes, sub_passes, left_passes, closed_passes, back_passes, into_passes, bound_passes}
 
@@ -204,15 +204,15 @@ module _ (sys : System) (order : Order) (lattice elem : ℕ) (subs : List (List 
     | inr first ↦ absurd cc
   ]
 
-  pub onward_passes : (p : Phase) (u : ℕ) (steps : List PathStep) → Onward sys lattice subs bound p u steps → (before : List Seen) → Follows Main (first_of before) u →
+  pub onward_passes : (p : Phase) (u : ℕ) (steps : List PathStep) → Onward sys lattice subs (ToBound bound) p u steps → (before : List Seen) → Follows Main (first_of before) u →
       Settles p before → failing sys order Main lattice elem subs before steps ≡ None
-  onward_passes p u _ (Ends _ _ limit st) before f settles =
+  onward_passes p u _ (Ends _ _ _ limit st) before f settles =
       behind sys order Main lattice elem subs before bound (Bound u lattice limit) st []
       (bound_passes sys order lattice elem _ (first_of before) _ _ u limit _ _ f (over u limit st)) refl
-  onward_passes p u _ (Along _ _ v front rest part more) before f settles =
+  onward_passes p u _ (Along _ _ _ v front rest part more) before f settles =
       part_passes sys order Main lattice elem subs u v front part refl refl before f rest
       (λ new arrives. onward_passes (settled (owner_of sys v) p) v rest more new arrives.follows (settles_on before new p v settles arrives))
-  onward_passes _ u _ (Back _ v s n rest st more) before f settles =
+  onward_passes _ u _ (Back _ _ v s n rest st more) before f settles =
       let back = edge (Leave s u v) st.constraint.lattices st.constraint.span in
       let after = map (look sys subs) rest in
       let Passes : Bool → Type 0 = λ c. rule_at sys order (placed sys order Main lattice elem (second_of before) (first_of before) back (first_of after) c) ≡ None in
@@ -221,7 +221,7 @@ module _ (sys : System) (order : Order) (lattice elem : ℕ) (subs : List (List 
       behind sys order Main lattice elem subs before n (Leave s u v) st rest
       (subst Passes (sym (quiet (back ∷ after))) (back_passes sys order lattice elem _ (first_of before) _ s u v _ _ f st.carried))
       (onward_passes (settled (owner_of sys v) First) v rest more (back ∷ before) arrives.follows (settles_on before (back ∷ before) First v settles arrives))
-  onward_passes p u _ (Into _ _ v s n rest st more) before f settles =
+  onward_passes p u _ (Into _ _ _ v s n rest st more) before f settles =
       let into = edge (Enter s u v) st.constraint.lattices st.constraint.span in
       behind sys order Main lattice elem subs before n (Enter s u v) st rest
       (into_passes sys order lattice elem _ (first_of before) _ _ s u v _ _ f st.carried)

@@ -1,0 +1,6 @@
+//! Who reaches a name: the constants that lead to each of its variables, and the bounds that each leads to, with a walk for each.
+#![tactic(auto)]
+
+mod answers;
+
+pub use answers::answer_who;

@@ -1,0 +1,10 @@
+//! Laws of what leads where: functions without a body, each with a law as its contract.
+#![tactic(auto)]
+
+ghost use Rattle.walk_laws.specs.Laws.{LeadsAreWalks};
+
+/// A path in two phases leads exactly where the unfolding does.
+pub fn leads_are_walks()
+    ensures { LeadsAreWalks }
+{
+}
