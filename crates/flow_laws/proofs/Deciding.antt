@@ -7,7 +7,7 @@ use Rattle.flow_graph.specs.Unfolding.{Assignment, IsAcceptedIn, IsExceeded, Pri
 use Rattle.flow_graph.specs.Paths.{Lead}
 use Rattle.flow_laws.specs.Least.{IsLeastOver, IsSolution, KeepsBounds}
 use Rattle.flow_laws.specs.Sets.{IsLeastInCopies}
-use Rattle.flow_laws.specs.Deciding.{PathTests, AreExact, ExceedsNone, IsSolved, IsDecided, TestsSolve, TestsDecide}
+use Rattle.flow_laws.specs.Deciding.{PathTests, AreExact, ExceedsNone, IsSolved, TestsSolve, TestsDecide}
 use Rattle.flow_laws.proofs.Leads.{solution_stands}
 use Rattle.flow_laws.proofs.Testing.{reached_is_tested}
 use Rattle.flow_laws.proofs.Accept.{copies_stand, met, below_solution, kept_is_accepted, solution_is_printed, exceeded_is_over, over_is_exceeded}

@@ -10,7 +10,7 @@ use Rattle.flow_graph.specs.CallStrings.{IsCallString, IsCopy, either}
 use Rattle.flow_graph.specs.Unfolding.{Assignment, at, seen_from, Rises}
 use Rattle.flow_graph.specs.Paths.{Matches, stay, longer, Part, flow, group, Returning, start, flows, returns, grouped, anew, Calling, calls, calls_on, flows_on, grouped_on, Lead}
 use Rattle.flow_laws.proofs.Depths.{depth_inside, depth_of_part, open_calls, depth_returning, depth_calling, depth_of}
-use Rattle.flow_laws.specs.Refuting.{LeadsForce, PathsRefute, ExceededIsRefuted, AcceptedKeepsPaths, MoreIsHarder, NoConstantIsAccepted, MeetsAtOnce, OneCopyServes}
+use Rattle.flow_laws.specs.Refuting.{LeadsForce, PathsRefute, ExceededIsRefuted, AcceptedKeepsPaths, MoreIsHarder, NoConstantIsAccepted, OneCopyServes}
 use Rattle.flow_laws.proofs.Leads.{root}
 use Rattle.flow_laws.proofs.Owners.{seen_is, seen_twice, seen_within, copy_on, flow_to, flow_from, start_owner, end_owner, entering, leaving, same_function, same_outer}
 

@@ -159,7 +159,7 @@ module _ (sys : System) (lattice : ℕ) (subs : List (List PathStep)) (bound : �
           let st = onward_bound _ from rest onward in
           subst Ending (sym (onward_last _ from rest onward (Take start 0))) (subst Sees (sym (seen sys lattice bound (Bound st.0 lattice st.1) st.2)) refl)
 
-      settles : Settles sys order lattice elem subs bound over (settled (owner_of sys from) First) (first ∷ [])
+      settles : Settles sys order lattice elem subs (settled (owner_of sys from) First) (first ∷ [])
       settles is = λ after. call_const sys order Main lattice elem [] after lattice elem from _ _ ∙ quiet_and sys order Main lattice elem _ _ refl
 
       abbrev whole : Option Why → Option BadStep → Option BadStep
@@ -175,4 +175,4 @@ module _ (sys : System) (lattice : ℕ) (subs : List (List PathStep)) (bound : �
           subst Passes (sym (seen sys lattice start (Const lattice elem from) constant))
           (ap (λ why. whole why (walked first)) (start_passes sys order lattice elem _ _ from _ _)
           ∙ or_both _ _ (subs_pass sys order lattice elem subs good)
-          (or_both _ _ (onward_passes sys order lattice elem subs bound over _ from rest onward (first ∷ []) (follows_const sys order Main lattice elem lattice elem from _ _) settles) ends_well))
+          (or_both _ _ (onward_passes sys order lattice elem subs (ToBound bound) over _ from rest onward (first ∷ []) (follows_const sys order Main lattice elem lattice elem from _ _) settles) ends_well))

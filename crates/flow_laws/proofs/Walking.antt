@@ -19,7 +19,7 @@ use Rattle.flow_graph.specs.PathRules.{rule_at, is_main, begins_group, is_unmatc
 use Rattle.flow_graph.specs.PathProofs.{first_failing, place, look, edge_or, first_of, second_of, fault_or, in_call_at, is_nobodys}
 use Rattle.flow_graph.specs.declared.phase.Phase.{Phase}
 use Rattle.flow_graph.specs.declared.phase.Phase.TheVariants.{First, Second}
-use Rattle.flow_graph.specs.Parts.{settled, Part, Flow, Empty, Full, Inside, Done, More, Onward, ToBound, Ends, Along, Back, Into}
+use Rattle.flow_graph.specs.Parts.{settled, Part, Flow, Empty, Full, Inside, Done, More, Onward, Goal, ToBound, ToVariable, Ends, There, Along, Back, Into}
 use Rattle.flow_laws.proofs.Places.{and_false, edge}
 use Rattle.flow_laws.proofs.Passing.{Follows, placed, flow_passes, group_passes, sub_passes, left_passes, closed_passes, back_passes, into_passes, bound_passes}
 
@@ -182,8 +182,7 @@ settled_cases : (o : Owner) (p : Phase) → settled o p ≡ First → (is_nobody
 settled_cases Nobody p is = inl refl
 settled_cases (Function f) p is = inr is
 
-module _ (sys : System) (order : Order) (lattice elem : ℕ) (subs : List (List PathStep)) (bound : ℕ)
-    (over : (v limit : ℕ) → Stands sys lattice bound (Bound v lattice limit) → leq order elem limit ≡ false) where
+module _ (sys : System) (order : Order) (lattice elem : ℕ) (subs : List (List PathStep)) where
   abbrev pub IsQuiet : List Seen → Type 0
   IsQuiet before = Quiet sys order Main lattice elem before
 
@@ -204,15 +203,21 @@ module _ (sys : System) (order : Order) (lattice elem : ℕ) (subs : List (List 
     | inr first ↦ absurd cc
   ]
 
-  pub onward_passes : (p : Phase) (u : ℕ) (steps : List PathStep) → Onward sys lattice subs (ToBound bound) p u steps → (before : List Seen) → Follows Main (first_of before) u →
+  -- where the goal is a bound, the element is not at or below it
+  abbrev pub Over : Goal → Type 0
+  Over (ToBound bound) = (v limit : ℕ) → Stands sys lattice bound (Bound v lattice limit) → leq order elem limit ≡ false
+  Over (ToVariable to) = Unit {0}
+
+  pub onward_passes : (goal : Goal) → Over goal → (p : Phase) (u : ℕ) (steps : List PathStep) → Onward sys lattice subs goal p u steps → (before : List Seen) → Follows Main (first_of before) u →
       Settles p before → failing sys order Main lattice elem subs before steps ≡ None
-  onward_passes p u _ (Ends _ _ _ limit st) before f settles =
+  onward_passes _ over p u _ (Ends bound _ _ limit st) before f settles =
       behind sys order Main lattice elem subs before bound (Bound u lattice limit) st []
       (bound_passes sys order lattice elem _ (first_of before) _ _ u limit _ _ f (over u limit st)) refl
-  onward_passes p u _ (Along _ _ _ v front rest part more) before f settles =
+  onward_passes _ over p u _ (There _ _) before f settles = refl
+  onward_passes goal over p u _ (Along _ _ _ v front rest part more) before f settles =
       part_passes sys order Main lattice elem subs u v front part refl refl before f rest
-      (λ new arrives. onward_passes (settled (owner_of sys v) p) v rest more new arrives.follows (settles_on before new p v settles arrives))
-  onward_passes _ u _ (Back _ _ v s n rest st more) before f settles =
+      (λ new arrives. onward_passes goal over (settled (owner_of sys v) p) v rest more new arrives.follows (settles_on before new p v settles arrives))
+  onward_passes goal over _ u _ (Back _ _ v s n rest st more) before f settles =
       let back = edge (Leave s u v) st.constraint.lattices st.constraint.span in
       let after = map (look sys subs) rest in
       let Passes : Bool → Type 0 = λ c. rule_at sys order (placed sys order Main lattice elem (second_of before) (first_of before) back (first_of after) c) ≡ None in
@@ -220,9 +225,9 @@ module _ (sys : System) (order : Order) (lattice elem : ℕ) (subs : List (List 
       let arrives = arrives_leave sys order Main lattice elem before before s u v st.constraint.lattices st.constraint.span (λ q after. q (back ∷ after)) in
       behind sys order Main lattice elem subs before n (Leave s u v) st rest
       (subst Passes (sym (quiet (back ∷ after))) (back_passes sys order lattice elem _ (first_of before) _ s u v _ _ f st.carried))
-      (onward_passes (settled (owner_of sys v) First) v rest more (back ∷ before) arrives.follows (settles_on before (back ∷ before) First v settles arrives))
-  onward_passes p u _ (Into _ _ _ v s n rest st more) before f settles =
+      (onward_passes goal over (settled (owner_of sys v) First) v rest more (back ∷ before) arrives.follows (settles_on before (back ∷ before) First v settles arrives))
+  onward_passes goal over p u _ (Into _ _ _ v s n rest st more) before f settles =
       let into = edge (Enter s u v) st.constraint.lattices st.constraint.span in
       behind sys order Main lattice elem subs before n (Enter s u v) st rest
       (into_passes sys order lattice elem _ (first_of before) _ _ s u v _ _ f st.carried)
-      (onward_passes (settled (owner_of sys v) Second) v rest more (into ∷ before) (follows_enter sys order Main lattice elem s u v _ _) (settles_call before s u v _ _))
+      (onward_passes goal over (settled (owner_of sys v) Second) v rest more (into ∷ before) (follows_enter sys order Main lattice elem s u v _ _) (settles_call before s u v _ _))
