@@ -1,7 +1,8 @@
-mod Walk
+mod Stepping
 mod Splits
 mod Numbers
 mod Reading
 mod WholeReports
 mod Placed
 mod Ordered
+mod Sameness

@@ -1,5 +1,6 @@
 pub mod Orders
 pub mod Start
+pub mod Walks
 pub mod Lines
 pub mod Report
 pub mod Reader

@@ -1,16 +1,20 @@
-//! Whether a path proof holds, one step at a time.
+//! Whether a path proof or a walk holds, one step at a time.
 
-ghost use Rattle.std.specs.Prelude.{◌≡◌, ◌↔◌, [], ◌∷◌, Some, IsOk, IfErr, OnOk, map, slice_get};
+ghost use Rattle.std.specs.Prelude.{◌≡◌, ◌↔◌, [], ◌∷◌, None, Some, IsOk, IfErr, OnOk, map, slice_get};
+ghost use Rattle.std.specs.Prelude.{option_map};
 ghost use Rattle.lattice_core.specs.Order.{leq};
+ghost use Rattle.flow_graph.specs.declared.place.Seen.TheVariants.{Edge};
 ghost use Rattle.flow_graph.specs.System.{IsWellOwned};
 ghost use Rattle.flow_graph.specs.Unfolding.{NamesElements, IsAccepted};
 ghost use Rattle.flow_graph.specs.PathRules.{begins, ends, is_kept, rule_at};
 ghost use Rattle.flow_graph.specs.PathProofs.{edge_or, edge_at, look, line_of, first_of, last_of};
 ghost use Rattle.flow_graph.specs.PathProofs.{of_step, through, ends_with_nobody, stays_in_call};
-ghost use Rattle.flow_graph.specs.PathProofs.{first_failing, home_of, subs_fault, start_of};
+ghost use Rattle.flow_graph.specs.PathProofs.{home_of, start_of};
 ghost use Rattle.flow_graph.specs.PathProofs.{end_fault, main_fault, steps_of, fault_of, Holds};
 ghost use Rattle.flow_laws.specs.Holding.{steps_in_proof, IsUnmetWithin};
 ghost use Rattle.path_checker.specs.Orders.{order_at, AreOrders};
+ghost use Rattle.path_checker.specs.Walks.{behind, faults_for, order_for, rule_for, subs_faults_for};
+ghost use Rattle.flow_graph.specs.Walks.{WalkHolds, constant_to, walk_end_fault, walk_fault_of};
 ghost use Rattle.lattice_core.specs.View.{orders_of};
 ghost use Rattle.path_checker.specs.Start.{start_fault};
 
@@ -19,11 +23,12 @@ use crate::rules::{
     is_unmatched_enter,
 };
 use flow_graph::{
-    BadStep, Constraint, FlowGraph, Link, Path, PathProof, PathStep, Place, Seen, SubPath, Why,
+    BadStep, Constraint, FlowGraph, Link, Path, PathProof, PathStep, Place, Seen, SubPath, Walk,
+    Why,
 };
 use flow_laws::{holds_is_unmet, holds_rejects};
 use lattice_core::Lattices;
-use qual_base::{EdgeId, Elem, LatticeNo, Numbered, Owner, VarId};
+use qual_base::{EdgeId, Elem, LatticeNo, Numbered, Owner, Span, TokenId, UnitNo, VarId};
 
 /// Each of the lattices is an order. It does nothing.
 fn are_orders(lattices: &Lattices)
@@ -44,10 +49,13 @@ fn is_at_or_below(lattices: &Lattices, lattice: LatticeNo, a: Elem, b: Elem) -> 
     a.number() < order.size() && b.number() < order.size() && order.leq(a, b)
 }
 
-/// Rule B7: the constant's element is at or below the bound's.
-fn is_kept(lattices: &Lattices, lattice: LatticeNo, elem: Elem, step: &Seen) -> bool
-    ensures { result ≡ is_kept (order_at lattices.now lattice) elem step.now }
+/// Rule B7: the constant's element is at or below the bound's. With no lattices nothing is.
+fn is_kept(lattices: Option<&Lattices>, lattice: LatticeNo, elem: Elem, step: &Seen) -> bool
+    ensures { result ≡ is_kept (order_for (option_map (λ l. l.now) lattices.entry) lattice) elem step.now }
 {
+    let Some(lattices) = lattices else {
+        return false;
+    };
     match step {
         Seen::Edge(
             Constraint {
@@ -61,8 +69,9 @@ fn is_kept(lattices: &Lattices, lattice: LatticeNo, elem: Elem, step: &Seen) -> 
 
 /// The first rule that fails at a place.
 #[tactic(auto, unfolding(flow_graph::specs::PathRules::rule_at))]
-fn rule_at(graph: &FlowGraph, lattices: &Lattices, p: &Place) -> Option<Why>
-    ensures { result ≡ rule_at graph.now (order_at lattices.now p.now.lattice) p.now }
+fn rule_at(graph: &FlowGraph, lattices: Option<&Lattices>, p: &Place) -> Option<Why>
+    ensures { result
+        ≡ rule_at graph.now (order_for (option_map (λ l. l.now) lattices.entry) p.now.lattice) p.now }
 {
     if fails_b1(p) {
         return Some(Why::B1);
@@ -86,6 +95,16 @@ fn rule_at(graph: &FlowGraph, lattices: &Lattices, p: &Place) -> Option<Why>
         return Some(Why::B7);
     }
     None
+}
+
+/// The first rule that fails at a place of a path proof over lattices; with none, of a walk, in which no bound may stand.
+fn rule_for(graph: &FlowGraph, lattices: Option<&Lattices>, p: &Place) -> Option<Why>
+    ensures { result ≡ rule_for graph.now (option_map (λ l. l.now) lattices.entry) p.now }
+{
+    if lattices.is_none() && is_bound(&p.step) {
+        return Some(Why::B1);
+    }
+    rule_at(graph, lattices, p)
 }
 
 /// The constraint of a number.
@@ -221,22 +240,48 @@ fn end_fault(graph: &FlowGraph, main: &[PathStep], end: u32) -> Option<BadStep>
     }
 }
 
-/// The first step of a path that fails. Linear in the path.
+/// A constant to a variable, as a step: a walk from the variable stands behind it. (Its element and its span play no part.)
+fn constant_to(lattice: LatticeNo, from: VarId) -> Seen
+    ensures { result ≡ Edge (constant_to lattice from) }
+{
+    Seen::Edge(Constraint {
+        link: Link::Const(lattice, Elem::new(0), from),
+        lattices: 0,
+        span: Span {
+            unit: UnitNo::new(0),
+            from: TokenId::new(0),
+            to: TokenId::new(0),
+        },
+    })
+}
+
+/// What stands before a path's first step: nothing, or a constant to the first variable of a walk.
+fn before(lattice: LatticeNo, from: Option<VarId>) -> Option<Seen>
+    ensures { result ≡ first_of (behind lattice from) }
+{
+    match from {
+        Some(from) => Some(constant_to(lattice, from)),
+        None => None,
+    }
+}
+
+/// The first step of a path that fails, of a walk where a variable is given from which it leads. Linear in the path.
 fn path_fault(
     graph: &FlowGraph,
-    lattices: &Lattices,
+    lattices: Option<&Lattices>,
     earlier: &[SubPath],
     path: &Path,
     lattice: LatticeNo,
     elem: Elem,
+    from: Option<VarId>,
     steps: &[PathStep],
 ) -> Option<BadStep>
-    ensures { result ≡ first_failing graph.now (order_at lattices.now lattice) path.now lattice elem
-        (look graph.now (steps_of earlier.now)) [] steps.now }
+    ensures { result ≡ faults_for graph.now (option_map (λ l. l.now) lattices.entry) path.now lattice elem
+        (look graph.now (steps_of earlier.now)) (behind lattice from) steps.now }
 {
     let mut rest = steps;
     let mut two_before = None;
-    let mut one_before = None;
+    let mut one_before = before(lattice, from);
     let mut in_call = false;
     'steps: while let Some((first, after)) = rest.split_first() {
         let place = Place {
@@ -249,7 +294,7 @@ fn path_fault(
             lattice,
             elem,
         };
-        if let Some(why) = rule_at(graph, lattices, &place) {
+        if let Some(why) = rule_for(graph, lattices, &place) {
             return Some(BadStep {
                 line: line_of(first),
                 why,
@@ -266,13 +311,13 @@ fn path_fault(
 /// The first step that fails of the sub-paths, each of which may name the earlier ones alone. Linear in their steps.
 fn subs_fault(
     graph: &FlowGraph,
-    lattices: &Lattices,
+    lattices: Option<&Lattices>,
     subs: &[SubPath],
     lattice: LatticeNo,
     elem: Elem,
 ) -> Option<BadStep>
-    ensures { result
-        ≡ subs_fault graph.now (order_at lattices.now lattice) lattice elem [] (steps_of subs.now) }
+    ensures { result ≡ subs_faults_for graph.now
+        (option_map (λ l. l.now) lattices.entry) lattice elem [] (steps_of subs.now) }
 {
     for (i, sub) in subs.iter().enumerate() {
         let path = Path::Sub(home_of(graph, &sub.steps));
@@ -283,6 +328,7 @@ fn subs_fault(
             &path,
             lattice,
             elem,
+            None,
             &sub.steps,
         );
         if fault.is_some() {
@@ -315,7 +361,7 @@ fn start_fault(
         lattice,
         elem,
     };
-    match rule_at(graph, lattices, &place) {
+    match rule_at(graph, Some(lattices), &place) {
         Some(why) => Some(BadStep {
             line: line_of(first),
             why,
@@ -356,16 +402,17 @@ fn main_fault(
     if let Some(fault) = start_fault(graph, lattices, &proof.subs, lattice, elem, first, rest) {
         return Some(fault);
     }
-    if let Some(fault) = subs_fault(graph, lattices, &proof.subs, lattice, elem) {
+    if let Some(fault) = subs_fault(graph, Some(lattices), &proof.subs, lattice, elem) {
         return Some(fault);
     }
     if let Some(fault) = path_fault(
         graph,
-        lattices,
+        Some(lattices),
         &proof.subs,
         &Path::Main,
         lattice,
         elem,
+        None,
         &proof.main,
     ) {
         return Some(fault);
@@ -412,5 +459,81 @@ pub fn check(graph: &FlowGraph, lattices: &Lattices, proof: &PathProof) -> Resul
             holds_is_unmet();
             Ok(())
         }
+    }
+}
+
+/// Whether a walk from a variable ends where it is to.
+fn walk_end_fault(
+    graph: &FlowGraph,
+    from: VarId,
+    to: VarId,
+    steps: &[PathStep],
+    end: u32,
+) -> Option<BadStep>
+    ensures { result ≡ walk_end_fault graph.now from to steps.now end }
+{
+    let last = match steps.last() {
+        Some(last) => ends(&edge_at(graph, last)),
+        None => Some(from),
+    };
+    if last == Some(to) {
+        None
+    } else {
+        Some(BadStep {
+            line: end,
+            why: Why::B2,
+        })
+    }
+}
+
+/// The first step of a walk that fails.
+fn walk_fault(
+    graph: &FlowGraph,
+    lattice: LatticeNo,
+    from: VarId,
+    to: VarId,
+    walk: &Walk,
+) -> Option<BadStep>
+    ensures { result ≡ walk_fault_of graph.now lattice from to walk.now }
+{
+    let elem = Elem::new(0);
+    if let Some(fault) = subs_fault(graph, None, &walk.subs, lattice, elem) {
+        return Some(fault);
+    }
+    if let Some(fault) = path_fault(
+        graph,
+        None,
+        &walk.subs,
+        &Path::Main,
+        lattice,
+        elem,
+        Some(from),
+        &walk.steps,
+    ) {
+        return Some(fault);
+    }
+    walk_end_fault(graph, from, to, &walk.steps, walk.end)
+}
+
+/// Checks a walk from a variable to another in a lattice, one step at a time, in time linear in its steps. Takes no memory.
+///
+/// # Errors
+///
+/// The line of the first step that fails, of the sub-paths before the walk's own, and the first of the rules that it fails. An
+/// end elsewhere fails B2, at `end`.
+pub fn check_walk(
+    graph: &FlowGraph,
+    lattice: LatticeNo,
+    from: VarId,
+    to: VarId,
+    walk: &Walk,
+) -> Result<(), BadStep>
+    ensures holds { IsOk result ↔ WalkHolds graph.now lattice from to walk.now }
+    ensures fails { IfErr result
+        (λ bad. walk_fault_of graph.now lattice from to walk.now ≡ Some bad) }
+{
+    match walk_fault(graph, lattice, from, to, walk) {
+        Some(bad) => Err(bad),
+        None => Ok(()),
     }
 }

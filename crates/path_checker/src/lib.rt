@@ -1,4 +1,4 @@
-//! Path proofs: whether one holds of a constraint graph, and the reading of a report's text.
+//! Path proofs and walks: whether one holds of a constraint graph, and the reading of a report's text.
 #![tactic(auto)]
 
 mod checking;
@@ -8,7 +8,7 @@ mod rules;
 #[cfg(test)]
 mod tests;
 
-pub use checking::check;
-pub use flow_graph::{BadStep, PathProof, PathStep, SubPath, Why};
+pub use checking::{check, check_walk};
+pub use flow_graph::{BadStep, PathProof, PathStep, SubPath, Walk, Why};
 pub use lines::{Line, line_kind, split_at_first};
 pub use report::{ReportFault, Section, read_report};
