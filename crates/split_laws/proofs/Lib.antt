@@ -1,0 +1,5 @@
+mod Appending
+mod Library
+mod Serving
+mod Wholes
+mod Carried
