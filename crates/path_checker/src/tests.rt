@@ -1,4 +1,4 @@
-//! Path proofs over small graphs and texts of reports. The answers were worked out by hand for the graph of two
+//! Path proofs and walks over small graphs, and texts of reports. The answers were worked out by hand for the graph of two
 //! lattices, and by two other programs for the rest.
 
 ghost use Rattle.std.specs.Prelude.{◌<◌, ◌^◌};
@@ -11,12 +11,13 @@ use self::cases::{
     Answer, FILE_SITE_CASES, FILE_SITE_LINKS, FILE_SITE_OWNERS, FILE_SITE_SITES, Form,
     GLOBALS_CASES, GLOBALS_LINKS, GLOBALS_OWNERS, GLOBALS_SITES, RECURSIVE_CASES, RECURSIVE_LINKS,
     RECURSIVE_OWNERS, RECURSIVE_SITES, SHARED_CASES, SHARED_LINKS, SHARED_OWNERS, SHARED_SITES,
-    TEXTS, TWO_FUNCTIONS_CASES, TWO_FUNCTIONS_LINKS, TWO_FUNCTIONS_OWNERS, TWO_FUNCTIONS_SITES,
-    TWO_LATTICES_CASES, TWO_LATTICES_LINKS, TWO_LATTICES_OWNERS, TWO_LATTICES_SITES,
+    Step, TEXTS, TWO_FUNCTIONS_CASES, TWO_FUNCTIONS_LINKS, TWO_FUNCTIONS_OWNERS,
+    TWO_FUNCTIONS_SITES, TWO_LATTICES_CASES, TWO_LATTICES_LINKS, TWO_LATTICES_OWNERS,
+    TWO_LATTICES_SITES, WALKS,
 };
-use crate::checking::check;
+use crate::checking::{check, check_walk};
 use crate::report::read_report;
-use flow_graph::{Constraint, FlowGraph, Link, PathStep, Site};
+use flow_graph::{Constraint, FlowGraph, Link, PathStep, Site, SubPath, Walk};
 use lattice_core::{Entry, Lattice, Lattices, Level, Name, Pair, Sign};
 use qual_base::{
     EdgeId, Elem, FuncId, LatticeNo, Numbered, Owner, SiteId, Span, TokenId, UnitNo, VarId,
@@ -269,5 +270,57 @@ fn steps_keep_their_lines(rt: HostRuntime) -> Result<(), Fail> {
     };
     assert!(rt; proof.subs[0].steps.as_slice() == [seven].as_slice());
     assert!(rt; proof.main.as_slice() == [three, sub].as_slice());
+    Ok(())
+}
+
+/// The steps of a walk, which stand in the lines from 1 on.
+fn walk_steps(rt: &impl Abort, alloc: Global, steps: &[Step]) -> Result<Vec<PathStep>, Fail> {
+    let mut made = Vec::new(alloc);
+    for (at, step) in steps.iter().enumerate() {
+        assert!(rt; at < 1000);
+        let line = at as u32 + 1;
+        made.push(match step {
+            Step::Take(edge) => PathStep::Take {
+                edge: EdgeId::new(*edge),
+                line,
+            },
+            Step::Through(number) => PathStep::Sub {
+                number: *number,
+                line,
+            },
+        })?;
+    }
+    Ok(made)
+}
+
+#[test]
+fn walks_are_judged(rt: HostRuntime) -> Result<(), Fail> {
+    let alloc = rt.alloc();
+    let graph = graph(
+        &rt,
+        alloc,
+        &TWO_LATTICES_OWNERS,
+        &TWO_LATTICES_SITES,
+        &TWO_LATTICES_LINKS,
+    )?;
+    for (of, from, to, has_sub, steps, want) in &WALKS {
+        let mut subs = Vec::new(alloc);
+        if *has_sub {
+            subs.push(SubPath {
+                steps: walk_steps(&rt, alloc, &[Step::Take(8)])?,
+            })?;
+        }
+        let steps = walk_steps(&rt, alloc, steps)?;
+        assert!(rt; steps.len() < 1000);
+        let end = steps.len() as u32 + 1;
+        let walk = Walk { subs, steps, end };
+        let from = variable(&rt, *from);
+        let to = variable(&rt, *to);
+        let found = match check_walk(&graph, lattice(&rt, *of), from, to, &walk) {
+            Ok(()) => None,
+            Err(bad) => Some((bad.line, bad.why)),
+        };
+        assert!(rt; found == *want);
+    }
     Ok(())
 }

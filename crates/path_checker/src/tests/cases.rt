@@ -575,3 +575,56 @@ pub const TEXTS: [(&[u8], Result<usize, ReportFault>); 36] = [
     (b"rejected\nerror\npath\n?\n  9 x\n", Err(Grammar(4))),
     (b"rejected\nerror\npath\n  sub 0\n  sub 4294967296\n", Ok(1)),
 ];
+
+/// A step of a walk: a constraint, or a sub-path by its number.
+#[derive(Clone, Copy)]
+pub enum Step {
+    Take(u32),
+    Through(u32),
+}
+
+use Step::{Take, Through};
+
+/// A walk over the graph of two lattices: the lattice, where it begins and where it is to end, whether its one sub-path is the flow
+/// from 2 to 3, and its steps, which stand in the lines from 1 on.
+pub type WalkCase = (u8, u32, u32, bool, &'static [Step], Answer);
+
+pub const WALKS: [WalkCase; 16] = [
+    (0, 0, 1, false, &[Take(1)], None),
+    (0, 0, 0, false, &[], None),
+    (0, 0, 1, false, &[], Some((1, B2))),
+    (0, 1, 1, false, &[Take(1)], Some((1, B2))),
+    (0, 0, 3, false, &[Take(1)], Some((2, B2))),
+    (0, 0, 1, false, &[Take(1), Take(2)], Some((2, B1))),
+    (0, 0, 0, false, &[Take(0)], Some((1, B1))),
+    (0, 0, 0, false, &[Take(99)], Some((1, B1))),
+    (0, 0, 1, false, &[Take(5)], Some((1, B6))),
+    (1, 0, 1, false, &[Take(5)], None),
+    (0, 3, 1, false, &[Take(7)], None),
+    (0, 0, 1, false, &[Take(6), Take(8), Take(7)], Some((3, B1))),
+    (
+        0,
+        0,
+        1,
+        false,
+        &[Take(6), Take(8), Take(14), Take(15), Take(7)],
+        None,
+    ),
+    (0, 0, 1, true, &[Take(6), Through(1), Take(7)], None),
+    (
+        0,
+        0,
+        1,
+        true,
+        &[Take(6), Through(1), Take(9)],
+        Some((3, B3)),
+    ),
+    (
+        0,
+        0,
+        1,
+        false,
+        &[Take(6), Through(1), Take(7)],
+        Some((2, B4)),
+    ),
+];
