@@ -1,5 +1,5 @@
-mod Writing
-mod SceneLemmas
+pub mod Writing
+pub mod SceneLemmas
 mod SubsLemmas
 mod LatticeLemmas
 mod SolutionLemmas

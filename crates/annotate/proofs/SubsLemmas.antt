@@ -1,5 +1,5 @@
 -- The lines of sub-paths, one after the other.
-use Rattle.std.proofs.Common.{◌≡◌, ℕ, zero, suc, ◌+◌, ◌<◌, ◌≤◌, List, [], ◌∷◌, ◌++◌, length, take, get_or, Some, codes, slice_get, refl, sym, ◌∙◌, ap, arith, append_assoc, append-nil}
+use Rattle.std.proofs.Common.{◌≡◌, ℕ, zero, suc, ◌+◌, ◌<◌, ◌≤◌, List, [], ◌∷◌, ◌++◌, length, take, get_or, Option, Some, None, codes, slice_get, refl, sym, ◌∙◌, ap, arith, append_assoc, append-nil}
 use Rattle.std.specs.Fmt.{decimal}
 use Rattle.flow_graph.specs.declared.proof.PathStep.{PathStep}
 use Rattle.flow_graph.specs.declared.proof.SubPath.{SubPath}
@@ -8,7 +8,7 @@ use Rattle.flow_graph.specs.PathProofs.{steps_of}
 use Rattle.std.proofs.Math.Seq.{take-suc}
 use Rattle.std.proofs.lemmas.List.{take_all}
 use Rattle.std.proofs.lemmas.Grind.{flat_map-append}
-use Rattle.annotate.specs.Texts.{Scene, line, step_text, steps_text, subs_text}
+use Rattle.annotate.specs.Texts.{Scene, line, constraint_text, step_text, steps_text, subs_text, taken}
 
 module _ (scene : Scene) (sys : System) where
   -- the lines of one sub-path with a number
@@ -67,3 +67,24 @@ module _ (scene : Scene) (sys : System) where
 
   pub all_subs : (subs : List SubPath) (n : ℕ) → length subs ≤ n → subs_text scene sys 1 (steps_of (take n subs)) ≡ subs_text scene sys 1 (steps_of subs)
   all_subs subs n past = ap (λ (taken : List SubPath). subs_text scene sys 1 (steps_of taken)) (take_all n subs past)
+
+  -- the line of a constraint beside a walk
+  pub beside_is : (beside : Option ℕ) (at : ℕ) → beside ≡ Some at →
+      constraint_text scene at (slice_get sys.constraints at) ≡ steps_text scene sys (taken beside)
+  beside_is beside at is =
+      sym (append-nil (constraint_text scene at (slice_get sys.constraints at)))
+      ∙ ap (λ (o : Option ℕ). steps_text scene sys (taken o)) (sym is)
+
+  pub none_beside : (beside : Option ℕ) → beside ≡ None → [] ≡ steps_text scene sys (taken beside)
+  none_beside beside is = ap (λ (o : Option ℕ). steps_text scene sys (taken o)) (sym is)
+
+  -- the lines of steps between those of two constraints
+  pub walk_lines : (front : List ℕ) (first steps last : List PathStep) →
+      front ++ steps_text scene sys first ++ steps_text scene sys steps ++ steps_text scene sys last
+      ≡ front ++ steps_text scene sys (first ++ steps ++ last)
+  walk_lines front first steps last =
+      let text : List PathStep → List ℕ = λ steps. steps_text scene sys steps in
+      ap (λ t. t ++ text last) (append_assoc front (text first) (text steps)
+      ∙ ap (λ t. front ++ t) (sym (flat_map-append (step_text scene sys) first steps)))
+      ∙ append_assoc front (text (first ++ steps)) (text last)
+      ∙ ap (λ t. front ++ t) (sym (flat_map-append (step_text scene sys) (first ++ steps) last))

@@ -11,6 +11,8 @@ use Rattle.flow_graph.specs.declared.constraint.Link.TheVariants.{Le, Const, Bou
 use Rattle.flow_graph.specs.declared.constraint.Constraint.{Constraint}
 use Rattle.flow_graph.specs.declared.proof.PathStep.{PathStep}
 use Rattle.flow_graph.specs.declared.proof.PathStep.TheVariants.{Take, Sub}
+use Rattle.flow_graph.specs.declared.proof.Walk.{Walk}
+use Rattle.flow_graph.specs.PathProofs.{steps_of}
 use Rattle.flow_graph.specs.System.{System}
 use Rattle.c_lexer.specs.declared.token.Token.{Token}
 use Rattle.c_lexer.specs.Tokens.{Lexed, text_of, token_spot}
@@ -126,6 +128,15 @@ subs_text scene sys number (steps ∷ subs) = line (codes "sub " ++ decimal numb
 -- the lines of a path proof: its sub-paths, and then its main path
 abbrev pub proof_text : Scene → System → List (List PathStep) → List PathStep → List ℕ
 proof_text scene sys subs main = subs_text scene sys 1 subs ++ line (codes "path") ++ steps_text scene sys main
+
+-- the step that takes a constraint, where there is one
+abbrev pub taken : Option ℕ → List PathStep
+taken (Some edge) = Take edge 0 ∷ []
+taken None = []
+
+-- The lines of a walk, with the constraint before its first step and the one behind its last, where there are such.
+abbrev pub walk_text : Scene → System → Option ℕ → Option ℕ → Walk → List ℕ
+walk_text scene sys begin bound walk = proof_text scene sys (steps_of walk.subs.items) (taken begin ++ walk.steps.items ++ taken bound)
 
 -- the line of a variable with its element in a lattice
 abbrev pub value_line : Scene → ℕ → ℕ → ℕ → List ℕ

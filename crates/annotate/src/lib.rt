@@ -15,5 +15,8 @@ mod texts;
 
 pub use judging::{Judged, count_errors, judge, judge_with};
 pub use laws::comments_come_out;
+pub use paths::put_walk;
 pub use places::{put, put_at, put_decimal, put_spot};
-pub use scene::{Scene, UnitText, find_unit};
+pub use scene::{Scene, UnitText, bytes_of, find_unit, unit_at};
+pub use solving::{Solved, solve_all, solved_of};
+pub use texts::put_var;

@@ -4,13 +4,13 @@ ghost use Rattle.std.specs.Prelude.{◌≡◌, ◌++◌, codes, slice_get, OnOk}
 ghost use Rattle.std.specs.Fmt.{decimal};
 ghost use Rattle.flow_graph.specs.PathProofs.{steps_of};
 ghost use Rattle.annotate.specs.Texts.{line, constraint_text, step_text, steps_text, subs_text};
-ghost use Rattle.annotate.specs.Texts.{proof_text};
+ghost use Rattle.annotate.specs.Texts.{proof_text, taken, walk_text};
 ghost use Rattle.annotate.specs.Scenes.{Writes};
 
 use crate::places::{put, put_decimal};
 use crate::scene::Scene;
 use crate::texts::put_constraint;
-use flow_graph::{Constraint, FlowGraph, PathProof, PathStep, SubPath};
+use flow_graph::{Constraint, FlowGraph, PathProof, PathStep, SubPath, Walk};
 use qual_base::{EdgeId, NoMemory, Numbered};
 use std::alloc::AllocError;
 
@@ -122,4 +122,40 @@ pub fn put_proof(
     put_subs(out, scene, graph, &proof.subs)?;
     put(out, b"path\n")?;
     put_steps(out, scene, graph, &proof.main)
+}
+
+/// The line of a constraint beside the steps of a walk, where there is one.
+fn put_beside(
+    out: &mut Vec<u8>,
+    scene: &Scene<'_>,
+    graph: &FlowGraph,
+    beside: Option<EdgeId>,
+) -> Result<(), NoMemory>
+    ensures { OnOk result (Writes scene.now out.old.items out.new.items
+        (λ s. steps_text s graph.now (taken beside))) }
+{
+    match beside {
+        Some(at) => put_take(out, scene, graph, at),
+        None => Ok(()),
+    }
+}
+
+/// The lines of a walk: its sub-paths, the line `path`, the constraint that it goes on from, where there is one, its steps, and
+/// the constraint that it leads to, where there is one. Linear in its text, and in the paths of the variables that it names.
+pub fn put_walk(
+    out: &mut Vec<u8>,
+    scene: &Scene<'_>,
+    graph: &FlowGraph,
+    walk: &Walk,
+    begin: Option<EdgeId>,
+    bound: Option<EdgeId>,
+) -> Result<(), NoMemory>
+    ensures { OnOk result (Writes scene.now out.old.items out.new.items
+        (λ s. walk_text s graph.now begin bound walk.now)) }
+{
+    put_subs(out, scene, graph, &walk.subs)?;
+    put(out, b"path\n")?;
+    put_beside(out, scene, graph, begin)?;
+    put_steps(out, scene, graph, &walk.steps)?;
+    put_beside(out, scene, graph, bound)
 }

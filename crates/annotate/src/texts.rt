@@ -103,7 +103,7 @@ pub fn put_marks(out: &mut Vec<u8>, path: &[Step]) -> Result<(), AllocError>
 
 /// A variable: the name where it stands, and the steps to it; nothing past the table of variables. Linear in its text but
 /// for its path, whose steps are found in turn.
-fn put_var(out: &mut Vec<u8>, scene: &Scene<'_>, var: VarId) -> Result<(), NoMemory>
+pub fn put_var(out: &mut Vec<u8>, scene: &Scene<'_>, var: VarId) -> Result<(), NoMemory>
     ensures { OnOk result
         (Writes scene.now out.old.items out.new.items (λ s. var_text s var)) }
 {

@@ -2,5 +2,11 @@
 #![tactic(auto)]
 
 mod answers;
+mod asking;
+mod ends;
+mod searches;
+mod sections;
+#[cfg(test)]
+mod tests;
 
 pub use answers::answer_who;

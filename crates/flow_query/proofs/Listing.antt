@@ -1,0 +1,88 @@
+-- The constants that lead to a variable and the bounds that it leads to, found by their constraints.
+use Rattle.std.proofs.Common.{◌≡◌, ℕ, List, [], ◌∷◌, ◌++◌, codes, slice_get, Some, None, sym, ◌∙◌, ap, subst, append-nil}
+use Rattle.std.specs.Fmt.{decimal}
+use Rattle.flow_graph.specs.declared.constraint.Constraint.{Constraint}
+use Rattle.flow_graph.specs.declared.constraint.Link.{Link}
+use Rattle.flow_graph.specs.declared.constraint.Link.TheVariants.{Const, Bound}
+use Rattle.flow_graph.specs.declared.proof.PathStep.{PathStep}
+use Rattle.flow_graph.specs.declared.proof.PathStep.TheVariants.{Take}
+use Rattle.flow_graph.specs.declared.proof.Walk.{Walk}
+use Rattle.flow_graph.specs.System.{System, IsNoBound, IsWellOwned, Stands}
+use Rattle.flow_graph.specs.Paths.{Lead}
+use Rattle.flow_graph.specs.PathProofs.{steps_of}
+use Rattle.flow_graph.specs.Leading.{GoesTo, Leads}
+use Rattle.walk_laws.specs.Laws.{LeadsAreWalks}
+use Rattle.annotate.specs.Texts.{Scene, line, proof_text, walk_text}
+use Rattle.flow_query.specs.Answers.{IsFrom, IsTo, IsWalkTo, FromText, OneFrom, ToText, OneTo}
+use Rattle.flow_query.specs.Searches.{IsBoundAt, IsConstantAt, IsNoConstant}
+use Rattle.flow_query.proofs.Going.{constants_lead}
+
+some_is : {x y : Constraint} → Some x ≡ Some y → x ≡ y
+some_is e = cc
+
+const_is : {v w l m a b : ℕ} → Const l a v ≡ Const m b w → (a ≡ b) × (v ≡ w)
+const_is e = (cc, cc)
+
+bound_is : {v w l m a b : ℕ} → Bound v l a ≡ Bound w m b → v ≡ w
+bound_is e = cc
+
+-- what a constraint is
+module _ (sys : System) (lattice number : ℕ) (constraint : Constraint) (there : slice_get sys.constraints number ≡ Some constraint) where
+  link_there : (link : Link) → Stands sys lattice number link → constraint.link ≡ link
+  link_there link stands = ap (λ (c : Constraint). c.link) (some_is (sym there ∙ stands.there)) ∙ stands.link_is
+
+  pub constant_stands : (elem at : ℕ) → constraint.link ≡ Const lattice elem at → IsConstantAt sys lattice number at
+  constant_stands elem at is = (elem, record { constraint = constraint; there = there; link_is = is; carried = refl })
+
+  pub bound_stands : (elem at : ℕ) → constraint.link ≡ Bound at lattice elem → IsBoundAt sys lattice number at
+  bound_stands elem at is = (elem, record { constraint = constraint; there = there; link_is = is; carried = refl })
+
+  -- one that is no constant of the lattice, or whose element does not lead to the variable, does not lead there
+  pub no_constant : (var : ℕ) → IsNoConstant constraint.link lattice → IsFrom sys lattice var number → ⊥
+  no_constant var none from = none from.elem from.at (link_there (Const lattice from.elem from.at) from.constant)
+
+  pub not_reached : (var elem at : ℕ) → LeadsAreWalks → IsWellOwned sys → constraint.link ≡ Const lattice elem at →
+      (Lead sys lattice elem var → ⊥) → IsFrom sys lattice var number → ⊥
+  not_reached var elem at law owned is never from =
+      let same = const_is (sym (link_there (Const lattice from.elem from.at) from.constant) ∙ is) in
+      let Of : ℕ → Type 0 = λ e. Lead sys lattice e var in
+      never (subst Of same.0
+      (constants_lead sys lattice number from.elem from.at var from.constant ((law sys lattice from.at var owned).0 from.leads)))
+
+  pub no_bound : (var : ℕ) → IsNoBound constraint.link lattice → IsTo sys lattice var number → ⊥
+  no_bound var none to = none to.at to.elem (link_there (Bound to.at lattice to.elem) to.bound)
+
+-- what is written of a constant in a variable, and of a bound of one
+module _ (sys : System) (lattice var number at : ℕ) (law : LeadsAreWalks) (owned : IsWellOwned sys) where
+  pub no_from : IsConstantAt sys lattice number at → (GoesTo sys lattice at var → ⊥) → IsFrom sys lattice var number → ⊥
+  no_from constant never from =
+      let own = constant.1 in
+      let link = link_there sys lattice number own.constraint own.there (Const lattice from.elem from.at) from.constant in
+      let same = const_is (sym link ∙ own.link_is) in
+      let At : ℕ → Type 0 = λ u. GoesTo sys lattice u var in
+      never (subst At same.1 ((law sys lattice from.at var owned).0 from.leads))
+
+  pub no_to : IsBoundAt sys lattice number at → (GoesTo sys lattice var at → ⊥) → IsTo sys lattice var number → ⊥
+  no_to bound never to =
+      let own = bound.1 in
+      let link = link_there sys lattice number own.constraint own.there (Bound to.at lattice to.elem) to.bound in
+      let At : ℕ → Type 0 = λ v. GoesTo sys lattice var v in
+      never (subst At (bound_is (sym link ∙ own.link_is)) ((law sys lattice var to.at owned).0 to.leads))
+
+  pub one_from : (scene : Scene) (walk : Walk) → IsConstantAt sys lattice number at → GoesTo sys lattice at var →
+      IsWalkTo sys lattice at var walk →
+      FromText scene sys lattice var number (line (codes "from " ++ decimal number) ++ walk_text scene sys (Some number) None walk)
+  one_from scene walk constant goes holds =
+      let Is : List PathStep → Type 0 = λ steps. FromText scene sys lattice var number
+      (line (codes "from " ++ decimal number) ++ proof_text scene sys (steps_of walk.subs.items) steps) in
+      let from : IsFrom sys lattice var number =
+      record { elem = constant.0; at = at; constant = constant.1; leads = (law sys lattice at var owned).1 goes } in
+      subst Is (sym (append-nil (Take number 0 ∷ walk.steps.items))) (OneFrom from walk holds)
+
+  pub one_to : (scene : Scene) (walk : Walk) → IsBoundAt sys lattice number at → GoesTo sys lattice var at →
+      IsWalkTo sys lattice var at walk →
+      ToText scene sys lattice var number (line (codes "to " ++ decimal number) ++ walk_text scene sys None (Some number) walk)
+  one_to scene walk bound goes holds =
+      let to : IsTo sys lattice var number =
+      record { elem = bound.0; at = at; bound = bound.1; leads = (law sys lattice var at owned).1 goes } in
+      OneTo to walk holds

@@ -1,0 +1,37 @@
+-- The text of sections, of variables and of the whole.
+use Rattle.std.proofs.Common.{◌≡◌, ℕ, suc, ◌+◌, ◌<◌, List, [], ◌∷◌, ◌++◌, length, take, get_or, codes, refl, sym, ◌∙◌, ap, subst, arith}
+use Rattle.std.specs.Fmt.{decimal}
+use Rattle.std.proofs.Math.Seq.{take-suc}
+use Rattle.flow_graph.specs.System.{System}
+use Rattle.annotate.specs.Texts.{Scene, line, var_text}
+use Rattle.flow_query.specs.Answers.{EachBelow, NextBelow, VarsText, VarText, NextVar, IsWho, Named, NotNamed, asked_in, headed}
+
+-- a line stands before what is listed, where that is not nothing
+pub none_headed : (scene : Scene) (lattice var : ℕ) (listed : List ℕ) → listed ≡ [] → [] ≡ headed scene lattice var listed
+none_headed scene lattice var listed none = ap (headed scene lattice var) (sym none)
+
+pub some_headed : (scene : Scene) (lattice var : ℕ) (listed : List ℕ) → (listed ≡ [] → ⊥) →
+    line (codes "at " ++ var_text scene var ++ codes " lattice " ++ decimal (lattice + 1)) ++ listed ≡ headed scene lattice var listed
+some_headed scene lattice var [] some = absurd (some refl)
+some_headed scene lattice var (b ∷ listed) some = refl
+
+-- one more of those below a number
+pub next_below : (Is : ℕ → List ℕ → Type 0) (n m : ℕ) (text here : List ℕ) → m ≡ n → EachBelow Is n text → Is m here → EachBelow Is (n + 1) (text ++ here)
+next_below Is n m text here same before next =
+    let Of : ℕ → Type 0 = λ k. Is k here in NextBelow n text here before (subst Of same next)
+
+-- one more variable
+pub next_var : (scene : Scene) (sys : System) (vars : List ℕ) (n var : ℕ) (text here : List ℕ) → n < length vars → var ≡ get_or vars n var →
+    VarsText scene sys (take n vars) text → VarText scene sys var here → VarsText scene sys (take (n + 1) vars) (text ++ here)
+next_var scene sys vars n var text here within is before next =
+    let Of : List ℕ → Type 0 = λ taken. VarsText scene sys taken (text ++ here) in
+    let step : suc n ≡ n + 1 = omega arith in
+    subst Of (ap (λ (y : ℕ). take n vars ++ y ∷ []) is ∙ sym (take-suc vars n var within) ∙ ap (λ k. take k vars) step)
+    (NextVar (take n vars) var text here before next)
+
+-- the whole
+pub named : (scene : Scene) (sys : System) (name vars text : List ℕ) → vars ≡ asked_in scene name → (vars ≡ [] → ⊥) → VarsText scene sys vars text →
+    IsWho scene sys name (Some (line (codes "who") ++ text))
+named scene sys name [] text is some told = absurd (some refl)
+named scene sys name (var ∷ vars) text is some told =
+    let Of : List ℕ → Type 0 = λ asked. VarsText scene sys asked text in Named var vars text (sym is) (subst Of is told)
