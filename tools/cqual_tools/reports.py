@@ -85,23 +85,40 @@ def step_of(found):
     raise NoReport
 
 
-class Failure:
-    """An exceeded bound with its path, and the lines of the report that say so."""
+class Route:
+    """A path with its sub-paths, from the lines that say so. A step of a list is a Step, or the number of a sub-path."""
 
-    def __init__(self, element, bound, place):
-        self.element, self.bound, self.place = element, bound, place
+    def __init__(self):
         self.subs, self.path, self.lines = {}, None, []
+        self._into = None
+
+    def take(self, line):
+        """Takes the next line; one that is none of a path is no report."""
+        sub, step, through = SUB.match(line), STEP.match(line), THROUGH.match(line)
+        if sub:
+            self._into = self.subs.setdefault(int(sub[1]), [])
+        elif line == "path":
+            self._into = self.path = []
+        elif step and self._into is not None:
+            self._into.append(step_of(step))
+        elif through and self._into is not None:
+            self._into.append(int(through[1]))
+        else:
+            raise NoReport
+        self.lines.append(line)
 
     def steps(self):
         """The steps with sub-paths in their places, each with how many calls are open in it."""
-        made, open_calls = [], 0
+        made, open_calls, turns = [], 0, 0
         waiting = [iter(self.path or [])]
         while waiting and len(made) < MOST_STEPS:
             step = next(waiting[-1], None)
+            turns += 1
             if step is None:
                 waiting.pop()
             elif isinstance(step, int):
-                if step not in self.subs:
+                # (sub-paths that lead through themselves, or through nothing again and again, are none)
+                if step not in self.subs or len(waiting) > len(self.subs) or turns > 4 * MOST_STEPS:
                     raise NoReport
                 waiting.append(iter(self.subs[step]))
             else:
@@ -113,32 +130,36 @@ class Failure:
         return made
 
 
+class Failure(Route):
+    """An exceeded bound with its path, and the lines of the report that say so."""
+
+    def __init__(self, element, bound, place, line):
+        super().__init__()
+        self.element, self.bound, self.place = element, bound, place
+        self.lines.append(line)
+
+
 def failures_of(lines):
     """The errors of a rejected report, from the lines behind its first."""
-    made, into = [], None
+    made = []
     for line in lines:
-        error, sub, step, through = ERROR.match(line), SUB.match(line), STEP.match(line), THROUGH.match(line)
+        error = ERROR.match(line)
         if error and PLACE.match(error[3]):
-            made.append(Failure(error[1], error[2], place_of(error[3])))
-            into = None
-        elif not made:
-            raise NoReport
-        elif sub:
-            into = made[-1].subs.setdefault(int(sub[1]), [])
-        elif line == "path":
-            into = made[-1].path = []
-        elif step and into is not None:
-            into.append(step_of(step))
-        elif through and into is not None:
-            into.append(int(through[1]))
+            made.append(Failure(error[1], error[2], place_of(error[3]), line))
+        elif made:
+            made[-1].take(line)
         else:
             raise NoReport
-        made[-1].lines.append(line)
-    if not made or any(one.path is None for one in made):
+    return whole(made)
+
+
+def whole(routes):
+    """Routes of which each has a path whose sub-paths are there."""
+    if not routes or any(one.path is None for one in routes):
         raise NoReport
-    for one in made:
+    for one in routes:
         one.steps()
-    return made
+    return routes
 
 
 class Report(NamedTuple):
