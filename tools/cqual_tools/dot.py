@@ -111,12 +111,13 @@ class Picture:
         if isinstance(function, int):
             look = ["label=\"\";", 'style="dotted,rounded"; color="#888888";']
         else:
-            words = [shown(str(function))]
+            words = [shown(str(one)) for one in self.owners.declarations(function)]
+            told = len(words)
             if function in self.entered:
                 words.append("(left without a call)")
             if function in self.left:
                 words.append("(entered without a return)")
-            style = "dashed" if len(words) > 1 else "solid"
+            style = "dashed" if len(words) > told else "solid"
             look = [f"label={quoted(*words)};", f'style="filled,rounded,{style}"; color="#888888"; fillcolor="#eef2f7";']
         asked = asked_of(self.trace.route)
         nodes = [
