@@ -171,7 +171,8 @@ class Owners:
     Certain are the variables of a function's own declaration, into which an enter leads and out of which a leave does, and those of the
     sub-paths of its calls. Behind an enter without a return a path stays in the function, and before a return without a call it was in
     it, up to a variable that cannot be of it: one of another function, or one that stands in another file, or before it, as objects at
-    file scope do. Where two functions are told of one variable, none is. Two declarations with a flow between them are of one function.
+    file scope do. That is no more than likely: an object behind the first declaration of the function is not told from one of its own.
+    Where two functions are told of one variable, none is. Two declarations with a flow between them are of one function.
     """
 
     def __init__(self, traces):
