@@ -5,7 +5,8 @@ from .paths import Group, asked_of, colour_of, shown, title_of
 PLAIN = "#444444"
 HEAD = """digraph cqual {
   graph [fontname="Helvetica,Arial,sans-serif", fontsize=12, nodesep=0.35, ranksep=0.4];
-  node [fontname="Helvetica,Arial,sans-serif", fontsize=10, shape=box, style="filled,rounded", fillcolor=white, color="#444444", height=0.3];
+  node [fontname="Helvetica,Arial,sans-serif", fontsize=10, shape=box, height=0.3];
+  node [style="filled,rounded", fillcolor=white, color="#444444"];
   edge [fontname="Helvetica,Arial,sans-serif", fontsize=9, color="#444444", fontcolor="#444444"];
 """
 
@@ -23,7 +24,8 @@ class Picture:
         self.name, self.trace, self.owners = name, trace, owners
         self.boxes, self.nodes, self.places, self.unnamed = {}, {}, {}, 0
         self.ends, self.edges, self.drawn = [], [], set()
-        self.left, self.entered = set(), set()
+        # functions that are entered without a return, and left without a call
+        self.unreturned, self.uncalled = set(), set()
         for number, parts in trace.bodies():
             self.take(number, parts)
 
@@ -53,10 +55,10 @@ class Picture:
             self.edge(source, self.end(step, "octagon"), step, through)
         else:
             source, box = self.node(step.source, box)
-            if step.kind != "flow":
-                changed = self.left if step.kind == "enter" else self.entered
-                changed.add(self.owners.own(step.target if step.kind == "enter" else step.source))
-                box = None
+            if step.kind == "enter":
+                self.unreturned.add(self.owners.own(step.target))
+            elif step.kind == "leave":
+                self.uncalled.add(self.owners.own(step.source))
             target, box = self.node(step.target, box)
             self.edge(source, target, step, through)
         return box
@@ -111,17 +113,18 @@ class Picture:
         if isinstance(function, int):
             look = ["label=\"\";", 'style="dotted,rounded"; color="#888888";']
         else:
-            words = [shown(str(function))]
-            if function in self.entered:
+            words = [shown(str(one)) for one in self.owners.declarations(function)]
+            told = len(words)
+            if function in self.uncalled:
                 words.append("(left without a call)")
-            if function in self.left:
+            if function in self.unreturned:
                 words.append("(entered without a return)")
-            style = "dashed" if len(words) > 1 else "solid"
+            style = "dashed" if len(words) > told else "solid"
             look = [f"label={quoted(*words)};", f'style="filled,rounded,{style}"; color="#888888"; fillcolor="#eef2f7";']
-        asked = asked_of(self.trace.route)
-        nodes = [
-            f"{self.nodes[one]} [label={quoted(shown(str(one)))}{', peripheries=2, penwidth=1.5' if one == asked else ''}];" for one in variables
-        ]
+        asked, nodes = asked_of(self.trace.route), []
+        for one in variables:
+            frame = ", peripheries=2, penwidth=1.5" if one == asked else ""
+            nodes.append(f"{self.nodes[one]} [label={quoted(shown(str(one)))}{frame}];")
         return [f"subgraph cluster_{self.name}b{number} {{", *("  " + line for line in [*look, "fontsize=11;", *nodes]), "}"]
 
     def lines(self):

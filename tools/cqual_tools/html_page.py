@@ -102,8 +102,9 @@ def row_text(row, files):
     colour = f' style="color:{colour_of(row.call)}"' if row.call is not None else ""
     source = "" if line is None else f"<pre>{marked(line, step.place.column)}</pre>"
     return (
-        f'<tr><td class="step"><div>{bars_of(row)}<p><span class="kind"{colour}>{step.kind}</span> <span class="number">{step.number}</span>'
-        f'{call_of(row)} {said(step)}</p></div></td><td class="place"><code>{text(str(step.place))}</code></td><td>{source}</td></tr>'
+        f'<tr><td class="step"><div>{bars_of(row)}<p><span class="kind"{colour}>{step.kind}</span> '
+        f'<span class="number">{step.number}</span>{call_of(row)} {said(step)}</p></div></td>'
+        f'<td class="place"><code>{text(str(step.place))}</code></td><td>{source}</td></tr>'
     )
 
 

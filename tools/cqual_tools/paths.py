@@ -171,49 +171,72 @@ class Owners:
     Certain are the variables of a function's own declaration, into which an enter leads and out of which a leave does, and those of the
     sub-paths of its calls. Behind an enter without a return a path stays in the function, and before a return without a call it was in
     it, up to a variable that cannot be of it: one of another function, or one that stands in another file, or before it, as objects at
-    file scope do. Where two functions are told of one variable, none is.
+    file scope do. That is no more than likely: an object behind the first declaration of the function is not told from one of its own.
+    Where two functions are told of one variable, none is. Two declarations with a flow between them are of one function.
     """
 
     def __init__(self, traces):
-        self.functions, self.inner, self.homes = set(), {}, {}
+        self.functions, self.inner, self.homes = {}, {}, {}
         self.claims = {}
-        for trace in traces:
-            for _, parts in trace.bodies():
-                for part in parts:
-                    self.learn(part)
+        for learn in (self.learn, self.join):
+            for trace in traces:
+                for _, parts in trace.bodies():
+                    for part in parts:
+                        learn(part)
         for trace in traces:
             self.look_inside(trace)
         for trace in traces:
-            for segment in segments_of(trace.main):
-                self.look_along(*segment)
+            for entered, variables, left in segments_of(trace.main):
+                self.look_along(entered and self.own(entered), variables)
+                self.look_along(left and self.own(left), variables[::-1])
 
     def learn(self, part):
         """The functions of calls, with the places where a variable of each is known to stand."""
         for step in (part.enter, part.leave) if isinstance(part, Group) else (part,):
             if isinstance(step, Step) and step.kind in ("enter", "leave"):
                 function = function_of(step.target if step.kind == "enter" else step.source)
-                self.functions.add(function)
-                self.homes.setdefault(function, set()).add(function.place)
+                self.functions.setdefault(function, function)
+                self.stands(function, function.place)
+
+    def stands(self, function, place):
+        """A variable of the function stands at the place: of each file the first such place counts."""
+        first = self.homes.setdefault(function, {})
+        first[place.file] = min(first.get(place.file, place), place)
+
+    def join(self, part):
+        """Two declarations of one function, of which the one that was told first names it."""
+        if isinstance(part, Step) and part.kind == "flow":
+            first, second = self.own(part.source), self.own(part.target)
+            if first is not None and second is not None and first != second:
+                first, second = sorted((first, second), key=list(self.functions).index)
+                for one, known in self.functions.items():
+                    if known == second:
+                        self.functions[one] = first
+                for place in self.homes.pop(second).values():
+                    self.stands(first, place)
+
+    def declarations(self, function):
+        """The declarations of a function that were told of, the one that names it first."""
+        return [function] + [one for one, known in self.functions.items() if known == function and one != function]
 
     def look_inside(self, trace):
         """What is in sub-paths, and the parameters that calls lead into."""
         groups = [part for _, parts in trace.bodies() for part in parts if isinstance(part, Group)]
         callers = {group.sub: group for group in groups if group.sub is not None}
         for number, parts in trace.bodies():
-            function = function_of(callers[number].enter.target) if number in callers else None
+            function = self.own(callers[number].enter.target) if number in callers else None
             for part in parts:
                 if isinstance(part, int):
                     continue
                 for variable in ends_of(part) if function is not None else ():
                     self.inner.setdefault(variable, function)
-                    self.homes[function].add(variable.place)
+                    self.stands(function, variable.place)
                 if isinstance(part, Step) and part.kind == "flow" and self.own(part.source) and is_argument(part.source):
-                    self.homes[self.own(part.source)].add(part.target.place)
+                    self.stands(self.own(part.source), part.target.place)
 
     def own(self, variable):
         """The function whose declaration has the variable, or None."""
-        function = function_of(variable)
-        return function if function in self.functions else None
+        return self.functions.get(function_of(variable))
 
     def certain(self, variable):
         return self.own(variable) or self.inner.get(variable)
@@ -223,15 +246,15 @@ class Owners:
         known = self.certain(variable)
         if known is not None:
             return known == function
-        return any(home.file == variable.place.file and home <= variable.place for home in self.homes[function])
+        first = self.homes[function].get(variable.place.file)
+        return first is not None and first <= variable.place
 
-    def look_along(self, entered, variables, left):
-        """What is told of variables between two calls or returns that have no pair."""
-        for function, row in ((entered, variables), (left, reversed(variables))):
-            for variable in row if function is not None else ():
-                if not self.may_hold(function, variable):
-                    break
-                self.claims.setdefault(variable, set()).add(function)
+    def look_along(self, function, variables):
+        """The variables that follow on one that is the function's, up to the first that cannot be."""
+        for variable in variables if function is not None else ():
+            if not self.may_hold(function, variable):
+                break
+            self.claims.setdefault(variable, set()).add(function)
 
     def of(self, variable):
         """The function, or None where none is told."""
@@ -244,15 +267,15 @@ def is_argument(variable):
 
 
 def segments_of(parts):
-    """The parts between calls and returns without pair: the function that the path entered before, the variables, and the one it leaves."""
+    """The parts between calls and returns without pair: what the path entered before, the variables, and what it leaves behind them."""
     entered, variables = None, []
     for part in parts:
         if isinstance(part, int):
             continue
         if isinstance(part, Step) and part.kind in ("enter", "leave"):
             variables.append(part.source)
-            yield entered, variables, function_of(part.source) if part.kind == "leave" else None
-            entered = function_of(part.target) if part.kind == "enter" else None
+            yield entered, variables, part.source if part.kind == "leave" else None
+            entered = part.target if part.kind == "enter" else None
             variables = [part.target]
         else:
             variables += ends_of(part)

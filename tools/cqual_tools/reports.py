@@ -118,7 +118,7 @@ class Route:
                 waiting.pop()
             elif isinstance(step, int):
                 # (sub-paths that lead through themselves, or through nothing again and again, are none)
-                if step not in self.subs or len(waiting) > len(self.subs) or turns > 4 * MOST_STEPS:
+                if step not in self.subs or turns > 4 * MOST_STEPS:
                     raise NoReport
                 waiting.append(iter(self.subs[step]))
             else:
