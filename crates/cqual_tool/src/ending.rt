@@ -40,11 +40,7 @@ use report_checks::{Checked, judge_report, put_checked};
 use std::alloc::Global;
 
 /// What the answers for a program name, by the texts of its units.
-fn scene_of<'a>(
-    texts: &'a [UnitText<'a>],
-    lattices: &'a Lattices,
-    made: &'a Generated,
-) -> Scene<'a>
+fn scene_of<'a>(texts: &'a [UnitText<'a>], lattices: &'a Lattices, made: &'a Generated) -> Scene<'a>
     ensures { (named : FileNames) (units : List UnitRead) (marks : List IndexMark) →
         units_of texts.now ≡ texts_of named (lexed_of units) → UnitsDiffer (sources_in units) →
         IsGenerated units (program_in lattices.now marks units) made.now →

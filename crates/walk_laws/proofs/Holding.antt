@@ -109,13 +109,13 @@ pub walk_shown : WalkShown
 walk_shown sys lattice from to end subs steps are walk =
     let first = Edge (constant_to lattice from) in
     let settles : Settles sys no_order lattice 0 subs (settled (owner_of sys from) First) (first ∷ []) =
-        λ is after. call_const sys no_order Main lattice 0 [] after lattice 0 from 0 no_span ∙ quiet_and sys no_order Main lattice 0 _ _ refl in
+    λ is after. call_const sys no_order Main lattice 0 [] after lattice 0 from 0 no_span ∙ quiet_and sys no_order Main lattice 0 _ _ refl in
     let passes : first_failing sys no_order Main lattice 0 (look sys subs) (first ∷ []) steps ≡ None =
-        onward_passes sys no_order lattice 0 subs (ToVariable to) tt (settled (owner_of sys from) First) from steps walk (first ∷ [])
-        (follows_const sys no_order Main lattice 0 lattice 0 from 0 no_span) settles in
+    onward_passes sys no_order lattice 0 subs (ToVariable to) tt (settled (owner_of sys from) First) from steps walk (first ∷ [])
+    (follows_const sys no_order Main lattice 0 lattice 0 from 0 no_span) settles in
     let ends_well : walk_end_fault sys from to steps end ≡ None =
-        ap (λ last. if agree last (Some to) then None else Some (record { line = end; why = B2 }))
-        (arrived sys lattice subs to (settled (owner_of sys from) First) from steps walk)
-        ∙ ap (λ b. if b then None else Some (record { line = end; why = B2 })) (eq-eqb to to refl) in
+    ap (λ last. if agree last (Some to) then None else Some (record { line = end; why = B2 }))
+    (arrived sys lattice subs to (settled (owner_of sys from) First) from steps walk)
+    ∙ ap (λ b. if b then None else Some (record { line = end; why = B2 })) (eq-eqb to to refl) in
     or_both _ _ (subs_pass sys no_order lattice 0 subs (subs_are_sub_paths sys lattice subs are))
     (or_both _ _ (same_faults sys lattice subs to (first ∷ []) steps (onward_unbound sys lattice subs to (settled (owner_of sys from) First) from steps walk) ∙ passes) ends_well)

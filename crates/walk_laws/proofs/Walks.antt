@@ -171,14 +171,19 @@ module _ (sys : System) (lattice : ℕ) (owned : IsWellOwned sys) where
     path_on f u v (longer _ _ x _ m p) =
         let one = path_on f u x m in
         let two = part_on f x v (end_owner sys lattice f u x m) p in
-        let same : owner_of sys u ≡ owner_of sys x = start_owner sys lattice f u x m ∙ sym (end_owner sys lattice f u x m) in
-        (one.0 + two.0, λ depth sites copy fits. onto_join depth u x v sites sites sites (one.1 depth sites copy (omega (arith, fits)))
-            (two.1 depth sites (subst (λ o. IsCopy sys depth o sites) same copy) (omega (arith, fits))))
+        let same : owner_of sys u ≡ owner_of sys x = start_owner sys lattice f u x m ∙ sym (end_owner sys lattice f u x m) in (
+          one.0 + two.0,
+          λ depth sites copy fits. onto_join depth u x v sites sites sites (one.1 depth sites copy (omega (arith, fits)))
+              (two.1 depth sites (subst (λ o. IsCopy sys depth o sites) same copy) (omega (arith, fits))),
+        )
 
     part_on : (f x v : ℕ) → owner_of sys x ≡ Function f → Part sys lattice f x v → (room : ℕ) × RoundTrips x v room
-    part_on f x v own (flow _ _ _ n st is) = (0, λ depth sites copy fits.
-        plainly depth x v sites sites copy (subst (λ o. IsCopy sys depth o sites) (own ∙ sym is) copy)
-            (ByFlow n x v sites st (subst (λ o. IsCopy sys depth (either o (owner_of sys v)) sites) (sym own) (subst (λ o. IsCopy sys depth o sites) own copy))))
+    part_on f x v own (flow _ _ _ n st is) = (
+      0,
+      λ depth sites copy fits.
+          plainly depth x v sites sites copy (subst (λ o. IsCopy sys depth o sites) (own ∙ sym is) copy)
+          (ByFlow n x v sites st (subst (λ o. IsCopy sys depth (either o (owner_of sys v)) sites) (sym own) (subst (λ o. IsCopy sys depth o sites) own copy))),
+    )
     part_on f x v own (group _ _ a b _ s g n m st q st2 is) = let inner = path_on g a b q in (inner.0 + 1, group_on n m s x a b v inner.0 st inner.1 st2)
 
   module _ (begin : ℕ) where
@@ -195,17 +200,24 @@ module _ (sys : System) (lattice : ℕ) (owned : IsWellOwned sys) where
     flow_all n u v room st all depth sites copy fits =
         let from = flow_to sys depth (owner_of sys u) (owner_of sys v) sites (same_function sys lattice owned n u v st) copy in
         let before = all depth (seen_from (owner_of sys u) from.0) from.2 (omega (arith, fits, from.4)) in
-        let same : seen_from (owner_of sys v) from.0 ≡ sites = from.3 ∙ seen_is sys depth (owner_of sys v) sites copy in
-        (before.0, before.1, Further begin u v before.0 (seen_from (owner_of sys u) from.0) sites before.2
-            (subst (λ w. Leap sys lattice depth u (seen_from (owner_of sys u) from.0) v w) same (ByFlow n u v from.0 st from.1)))
+        let same : seen_from (owner_of sys v) from.0 ≡ sites = from.3 ∙ seen_is sys depth (owner_of sys v) sites copy in (
+          before.0,
+          before.1,
+          Further begin u v before.0 (seen_from (owner_of sys u) from.0) sites before.2
+              (subst (λ w. Leap sys lattice depth u (seen_from (owner_of sys u) from.0) v w) same (ByFlow n u v from.0 st from.1)),
+        )
 
     flow_one : (n u v least : ℕ) (sites : List ℕ) → Stands sys lattice n (Le u v) → One u least sites → One v least (seen_from (owner_of sys v) sites)
     flow_one n u v least sites st one depth fits =
         let before = one depth fits in
         let on = flow_from sys depth (owner_of sys u) (owner_of sys v) sites (same_function sys lattice owned n u v st) before.0 in
-        let same : seen_from (owner_of sys u) sites ≡ sites = seen_is sys depth (owner_of sys u) sites before.0 in
-        (on.0, before.1, before.2, Further begin u v before.1 sites (seen_from (owner_of sys v) sites) before.3
-            (subst (λ w. Leap sys lattice depth u w v (seen_from (owner_of sys v) sites)) same (ByFlow n u v sites st on.1)))
+        let same : seen_from (owner_of sys u) sites ≡ sites = seen_is sys depth (owner_of sys u) sites before.0 in (
+          on.0,
+          before.1,
+          before.2,
+          Further begin u v before.1 sites (seen_from (owner_of sys v) sites) before.3
+              (subst (λ w. Leap sys lattice depth u w v (seen_from (owner_of sys v) sites)) same (ByFlow n u v sites st on.1)),
+        )
 
     -- what leads to one copy of a variable of nobody leads to its only one
     all_of : (v least : ℕ) (sites : List ℕ) → owner_of sys v ≡ Nobody → One v least sites → All v least
@@ -226,19 +238,23 @@ module _ (sys : System) (lattice : ℕ) (owned : IsWellOwned sys) where
 
     group_all : (n m s u a b v g room : ℕ) → Stands sys lattice n (Enter s u a) → Matches sys lattice g a b → Stands sys lattice m (Leave s b v) → All u room → (r : ℕ) × All v r
     group_all n m s u a b v g room st q st2 all =
-        let inner = path_on g a b q in
-        (room + (inner.0 + 1), λ depth sites copy fits.
-            let home : IsCopy sys depth (owner_of sys u) sites = subst (λ o. IsCopy sys depth o sites) (sym (same_outer sys lattice owned n m s u a b v st st2)) copy in
-            let before = all depth sites home (omega (arith, fits)) in
-            (before.0, before.1, onto_join depth begin u v before.0 sites sites before.2 (group_on n m s u a b v inner.0 st inner.1 st2 depth sites home (omega (arith, fits)))))
+        let inner = path_on g a b q in (
+          room + (inner.0 + 1),
+          λ depth sites copy fits.
+              let home : IsCopy sys depth (owner_of sys u) sites = subst (λ o. IsCopy sys depth o sites) (sym (same_outer sys lattice owned n m s u a b v st st2)) copy in
+              let before = all depth sites home (omega (arith, fits)) in
+              (before.0, before.1, onto_join depth begin u v before.0 sites sites before.2 (group_on n m s u a b v inner.0 st inner.1 st2 depth sites home (omega (arith, fits)))),
+        )
 
     group_one : (n m s u a b v g least : ℕ) (sites : List ℕ) → Stands sys lattice n (Enter s u a) → Matches sys lattice g a b → Stands sys lattice m (Leave s b v) → One u least sites → (r : ℕ) × One v r sites
     group_one n m s u a b v g least sites st q st2 one =
-        let inner = path_on g a b q in
-        (least + (length sites + (inner.0 + 1)), λ depth fits.
-            let before = one depth (omega (arith, fits)) in
-            let home : IsCopy sys depth (owner_of sys v) sites = subst (λ o. IsCopy sys depth o sites) (same_outer sys lattice owned n m s u a b v st st2) before.0 in
-            (home, before.1, before.2, onto_join depth begin u v before.1 sites sites before.3 (group_on n m s u a b v inner.0 st inner.1 st2 depth sites before.0 (omega (arith, fits)))))
+        let inner = path_on g a b q in (
+          least + (length sites + (inner.0 + 1)),
+          λ depth fits.
+              let before = one depth (omega (arith, fits)) in
+              let home : IsCopy sys depth (owner_of sys v) sites = subst (λ o. IsCopy sys depth o sites) (same_outer sys lattice owned n m s u a b v st st2) before.0 in
+              (home, before.1, before.2, onto_join depth begin u v before.1 sites sites before.3 (group_on n m s u a b v inner.0 st inner.1 st2 depth sites before.0 (omega (arith, fits)))),
+        )
 
     abbrev Reached : Phase → ℕ → Type 0
     Reached First v = (room : ℕ) × All v room
@@ -275,11 +291,13 @@ module _ (sys : System) (lattice : ℕ) (owned : IsWellOwned sys) where
     reached p v Begins = (0, λ depth sites copy fits. (sites, copy, Stays begin sites))
     reached p v (Flows r u _ n _ same d st) = settle r p v same (flow_reached r n u v st (reached r u d))
     reached p v (Returns u _ s n d st) =
-        let before = reached First u d in
-        (before.0 + 1, λ depth sites copy fits.
-            let on = leave_on depth n s u v sites st copy (omega (arith, fits)) in
-            let there = before.1 depth (s ∷ sites) on.0 (omega (arith, fits)) in
-            (there.0, there.1, onto_join depth begin u v there.0 (s ∷ sites) sites there.2 on.1))
+        let before = reached First u d in (
+          before.0 + 1,
+          λ depth sites copy fits.
+              let on = leave_on depth n s u v sites st copy (omega (arith, fits)) in
+              let there = before.1 depth (s ∷ sites) on.0 (omega (arith, fits)) in
+              (there.0, there.1, onto_join depth begin u v there.0 (s ∷ sites) sites there.2 on.1),
+        )
     reached p v (Enters r u _ s n _ same d st) = settle Second p v same (call_reached r n s u v st (reached r u d))
     reached p v (Rounds r u a b _ s g n m _ same d st q st2) = settle r p v same (group_reached r n m s u a b v g st q st2 (reached r u d))
 

@@ -6,11 +6,9 @@ ghost use Rattle.walk_laws.specs.Laws.{LeadsAreWalks, WalkShown};
 /// A path in two phases leads exactly where the unfolding does.
 pub fn leads_are_walks()
     ensures { LeadsAreWalks }
-{
-}
+{}
 
 /// A walk that is made of parts holds.
 pub fn walk_shown()
     ensures { WalkShown }
-{
-}
+{}
