@@ -25,15 +25,15 @@ const CERTIFICATE: &[u8] = b"certificate";
 
 const LATTICE_WORD: &[u8] = b"lattice ";
 
-const SET_WORD: &[u8] = b"  set ";
+pub const SET_WORD: &[u8] = b"  set ";
 
-const PAIR_WORD: &[u8] = b"  pair ";
+pub const PAIR_WORD: &[u8] = b"  pair ";
 
 /// The number of the last constraint that a name may have.
 const MOST: u128 = 0x7fff_ffff;
 
 /// What stands behind a word that a line begins with.
-fn behind<'a>(word: &[u8], line: &'a [u8]) -> Option<&'a [u8]>
+pub fn behind<'a>(word: &[u8], line: &'a [u8]) -> Option<&'a [u8]>
     ensures { option_map (λ x. x.now) result ≡ behind word.now line.now }
 {
     line.strip_prefix(word)
