@@ -1,5 +1,5 @@
 -- Texts that lack a byte, and the words and the lines that are cut at it.
-use Rattle.std.proofs.Common.{◌≡◌, ℕ, zero, suc, ◌+◌, ◌-◌, ◌/◌, ◌%◌, ◌<◌, ◌==◌, Bool, true, false, ◌||◌, List, [], ◌∷◌, ◌++◌, length, take, drop, slice_index, Option, Some, None, codes, All, refl, sym, ◌∙◌, ap, arith, cond, decimal, append_assoc, length-append, if◌then◌else◌}
+use Rattle.std.proofs.Common.{◌≡◌, ℕ, zero, suc, ◌-◌, ◌/◌, ◌%◌, ◌<◌, ◌==◌, Bool, true, false, ◌||◌, List, [], ◌∷◌, ◌++◌, length, take, drop, slice_index, Some, None, codes, All, refl, sym, ◌∙◌, ap, arith, cond, decimal, append_assoc, length-append, if◌then◌else◌}
 use Rattle.std.proofs.lemmas.List.{take-append-drop}
 use Rattle.std.proofs.lemmas.Slice.Eq.{bytes_eq-Decides}
 use Rattle.std.proofs.lemmas.List.Elements.{All-nil, All-cons}
@@ -9,7 +9,6 @@ use Rattle.std.specs.Str.{bytes_eq}
 use Rattle.std.specs.Fmt.{digits, digits_onto, digit_glyph}
 use Rattle.path_checker.specs.Lines.{number_of, behind}
 use Rattle.certificate_text.specs.Text.{line}
-use Rattle.certificate_reader.specs.declared.lines.Line.{Line}
 use Rattle.certificate_reader.specs.declared.lines.Line.TheVariants.{Other}
 use Rattle.certificate_reader.specs.Lines.{by_letter, end_in, set_kind, pair_kind, line_kind, lines_in, lines_of, words}
 use Rattle.certificate_reader.proofs.WordLemmas.{split_parts}

@@ -1,17 +1,17 @@
 -- Texts that begin with words, and lines made of these.
-use Rattle.std.proofs.Common.{◌≡◌, ℕ, ◌+◌, ◌-◌, ◌*◌, ◌^◌, ◌<◌, ◌≤◌, ◌==◌, Bool, true, false, nat_lt, List, [], ◌∷◌, ◌++◌, length, take, drop, get_or, Option, Some, None, All, IfSome, refl, sym, ◌∙◌, ap, arith, ne_eqb, append_assoc}
+use Rattle.std.proofs.Common.{◌≡◌, ℕ, ◌+◌, ◌-◌, ◌*◌, ◌^◌, ◌<◌, ◌≤◌, ◌==◌, true, false, nat_lt, List, [], ◌∷◌, ◌++◌, length, take, drop, get_or, Option, Some, None, All, IfSome, refl, sym, ◌∙◌, ap, arith, ne_eqb, append_assoc}
 use Rattle.std.proofs.lemmas.List.{take-append-drop, take_more, take_rest, length-append}
 use Rattle.std.proofs.lemmas.List.Elements.{All-head, All-tail, All-append, All-cons, All-nil}
 use Rattle.std.proofs.lemmas.List.Splits.{slice_split_at, slice_split-cons_no}
 use Rattle.std.specs.List.{slice_split, onto_first}
 use Rattle.std.specs.Char.{is_ascii_digit}
-use Rattle.path_checker.specs.Lines.{number_behind, number_of, behind}
+use Rattle.path_checker.specs.Lines.{number_behind, number_of}
 use Rattle.certificate_reader.specs.declared.lines.Line.{Line}
 use Rattle.certificate_reader.specs.declared.lines.Line.TheVariants.{Set, Pair}
 use Rattle.certificate_reader.specs.Lines.{line_kind, words, by_letter, end_in, bits_of, set_kind, pair_kind}
 use Rattle.certificate_reader.specs.Fronts.{BeginsWith, EndsAt, BeginsWords, BeginsLine}
-use Rattle.certificate_reader.proofs.Bytes.{has, neither, lacks_append, all_lack, two_words, three_words, first_part, end_in-last, behind_is}
-use Rattle.certificate_reader.proofs.Decimals.{append_behind, digit_bounds}
+use Rattle.certificate_reader.proofs.Bytes.{has, neither, lacks_append, all_lack, two_words, three_words, first_part, end_in-last}
+use Rattle.certificate_reader.proofs.Decimals.{append_behind}
 
 -- a word of bytes from the digit 0 on has none below
 bare_lacks : (c : ℕ) (xs : List ℕ) → c < 48 → All (λ b. 48 ≤ b) xs → has c xs ≡ false
@@ -109,10 +109,10 @@ cut_shorter text part rest cut =
     omega (arith, long, same)
 
 -- a line behind its first word
-pub line_begins : (word text more rest : List ℕ) (kind : Line) (kind_of : List (List ℕ) → Line) → behind word text ≡ Some more → has 10 word ≡ false →
+pub line_begins : (word text more rest : List ℕ) (kind : Line) (kind_of : List (List ℕ) → Line) → text ≡ word ++ more → has 10 word ≡ false →
     ((x : List ℕ) → line_kind (word ++ x) ≡ kind_of (words x)) → BeginsWords kind_of more kind rest → BeginsLine text kind rest
 line_begins word text more rest kind kind_of is bare reads it =
-    let cut = ap (slice_split (λ b. b == 10)) (behind_is word text more is) ∙ cut_behind word more it.part rest bare it.cut in
+    let cut = ap (slice_split (λ b. b == 10)) is ∙ cut_behind word more it.part rest bare it.cut in
     record { part = word ++ it.part; cut = cut; kind_is = it.kind_is ∙ sym (reads it.part); shorter = cut_shorter text (word ++ it.part) rest cut }
 
 -- what is so of what is found, where something else is

@@ -1,10 +1,9 @@
 -- What a reader keeps true from line to line.
-use Rattle.std.proofs.Common.{◌≡◌, ℕ, zero, suc, ◌+◌, ◌-◌, ◌^◌, ◌<◌, ◌≤◌, ◌==◌, ◌&&◌, Bool, true, false, nat_lt, List, [], ◌∷◌, ◌++◌, length, map, slice_get, slice_index, Option, Some, None, refl, sym, ◌∙◌, ap, subst, arith, cond, inl, inr, ◌⊎◌, append_assoc, append-nil, add-zero, length-append, codes, Result, Ok, Err, IfOk, OnOk}
+use Rattle.std.proofs.Common.{◌≡◌, ℕ, zero, suc, ◌+◌, ◌-◌, ◌^◌, ◌<◌, ◌≤◌, ◌==◌, ◌&&◌, Bool, true, false, nat_lt, List, [], ◌∷◌, ◌++◌, length, map, slice_get, slice_index, Option, Some, None, refl, sym, ◌∙◌, ap, subst, arith, cond, inl, inr, ◌⊎◌, append_assoc, append-nil, length-append, codes, Result, Ok, Err, IfOk, OnOk}
 use Rattle.std.proofs.lemmas.List.{nil_from_length}
-use Rattle.lattice_core.specs.Order.{Order, size}
+use Rattle.lattice_core.specs.Order.{Order}
 use Rattle.flow_graph.specs.System.{System, most_constraints}
 use Rattle.closure_check.specs.declared.part.Part.{Part}
-use Rattle.closure_check.specs.Parts.{IsPart}
 use Rattle.certificate_text.specs.declared.putting.SetLine.{SetLine}
 use Rattle.certificate_text.specs.Text.{Written, line, set_text, sets_text, pair_text, pairs_text, lattice_text, part_text, parts_text, written, certificate_text}
 use Rattle.certificate_reader.specs.declared.lines.Line.{Line}
@@ -13,14 +12,14 @@ use Rattle.certificate_reader.specs.declared.section.Section.{Section}
 use Rattle.certificate_reader.specs.declared.section.Section.TheVariants.{Start, Opened, InSets, InPairs}
 use Rattle.certificate_reader.specs.declared.section.CertFault.{CertFault}
 use Rattle.certificate_reader.specs.declared.section.CertFault.TheVariants.{Grammar, NoSuchVariable, NoMemory}
-use Rattle.certificate_reader.specs.Lines.{line_kind, lines_of}
+use Rattle.certificate_reader.specs.Lines.{lines_of}
 use Rattle.certificate_reader.specs.Fronts.{BeginsLine}
-use Rattle.certificate_reader.specs.Grammar.{all_of, name_behind, pair_behind, sets_fit, SetsFit, PairsFit, is_name, is_known, AreNamed, HasNames, alls_of, ArePlain}
+use Rattle.certificate_reader.specs.Grammar.{name_behind, pair_behind, sets_fit, SetsFit, PairsFit, is_name, is_known, AreNamed, alls_of, ArePlain}
 use Rattle.certificate_reader.specs.Reader.{next, may_end, fault_behind, fault_from, AreLines, IsPartOf, Held, Closed, Closes, Keeps, Takes, FailsAt, IsMade, AreMade, IsReadAs}
 use Rattle.certificate_reader.proofs.Bytes.{first_part, lines_of-parts}
 use Rattle.certificate_reader.proofs.Shapes.{both_true}
 use Rattle.certificate_reader.proofs.Plain.{small_name}
-use Rattle.certificate_reader.proofs.Spelled.{most_names, lattice_bytes, set_bytes, pair_bytes, IsSmallLine, IsSpelled, spelled}
+use Rattle.certificate_reader.proofs.Spelled.{lattice_bytes, set_bytes, pair_bytes, IsSmallLine, IsSpelled, spelled}
 
 -- the name of the last line of sets, and the last pair
 abbrev pub last_name : Option ℕ → List SetLine → Option ℕ

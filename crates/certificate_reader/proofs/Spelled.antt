@@ -1,11 +1,11 @@
 -- The lines of the text of certificates, and the text of lines.
-use Rattle.std.proofs.Common.{◌≡◌, ℕ, zero, suc, ◌+◌, ◌-◌, ◌*◌, ◌/◌, ◌%◌, ◌^◌, ◌<◌, ◌≤◌, ◌==◌, Bool, true, false, nat_lt, min, List, [], ◌∷◌, ◌++◌, length, take, drop, slice_index, Option, Some, None, refl, sym, ◌∙◌, ap, subst, arith, cond, codes, decimal, append_assoc, length-append, inl, inr}
+use Rattle.std.proofs.Common.{◌≡◌, ℕ, ◌+◌, ◌-◌, ◌*◌, ◌/◌, ◌%◌, ◌^◌, ◌<◌, ◌≤◌, ◌==◌, Bool, true, false, nat_lt, min, List, [], ◌∷◌, ◌++◌, length, take, slice_index, Option, Some, None, refl, sym, ◌∙◌, ap, subst, arith, cond, codes, decimal, append_assoc}
 use Rattle.std.proofs.lemmas.Slice.Eq.{bytes_eq-Decides}
 use Rattle.std.specs.Str.{bytes_eq}
 use Rattle.std.specs.List.{join_with_byte}
 use Rattle.path_checker.specs.Lines.{number_of, behind}
 use Rattle.certificate_text.specs.declared.putting.SetLine.{SetLine}
-use Rattle.certificate_text.specs.Text.{Written, line, letter, name_text, set_text, sets_text, pair_text, pairs_text, lattice_text, part_text, parts_text, text_of}
+use Rattle.certificate_text.specs.Text.{Written, letter, name_text, set_text, sets_text, pair_text, pairs_text, lattice_text, parts_text, text_of}
 use Rattle.certificate_reader.specs.declared.lines.Line.{Line}
 use Rattle.certificate_reader.specs.declared.lines.Line.TheVariants.{Certificate, Lattice, Set, Pair, Other}
 use Rattle.certificate_reader.specs.Lines.{end_of, by_letter, end_in, bits_of, set_line, pair_line, lattice_line, set_kind, pair_kind, words, by_pair, by_set, by_lattice, line_kind, lines_of}

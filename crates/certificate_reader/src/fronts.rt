@@ -1,30 +1,27 @@
 //! What a text begins with, read in one pass over its bytes: a numeral, a name, or a line of sets or of a pair.
 
 ghost use Rattle.std.specs.Prelude.{◌≡◌, ◌<◌, ◌≤◌, ◌*◌, ◌+◌, ◌-◌, ◌^◌, ◌==◌, ◌∷◌, [], min, Some, IfSome};
-ghost use Rattle.std.specs.Prelude.{IsTrue, MatchOption, All, length, take};
+ghost use Rattle.std.specs.Prelude.{IsTrue, MatchOption, All, ◌++◌, codes, length, take};
 ghost use Rattle.std.specs.List.{slice_split};
 ghost use Rattle.path_checker.specs.Lines.{number_behind, number_of};
 ghost use Rattle.certificate_reader.specs.Lines.{end_in, pair_kind, set_kind};
 ghost use Rattle.certificate_reader.specs.Fronts.{BeginsLine, BeginsWith, BeginsWords, EndsAt};
 
-use crate::lines::{Line, PAIR_WORD, SET_WORD, behind, line_kind};
+use crate::lines::{Line, line_kind};
 use path_checker::split_at_first;
 
 /// The number of the last constraint that a name may have.
 const MOST: u64 = 0x7fff_ffff;
+
+/// A number behind which one more digit surely fits into 64 bits.
+const MOST_TENS: u64 = u64::MAX / 10 - 1;
 
 /// What stands behind a byte that a text begins with.
 fn after(text: &[u8], byte: u8) -> Option<&[u8]>
     ensures { IfSome result (λ rest. text.now ≡ byte ∷ rest.now) }
 {
     match text {
-        [first, rest @ ..] => {
-            if *first == byte {
-                Some(rest)
-            } else {
-                None
-            }
-        }
+        [first, rest @ ..] => { if *first == byte { Some(rest) } else { None } }
         [] => None,
     }
 }
@@ -54,8 +51,8 @@ fn cut_at(text: &[u8], at: usize, number: u64) -> Option<(u64, &[u8])>
     }
 }
 
-/// The number of the numeral that a text begins with, without leading zeros, and what stands behind it. None also where the number
-/// is above 2^64 - 1 or nothing stands behind.
+/// The number of the numeral that a text begins with, without leading zeros, and what stands behind it. None also where nothing
+/// stands behind, or where the digits but the last write more than `MOST_TENS`.
 fn numeral(text: &[u8]) -> Option<(u64, &[u8])>
     ensures { IfSome result (λ x. BeginsWith (λ word. number_of word) text.now x.0 x.1.now) }
 {
@@ -65,13 +62,10 @@ fn numeral(text: &[u8]) -> Option<(u64, &[u8])>
         if !byte.is_ascii_digit() {
             return cut_at(text, at, number);
         }
-        let Some(tens) = number.checked_mul(10) else {
+        if number > MOST_TENS {
             return None;
-        };
-        let Some(more) = tens.checked_add(u64::from(byte - b'0')) else {
-            return None;
-        };
-        number = more;
+        }
+        number = 10 * number + u64::from(byte - b'0');
     }
     None
 }
@@ -156,15 +150,35 @@ fn pair_front(text: &[u8]) -> Option<(Line, &[u8])>
     }
 }
 
+/// What stands behind the first word of a line of sets.
+fn after_set(text: &[u8]) -> Option<&[u8]>
+    ensures { IfSome result (λ rest. text.now ≡ codes "  set " ++ rest.now) }
+{
+    match text {
+        [b' ', b' ', b's', b'e', b't', b' ', rest @ ..] => Some(rest),
+        _ => None,
+    }
+}
+
+/// What stands behind the first word of a line of a pair.
+fn after_pair(text: &[u8]) -> Option<&[u8]>
+    ensures { IfSome result (λ rest. text.now ≡ codes "  pair " ++ rest.now) }
+{
+    match text {
+        [b' ', b' ', b'p', b'a', b'i', b'r', b' ', rest @ ..] => Some(rest),
+        _ => None,
+    }
+}
+
 /// The line of sets or of a pair that a text begins with, and what stands behind it. None where it begins with another line, or one
-/// with a set above 2^64 - 1.
+/// with a set of which the digits but the last write more than `MOST_TENS`.
 fn plain_line(text: &[u8]) -> Option<(Line, &[u8])>
     ensures { IfSome result (λ x. BeginsLine text.now x.0 x.1.now) }
 {
-    if let Some(sets) = behind(SET_WORD, text) {
+    if let Some(sets) = after_set(text) {
         return set_front(sets);
     }
-    match behind(PAIR_WORD, text) {
+    match after_pair(text) {
         Some(pair) => pair_front(pair),
         None => None,
     }

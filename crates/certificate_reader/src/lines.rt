@@ -25,15 +25,15 @@ const CERTIFICATE: &[u8] = b"certificate";
 
 const LATTICE_WORD: &[u8] = b"lattice ";
 
-pub const SET_WORD: &[u8] = b"  set ";
+const SET_WORD: &[u8] = b"  set ";
 
-pub const PAIR_WORD: &[u8] = b"  pair ";
+const PAIR_WORD: &[u8] = b"  pair ";
 
 /// The number of the last constraint that a name may have.
 const MOST: u128 = 0x7fff_ffff;
 
 /// What stands behind a word that a line begins with.
-pub fn behind<'a>(word: &[u8], line: &'a [u8]) -> Option<&'a [u8]>
+fn behind<'a>(word: &[u8], line: &'a [u8]) -> Option<&'a [u8]>
     ensures { option_map (λ x. x.now) result ≡ behind word.now line.now }
 {
     line.strip_prefix(word)
