@@ -3,7 +3,7 @@
 ghost use Rattle.std.specs.Prelude.{◌≡◌, ◌<◌, ◌-◌, ◌^◌, ℕ, None, Some, IfOk, IfSome};
 ghost use Rattle.std.specs.Prelude.{MatchOption, length, slice_get};
 ghost use Rattle.lattice_core.specs.View.{orders_of};
-ghost use Rattle.flow_graph.specs.Index.{IsIndexOf};
+ghost use Rattle.flow_graph.specs.Index.{AreBeginnings};
 ghost use Rattle.flow_graph.specs.Unfolding.{IsAccepted, NamesElements};
 ghost use Rattle.certificate_reader.specs.Grammar.{ArePlain};
 ghost use Rattle.certificate_checks.specs.Checks.{ComesTo, FailsFirst, ObeysAt, unread_of};
@@ -11,7 +11,7 @@ ghost use Rattle.certificate_checks.specs.Checks.{ComesTo, FailsFirst, ObeysAt, 
 use certificate_laws::CertRule;
 use certificate_reader::{CertFault, read_certificate};
 use closure_check::{Part, check_part};
-use flow_graph::{Adjacency, FlowGraph};
+use flow_graph::{Beginnings, FlowGraph};
 use lattice_core::Lattices;
 use qual_base::{LatticeNo, NoMemory, Numbered};
 use std::alloc::Global;
@@ -47,11 +47,11 @@ fn part_of(parts: &[Part], lattice: LatticeNo) -> &Part
 /// The first lattice in which a certificate breaks a rule, and the lowest that it breaks there.
 fn first_failing(
     graph: &FlowGraph,
-    adjacency: &Adjacency,
+    beginnings: &Beginnings,
     lattices: &Lattices,
     parts: &[Part],
 ) -> Option<(u32, CertRule)>
-    requires index { IsIndexOf graph.now adjacency.now }
+    requires index { AreBeginnings graph.now beginnings.now }
     requires named { NamesElements graph.now (orders_of lattices.now) }
     requires parts { ArePlain graph.now (orders_of lattices.now) parts.now }
     ensures first { MatchOption result
@@ -64,7 +64,7 @@ fn first_failing(
         let lattice = LatticeNo::new(at);
         if let Err(rule) = check_part(
             graph,
-            adjacency,
+            beginnings,
             lattices.get(lattice),
             lattice,
             part_of(parts, lattice),
@@ -96,7 +96,7 @@ fn unread(fault: CertFault) -> Result<Verdict, NoMemory>
 /// `certificate_reader::read_certificate` says and obeys the rules in each lattice as `closure_check::check_part` says. Where it
 /// holds, the program is accepted, whoever wrote the certificate.
 ///
-/// Takes time and memory as those two do, and the index of the constraints.
+/// Takes time and memory as those two do, and the list of the constraints that begin at each variable.
 ///
 /// # Errors
 ///
@@ -117,8 +117,8 @@ pub fn judge_certificate(
         Ok(parts) => parts,
         Err(fault) => return unread(fault),
     };
-    let adjacency = Adjacency::build(alloc, graph)?;
-    match first_failing(graph, &adjacency, lattices, &parts) {
+    let beginnings = Beginnings::build(alloc, graph)?;
+    match first_failing(graph, &beginnings, lattices, &parts) {
         None => Ok(Verdict::Holds),
         Some((before, rule)) => Ok(Verdict::Fails {
             lattice: before + 1,

@@ -1,21 +1,23 @@
 -- Texts that lack a byte, and the words and the lines that are cut at it.
-use Rattle.std.proofs.Common.{◌≡◌, ℕ, zero, suc, ◌+◌, ◌-◌, ◌/◌, ◌%◌, ◌<◌, ◌==◌, Bool, true, false, ◌||◌, List, [], ◌∷◌, ◌++◌, length, take, slice_index, All, refl, sym, ◌∙◌, ap, arith, cond, decimal, append_assoc, if◌then◌else◌}
+use Rattle.std.proofs.Common.{◌≡◌, ℕ, zero, suc, ◌-◌, ◌/◌, ◌%◌, ◌<◌, ◌==◌, Bool, true, false, ◌||◌, List, [], ◌∷◌, ◌++◌, length, take, drop, slice_index, Some, None, codes, All, refl, sym, ◌∙◌, ap, arith, cond, decimal, append_assoc, length-append, if◌then◌else◌}
+use Rattle.std.proofs.lemmas.List.{take-append-drop}
+use Rattle.std.proofs.lemmas.Slice.Eq.{bytes_eq-Decides}
 use Rattle.std.proofs.lemmas.List.Elements.{All-nil, All-cons}
 use Rattle.std.proofs.lemmas.List.Splits.{slice_split_at, slice_split_none, join_with_byte-slice_split}
 use Rattle.std.specs.List.{slice_split, join_with_byte}
 use Rattle.std.specs.Str.{bytes_eq}
 use Rattle.std.specs.Fmt.{digits, digits_onto, digit_glyph}
+use Rattle.path_checker.specs.Lines.{number_of, behind}
 use Rattle.certificate_text.specs.Text.{line}
-use Rattle.certificate_reader.specs.declared.lines.Line.{Line}
 use Rattle.certificate_reader.specs.declared.lines.Line.TheVariants.{Other}
-use Rattle.certificate_reader.specs.Lines.{line_kind, lines_in, lines_of, words}
+use Rattle.certificate_reader.specs.Lines.{by_letter, end_in, set_kind, pair_kind, line_kind, lines_in, lines_of, words}
 use Rattle.certificate_reader.proofs.WordLemmas.{split_parts}
 
 both_false : (a b : Bool) → a ≡ false → b ≡ false → (a || b) ≡ false
 both_false true b p q = absurd cc
 both_false false b p q = q
 
-neither : (a b : Bool) → (a || b) ≡ false → (a ≡ false) × (b ≡ false)
+pub neither : (a b : Bool) → (a || b) ≡ false → (a ≡ false) × (b ≡ false)
 neither true b e = absurd cc
 neither false b e = (refl, e)
 
@@ -104,3 +106,34 @@ index_own (x ∷ xs) c = index_own xs c
 pub last_apart : (x : ℕ) (xs : List ℕ) → take (length xs) (x ∷ xs) ++ slice_index (x ∷ xs) (length xs) ∷ [] ≡ x ∷ xs
 last_apart x [] = refl
 last_apart x (y ∷ ys) = ap (λ (zs : List ℕ). x ∷ zs) (last_apart y ys)
+
+-- a name says its end
+pub end_in-last : (d : List ℕ) (c : ℕ) → end_in (d ++ c ∷ []) ≡ by_letter (number_of d) c
+end_in-last d c =
+    let long = length-append d (c ∷ []) in
+    let last : length (d ++ c ∷ []) - 1 ≡ length d = omega (arith, long) in
+    ap (λ (k : ℕ). by_letter (number_of (take k (d ++ c ∷ []))) (slice_index (d ++ c ∷ []) k)) last
+    ∙ ap (λ (xs : List ℕ). by_letter (number_of xs) (slice_index (d ++ c ∷ []) (length d))) (take_own d (c ∷ []))
+    ∙ ap (by_letter (number_of d)) (index_own d c)
+
+-- what stands behind a word that a line begins with
+behind_by : (word bytes rest : List ℕ) (b : Bool) → bytes_eq (take (length word) bytes) word ≡ b → cond b (Some (drop (length word) bytes)) None ≡ Some rest → bytes ≡ word ++ rest
+behind_by word bytes rest true is h =
+    let left : drop (length word) bytes ≡ rest = cc in
+    sym (take-append-drop (length word) bytes)
+    ∙ ap (λ (xs : List ℕ). xs ++ drop (length word) bytes) ((bytes_eq-Decides (take (length word) bytes) word).0 is)
+    ∙ ap (λ (xs : List ℕ). word ++ xs) left
+behind_by word bytes rest false is h = absurd cc
+
+pub behind_is : (word bytes rest : List ℕ) → behind word bytes ≡ Some rest → bytes ≡ word ++ rest
+unfolding behind
+behind_is word bytes rest h = behind_by word bytes rest (bytes_eq (take (length word) bytes) word) refl h
+
+-- lines by their first words
+pub set_begins : (x : List ℕ) → line_kind (codes "  set " ++ x) ≡ set_kind (words x)
+unfolding line_kind behind
+set_begins x = refl
+
+pub pair_begins : (x : List ℕ) → line_kind (codes "  pair " ++ x) ≡ pair_kind (words x)
+unfolding line_kind behind
+pair_begins x = refl

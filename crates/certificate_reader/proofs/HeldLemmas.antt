@@ -1,11 +1,9 @@
 -- What a reader keeps true from line to line.
-use Rattle.std.proofs.Common.{◌≡◌, ℕ, zero, suc, ◌+◌, ◌-◌, ◌^◌, ◌<◌, ◌≤◌, ◌==◌, ◌&&◌, Bool, true, false, nat_lt, List, [], ◌∷◌, ◌++◌, length, map, slice_get, slice_index, Option, Some, None, refl, sym, ◌∙◌, ap, subst, arith, cond, inl, inr, ◌⊎◌, append_assoc, append-nil, add-zero, length-append, codes, Result, Ok, Err, IfOk, OnOk}
-use Rattle.std.specs.List.{slice_split}
+use Rattle.std.proofs.Common.{◌≡◌, ℕ, zero, suc, ◌+◌, ◌-◌, ◌^◌, ◌<◌, ◌≤◌, ◌==◌, ◌&&◌, Bool, true, false, nat_lt, List, [], ◌∷◌, ◌++◌, length, map, slice_get, slice_index, Option, Some, None, refl, sym, ◌∙◌, ap, subst, arith, cond, inl, inr, ◌⊎◌, append_assoc, append-nil, length-append, codes, Result, Ok, Err, IfOk, OnOk}
 use Rattle.std.proofs.lemmas.List.{nil_from_length}
-use Rattle.lattice_core.specs.Order.{Order, size}
+use Rattle.lattice_core.specs.Order.{Order}
 use Rattle.flow_graph.specs.System.{System, most_constraints}
 use Rattle.closure_check.specs.declared.part.Part.{Part}
-use Rattle.closure_check.specs.Parts.{IsPart}
 use Rattle.certificate_text.specs.declared.putting.SetLine.{SetLine}
 use Rattle.certificate_text.specs.Text.{Written, line, set_text, sets_text, pair_text, pairs_text, lattice_text, part_text, parts_text, written, certificate_text}
 use Rattle.certificate_reader.specs.declared.lines.Line.{Line}
@@ -14,13 +12,14 @@ use Rattle.certificate_reader.specs.declared.section.Section.{Section}
 use Rattle.certificate_reader.specs.declared.section.Section.TheVariants.{Start, Opened, InSets, InPairs}
 use Rattle.certificate_reader.specs.declared.section.CertFault.{CertFault}
 use Rattle.certificate_reader.specs.declared.section.CertFault.TheVariants.{Grammar, NoSuchVariable, NoMemory}
-use Rattle.certificate_reader.specs.Lines.{line_kind, lines_of}
-use Rattle.certificate_reader.specs.Grammar.{all_of, name_behind, pair_behind, sets_fit, SetsFit, PairsFit, is_name, is_known, AreNamed, HasNames, alls_of, ArePlain}
+use Rattle.certificate_reader.specs.Lines.{lines_of}
+use Rattle.certificate_reader.specs.Fronts.{BeginsLine}
+use Rattle.certificate_reader.specs.Grammar.{name_behind, pair_behind, sets_fit, SetsFit, PairsFit, is_name, is_known, AreNamed, alls_of, ArePlain}
 use Rattle.certificate_reader.specs.Reader.{next, may_end, fault_behind, fault_from, AreLines, IsPartOf, Held, Closed, Closes, Keeps, Takes, FailsAt, IsMade, AreMade, IsReadAs}
 use Rattle.certificate_reader.proofs.Bytes.{first_part, lines_of-parts}
 use Rattle.certificate_reader.proofs.Shapes.{both_true}
 use Rattle.certificate_reader.proofs.Plain.{small_name}
-use Rattle.certificate_reader.proofs.Spelled.{most_names, lattice_bytes, set_bytes, pair_bytes, IsSmallLine, IsSpelled, spelled}
+use Rattle.certificate_reader.proofs.Spelled.{lattice_bytes, set_bytes, pair_bytes, IsSmallLine, IsSpelled, spelled}
 
 -- the name of the last line of sets, and the last pair
 abbrev pub last_name : Option ℕ → List SetLine → Option ℕ
@@ -313,11 +312,6 @@ module _ (sys : System) where
     pub stands_first : (bytes : List ℕ) → StandsAt bytes (record { section = Start; parts = []; sets = []; pairs = [] }) 1 bytes
     stands_first bytes = record { held_is = (refl, refl, refl); text_is = refl; fault_is = refl }
 
-    -- the text that is left begins with a line
-    pub record IsNext (rest part behind : List ℕ) (kind : Line) : Type 0 where
-      pub cut : slice_split (λ b. b == 10) rest ≡ part ∷ slice_split (λ b. b == 10) behind
-      pub kind_is : kind ≡ line_kind part
-
     -- the names and the number of a line that may stand there are small
     module _ (few : length sys.constraints ≤ most_constraints) (short : length alls ≤ 16) where
       number_small : (k n : ℕ) (to : Section) → cond ((n == k + 1) && nat_lt k (length alls)) (Some (InSets n None)) None ≡ Some to → n < 2 ^ 32 - 1
@@ -344,12 +338,13 @@ module _ (sys : System) where
           subst (λ (o : Option Section). fault_behind sys n kind o (λ s. fault_from sys alls s (n + 1) lines) ≡ first) follows h in
           subst (λ (b : Bool). cond b (fault_from sys alls to (n + 1) lines) (Some (NoSuchVariable n)) ≡ first) known met
 
-      next_line : (rest part behind : List ℕ) (kind : Line) → IsNext rest part behind kind → lines_of rest ≡ kind ∷ lines_of behind
-      next_line rest part behind kind it = lines_of-parts rest part behind it.cut ∙ ap (λ (k : Line). k ∷ lines_of behind) (sym it.kind_is)
+      next_line : (rest behind : List ℕ) (kind : Line) → BeginsLine rest kind behind → lines_of rest ≡ kind ∷ lines_of behind
+      next_line rest behind kind it = lines_of-parts rest it.part behind it.cut ∙ ap (λ (k : Line). k ∷ lines_of behind) (sym it.kind_is)
 
-      pub takes_here : (bytes : List ℕ) (old new : Held) (n : ℕ) (rest part behind : List ℕ) (kind : Line) → StandsAt bytes old n rest → IsNext rest part behind kind →
+      pub takes_here : (bytes : List ℕ) (old new : Held) (n : ℕ) (rest behind : List ℕ) (kind : Line) → StandsAt bytes old n rest → BeginsLine rest kind behind →
           Takes sys alls kind old new → StandsAt bytes new (n + 1) behind
-      takes_here bytes old new n rest part behind kind stands it takes =
+      takes_here bytes old new n rest behind kind stands it takes =
+          let part = it.part in
           let small : IsSmallLine kind = line_small old.section new.section kind takes.follows takes.known in
           let spelled_ : IsSpelled kind part =
           subst (λ (k : Line). IsSpelled k part) (sym it.kind_is) (spelled part (subst (λ (k : Line). IsSmallLine k) it.kind_is small)) in
@@ -360,14 +355,14 @@ module _ (sys : System) where
             text_is = stands.text_is ∙ ap (λ (t : List ℕ). old_text ++ t) (first_part rest part behind it.cut) ∙ line_joined old_text part behind
                 ∙ ap (λ (t : List ℕ). t ++ behind) (sym moved.text_is);
             fault_is = fault_moves old.section new.section n kind (lines_of behind) (fault_from sys alls Start 1 (lines_of bytes)) takes.follows takes.known
-                (ap (fault_from sys alls old.section n) (sym (next_line rest part behind kind it)) ∙ stands.fault_is);
+                (ap (fault_from sys alls old.section n) (sym (next_line rest behind kind it)) ∙ stands.fault_is);
           }
 
-      pub fails_here : (bytes : List ℕ) (old : Held) (n : ℕ) (rest part behind : List ℕ) (kind : Line) (e : CertFault) → StandsAt bytes old n rest → IsNext rest part behind kind →
+      pub fails_here : (bytes : List ℕ) (old : Held) (n : ℕ) (rest behind : List ℕ) (kind : Line) (e : CertFault) → StandsAt bytes old n rest → BeginsLine rest kind behind →
           (e ≡ NoMemory) ⊎ FailsAt sys alls old.section n kind e → (e ≡ NoMemory) ⊎ (fault_from sys alls Start 1 (lines_of bytes) ≡ Some e)
-      fails_here bytes old n rest part behind kind e stands it (inl out) = inl out
-      fails_here bytes old n rest part behind kind e stands it (inr fails) =
-          inr (sym stands.fault_is ∙ ap (fault_from sys alls old.section n) (next_line rest part behind kind it) ∙ fails (λ s. fault_from sys alls s (n + 1) (lines_of behind)))
+      fails_here bytes old n rest behind kind e stands it (inl out) = inl out
+      fails_here bytes old n rest behind kind e stands it (inr fails) =
+          inr (sym stands.fault_is ∙ ap (fault_from sys alls old.section n) (next_line rest behind kind it) ∙ fails (λ s. fault_from sys alls s (n + 1) (lines_of behind)))
 
       no_other : (section : Section) → next alls section Other ≡ None
       no_other Start = refl

@@ -6,6 +6,7 @@ pub mod Shapes
 pub mod Placed
 pub mod Bytes
 pub mod Decimals
+pub mod FrontLemmas
 pub mod Spelled
 pub mod Plain
 pub mod Once

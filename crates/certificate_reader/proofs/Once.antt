@@ -1,21 +1,21 @@
 -- A text reads as one list of certificates.
-use Rattle.std.proofs.Common.{◌≡◌, ℕ, zero, suc, ◌+◌, ◌<◌, ◌≤◌, ◌==◌, Bool, true, false, List, [], ◌∷◌, ◌++◌, length, map, slice_get, slice_index, Option, Some, None, refl, sym, ◌∙◌, ap, subst, arith, inl, inr, ◌⊎◌}
+use Rattle.std.proofs.Common.{◌≡◌, ℕ, zero, suc, ◌+◌, ◌==◌, Bool, true, false, List, [], ◌∷◌, ◌++◌, length, slice_get, slice_index, Option, Some, None, refl, sym, ◌∙◌, ap, subst, arith, inl, inr}
 use Rattle.std.proofs.lemmas.List.{ext_get_or}
 use Rattle.lattice_core.specs.Order.{Order}
 use Rattle.flow_graph.specs.System.{System}
 use Rattle.closure_check.specs.declared.part.Part.{Part}
-use Rattle.closure_check.specs.Parts.{IsPart, AreAscending, is_among, is_below}
+use Rattle.closure_check.specs.Parts.{AreAscending, is_among}
 use Rattle.closure_check.proofs.Sorted.{before_of, place_among, among_place}
 use Rattle.certificate_text.specs.declared.putting.SetLine.{SetLine}
-use Rattle.certificate_text.specs.Names.{Named, name_of, ends_in, names_in}
-use Rattle.certificate_text.specs.Text.{Written, sets_of, pairs_of, written}
+use Rattle.certificate_text.specs.Names.{name_of, ends_in, names_in}
+use Rattle.certificate_text.specs.Text.{Written, written}
 use Rattle.certificate_text.proofs.Rising.{Among, Rises, same_rising}
-use Rattle.certificate_text.proofs.Written.{Earlier, never_both, names_are, has_own_name, IsNamedPair, written_pair, pair_written}
+use Rattle.certificate_text.proofs.Written.{Earlier, never_both, names_are, has_own_name, written_pair, pair_written}
 use Rattle.certificate_reader.specs.declared.lines.Line.{Line}
 use Rattle.certificate_reader.specs.declared.lines.Line.TheVariants.{Certificate, Lattice, Set, Pair, Other}
-use Rattle.certificate_reader.specs.Grammar.{set_lines, pair_lines, part_lines, lines_of_parts, HasNames, ArePlain, ReadsAs}
-use Rattle.certificate_reader.specs.Laws.{IsBounded, AreSame, ReadsOnce}
-use Rattle.certificate_reader.proofs.Plain.{end_of_name, IsSetOf, set_from, set_to, writtens, read_lines}
+use Rattle.certificate_reader.specs.Grammar.{set_lines, pair_lines, part_lines, lines_of_parts, HasNames, ArePlain}
+use Rattle.certificate_reader.specs.Laws.{AreSame, ReadsOnce}
+use Rattle.certificate_reader.proofs.Plain.{end_of_name, set_from, set_to, writtens, read_lines}
 
 -- what lines say: the sets and the pairs in front of the first line of a lattice, and the certificates behind it
 record Said : Type 0 where

@@ -1,8 +1,7 @@
 -- The certificate that lines say.
-use Rattle.std.proofs.Common.{◌≡◌, ℕ, zero, suc, ◌+◌, ◌-◌, ◌*◌, ◌^◌, ◌<◌, ◌≤◌, ◌==◌, ◌&&◌, Bool, true, false, not, nat_lt, max, List, [], ◌∷◌, ◌++◌, length, map, slice_get, slice_index, slice_set, Option, Some, None, refl, sym, ◌∙◌, ap, subst, arith, cond, inl, inr, ◌⊎◌, ◌↔◌}
+use Rattle.std.proofs.Common.{◌≡◌, ℕ, zero, suc, ◌*◌, ◌^◌, ◌<◌, ◌≤◌, ◌==◌, ◌&&◌, Bool, true, false, not, nat_lt, List, [], ◌∷◌, ◌++◌, length, map, slice_get, slice_index, slice_set, Option, Some, None, refl, sym, ◌∙◌, ap, subst, arith, cond, inl, inr, ◌⊎◌, ◌↔◌}
 use Rattle.std.specs.List.{Contains}
 use Rattle.std.specs.List.Sorted.{IsStrictlySortedBy}
-use Rattle.std.specs.Int.{bit_at}
 use Rattle.std.proofs.lemmas.Bool.{cases_lt}
 use Rattle.std.proofs.lemmas.Bool.Decides.{eqb_tells}
 use Rattle.std.proofs.lemmas.Nat.{pow_pos}
@@ -12,17 +11,17 @@ use Rattle.lattice_core.specs.Order.{Order, size}
 use Rattle.flow_graph.specs.declared.constraint.Constraint.{Constraint}
 use Rattle.flow_graph.specs.System.{System, vars_of, vars_of_link, highest}
 use Rattle.closure_check.specs.declared.part.Part.{Part}
-use Rattle.closure_check.specs.Parts.{IsPart, AreSets, AreAscending, AreBelow, has, is_in, is_among, is_below}
+use Rattle.closure_check.specs.Parts.{IsPart, AreAscending, AreBelow, has, is_in, is_among, is_below}
 use Rattle.closure_check.proofs.BitSets.{bit_of}
-use Rattle.closure_check.proofs.Sorted.{IsBefore, before_of, before_to}
+use Rattle.closure_check.proofs.Sorted.{before_of, before_to}
 use Rattle.certificate_text.specs.declared.putting.SetLine.{SetLine}
 use Rattle.certificate_text.specs.Names.{Named, ends_in, ends_of, first_end, second_end, name_of, names_in}
 use Rattle.certificate_text.specs.Order.{pair_cmp}
-use Rattle.certificate_text.specs.Text.{Written, sets_of, pairs_of, written}
+use Rattle.certificate_text.specs.Text.{sets_of, pairs_of}
 use Rattle.certificate_text.proofs.EndLemmas.{ends_length, set_length, first_below, second_below}
 use Rattle.certificate_text.proofs.Rising.{Among, Rises, among_left, among_right, among_either, among_contained, contained_among, same_rising}
-use Rattle.certificate_text.proofs.Written.{Lower, Earlier, never_both, names_are, names_rise, pairs_rise, has_own_name, sorted_rises, IsNamedPair, written_pair, pair_written}
-use Rattle.certificate_reader.specs.Grammar.{all_of, name_behind, pair_behind, sets_fit, SetsFit, PairsFit, is_name, HasNames}
+use Rattle.certificate_text.proofs.Written.{Lower, Earlier, never_both, names_are, names_rise, pairs_rise, has_own_name, sorted_rises, written_pair, pair_written}
+use Rattle.certificate_reader.specs.Grammar.{all_of, name_behind, sets_fit, SetsFit, PairsFit, HasNames}
 use Rattle.certificate_reader.specs.Reader.{AreLines, IsPartOf}
 use Rattle.certificate_reader.specs.Making.{var_at, vars_at, IsSaid, IsUnsaid, AreFilled, ArePairsOf, SetsExist, PairsExist}
 use Rattle.certificate_reader.proofs.Plain.{IsNamed, named_of, set_from, set_to}

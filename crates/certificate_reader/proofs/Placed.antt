@@ -1,5 +1,5 @@
 -- Where the first fault of lines stands.
-use Rattle.std.proofs.Common.{◌≡◌, ℕ, zero, suc, ◌+◌, ◌<◌, ◌≤◌, Bool, true, false, List, [], ◌∷◌, ◌++◌, length, take, slice_get, Option, Some, None, refl, sym, ◌∙◌, ap, subst, arith, cond}
+use Rattle.std.proofs.Common.{◌≡◌, ℕ, suc, ◌+◌, ◌<◌, ◌≤◌, Bool, true, false, List, [], ◌∷◌, ◌++◌, length, take, slice_get, Option, Some, None, refl, sym, ◌∙◌, subst, arith, cond}
 use Rattle.lattice_core.specs.Order.{Order}
 use Rattle.flow_graph.specs.System.{System}
 use Rattle.certificate_reader.specs.declared.lines.Line.{Line}
@@ -7,7 +7,7 @@ use Rattle.certificate_reader.specs.declared.section.Section.{Section}
 use Rattle.certificate_reader.specs.declared.section.Section.TheVariants.{Start}
 use Rattle.certificate_reader.specs.declared.section.CertFault.{CertFault}
 use Rattle.certificate_reader.specs.declared.section.CertFault.TheVariants.{Grammar, NoSuchVariable, NoMemory}
-use Rattle.certificate_reader.specs.Grammar.{alls_of, is_known, AreKnown, IsShaped, BeginsText, IsPlaced}
+use Rattle.certificate_reader.specs.Grammar.{alls_of, is_known, AreKnown, IsShaped, IsPlaced}
 use Rattle.certificate_reader.specs.Reader.{next, may_end, fault_behind, fault_from}
 use Rattle.certificate_reader.proofs.Shapes.{passes, passes_behind, left_of, parts_are_passed, begun, begun_behind, completes}
 

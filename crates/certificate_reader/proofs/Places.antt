@@ -1,5 +1,5 @@
 -- Places past the end of a list.
-use Rattle.std.proofs.Common.{◌≡◌, ℕ, zero, suc, ◌≤◌, ◌<◌, Bool, false, nat_lt, List, [], ◌∷◌, length, slice_get, Option, None, refl, arith}
+use Rattle.std.proofs.Common.{◌≡◌, ℕ, zero, suc, ◌≤◌, false, nat_lt, List, [], ◌∷◌, length, slice_get, None, refl, arith}
 
 pub get_none : {A : Type 0} → (xs : List A) (k : ℕ) → length xs ≤ k → slice_get xs k ≡ None
 get_none [] k past = refl

@@ -1,5 +1,5 @@
 -- The text of certificates has the lines of them, and each names variables.
-use Rattle.std.proofs.Common.{◌≡◌, ℕ, zero, suc, ◌+◌, ◌-◌, ◌*◌, ◌/◌, ◌%◌, ◌^◌, ◌<◌, ◌≤◌, ◌==◌, ◌&&◌, Bool, true, false, not, nat_lt, List, [], ◌∷◌, ◌++◌, length, map, slice_get, slice_index, Option, Some, None, refl, sym, ◌∙◌, ap, subst, arith, cond, inl, inr, ◌⊎◌, pow_mono}
+use Rattle.std.proofs.Common.{◌≡◌, ℕ, zero, suc, ◌+◌, ◌-◌, ◌/◌, ◌%◌, ◌^◌, ◌<◌, ◌≤◌, ◌==◌, ◌&&◌, Bool, true, false, nat_lt, List, [], ◌∷◌, ◌++◌, length, map, slice_get, slice_index, Option, Some, None, refl, sym, ◌∙◌, ap, subst, arith, cond, inl, inr, pow_mono}
 use Rattle.std.specs.Int.{bit_at}
 use Rattle.std.proofs.lemmas.Bool.{cases_lt}
 use Rattle.std.proofs.lemmas.Nat.{div-add-mod', pow_pos}
@@ -9,18 +9,18 @@ use Rattle.std.proofs.lemmas.Option.{slice_get_within}
 use Rattle.lattice_core.specs.Order.{Order, size}
 use Rattle.flow_graph.specs.System.{System, most_constraints}
 use Rattle.closure_check.specs.declared.part.Part.{Part}
-use Rattle.closure_check.specs.Parts.{IsPart, AreSets, has, is_in, is_below}
+use Rattle.closure_check.specs.Parts.{IsPart, has}
 use Rattle.closure_check.proofs.BitSets.{of_bit}
 use Rattle.closure_check.proofs.Sorted.{before_to}
 use Rattle.certificate_text.specs.declared.putting.SetLine.{SetLine}
 use Rattle.certificate_text.specs.Names.{Named, ends_in, name_of, is_at, names_in}
-use Rattle.certificate_text.specs.Text.{Written, set_of, sets_of, pairs_of, written, text_of, certificate_text}
+use Rattle.certificate_text.specs.Text.{Written, set_of, sets_of, pairs_of, written}
 use Rattle.certificate_text.proofs.EndLemmas.{ends_length}
 use Rattle.certificate_text.proofs.Rising.{Among, Rises, among_either, among_left, among_right}
-use Rattle.certificate_text.proofs.Written.{Lower, Earlier, first_is, names_are, names_rise, pairs_rise, IsNamedPair, written_pair}
+use Rattle.certificate_text.proofs.Written.{Lower, Earlier, first_is, names_are, names_rise, pairs_rise, written_pair}
 use Rattle.certificate_reader.specs.declared.lines.Line.{Line}
 use Rattle.certificate_reader.specs.Lines.{lines_of}
-use Rattle.certificate_reader.specs.Grammar.{all_of, alls_of, set_lines, pair_lines, part_lines, lines_of_parts, name_behind, pair_behind, sets_fit, SetsFit, PairsFit, PartsFit, IsShaped, names_at, is_name, AreKnown, HasNames, ArePlain, ReadsAs}
+use Rattle.certificate_reader.specs.Grammar.{all_of, alls_of, set_lines, pair_lines, part_lines, lines_of_parts, name_behind, pair_behind, sets_fit, SetsFit, PairsFit, PartsFit, IsShaped, names_at, is_name, AreKnown, ArePlain, ReadsAs}
 use Rattle.certificate_reader.specs.Laws.{IsBounded}
 use Rattle.certificate_reader.proofs.Spelled.{most_names, IsSmall, AreSmallSets, AreSmallPairs, AreSmallParts, text_lines}
 

@@ -1,17 +1,16 @@
 -- The lines of the text of certificates, and the text of lines.
-use Rattle.std.proofs.Common.{◌≡◌, ℕ, zero, suc, ◌+◌, ◌-◌, ◌*◌, ◌/◌, ◌%◌, ◌^◌, ◌<◌, ◌≤◌, ◌==◌, Bool, true, false, nat_lt, min, List, [], ◌∷◌, ◌++◌, length, take, drop, slice_index, Option, Some, None, refl, sym, ◌∙◌, ap, subst, arith, cond, codes, decimal, append_assoc, length-append, inl, inr}
-use Rattle.std.proofs.lemmas.List.{take-append-drop}
+use Rattle.std.proofs.Common.{◌≡◌, ℕ, ◌+◌, ◌-◌, ◌*◌, ◌/◌, ◌%◌, ◌^◌, ◌<◌, ◌≤◌, ◌==◌, Bool, true, false, nat_lt, min, List, [], ◌∷◌, ◌++◌, length, take, slice_index, Option, Some, None, refl, sym, ◌∙◌, ap, subst, arith, cond, codes, decimal, append_assoc}
 use Rattle.std.proofs.lemmas.Slice.Eq.{bytes_eq-Decides}
 use Rattle.std.specs.Str.{bytes_eq}
 use Rattle.std.specs.List.{join_with_byte}
 use Rattle.path_checker.specs.Lines.{number_of, behind}
 use Rattle.certificate_text.specs.declared.putting.SetLine.{SetLine}
-use Rattle.certificate_text.specs.Text.{Written, line, letter, name_text, set_text, sets_text, pair_text, pairs_text, lattice_text, part_text, parts_text, text_of}
+use Rattle.certificate_text.specs.Text.{Written, letter, name_text, set_text, sets_text, pair_text, pairs_text, lattice_text, parts_text, text_of}
 use Rattle.certificate_reader.specs.declared.lines.Line.{Line}
 use Rattle.certificate_reader.specs.declared.lines.Line.TheVariants.{Certificate, Lattice, Set, Pair, Other}
 use Rattle.certificate_reader.specs.Lines.{end_of, by_letter, end_in, bits_of, set_line, pair_line, lattice_line, set_kind, pair_kind, words, by_pair, by_set, by_lattice, line_kind, lines_of}
 use Rattle.certificate_reader.specs.Grammar.{set_lines, pair_lines, part_lines, lines_of_parts}
-use Rattle.certificate_reader.proofs.Bytes.{has, lacks_append, decimal_lacks, two_words, three_words, joined, line_first, take_own, index_own, last_apart}
+use Rattle.certificate_reader.proofs.Bytes.{has, lacks_append, decimal_lacks, two_words, three_words, joined, line_first, last_apart, end_in-last, behind_is, set_begins, pair_begins}
 use Rattle.certificate_reader.proofs.Decimals.{decimal_is_read, decimal_of}
 
 -- names that lines say exactly
@@ -36,14 +35,6 @@ three_joined : (a b c : List ℕ) → a ++ 32 ∷ [] ++ b ++ 32 ∷ [] ++ c ≡ 
 three_joined a b c = append_assoc (a ++ 32 ∷ [] ++ b) (32 ∷ []) c ∙ append_assoc (a ++ 32 ∷ []) b (32 ∷ c) ∙ append_assoc a (32 ∷ []) (b ++ 32 ∷ c)
 
 -- lines by their first words
-set_begins : (x : List ℕ) → line_kind (codes "  set " ++ x) ≡ set_kind (words x)
-unfolding line_kind behind
-set_begins x = refl
-
-pair_begins : (x : List ℕ) → line_kind (codes "  pair " ++ x) ≡ pair_kind (words x)
-unfolding line_kind behind
-pair_begins x = refl
-
 lattice_begins : (x : List ℕ) → line_kind (codes "lattice " ++ x) ≡ lattice_line (number_of x)
 unfolding line_kind behind
 lattice_begins x = refl
@@ -51,15 +42,6 @@ lattice_begins x = refl
 certificate_begins : line_kind (codes "certificate") ≡ Certificate
 unfolding line_kind
 certificate_begins = refl
-
--- a name says its end
-end_in-last : (d : List ℕ) (c : ℕ) → end_in (d ++ c ∷ []) ≡ by_letter (number_of d) c
-end_in-last d c =
-    let long = length-append d (c ∷ []) in
-    let last : length (d ++ c ∷ []) - 1 ≡ length d = omega (arith, long) in
-    ap (λ (k : ℕ). by_letter (number_of (take k (d ++ c ∷ []))) (slice_index (d ++ c ∷ []) k)) last
-    ∙ ap (λ (xs : List ℕ). by_letter (number_of xs) (slice_index (d ++ c ∷ []) (length d))) (take_own d (c ∷ []))
-    ∙ ap (by_letter (number_of d)) (index_own d c)
 
 name_by : (name : ℕ) (b : Bool) → (name % 2 == 0) ≡ b → name < most_names → end_in (decimal (name / 2) ++ cond b (codes "a") (codes "b")) ≡ Some name
 name_by name true is small =
@@ -212,18 +194,6 @@ abbrev Spells : Line → List ℕ → Type 0
 Spells kind bytes = IsSmallLine kind → IsSpelled kind bytes
 
 -- what stands behind a word
-behind_by : (word bytes rest : List ℕ) (b : Bool) → bytes_eq (take (length word) bytes) word ≡ b → cond b (Some (drop (length word) bytes)) None ≡ Some rest → bytes ≡ word ++ rest
-behind_by word bytes rest true is h =
-    let left : drop (length word) bytes ≡ rest = cc in
-    sym (take-append-drop (length word) bytes)
-    ∙ ap (λ (xs : List ℕ). xs ++ drop (length word) bytes) ((bytes_eq-Decides (take (length word) bytes) word).0 is)
-    ∙ ap (λ (xs : List ℕ). word ++ xs) left
-behind_by word bytes rest false is h = absurd cc
-
-behind_is : (word bytes rest : List ℕ) → behind word bytes ≡ Some rest → bytes ≡ word ++ rest
-unfolding behind
-behind_is word bytes rest h = behind_by word bytes rest (bytes_eq (take (length word) bytes) word) refl h
-
 -- the number and the letter of a name
 by_end : (digits : List ℕ) (second name : ℕ) (o : Option ℕ) → number_of digits ≡ o → end_of o second ≡ Some name → second ≤ 1 → name < most_names →
     (digits ≡ decimal (name / 2)) × (name % 2 ≡ second)

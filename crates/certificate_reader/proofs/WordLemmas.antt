@@ -1,5 +1,5 @@
 -- Lines of too many words.
-use Rattle.std.proofs.Common.{◌≡◌, ℕ, ◌==◌, Bool, true, false, List, [], ◌∷◌, refl, ap, ◌∙◌, cond}
+use Rattle.std.proofs.Common.{◌≡◌, ℕ, ◌==◌, Bool, true, false, List, [], ◌∷◌, refl, ap, cond}
 use Rattle.std.specs.List.{slice_split, onto_first}
 use Rattle.certificate_reader.specs.declared.lines.Line.TheVariants.{Other}
 use Rattle.certificate_reader.specs.Lines.{set_kind, pair_kind}

@@ -1,4 +1,5 @@
 pub mod Lines
+pub mod Fronts
 pub mod Grammar
 pub mod Reader
 pub mod Laws

@@ -1,6 +1,7 @@
 //! The reader of certificates.
 #![tactic(auto)]
 
+mod fronts;
 pub mod laws;
 mod lines;
 mod making;

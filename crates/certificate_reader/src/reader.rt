@@ -12,14 +12,14 @@ ghost use Rattle.certificate_reader.specs.Grammar.{IsPlaced, ReadsAs, alls_of, i
 ghost use Rattle.certificate_reader.specs.Lines.{lines_of};
 ghost use Rattle.certificate_reader.specs.Reader.{fault_from, may_end, AreLines, AreSmall, IsReadAs};
 
-use crate::lines::{Line, line_kind};
+use crate::fronts::next_line;
+use crate::lines::Line;
 use crate::making::part_of;
 use crate::section::{CertFault, Section, may_end, next};
 use certificate_text::{SetLine, end_at, ends, name_in, name_table};
 use closure_check::Part;
 use flow_graph::FlowGraph;
 use lattice_core::{Lattice, Lattices};
-use path_checker::split_at_first;
 use qual_base::{LatticeNo, Numbered};
 use std::alloc::{AllocError, Global};
 use std::marker::Model;
@@ -228,8 +228,8 @@ fn read_lines(alloc: Global, bytes: &[u8], scene: &Scene) -> Result<Vec<Part>, C
     let mut reader = Reader::new(alloc);
     let mut rest = bytes;
     let mut number: u32 = 1;
-    'lines: while let Some((line, behind)) = split_at_first(b'\n', rest) {
-        reader.take_line(alloc, scene, line_kind(line), number)?;
+    'lines: while let Some((line, behind)) = next_line(rest) {
+        reader.take_line(alloc, scene, line, number)?;
         rest = behind;
         number += 1;
     }

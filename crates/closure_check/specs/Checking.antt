@@ -5,7 +5,7 @@ use Rattle.lattice_core.specs.Order.{Order, leq}
 use Rattle.flow_graph.specs.declared.constraint.Link.{Link}
 use Rattle.flow_graph.specs.declared.constraint.Link.TheVariants.{Le, Const, Bound, Enter, Leave}
 use Rattle.flow_graph.specs.System.{owner_of, Stands}
-use Rattle.flow_graph.specs.Index.{IsIndexOf}
+use Rattle.flow_graph.specs.Index.{AreBeginnings}
 use Rattle.certificate_laws.specs.declared.rule.CertRule.{CertRule}
 use Rattle.certificate_laws.specs.declared.rule.CertRule.TheVariants.{A1, A3, A4, A5, A6, A7, A8, A9}
 use Rattle.certificate_laws.specs.Certificates.{Certificate, Within, ObeysRule, number_of}
@@ -24,7 +24,7 @@ AllBelow order set limit = (e : ℕ) → has set e ≡ true → leq order e limi
 
 -- the constraints are listed by where they begin, and the lists are a certificate
 pub record IsFit (given : Claim) : Type 0 where
-  pub index : IsIndexOf given.graph.now given.adjacency.now
+  pub index : AreBeginnings given.graph.now given.beginnings.now
   pub part : IsPart given.graph.now given.lattice.now.order given.part.now
 
 abbrev pub claimed : Claim → Certificate

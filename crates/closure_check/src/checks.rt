@@ -4,7 +4,7 @@ ghost use Rattle.std.specs.Prelude.{◌≡◌, ◌↔◌, IsTrue, IsOk, IfErr, O
 ghost use Rattle.qual_base.specs.declared.places.Owner.TheVariants.{Nobody};
 ghost use Rattle.flow_graph.specs.System.{owner_of};
 ghost use Rattle.flow_graph.specs.PathRules.{link_begins};
-ghost use Rattle.flow_graph.specs.Index.{IsIndexOf, IsKeyed};
+ghost use Rattle.flow_graph.specs.Index.{AreBeginnings, IsKeyed};
 ghost use Rattle.flow_graph.specs.Unfolding.{IsAcceptedIn, NamesElementsIn};
 ghost use Rattle.certificate_laws.specs.Certificates.{IsLowestFailing, Obeys};
 ghost use Rattle.closure_check.specs.Parts.{certificate_of, IsPart};
@@ -17,7 +17,7 @@ use crate::part::Part;
 use crate::rounds::{Going, goes_on, goes_round};
 use crate::sets::{is_subset, set_at};
 use certificate_laws::{CertRule, certified_is_accepted};
-use flow_graph::{Adjacency, FlowGraph, Link};
+use flow_graph::{Beginnings, FlowGraph, Link};
 use lattice_core::Lattice;
 use qual_base::{EdgeId, LatticeNo, Numbered, Owner, VarId};
 
@@ -29,12 +29,12 @@ use qual_base::{EdgeId, LatticeNo, Numbered, Owner, VarId};
 /// constraints that begin at their ends. Each of the last is looked up in logarithmic time.
 pub fn check_part(
     graph: &FlowGraph,
-    adjacency: &Adjacency,
+    beginnings: &Beginnings,
     lattice: &Lattice,
     at: LatticeNo,
     part: &Part,
 ) -> Result<(), CertRule>
-    requires index { IsIndexOf graph.now adjacency.now }
+    requires index { AreBeginnings graph.now beginnings.now }
     requires named { NamesElementsIn graph.now at lattice.now.order }
     requires part { IsPart graph.now lattice.now.order part.now }
     ensures holds { IsOk result
@@ -47,7 +47,7 @@ pub fn check_part(
     certified_is_accepted();
     let given = Claim {
         graph,
-        adjacency,
+        beginnings,
         lattice,
         at,
         part,
@@ -147,7 +147,7 @@ fn all_edges(given: &Claim, rule: CertRule, from: VarId, to: VarId) -> bool
     requires { IsFit given.now }
     ensures { IsTrue result ↔ AsksEdges given.now rule from to }
 {
-    for edge in given.adjacency.out(to) {
+    for edge in given.beginnings.out(to) {
         if !is_edge_met(given, rule, from, to, *edge) {
             return false;
         }

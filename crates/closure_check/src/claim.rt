@@ -5,7 +5,7 @@ ghost use Rattle.closure_check.specs.Checking.{IsFirstWithin, IsSecondWithin};
 
 use crate::part::Part;
 use crate::sets::{is_subset, set_at};
-use flow_graph::{Adjacency, FlowGraph};
+use flow_graph::{Beginnings, FlowGraph};
 use lattice_core::Lattice;
 use qual_base::{LatticeNo, VarId};
 
@@ -13,7 +13,7 @@ use qual_base::{LatticeNo, VarId};
 #[derive(Clone, Copy)]
 pub struct Claim<'a> {
     pub graph: &'a FlowGraph,
-    pub adjacency: &'a Adjacency,
+    pub beginnings: &'a Beginnings,
     pub lattice: &'a Lattice,
     pub at: LatticeNo,
     pub part: &'a Part,

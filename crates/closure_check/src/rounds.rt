@@ -38,7 +38,7 @@ fn goes_back(given: &Claim, going: &Going, site: SiteId, last: VarId) -> bool
     requires { IsFit given.now }
     ensures { IsTrue result ↔ ((m : ℕ) → GoesOut given.now going.now site last m) }
 {
-    for edge in given.adjacency.out(last) {
+    for edge in given.beginnings.out(last) {
         if !goes_out(given, going, site, last, *edge) {
             return false;
         }

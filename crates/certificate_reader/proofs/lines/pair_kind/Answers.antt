@@ -1,4 +1,4 @@
-use Rattle.std.proofs.Common.{◌≡◌, sym}
+use Rattle.std.proofs.Common.{sym}
 use Rattle.certificate_reader.proofs.WordLemmas.{no_pair}
 use Rattle.certificate_reader.proofs.lines.pair_kind.Goals as goal
 

@@ -1,4 +1,4 @@
-use Rattle.std.proofs.Common.{sym, ◌∙◌}
+use Rattle.std.proofs.Common.{◌∙◌}
 use Rattle.std.proofs.lemmas.Result.{IfOk-weaker}
 use Rattle.certificate_reader.proofs.PartLemmas.{pairs_found}
 use Rattle.certificate_reader.proofs.making.pairs_of.Goals as goal

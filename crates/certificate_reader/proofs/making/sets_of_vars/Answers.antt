@@ -1,8 +1,7 @@
-use Rattle.std.proofs.Common.{◌≡◌, ◌<◌, ◌+◌, ap, sym, ◌∙◌, subst, arith, get_or}
+use Rattle.std.proofs.Common.{sym, ◌∙◌, arith, get_or}
 use Rattle.std.proofs.lemmas.List.{take_more}
 use Rattle.certificate_text.specs.declared.putting.SetLine.{SetLine}
-use Rattle.certificate_reader.specs.Making.{AreFilled}
-use Rattle.certificate_reader.proofs.PartLemmas.{fill_none, fill_more, var_there}
+use Rattle.certificate_reader.proofs.PartLemmas.{fill_more, var_there}
 use Rattle.certificate_reader.proofs.making.sets_of_vars.Goals as goal
 
 pub loop-set-preserved : goal.loop-set-preserved

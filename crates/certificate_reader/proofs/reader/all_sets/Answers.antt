@@ -1,4 +1,4 @@
-use Rattle.std.proofs.Common.{◌≡◌, ℕ, slice_get, Some, subst, sym, ◌∙◌}
+use Rattle.std.proofs.Common.{◌≡◌, ℕ, slice_get, Some, subst}
 use Rattle.certificate_reader.proofs.OrderLemmas.{alls_more, small_more}
 use Rattle.certificate_reader.proofs.reader.all_sets.Goals as goal
 

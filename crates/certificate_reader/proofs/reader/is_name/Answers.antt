@@ -1,4 +1,4 @@
-use Rattle.std.proofs.Common.{◌≡◌, ◌≤◌, false, nat_lt, length, slice_get, None, sym, ◌∙◌, ap, arith}
+use Rattle.std.proofs.Common.{◌≤◌, length, sym, ◌∙◌, ap, arith}
 use Rattle.certificate_text.specs.Names.{ends_in}
 use Rattle.certificate_text.proofs.EndLemmas.{ends_length}
 use Rattle.certificate_reader.specs.Grammar.{names_at}

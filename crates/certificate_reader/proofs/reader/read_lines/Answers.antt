@@ -1,27 +1,25 @@
 use Rattle.std.proofs.Common.{arith}
 use Rattle.std.proofs.lemmas.Result.{err_from_is_err_and}
 use Rattle.certificate_reader.specs.Reader.{IsReadAs}
-use Rattle.certificate_reader.proofs.HeldLemmas.{IsNext, takes_here, fails_here, reads_whole, none_left, both_ok}
+use Rattle.certificate_reader.proofs.HeldLemmas.{takes_here, fails_here, reads_whole, none_left, both_ok}
 use Rattle.certificate_reader.proofs.reader.read_lines.Goals as goal
 
 pub returns-in_err-take_line-clause-fault : goal.returns-in_err-take_line-clause-fault
 returns-in_err-take_line-clause-fault c =
     let sys = c.args.scene.now.graph.now in
     let alls = c.args.scene.now.alls.now in
-    let it : IsNext sys alls c.lines.rest.now c.in-Some.line.now c.in-Some.behind.now c.line_kind.result = record { cut = c.in-Some.ensures.parts; kind_is = c.line_kind.ensures } in
     let p = err_from_is_err_and c.from_residual.result c.from_residual.ensures.1 in
     rw (p.1, p.2)
-    (fails_here sys alls c.law.ensures.few c.requires.few c.args.bytes.now c.lines.reader c.lines.number c.lines.rest.now c.in-Some.line.now c.in-Some.behind.now c.line_kind.result _ c.lines.invariant.stands it
+    (fails_here sys alls c.law.ensures.few c.requires.few c.args.bytes.now c.lines.reader c.lines.number c.lines.rest.now c.in-Some.behind.now c.in-Some.line _ c.lines.invariant.stands c.in-Some.ensures
     c.in_err-take_line.ensures.err)
 
 pub lines-preserved : goal.lines-preserved
 lines-preserved c =
     let sys = c.args.scene.now.graph.now in
     let alls = c.args.scene.now.alls.now in
-    let it : IsNext sys alls c.lines.rest.now c.in-Some.line.now c.in-Some.behind.now c.line_kind.result = record { cut = c.in-Some.ensures.parts; kind_is = c.line_kind.ensures } in
     record {
-      stands = takes_here sys alls c.law.ensures.few c.requires.few c.args.bytes.now c.lines.reader c.take_line.new.self c.lines.number c.lines.rest.now c.in-Some.line.now c.in-Some.behind.now c.line_kind.result
-          c.lines.invariant.stands it c.in_ok-take_line.ensures.ok;
+      stands = takes_here sys alls c.law.ensures.few c.requires.few c.args.bytes.now c.lines.reader c.take_line.new.self c.lines.number c.lines.rest.now c.in-Some.behind.now c.in-Some.line
+          c.lines.invariant.stands c.in-Some.ensures c.in_ok-take_line.ensures.ok;
       few = omega (arith, c.in-Some.ensures.shorter, c.lines.invariant.few);
     }
 

@@ -14,7 +14,7 @@ pub returns : goal.returns
 returns c = (
   λ yes m v st.
       turns_all (λ (m : ℕ). GoesOut c.args.given.now c.args.going.now c.args.site c.args.last m) c.out-edge-items.result.now c.loop-edge.edge-index c.loop-edge-test.false c.loop-edge.invariant m
-      (keyed_item c.args.given.now.graph.now link_begins c.args.last _ c.out-edge-items.result.now m (c.requires.index.out c.args.last) c.out-edge-items.ensures
+      (keyed_item c.args.given.now.graph.now link_begins c.args.last _ c.out-edge-items.result.now m (c.requires.index c.args.last) c.out-edge-items.ensures
       (keyed c.args.given.now.graph.now c.args.given.now.at m link_begins c.args.last (Leave c.args.site c.args.last v) st refl)) v st,
   λ all. refl,
 )
