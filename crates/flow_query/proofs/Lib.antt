@@ -1,4 +1,4 @@
 mod Going
-mod Asking
+mod Spelled
 mod Listing
 mod Telling

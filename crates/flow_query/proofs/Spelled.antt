@@ -48,3 +48,7 @@ next_asked scene name listed n var old new within is was more =
     taken_more xs n x within is =
         let step : suc n ≡ n + 1 = omega arith in
         ap (λ (y : ℕ). take n xs ++ y ∷ []) is ∙ sym (take-suc xs n x within) ∙ ap (λ k. take k xs) step
+
+-- a name without bytes is what no token spells
+pub empty_is : (name : List ℕ) → is_empty name ≡ bytes_eq [] name
+empty_is name = ?
