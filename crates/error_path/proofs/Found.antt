@@ -5,30 +5,32 @@ use Rattle.flow_graph.specs.declared.phase.Phase.{Phase}
 use Rattle.match_summary.specs.declared.reason.Summary.{Summary}
 use Rattle.match_summary.specs.Summary.{HasPair, Leads, Summarises}
 use Rattle.error_path.specs.declared.search.Cause.{Cause}
-use Rattle.error_path.specs.declared.search.Cause.TheVariants.{Start, Step, Group}
+use Rattle.error_path.specs.declared.search.Cause.TheVariants.{Start, Here, Step, Group}
+use Rattle.error_path.specs.declared.search.Origin.{Origin}
 use Rattle.error_path.specs.declared.search.Reached.{Reached}
-use Rattle.error_path.specs.Reaching.{LeadsBy, ByFlow, ByLeave, ByEnter, LeadsAround, ComesBy, AreSound}
+use Rattle.error_path.specs.Reaching.{LeadsBy, ByFlow, ByLeave, ByEnter, LeadsAround, ComesBy, AreSound, HasRoom}
 use Rattle.error_path.specs.Reaches.{AreBelow, IsReach}
 use Rattle.error_path.specs.declared.reaches.Reach.{Reach}
 use Rattle.error_path.proofs.Resting.{has_of}
 
 -- the variables that are reached are below each number that those of the constraints are below
-module _ (sys : System) (lattice elem vars : ℕ) (rows : List Summary) (queue : List Reached) (below : AllBelow sys vars) where
+module _ (sys : System) (lattice vars : ℕ) (origin : Origin) (rows : List Summary) (queue : List Reached) (below : AllBelow sys vars) (room : HasRoom origin vars) where
   leads_below : (n : ℕ) (p : Phase) (u : ℕ) (q : Phase) (v : ℕ) → LeadsBy sys lattice n p u q v → v < vars
   leads_below n p u q v (ByFlow _ _ _ _ _ st _) = let low = below n _ (has_of sys lattice n _ st) in omega (arith, low)
   leads_below n p u q v (ByLeave _ _ _ _ _ st _) = let low = below n _ (has_of sys lattice n _ st) in omega (arith, low)
   leads_below n p u q v (ByEnter _ _ _ _ _ _ st _) = let low = below n _ (has_of sys lattice n _ st) in omega (arith, low)
 
-  comes_below : (place : ℕ) (q : Phase) (v : ℕ) (cause : Cause) → ComesBy sys lattice elem rows queue place q v cause → v < vars
-  comes_below place q v (Start n) comes = let low = below n _ (has_of sys lattice n _ comes.0) in omega (arith, low)
+  comes_below : (place : ℕ) (q : Phase) (v : ℕ) (cause : Cause) → ComesBy sys lattice origin rows queue place q v cause → v < vars
+  comes_below place q v (Start n) comes = let low = below n _ (has_of sys lattice n _ comes.2) in omega (arith, low)
+  comes_below place q v Here comes = subst (λ (o : Origin). HasRoom o vars) comes.0 room
   comes_below place q v (Step from n) comes = leads_below n comes.0.it.phase comes.0.it.at q v comes.1
   comes_below place q v (Group from enter leave) comes = let low = below leave _ (has_of sys lattice leave _ comes.1.leaves) in omega (arith, low)
 
-  pub sound_below : AreSound sys lattice elem rows queue → AreBelow vars queue
+  pub sound_below : AreSound sys lattice origin rows queue → AreBelow vars queue
   sound_below sound place r is = comes_below place r.phase r.at r.cause (sound place r is)
 
 -- what one list of summaries joins, each list does
-module _ (sys : System) (lattice elem : ℕ) (rows others : List Summary) (all : Summarises sys lattice rows) (alike : Summarises sys lattice others) where
+module _ (sys : System) (lattice : ℕ) (origin : Origin) (rows others : List Summary) (all : Summarises sys lattice rows) (alike : Summarises sys lattice others) where
   pair_alike : (u v : ℕ) → HasPair rows u v → HasPair others u v
   pair_alike u v pair = alike.whole u v (all.begins u v pair) (all.sound u v pair)
 
@@ -47,22 +49,23 @@ module _ (sys : System) (lattice elem : ℕ) (rows others : List Summary) (all :
     phase_is = a.phase_is;
   }
 
-  comes_alike : (queue : List Reached) (place : ℕ) (q : Phase) (v : ℕ) (cause : Cause) → ComesBy sys lattice elem rows queue place q v cause →
-      ComesBy sys lattice elem others queue place q v cause
+  comes_alike : (queue : List Reached) (place : ℕ) (q : Phase) (v : ℕ) (cause : Cause) → ComesBy sys lattice origin rows queue place q v cause →
+      ComesBy sys lattice origin others queue place q v cause
   comes_alike queue place q v (Start n) comes = comes
+  comes_alike queue place q v Here comes = comes
   comes_alike queue place q v (Step from n) comes = comes
   comes_alike queue place q v (Group from enter leave) comes =
       (comes.0, around_alike enter leave comes.0.it.phase comes.0.it.at q v comes.1)
 
-  pub sound_alike : (queue : List Reached) → AreSound sys lattice elem rows queue → AreSound sys lattice elem others queue
+  pub sound_alike : (queue : List Reached) → AreSound sys lattice origin rows queue → AreSound sys lattice origin others queue
   sound_alike queue sound place r is = comes_alike queue place r.phase r.at r.cause (sound place r is)
 
 -- what was found is sound for any summaries of the system
-pub reach_sound : (sys : System) (reach : Reach) (lattice elem : ℕ) (rows : List Summary) → IsReach sys reach → reach.lattice ≡ lattice → reach.elem ≡ elem →
-    Summarises sys lattice rows → AreSound sys lattice elem rows reach.queue.items
-reach_sound sys reach lattice elem rows is at named all =
+pub reach_sound : (sys : System) (reach : Reach) (lattice : ℕ) (origin : Origin) (rows : List Summary) → IsReach sys reach → reach.lattice ≡ lattice → reach.origin ≡ origin →
+    Summarises sys lattice rows → AreSound sys lattice origin rows reach.queue.items
+reach_sound sys reach lattice origin rows is at named all =
     let Rows : ℕ → Type 0 = λ l. Summarises sys l rows in
-    let alike = sound_alike sys reach.lattice reach.elem is.rows rows is.summarised (subst Rows (sym at) all) reach.queue.items is.sound in
-    let Lat : ℕ → Type 0 = λ l. AreSound sys l reach.elem rows reach.queue.items in
-    let Elem : ℕ → Type 0 = λ e. AreSound sys lattice e rows reach.queue.items in
-    subst Elem named (subst Lat at alike)
+    let alike = sound_alike sys reach.lattice reach.origin is.rows rows is.summarised (subst Rows (sym at) all) reach.queue.items is.sound in
+    let Lat : ℕ → Type 0 = λ l. AreSound sys l reach.origin rows reach.queue.items in
+    let From : Origin → Type 0 = λ o. AreSound sys lattice o rows reach.queue.items in
+    subst From named (subst Lat at alike)

@@ -9,9 +9,10 @@ use Rattle.flow_graph.specs.declared.place.Seen.TheVariants.{Through}
 use Rattle.flow_graph.specs.System.{System}
 use Rattle.flow_graph.specs.PathProofs.{look, span_of, AreApart}
 use Rattle.flow_graph.specs.declared.phase.Phase.{Phase}
-use Rattle.flow_graph.specs.Parts.{Part, Flow, Empty, Full, Inside, Done, More, IsSub, None as NoSubs, Next, Onward, Ends, Along, Back, Into}
+use Rattle.flow_graph.specs.Parts.{Part, Flow, Empty, Full, Inside, Done, More, IsSub, None as NoSubs, Next, Goal, Onward, Ends, There, Along, Back, Into}
 use Rattle.error_path.specs.Made.{AreMade}
-use Rattle.error_path.proofs.Holding.{sub_span}
+use Rattle.error_path.specs.Traced.{HasSub}
+use Rattle.flow_laws.proofs.Showing.{sub_span}
 
 -- an item of a list with one more, by its place
 pub push_cases : {X : Type 0} (xs : List X) (x : X) (n : ℕ) (y : X) → slice_get (xs ++ x ∷ []) n ≡ Some y →
@@ -49,6 +50,14 @@ module _ (sys : System) where
   pub look_more : (subs more : List (List PathStep)) (k u v : ℕ) → look sys subs (Sub k 0) ≡ Through u v → look sys (subs ++ more) (Sub k 0) ≡ Through u v
   look_more subs more zero u v is = absurd cc
   look_more subs more (suc n) u v is = look_next (subs ++ more) n ∙ span_more (slice_get subs n) subs more n u v refl (sym (look_next subs n) ∙ is)
+
+  -- a number that names a sub-path
+  pub sub_looked : (subs : List (List PathStep)) (k u v : ℕ) → look sys subs (Sub k 0) ≡ Through u v → HasSub sys subs u v
+  sub_looked subs zero u v is = absurd cc
+  sub_looked subs (suc n) u v is = (n, sym (look_next subs n) ∙ is)
+
+  pub sub_more : (subs more : List (List PathStep)) (u v : ℕ) → HasSub sys subs u v → HasSub sys (subs ++ more) u v
+  sub_more subs more u v has = (has.0, span_more (slice_get subs has.0) subs more has.0 u v refl has.1)
 
   look_at : (subs : List (List PathStep)) (n : ℕ) → look sys subs (Sub (n + 1) 0) ≡ span_of sys (slice_get subs n)
   look_at subs n = let next : n + 1 ≡ suc n = omega arith in ap (λ k. look sys subs (Sub k 0)) next ∙ look_next subs n
@@ -130,11 +139,12 @@ module _ (sys : System) where
     inside_grown f u _ _ (Done _) = Done u
     inside_grown f u v _ (More _ x _ front rest part from to on) = More u x v front rest (part_grown u x front part) from to (inside_grown f x v rest on)
 
-    pub onward_grown : (bound : ℕ) (p : Phase) (u : ℕ) (steps : List PathStep) → Onward sys lattice subs bound p u steps → Onward sys lattice (subs ++ more) bound p u steps
-    onward_grown bound p u _ (Ends _ _ limit st) = Ends p u limit st
-    onward_grown bound p u _ (Along _ _ v front rest part on) = Along p u v front rest (part_grown u v front part) (onward_grown bound _ v rest on)
-    onward_grown bound _ u _ (Back _ v s n rest st on) = Back u v s n rest st (onward_grown bound _ v rest on)
-    onward_grown bound p u _ (Into _ _ v s n rest st on) = Into p u v s n rest st (onward_grown bound _ v rest on)
+    pub onward_grown : (goal : Goal) (p : Phase) (u : ℕ) (steps : List PathStep) → Onward sys lattice subs goal p u steps → Onward sys lattice (subs ++ more) goal p u steps
+    onward_grown _ p u _ (Ends bound _ _ limit st) = Ends bound p u limit st
+    onward_grown _ p u _ (There _ _) = There p u
+    onward_grown goal p u _ (Along _ _ _ v front rest part on) = Along goal p u v front rest (part_grown u v front part) (onward_grown goal _ v rest on)
+    onward_grown goal _ u _ (Back _ _ v s n rest st on) = Back goal u v s n rest st (onward_grown goal _ v rest on)
+    onward_grown goal p u _ (Into _ _ _ v s n rest st on) = Into goal p u v s n rest st (onward_grown goal _ v rest on)
 
 -- a number that a place gives
 pub number_place : (place : Option ℕ) (k : ℕ) → option_map (λ n. n + 1) place ≡ Some k → (n : ℕ) × (place ≡ Some n) × (k ≡ n + 1)

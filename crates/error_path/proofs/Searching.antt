@@ -11,6 +11,7 @@ use Rattle.flow_graph.specs.declared.constraint.Link.TheVariants.{Le, Enter, Lea
 use Rattle.flow_graph.specs.Index.{IsKeyed}
 use Rattle.flow_graph.specs.PathRules.{link_begins}
 use Rattle.flow_graph.specs.System.{System, owner_of, AllBelow, IsInLattice, Stands, vars_of_link}
+use Rattle.flow_graph.specs.Leading.{Goes, Begins, Flows, Returns, Enters, Rounds}
 use Rattle.flow_graph.specs.Paths.{Matches, stay, longer, Returning, Calling, Lead, start, flows, returns, grouped, anew, calls, calls_on, flows_on, grouped_on}
 use Rattle.match_summary.specs.declared.reason.Summary.{Summary}
 use Rattle.match_summary.specs.Summary.{Leads, IsInnerEnd, Summarises}
@@ -18,7 +19,9 @@ use Rattle.flow_graph.specs.declared.phase.Phase.{Phase}
 use Rattle.flow_graph.specs.declared.phase.Phase.TheVariants.{First, Second}
 use Rattle.error_path.specs.Marks.{PhaseMarks, mark_of, size_of}
 use Rattle.error_path.specs.declared.search.Cause.{Cause}
-use Rattle.error_path.specs.declared.search.Cause.TheVariants.{Start, Step, Group}
+use Rattle.error_path.specs.declared.search.Cause.TheVariants.{Start, Here, Step, Group}
+use Rattle.error_path.specs.declared.search.Origin.{Origin}
+use Rattle.error_path.specs.declared.search.Origin.TheVariants.{Element, Variable}
 use Rattle.error_path.specs.declared.search.Reached.{Reached}
 use Rattle.error_path.specs.declared.search.Search.{Search}
 use Rattle.flow_graph.specs.Parts.{settled}
@@ -55,22 +58,23 @@ followed_on sys lattice rows old new p u n g f = record {
 abbrev earlier_more : (queue more : List Reached) (from place : ℕ) → Earlier queue from place → Earlier (queue ++ more) from place
 earlier_more queue more from place e = record { it = e.it; there = more_get queue more from e.it e.there; before = e.before }
 
-comes_more : (sys : System) (lattice elem : ℕ) (rows : List Summary) (queue more : List Reached) (place : ℕ) (q : Phase) (v : ℕ) (cause : Cause) →
-    ComesBy sys lattice elem rows queue place q v cause → ComesBy sys lattice elem rows (queue ++ more) place q v cause
-comes_more sys lattice elem rows queue more place q v (Start n) h = h
-comes_more sys lattice elem rows queue more place q v (Step from n) h = (earlier_more queue more from place h.0, h.1)
-comes_more sys lattice elem rows queue more place q v (Group from enter leave) h = (earlier_more queue more from place h.0, h.1)
+comes_more : (sys : System) (lattice : ℕ) (origin : Origin) (rows : List Summary) (queue more : List Reached) (place : ℕ) (q : Phase) (v : ℕ) (cause : Cause) →
+    ComesBy sys lattice origin rows queue place q v cause → ComesBy sys lattice origin rows (queue ++ more) place q v cause
+comes_more sys lattice origin rows queue more place q v (Start n) h = h
+comes_more sys lattice origin rows queue more place q v Here h = h
+comes_more sys lattice origin rows queue more place q v (Step from n) h = (earlier_more queue more from place h.0, h.1)
+comes_more sys lattice origin rows queue more place q v (Group from enter leave) h = (earlier_more queue more from place h.0, h.1)
 
 -- one more item
-pub sound_push : (sys : System) (lattice elem : ℕ) (rows : List Summary) (queue : List Reached) (r : Reached) → AreSound sys lattice elem rows queue →
-    ComesBy sys lattice elem rows queue (length queue) r.phase r.at r.cause → AreSound sys lattice elem rows (queue ++ r ∷ [])
-sound_push sys lattice elem rows queue r sound comes n other is = elim (push_cases queue r n other is) [
-  | inl old ↦ comes_more sys lattice elem rows queue (r ∷ []) n other.phase other.at other.cause (sound n other old.1)
+pub sound_push : (sys : System) (lattice : ℕ) (origin : Origin) (rows : List Summary) (queue : List Reached) (r : Reached) → AreSound sys lattice origin rows queue →
+    ComesBy sys lattice origin rows queue (length queue) r.phase r.at r.cause → AreSound sys lattice origin rows (queue ++ r ∷ [])
+sound_push sys lattice origin rows queue r sound comes n other is = elim (push_cases queue r n other is) [
+  | inl old ↦ comes_more sys lattice origin rows queue (r ∷ []) n other.phase other.at other.cause (sound n other old.1)
   | inr new ↦
-      let Comes : ℕ → Reached → Type 0 = λ k x. ComesBy sys lattice elem rows (queue ++ r ∷ []) k x.phase x.at x.cause in
+      let Comes : ℕ → Reached → Type 0 = λ k x. ComesBy sys lattice origin rows (queue ++ r ∷ []) k x.phase x.at x.cause in
       let At : ℕ → Type 0 = λ k. Comes k r in
       let Of : Reached → Type 0 = λ x. Comes n x in
-      subst Of new.1 (subst At (sym new.0) (comes_more sys lattice elem rows queue (r ∷ []) (length queue) r.phase r.at r.cause comes))
+      subst Of new.1 (subst At (sym new.0) (comes_more sys lattice origin rows queue (r ∷ []) (length queue) r.phase r.at r.cause comes))
 ]
 
 same_phase : (p q : Phase) → (p ≡ q) ⊎ (p ≢ q)
@@ -105,16 +109,21 @@ listed_push old new queue r cases listed p v has = elim (cases p v has) [
   | inr here ↦ record { place = length queue; it = r; there = push_last queue r; phase_is = here.0; at_is = here.1 }
 ]
 
--- a search that went on from each of its places has reached all that a constant leads to
-module _ (sys : System) (lattice elem : ℕ) (rows : List Summary) (search : Search) (whole : Summarises sys lattice rows) (good : IsGood sys lattice elem rows search)
-    (begun : AreStarted sys lattice elem search) (visited : (place : ℕ) → IsVisited sys lattice rows search place) where
+-- what is marked at the start stays so
+pub started_on : (sys : System) (lattice : ℕ) (origin : Origin) (old new : Search) → Grows old new → AreStarted sys lattice origin old → AreStarted sys lattice origin new
+started_on sys lattice (Element e) old new g started = λ n v st. g.kept _ v (started n v st)
+started_on sys lattice (Variable v) old new g started = g.kept _ v started
+
+-- a search that went on from each of its places has reached all that is led to
+module _ (sys : System) (lattice : ℕ) (rows : List Summary) (search : Search) (whole : Summarises sys lattice rows)
+    (listed : (p : Phase) (v : ℕ) → IsMarked search p v → IsListed search.queue.items p v) (visited : (place : ℕ) → IsVisited sys lattice rows search place) where
   matches_leads : (g a b : ℕ) → IsInnerEnd sys lattice a → Matches sys lattice g a b → Leads rows a b
   matches_leads g a b inner (stay _ _ o) = inl refl
   matches_leads g a b inner (longer _ _ x _ m p) = inr (whole.whole a b inner (g, x, m, p))
 
   from_mark : (p : Phase) (u : ℕ) → IsMarked search p u → (n : ℕ) → IsFollowed sys lattice rows search p u n
   from_mark p u mark n =
-      let l = good.listed p u mark in
+      let l = listed p u mark in
       let Of : Phase → Type 0 = λ q. IsFollowed sys lattice rows search q u n in
       let At : ℕ → Type 0 = λ w. IsFollowed sys lattice rows search l.it.phase w n in
       subst Of l.phase_is (subst At l.at_is (visited l.place l.it l.there n))
@@ -143,39 +152,54 @@ module _ (sys : System) (lattice elem : ℕ) (rows : List Summary) (search : Sea
   anew_in v nobody (inl mark) = mark
   anew_in v nobody (inr mark) = let Settled : Owner → Type 0 = λ o. IsMarked search (settled o Second) v in subst Settled nobody mark
 
-  mutual
-    returning_in : (v : ℕ) → Returning sys lattice elem v → IsMarked search First v
-    returning_in v (start _ n st) = settled_first v (begun n v st)
-    returning_in v (flows u _ n p st) = settled_first v ((from_mark First u (returning_in u p) n).flow v st)
-    returning_in v (returns u _ s n p st) = settled_first v ((from_mark First u (returning_in u p) n).back s v refl st)
-    returning_in v (grouped u a b _ s g n m p st q ts) =
-        settled_first v ((from_mark First u (returning_in u p) n).group s a m st b v ts (matches_leads g a b (n, s, u, st) q))
-    returning_in v (anew _ p is) = anew_in v is (calling_in v p)
+  module _ (e : ℕ) (begun : AreStarted sys lattice (Element e) search) where
+    mutual
+      returning_in : (v : ℕ) → Returning sys lattice e v → IsMarked search First v
+      returning_in v (start _ n st) = settled_first v (begun n v st)
+      returning_in v (flows u _ n p st) = settled_first v ((from_mark First u (returning_in u p) n).flow v st)
+      returning_in v (returns u _ s n p st) = settled_first v ((from_mark First u (returning_in u p) n).back s v refl st)
+      returning_in v (grouped u a b _ s g n m p st q ts) =
+          settled_first v ((from_mark First u (returning_in u p) n).group s a m st b v ts (matches_leads g a b (n, s, u, st) q))
+      returning_in v (anew _ p is) = anew_in v is (calling_in v p)
 
-    calling_in : (v : ℕ) → Calling sys lattice elem v → IsCalled v
-    calling_in v (calls u _ s n p st) = inr ((from_mark First u (returning_in u p) n).call s v st)
-    calling_in v (calls_on u _ s n p st) = elim (called_in u (calling_in u p)) [
-      | inl mark ↦ inr ((from_mark First u mark n).call s v st)
-      | inr mark ↦ inr ((from_mark Second u mark n).call s v st)
-    ]
-    calling_in v (flows_on u _ n p st) = elim (called_in u (calling_in u p)) [
-      | inl mark ↦ inl (settled_first v ((from_mark First u mark n).flow v st))
-      | inr mark ↦ inr ((from_mark Second u mark n).flow v st)
-    ]
-    calling_in v (grouped_on u a b _ s g n m p st q ts) = elim (called_in u (calling_in u p)) [
-      | inl mark ↦ inl (settled_first v ((from_mark First u mark n).group s a m st b v ts (matches_leads g a b (n, s, u, st) q)))
-      | inr mark ↦ inr ((from_mark Second u mark n).group s a m st b v ts (matches_leads g a b (n, s, u, st) q))
-    ]
+      calling_in : (v : ℕ) → Calling sys lattice e v → IsCalled v
+      calling_in v (calls u _ s n p st) = inr ((from_mark First u (returning_in u p) n).call s v st)
+      calling_in v (calls_on u _ s n p st) = elim (called_in u (calling_in u p)) [
+        | inl mark ↦ inr ((from_mark First u mark n).call s v st)
+        | inr mark ↦ inr ((from_mark Second u mark n).call s v st)
+      ]
+      calling_in v (flows_on u _ n p st) = elim (called_in u (calling_in u p)) [
+        | inl mark ↦ inl (settled_first v ((from_mark First u mark n).flow v st))
+        | inr mark ↦ inr ((from_mark Second u mark n).flow v st)
+      ]
+      calling_in v (grouped_on u a b _ s g n m p st q ts) = elim (called_in u (calling_in u p)) [
+        | inl mark ↦ inl (settled_first v ((from_mark First u mark n).group s a m st b v ts (matches_leads g a b (n, s, u, st) q)))
+        | inr mark ↦ inr ((from_mark Second u mark n).group s a m st b v ts (matches_leads g a b (n, s, u, st) q))
+      ]
 
-  lead_marked : (v : ℕ) → Lead sys lattice elem v → IsMarked search First v ⊎ IsMarked search Second v
-  lead_marked v (inl p) = inl (returning_in v p)
-  lead_marked v (inr p) = called_in v (calling_in v p)
+    lead_marked : (v : ℕ) → Lead sys lattice e v → IsMarked search First v ⊎ IsMarked search Second v
+    lead_marked v (inl p) = inl (returning_in v p)
+    lead_marked v (inr p) = called_in v (calling_in v p)
+
+  module _ (start : ℕ) (begun : AreStarted sys lattice (Variable start) search) where
+    goes_in : (p : Phase) (v : ℕ) → Goes sys lattice start p v → IsMarked search p v
+    goes_in _ _ Begins = settled_first start begun
+    goes_in _ v (Flows p u _ n q is on st) = subst (λ f. IsMarked search f v) (sym is) ((from_mark p u (goes_in p u on) n).flow v st)
+    goes_in _ v (Returns u _ s n on st) = settled_first v ((from_mark First u (goes_in First u on) n).back s v refl st)
+    goes_in _ v (Enters p u _ s n q is on st) = subst (λ f. IsMarked search f v) (sym is) ((from_mark p u (goes_in p u on) n).call s v st)
+    goes_in _ v (Rounds p u a b _ s g n m q is on st inside ts) =
+        subst (λ f. IsMarked search f v) (sym is) ((from_mark p u (goes_in p u on) n).group s a m st b v ts (matches_leads g a b (n, s, u, st) inside))
 
   listed_in : (p : Phase) (v : ℕ) → IsMarked search p v → IsIn search.queue.items v
-  listed_in p v mark = let l = good.listed p v mark in (l.place, (l.it, l.there, l.at_is))
+  listed_in p v mark = let l = listed p v mark in (l.place, (l.it, l.there, l.at_is))
 
-  pub leads_in : HasAll sys lattice elem search.queue.items
-  leads_in v lead = elim (lead_marked v lead) [ inl mark ↦ listed_in First v mark | inr mark ↦ listed_in Second v mark ]
+  all_in : (origin : Origin) → AreStarted sys lattice origin search → HasAll sys lattice origin search.queue.items
+  all_in (Element e) begun = λ v lead. elim (lead_marked e begun v lead) [ inl mark ↦ listed_in First v mark | inr mark ↦ listed_in Second v mark ]
+  all_in (Variable u) begun = λ v goes. listed_in goes.0 v (goes_in u begun goes.0 v goes.1)
+
+pub leads_in : (sys : System) (lattice : ℕ) (origin : Origin) (rows : List Summary) (search : Search) → Summarises sys lattice rows → IsGood sys lattice origin rows search →
+    AreStarted sys lattice origin search → ((place : ℕ) → IsVisited sys lattice rows search place) → HasAll sys lattice origin search.queue.items
+leads_in sys lattice origin rows search whole good begun visited = all_in sys lattice rows search whole good.listed visited origin begun
 
 -- at the start nothing is marked, and nothing stands in the queue
 pub unmarked : (marks : PhaseMarks) (p : Phase) (v : ℕ) → mark_of marks p v ≡ false → mark_of marks p v ≡ true → ⊥
@@ -185,29 +209,29 @@ pub nothing_at : (queue : List Reached) (n : ℕ) (r : Reached) → queue ≡ []
 nothing_at queue n r none is = let none_at : slice_get [] n ≡ Some r = subst (λ (xs : List Reached). slice_get xs n ≡ Some r) none is in cc
 
 -- what comes from a place of the queue
-module _ (sys : System) (lattice elem : ℕ) (rows : List Summary) (search : Search) (place : ℕ) (p : Phase) (u : ℕ) (origin : StandsAt search place p u) where
-  abbrev from_origin : Earlier search.queue.items place (length search.queue.items)
-  from_origin = record { it = origin.0; there = origin.1; before = slice_get_within search.queue.items place origin.0 origin.1 }
+module _ (sys : System) (lattice : ℕ) (origin : Origin) (rows : List Summary) (search : Search) (place : ℕ) (p : Phase) (u : ℕ) (front : StandsAt search place p u) where
+  abbrev from_front : Earlier search.queue.items place (length search.queue.items)
+  from_front = record { it = front.0; there = front.1; before = slice_get_within search.queue.items place front.0 front.1 }
 
-  pub comes_step : (n : ℕ) (q : Phase) (v : ℕ) → LeadsBy sys lattice n p u q v → ComesBy sys lattice elem rows search.queue.items (length search.queue.items) q v (Step place n)
+  pub comes_step : (n : ℕ) (q : Phase) (v : ℕ) → LeadsBy sys lattice n p u q v → ComesBy sys lattice origin rows search.queue.items (length search.queue.items) q v (Step place n)
   comes_step n q v leads =
-      let Of : Phase → Type 0 = λ f. LeadsBy sys lattice n f origin.0.at q v in
+      let Of : Phase → Type 0 = λ f. LeadsBy sys lattice n f front.0.at q v in
       let At : ℕ → Type 0 = λ w. LeadsBy sys lattice n p w q v in
-      (from_origin, subst Of (sym origin.2) (subst At (sym origin.3) leads))
+      (from_front, subst Of (sym front.2) (subst At (sym front.3) leads))
 
   pub comes_around : (enter leave site inner last v : ℕ) → Stands sys lattice enter (Enter site u inner) → Stands sys lattice leave (Leave site last v) → Leads rows inner last →
-      ComesBy sys lattice elem rows search.queue.items (length search.queue.items) (settled (owner_of sys v) p) v (Group place enter leave)
+      ComesBy sys lattice origin rows search.queue.items (length search.queue.items) (settled (owner_of sys v) p) v (Group place enter leave)
   comes_around enter leave site inner last v st ts joined =
       let At : ℕ → Type 0 = λ w. Stands sys lattice enter (Enter site w inner) in (
-        from_origin,
+        from_front,
         record {
           site = site;
           inner = inner;
           last = last;
-          enters = subst At (sym origin.3) st;
+          enters = subst At (sym front.3) st;
           leaves = ts;
           joined = joined;
-          phase_is = ap (settled (owner_of sys v)) (sym origin.2);
+          phase_is = ap (settled (owner_of sys v)) (sym front.2);
         },
       )
 

@@ -10,55 +10,77 @@ use Rattle.flow_graph.specs.Paths.{Lead}
 use Rattle.flow_graph.specs.declared.constraint.Constraint.{Constraint}
 use Rattle.lattice_solver.specs.Phases.{set_of}
 use Rattle.lattice_solver.specs.Solution.{Solution, Exceeds, HasElement, IsSolved, IsUnder}
-use Rattle.flow_graph.specs.declared.constraint.Link.TheVariants.{Const, Bound, Leave}
+use Rattle.flow_graph.specs.declared.constraint.Link.TheVariants.{Bound, Leave}
 use Rattle.flow_graph.specs.declared.proof.PathStep.{PathStep}
 use Rattle.flow_graph.specs.declared.proof.PathStep.TheVariants.{Take, Sub}
-use Rattle.flow_graph.specs.System.{System, owner_of, Stands}
+use Rattle.flow_graph.specs.System.{System, Stands}
 use Rattle.match_summary.specs.declared.reason.Summary.{Summary}
 use Rattle.match_summary.specs.Summary.{Leads}
 use Rattle.flow_graph.specs.declared.phase.Phase.{Phase}
 use Rattle.flow_graph.specs.declared.phase.Phase.TheVariants.{First, Second}
 use Rattle.error_path.specs.declared.search.Cause.{Cause}
+use Rattle.error_path.specs.declared.search.Cause.TheVariants.{Start, Here}
+use Rattle.error_path.specs.declared.search.Origin.{Origin}
 use Rattle.error_path.specs.declared.search.Reached.{Reached}
 use Rattle.error_path.specs.declared.steps.Pair.{Pair}
-use Rattle.flow_graph.specs.Parts.{settled, Flow, Empty, Full, Onward, Along, Back, Into, IsPath}
+use Rattle.flow_graph.specs.Parts.{Flow, Empty, Full, Goal, ToBound, Onward, Along, Back, Into, IsPath}
 use Rattle.error_path.specs.Made.{group_steps, IsInner}
 use Rattle.error_path.specs.Reaching.{LeadsBy, ByFlow, ByLeave, ByEnter, LeadsAround, ComesBy}
-use Rattle.error_path.specs.Shown.{IsJoinedBy}
+use Rattle.error_path.specs.Traced.{FromConstant, IsJoinedBy, IsTraced}
 use Rattle.error_path.proofs.Resting.{has_of}
 
-module _ (sys : System) (lattice : ℕ) (subs : List (List PathStep)) (bound : ℕ) where
-  pub traced_step : (n : ℕ) (p : Phase) (u : ℕ) (q : Phase) (v : ℕ) (rest : List PathStep) → LeadsBy sys lattice n p u q v → Onward sys lattice subs bound q v rest →
-      Onward sys lattice subs bound p u (Take n 0 ∷ rest)
-  traced_step n p u q v rest (ByFlow _ _ _ _ _ st is) on = Along p u v (Take n 0 ∷ []) rest (Flow u v n st) (subst (λ f. Onward sys lattice subs bound f v rest) is on)
-  traced_step n _ u q v rest (ByLeave _ s _ _ _ st is) on = Back u v s n rest st (subst (λ f. Onward sys lattice subs bound f v rest) is on)
-  traced_step n p u q v rest (ByEnter _ s _ _ _ _ st is) on = Into p u v s n rest st (subst (λ f. Onward sys lattice subs bound f v rest) is on)
+module _ (sys : System) (lattice : ℕ) (subs : List (List PathStep)) (goal : Goal) where
+  pub traced_step : (n : ℕ) (p : Phase) (u : ℕ) (q : Phase) (v : ℕ) (rest : List PathStep) → LeadsBy sys lattice n p u q v → Onward sys lattice subs goal q v rest →
+      Onward sys lattice subs goal p u (Take n 0 ∷ rest)
+  traced_step n p u q v rest (ByFlow _ _ _ _ _ st is) on = Along goal p u v (Take n 0 ∷ []) rest (Flow u v n st) (subst (λ f. Onward sys lattice subs goal f v rest) is on)
+  traced_step n _ u q v rest (ByLeave _ s _ _ _ st is) on = Back goal u v s n rest st (subst (λ f. Onward sys lattice subs goal f v rest) is on)
+  traced_step n p u q v rest (ByEnter _ s _ _ _ _ st is) on = Into goal p u v s n rest st (subst (λ f. Onward sys lattice subs goal f v rest) is on)
 
   pub traced_group : (enter leave : ℕ) (p : Phase) (u : ℕ) (q : Phase) (v : ℕ) (rows : List Summary) (rest : List PathStep) (number : Option ℕ) (a : LeadsAround sys lattice rows enter leave p u q v) →
-      IsJoinedBy sys subs number a.inner a.last → Onward sys lattice subs bound q v rest → Onward sys lattice subs bound p u (group_steps enter number leave ++ rest)
+      IsJoinedBy sys subs number a.inner a.last → Onward sys lattice subs goal q v rest → Onward sys lattice subs goal p u (group_steps enter number leave ++ rest)
   traced_group enter leave p u q v rows rest None a same on =
       let Back : ℕ → Type 0 = λ x. Stands sys lattice leave (Leave a.site x v) in
-      Along p u v (Take enter 0 ∷ Take leave 0 ∷ []) rest (Empty u a.inner v a.site enter leave a.enters (subst Back (sym same) a.leaves))
-      (subst (λ f. Onward sys lattice subs bound f v rest) a.phase_is on)
+      Along goal p u v (Take enter 0 ∷ Take leave 0 ∷ []) rest (Empty u a.inner v a.site enter leave a.enters (subst Back (sym same) a.leaves))
+      (subst (λ f. Onward sys lattice subs goal f v rest) a.phase_is on)
   traced_group enter leave p u q v rows rest (Some k) a looks on =
-      Along p u v (Take enter 0 ∷ Sub k 0 ∷ Take leave 0 ∷ []) rest (Full u a.inner a.last v a.site enter leave k a.enters looks a.leaves)
-      (subst (λ f. Onward sys lattice subs bound f v rest) a.phase_is on)
+      Along goal p u v (Take enter 0 ∷ Sub k 0 ∷ Take leave 0 ∷ []) rest (Full u a.inner a.last v a.site enter leave k a.enters looks a.leaves)
+      (subst (λ f. Onward sys lattice subs goal f v rest) a.phase_is on)
 
-  pub traced_start : (n elem : ℕ) (q : Phase) (v : ℕ) (rest : List PathStep) → Stands sys lattice n (Const lattice elem v) → q ≡ settled (owner_of sys v) First →
-      Onward sys lattice subs bound q v rest → IsPath sys lattice subs elem bound (Take n 0 ∷ rest)
-  traced_start n elem q v rest st is on = record {
-    start = n;
-    from = v;
-    constant = st;
-    rest = rest;
-    onward = subst (λ f. Onward sys lattice subs bound f v rest) is on;
-    steps_are = refl;
-  }
+  -- where steps begin at what the search goes out from
+  pub traced_start : (origin : Origin) (rows : List Summary) (queue : List Reached) (place n : ℕ) (q : Phase) (v : ℕ) (rest : List PathStep) →
+      ComesBy sys lattice origin rows queue place q v (Start n) → Onward sys lattice subs goal q v rest → IsTraced sys lattice subs origin goal (Take n 0 ∷ rest)
+  traced_start origin rows queue place n q v rest comes on =
+      subst (λ (o : Origin). IsTraced sys lattice subs o goal (Take n 0 ∷ rest)) (sym comes.1)
+      (record {
+        start = n;
+        from = v;
+        constant = comes.2;
+        rest = rest;
+        onward = subst (λ f. Onward sys lattice subs goal f v rest) comes.3 on;
+        steps_are = refl;
+      })
+
+  pub traced_here : (origin : Origin) (rows : List Summary) (queue : List Reached) (place : ℕ) (q : Phase) (v : ℕ) (steps : List PathStep) →
+      ComesBy sys lattice origin rows queue place q v Here → Onward sys lattice subs goal q v steps → IsTraced sys lattice subs origin goal steps
+  traced_here origin rows queue place q v steps comes on =
+      subst (λ (o : Origin). IsTraced sys lattice subs o goal steps) (sym comes.0) (subst (λ f. Onward sys lattice subs goal f v steps) comes.1 on)
+
+-- steps from a constant to a bound are a path
+pub path_of : (sys : System) (lattice : ℕ) (subs : List (List PathStep)) (elem bound : ℕ) (steps : List PathStep) → FromConstant sys lattice subs elem (ToBound bound) steps →
+    IsPath sys lattice subs elem bound steps
+path_of sys lattice subs elem bound steps f = record {
+  start = f.start;
+  from = f.from;
+  constant = f.constant;
+  rest = f.rest;
+  onward = f.onward;
+  steps_are = f.steps_are;
+}
 
 -- what a cause says of a variable, by the cause's form
-pub comes_as : (sys : System) (lattice elem : ℕ) (rows : List Summary) (queue : List Reached) (place : ℕ) (q : Phase) (v : ℕ) (cause other : Cause) → cause ≡ other →
-    ComesBy sys lattice elem rows queue place q v cause → ComesBy sys lattice elem rows queue place q v other
-comes_as sys lattice elem rows queue place q v cause other is comes = subst (λ x. ComesBy sys lattice elem rows queue place q v x) is comes
+pub comes_as : (sys : System) (lattice : ℕ) (origin : Origin) (rows : List Summary) (queue : List Reached) (place : ℕ) (q : Phase) (v : ℕ) (cause other : Cause) → cause ≡ other →
+    ComesBy sys lattice origin rows queue place q v cause → ComesBy sys lattice origin rows queue place q v other
+comes_as sys lattice origin rows queue place q v cause other is comes = subst (λ x. ComesBy sys lattice origin rows queue place q v x) is comes
 
 -- the variables inside a group are those of its Enter and its Leave
 module _ (sys : System) (lattice : ℕ) (rows : List Summary) (enter leave : ℕ) (p : Phase) (u : ℕ) (q : Phase) (v : ℕ) (a : LeadsAround sys lattice rows enter leave p u q v) (pair : Pair)

@@ -8,7 +8,9 @@ use Rattle.flow_graph.specs.declared.phase.Phase.{Phase}
 use Rattle.flow_graph.specs.declared.phase.Phase.TheVariants.{First, Second}
 use Rattle.error_path.specs.Marks.{PhaseMarks, mark_of, size_of, free_of}
 use Rattle.error_path.specs.declared.search.Cause.{Cause}
-use Rattle.error_path.specs.declared.search.Cause.TheVariants.{Start, Step, Group}
+use Rattle.error_path.specs.declared.search.Cause.TheVariants.{Start, Here, Step, Group}
+use Rattle.error_path.specs.declared.search.Origin.{Origin}
+use Rattle.error_path.specs.declared.search.Origin.TheVariants.{Element, Variable}
 use Rattle.error_path.specs.declared.search.Reached.{Reached}
 use Rattle.error_path.specs.declared.search.Search.{Search}
 use Rattle.flow_graph.specs.Parts.{settled}
@@ -35,15 +37,24 @@ pub record Earlier (queue : List Reached) (from place : ℕ) : Type 0 where
   pub there : slice_get queue from ≡ Some it
   pub before : from < place
 
--- A variable was reached by a constant of the element at it, or from an earlier place of the queue.
-abbrev pub ComesBy : System → ℕ → ℕ → List Summary → List Reached → ℕ → Phase → ℕ → Cause → Type 0
-ComesBy sys lattice elem rows queue place q v (Start n) = Stands sys lattice n (Const lattice elem v) × (q ≡ settled (owner_of sys v) First)
-ComesBy sys lattice elem rows queue place q v (Step from n) = (e : Earlier queue from place) × LeadsBy sys lattice n e.it.phase e.it.at q v
-ComesBy sys lattice elem rows queue place q v (Group from enter leave) = (e : Earlier queue from place) × LeadsAround sys lattice rows enter leave e.it.phase e.it.at q v
+-- A variable was reached by a constant of the element that the search goes out from, as the variable that it goes out from, or
+-- from an earlier place of the queue.
+abbrev pub ComesBy : System → ℕ → Origin → List Summary → List Reached → ℕ → Phase → ℕ → Cause → Type 0
+ComesBy sys lattice origin rows queue place q v (Start n) =
+    (elem : ℕ) × (origin ≡ Element elem) × Stands sys lattice n (Const lattice elem v) × (q ≡ settled (owner_of sys v) First)
+ComesBy sys lattice origin rows queue place q v Here = (origin ≡ Variable v) × (q ≡ settled (owner_of sys v) First)
+ComesBy sys lattice origin rows queue place q v (Step from n) = (e : Earlier queue from place) × LeadsBy sys lattice n e.it.phase e.it.at q v
+ComesBy sys lattice origin rows queue place q v (Group from enter leave) =
+    (e : Earlier queue from place) × LeadsAround sys lattice rows enter leave e.it.phase e.it.at q v
 
 -- each item of the queue says how its variable was reached
-abbrev pub AreSound : System → ℕ → ℕ → List Summary → List Reached → Type 0
-AreSound sys lattice elem rows queue = (n : ℕ) (r : Reached) → slice_get queue n ≡ Some r → ComesBy sys lattice elem rows queue n r.phase r.at r.cause
+abbrev pub AreSound : System → ℕ → Origin → List Summary → List Reached → Type 0
+AreSound sys lattice origin rows queue = (n : ℕ) (r : Reached) → slice_get queue n ≡ Some r → ComesBy sys lattice origin rows queue n r.phase r.at r.cause
+
+-- the variable that a search goes out from, if it is one, is below a number
+abbrev pub HasRoom : Origin → ℕ → Type 0
+HasRoom (Element e) vars = Unit {0}
+HasRoom (Variable v) vars = v < vars
 
 -- a variable is marked in a phase
 abbrev pub IsMarked : Search → Phase → ℕ → Type 0
@@ -58,14 +69,14 @@ pub record IsListed (queue : List Reached) (p : Phase) (v : ℕ) : Type 0 where
   pub at_is : it.at ≡ v
 
 -- a queue is sound, has all that is marked, and there is a mark for each variable of a constraint
-pub record IsGood (sys : System) (lattice elem : ℕ) (rows : List Summary) (search : Search) : Type 0 where
-  pub sound : AreSound sys lattice elem rows search.queue.items
+pub record IsGood (sys : System) (lattice : ℕ) (origin : Origin) (rows : List Summary) (search : Search) : Type 0 where
+  pub sound : AreSound sys lattice origin rows search.queue.items
   pub listed : (p : Phase) (v : ℕ) → IsMarked search p v → IsListed search.queue.items p v
   pub below : AllBelow sys (size_of search.marks)
 
--- whatever the element, a search that was good is so afterwards
+-- whatever it goes out from, a search that was good is so afterwards
 abbrev pub StaysGood : System → ℕ → List Summary → Search → Search → Type 0
-StaysGood sys lattice rows old new = (elem : ℕ) → IsGood sys lattice elem rows old → IsGood sys lattice elem rows new
+StaysGood sys lattice rows old new = (origin : Origin) → IsGood sys lattice origin rows old → IsGood sys lattice origin rows new
 
 -- a search after it went on: each item takes one of the marks that were left
 pub record Grows (old new : Search) : Type 0 where
@@ -103,9 +114,10 @@ pub record IsFollowed (sys : System) (lattice : ℕ) (rows : List Summary) (sear
 abbrev pub IsVisited : System → ℕ → List Summary → Search → ℕ → Type 0
 IsVisited sys lattice rows search place = (r : Reached) → slice_get search.queue.items place ≡ Some r → (n : ℕ) → IsFollowed sys lattice rows search r.phase r.at n
 
--- all constants of an element are marked
-abbrev pub AreStarted : System → ℕ → ℕ → Search → Type 0
-AreStarted sys lattice elem search = (n v : ℕ) → Stands sys lattice n (Const lattice elem v) → IsMarked search (settled (owner_of sys v) First) v
+-- all constants of the element are marked, or the variable is
+abbrev pub AreStarted : System → ℕ → Origin → Search → Type 0
+AreStarted sys lattice (Element e) search = (n v : ℕ) → Stands sys lattice n (Const lattice e v) → IsMarked search (settled (owner_of sys v) First) v
+AreStarted sys lattice (Variable v) search = IsMarked search (settled (owner_of sys v) First) v
 
 -- a place of the queue has this variable and this phase
 abbrev pub StandsAt : Search → ℕ → Phase → ℕ → Type 0

@@ -1,14 +1,13 @@
 -- What is promised of a path proof that is made.
-use Rattle.std.specs.Prelude.{◌≡◌, ℕ, List, [], ◌∷◌, slice_get, Option, Some, None}
+use Rattle.std.specs.Prelude.{◌≡◌, ℕ, List, [], ◌∷◌, slice_get, Some}
 use Rattle.lattice_core.specs.Order.{Order}
 use Rattle.lattice_core.specs.View.{LatticeView}
 use Rattle.flow_graph.specs.declared.constraint.Link.TheVariants.{Const}
 use Rattle.flow_graph.specs.declared.proof.PathStep.{PathStep}
-use Rattle.flow_graph.specs.declared.proof.PathStep.TheVariants.{Take, Sub}
+use Rattle.flow_graph.specs.declared.proof.PathStep.TheVariants.{Take}
 use Rattle.flow_graph.specs.declared.proof.PathProof.{PathProof}
-use Rattle.flow_graph.specs.declared.place.Seen.TheVariants.{Through}
 use Rattle.flow_graph.specs.System.{System, Stands}
-use Rattle.flow_graph.specs.PathProofs.{first_of, last_of, line_of, look, steps_of, AreApart}
+use Rattle.flow_graph.specs.PathProofs.{first_of, last_of, line_of, steps_of, AreApart}
 use Rattle.lattice_solver.specs.Solution.{Solution, Exceeds}
 use Rattle.flow_graph.specs.Parts.{AreSubs, IsPath}
 
@@ -43,11 +42,6 @@ pub record HasNoLines (proof : PathProof) : Type 0 where
   pub main : HaveNoLines proof.main.items
   pub subs : (n : ℕ) (steps : List PathStep) → slice_get (steps_of proof.subs.items) n ≡ Some steps → HaveNoLines steps
   pub end : proof.end ≡ 0
-
--- nothing or the sub-path of a number leads from one variable to another
-abbrev pub IsJoinedBy : System → List (List PathStep) → Option ℕ → ℕ → ℕ → Type 0
-IsJoinedBy sys subs None u v = u ≡ v
-IsJoinedBy sys subs (Some k) u v = look sys subs (Sub k 0) ≡ Through u v
 
 -- A path of a lattice from a constant of an element to a bound, with the sub-paths that it names.
 pub record IsShown (sys : System) (lattice elem bound : ℕ) (proof : PathProof) : Type 0 where

@@ -1,4 +1,5 @@
-//! Path proofs for exceeded bounds: a search for a path from a constant to the bound, and the sub-paths that it rests on.
+//! Path proofs for exceeded bounds, and walks between variables: a search from the constants of an element or from a variable,
+//! and the sub-paths that what it finds rests on.
 #![tactic(auto)]
 
 mod marks;
@@ -9,6 +10,9 @@ mod search;
 mod showing;
 mod steps;
 mod sub_paths;
+mod traces;
+mod walks;
 
-pub use reaches::Reaches;
+pub use reaches::{Reach, Reaches, reach_from};
 pub use showing::show;
+pub use walks::sub_paths_for;

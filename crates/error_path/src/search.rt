@@ -1,10 +1,12 @@
-//! A breadth-first search over pairs of a variable and a phase, forwards from the constants of an element.
+//! A breadth-first search over pairs of a variable and a phase, forwards from the constants of an element or from a variable.
 
 ghost use Rattle.std.specs.Prelude.{◌≡◌, ◌≢◌, ℕ, ◌<◌, ◌↔◌, List, length, slice_get, Some, IsTrue};
 ghost use Rattle.std.specs.Prelude.{IfOk, OnOk};
 ghost use Rattle.flow_graph.specs.Index.{IsIndexOf, IsKeyed, link_site};
 ghost use Rattle.flow_graph.specs.PathRules.{link_begins};
 ghost use Rattle.error_path.specs.Marks.{size_of};
+ghost use Rattle.error_path.specs.declared.search.Origin.{Origin};
+ghost use Rattle.error_path.specs.declared.search.Origin.TheVariants.{Element};
 ghost use Rattle.flow_graph.specs.declared.constraint.Link.TheVariants.{Const, Enter};
 ghost use Rattle.flow_graph.specs.System.{System, AllBelow, Stands, owner_of};
 ghost use Rattle.flow_graph.specs.declared.phase.Phase.TheVariants.{First, Second};
@@ -12,7 +14,7 @@ ghost use Rattle.match_summary.specs.declared.reason.Summary.{Summary};
 ghost use Rattle.match_summary.specs.Crossings.{AreCrossings};
 ghost use Rattle.match_summary.specs.Summary.{HasPair, Summarises};
 ghost use Rattle.flow_graph.specs.Parts.{settled};
-ghost use Rattle.error_path.specs.Reaching.{AreSound, AreStarted, ComesBy, Grows, IsFollowed};
+ghost use Rattle.error_path.specs.Reaching.{AreSound, AreStarted, ComesBy, Grows, HasRoom, IsFollowed};
 ghost use Rattle.error_path.specs.Reaching.{IsGood, IsMarked, IsOver, IsRounded};
 ghost use Rattle.error_path.specs.Reaching.{IsRoundedFrom, IsVisited, StandsAt, StaysGood};
 ghost use Rattle.error_path.specs.Reaches.{HasAll};
@@ -24,11 +26,19 @@ use match_summary::{Crossings, InnerEnd, Summaries, Way};
 use qual_base::{EdgeId, Elem, LatticeNo, NoMemory, Numbered, Owner, SiteId, VarId};
 use std::alloc::Global;
 
-/// How a variable was first reached: by a constant at it, by a constraint from an earlier place of the queue, or by a
-/// group from one.
+/// What a search goes out from: the constants of an element, or a variable.
+#[derive(Clone, Copy, PartialEq, Eq, Debug)]
+pub enum Origin {
+    Element(Elem),
+    Variable(VarId),
+}
+
+/// How a variable was first reached: by a constant at it, as the variable that the search goes out from, by a constraint
+/// from an earlier place of the queue, or by a group from one.
 #[derive(Clone, Copy, PartialEq, Eq, Debug)]
 pub enum Cause {
     Start(EdgeId),
+    Here,
     Step {
         from: usize,
         edge: EdgeId,
@@ -57,7 +67,7 @@ pub struct Search {
 
 /// A place of the queue with its variable and phase.
 #[derive(Clone, Copy)]
-struct Origin {
+struct Front {
     place: usize,
     at: VarId,
     phase: Phase,
@@ -72,13 +82,14 @@ struct Call {
 }
 
 impl Search {
-    /// A search that has reached nothing: 2 bytes for each variable.
-    fn new(alloc: Global, graph: &FlowGraph) -> Result<Search, NoMemory>
-        ensures good { IfOk result (λ search. (lattice elem : ℕ) (rows : List Summary) →
-            IsGood graph.now lattice elem rows search) }
-        ensures below { IfOk result (λ search. AllBelow graph.now (size_of search.marks)) }
+    /// A search that has reached nothing, with marks for the variables below a number: 2 bytes for each.
+    fn new(alloc: Global, vars: u32) -> Result<Search, NoMemory>
+        ensures good { IfOk result
+            (λ search. (sys : System) (lattice : ℕ) (origin : Origin) (rows : List Summary) →
+            AllBelow sys vars → IsGood sys lattice origin rows search) }
+        ensures size { IfOk result (λ search. size_of search.marks ≡ vars) }
     {
-        let marks = Marks::new(alloc, graph.vars())?;
+        let marks = Marks::new(alloc, vars)?;
         Ok(Search {
             queue: Vec::new(alloc),
             marks,
@@ -95,10 +106,11 @@ impl Search {
         cause: Cause,
     ) -> Result<(), NoMemory>
         requires { at < size_of self.old.marks }
-        ensures good { OnOk result ((sys : System) (lattice elem : ℕ) (rows : List Summary) →
-            ComesBy sys lattice elem rows self.old.queue.items
+        ensures good { OnOk result
+            ((sys : System) (lattice : ℕ) (origin : Origin) (rows : List Summary) →
+            ComesBy sys lattice origin rows self.old.queue.items
             (length self.old.queue.items) (settled (owner_of graph.now at) phase) at cause →
-            IsGood sys lattice elem rows self.old → IsGood sys lattice elem rows self.new) }
+            IsGood sys lattice origin rows self.old → IsGood sys lattice origin rows self.new) }
         ensures grows { OnOk result (Grows self.old self.new) }
         ensures there { OnOk result (IsMarked self.new (settled (owner_of graph.now at) phase) at) }
     {
@@ -122,8 +134,9 @@ impl Search {
     ) -> Result<(), NoMemory>
         requires edge { edge < length graph.now.constraints }
         requires below { AllBelow graph.now (size_of self.old.marks) }
-        ensures good { OnOk result ((rows : List Summary) → IsGood
-            graph.now lattice elem rows self.old → IsGood graph.now lattice elem rows self.new) }
+        ensures good { OnOk result ((rows : List Summary) →
+            IsGood graph.now lattice (Element elem) rows self.old →
+            IsGood graph.now lattice (Element elem) rows self.new) }
         ensures grows { OnOk result (Grows self.old self.new) }
         ensures done { OnOk result ((v : ℕ) → Stands graph.now lattice edge (Const lattice elem v) →
             IsMarked self.new (settled (owner_of graph.now v) First) v) }
@@ -141,18 +154,45 @@ impl Search {
         }
     }
 
-    /// Starts at each constant of the element.
-    fn start(&mut self, graph: &FlowGraph, lattice: LatticeNo, elem: Elem) -> Result<(), NoMemory>
+    /// Starts at each constant of the element. Linear in the constraints.
+    fn start_at_each(
+        &mut self,
+        graph: &FlowGraph,
+        lattice: LatticeNo,
+        elem: Elem,
+    ) -> Result<(), NoMemory>
         requires below { AllBelow graph.now (size_of self.old.marks) }
-        ensures good { OnOk result ((rows : List Summary) → IsGood
-            graph.now lattice elem rows self.old → IsGood graph.now lattice elem rows self.new) }
-        ensures started { OnOk result (AreStarted graph.now lattice elem self.new) }
-        ensures below { OnOk result (AllBelow graph.now (size_of self.new.marks)) }
+        ensures good { OnOk result ((rows : List Summary) →
+            IsGood graph.now lattice (Element elem) rows self.old →
+            IsGood graph.now lattice (Element elem) rows self.new) }
+        ensures grows { OnOk result (Grows self.old self.new) }
+        ensures started { OnOk result (AreStarted graph.now lattice (Element elem) self.new) }
     {
         for n in 0..graph.len() {
             self.start_at(graph, lattice, elem, EdgeId::new(n))?;
         }
         Ok(())
+    }
+
+    /// Starts at each constant of an element, or at a variable.
+    fn start(
+        &mut self,
+        graph: &FlowGraph,
+        lattice: LatticeNo,
+        origin: &Origin,
+    ) -> Result<(), NoMemory>
+        requires below { AllBelow graph.now (size_of self.old.marks) }
+        requires room { HasRoom origin.now (size_of self.old.marks) }
+        ensures good { OnOk result ((rows : List Summary) →
+            IsGood graph.now lattice origin.now rows self.old →
+            IsGood graph.now lattice origin.now rows self.new) }
+        ensures grows { OnOk result (Grows self.old self.new) }
+        ensures started { OnOk result (AreStarted graph.now lattice origin.now self.new) }
+    {
+        match origin {
+            Origin::Element(elem) => self.start_at_each(graph, lattice, *elem),
+            Origin::Variable(at) => self.note(graph, *at, Phase::First, Cause::Here),
+        }
     }
 
     /// Goes on along a constraint that begins at the variable of a place, and along the groups that begin with it.
@@ -163,19 +203,19 @@ impl Search {
         crossings: &Crossings,
         summaries: &Summaries,
         lattice: LatticeNo,
-        origin: &Origin,
+        front: &Front,
         edge: EdgeId,
     ) -> Result<(), NoMemory>
-        requires begins { IsKeyed graph.now link_begins origin.now.at edge }
+        requires begins { IsKeyed graph.now link_begins front.now.at edge }
         requires crossings { AreCrossings graph.now crossings.now }
         requires lattice { lattice < 16 }
         requires below { AllBelow graph.now (size_of self.old.marks) }
-        requires origin { StandsAt self.old origin.now.place origin.now.phase origin.now.at }
+        requires front { StandsAt self.old front.now.place front.now.phase front.now.at }
         requires over { IsOver graph.now lattice summaries.now passed.old self.old }
         ensures good { OnOk result (StaysGood graph.now lattice summaries.now self.old self.new) }
         ensures grows { OnOk result (Grows self.old self.new) }
         ensures done { OnOk result (IsFollowed graph.now
-            lattice summaries.now self.new origin.now.phase origin.now.at edge) }
+            lattice summaries.now self.new front.now.phase front.now.at edge) }
         ensures over { OnOk result (IsOver graph.now lattice summaries.now passed.new self.new) }
     {
         let constraint = graph.constraint(edge);
@@ -184,13 +224,13 @@ impl Search {
         }
         let link = constraint.link;
         let cause = Cause::Step {
-            from: origin.place,
+            from: front.place,
             edge,
         };
         match link {
-            Link::Le(_, to) => self.note(graph, to, origin.phase, cause),
+            Link::Le(_, to) => self.note(graph, to, front.phase, cause),
             Link::Leave(_, _, to) => {
-                if !is_returning(origin.phase) {
+                if !is_returning(front.phase) {
                     return Ok(());
                 }
                 self.note(graph, to, Phase::First, cause)
@@ -202,7 +242,7 @@ impl Search {
                     site,
                     inner,
                 };
-                self.follow_groups(passed, graph, crossings, summaries, lattice, origin, &call)?;
+                self.follow_groups(passed, graph, crossings, summaries, lattice, front, &call)?;
                 Ok(())
             }
             _ => Ok(()),
@@ -218,20 +258,20 @@ impl Search {
         crossings: &Crossings,
         summaries: &Summaries,
         lattice: LatticeNo,
-        origin: &Origin,
+        front: &Front,
         call: &Call,
     ) -> Result<(), NoMemory>
         requires crossings { AreCrossings graph.now crossings.now }
         requires lattice { lattice < 16 }
         requires below { AllBelow graph.now (size_of self.old.marks) }
-        requires origin { StandsAt self.old origin.now.place origin.now.phase origin.now.at }
+        requires front { StandsAt self.old front.now.place front.now.phase front.now.at }
         requires call { Stands graph.now lattice call.now.enter
-            (Enter call.now.site origin.now.at call.now.inner) }
+            (Enter call.now.site front.now.at call.now.inner) }
         requires over { IsOver graph.now lattice summaries.now passed.old self.old }
         ensures good { OnOk result (StaysGood graph.now lattice summaries.now self.old self.new) }
         ensures grows { OnOk result (Grows self.old self.new) }
         ensures done { OnOk result ((m : ℕ) → IsRounded graph.now
-            lattice summaries.now self.new origin.now.phase call.now.site call.now.inner m) }
+            lattice summaries.now self.new front.now.phase call.now.site call.now.inner m) }
         ensures over { OnOk result (IsOver graph.now lattice summaries.now passed.new self.new) }
     {
         let end = InnerEnd {
@@ -242,15 +282,15 @@ impl Search {
         let Some(entry) = crossings.newest(graph, &end) else {
             return Ok(());
         };
-        if passed.has(origin.phase, entry) {
+        if passed.has(front.phase, entry) {
             return Ok(());
         }
         let inner = call.inner;
         self.follow_leaves(
-            passed, graph, crossings, summaries, lattice, origin, call, inner,
+            passed, graph, crossings, summaries, lattice, front, call, inner,
         )?;
-        self.follow_pairs(passed, graph, crossings, summaries, lattice, origin, call)?;
-        passed.add(origin.phase, entry);
+        self.follow_pairs(passed, graph, crossings, summaries, lattice, front, call)?;
+        passed.add(front.phase, entry);
         Ok(())
     }
 
@@ -262,28 +302,28 @@ impl Search {
         crossings: &Crossings,
         summaries: &Summaries,
         lattice: LatticeNo,
-        origin: &Origin,
+        front: &Front,
         call: &Call,
     ) -> Result<(), NoMemory>
         requires crossings { AreCrossings graph.now crossings.now }
         requires lattice { lattice < 16 }
         requires below { AllBelow graph.now (size_of self.old.marks) }
-        requires origin { StandsAt self.old origin.now.place origin.now.phase origin.now.at }
+        requires front { StandsAt self.old front.now.place front.now.phase front.now.at }
         requires call { Stands graph.now lattice call.now.enter
-            (Enter call.now.site origin.now.at call.now.inner) }
+            (Enter call.now.site front.now.at call.now.inner) }
         requires over { IsOver graph.now lattice summaries.now passed.old self.old }
         ensures good { OnOk result (StaysGood graph.now lattice summaries.now self.old self.new) }
         ensures grows { OnOk result (Grows self.old self.new) }
         ensures done { OnOk result
             ((b m : ℕ) → HasPair summaries.now call.now.inner b → IsRoundedFrom graph.now
-            lattice summaries.now self.new origin.now.phase call.now.site call.now.inner b m) }
+            lattice summaries.now self.new front.now.phase call.now.site call.now.inner b m) }
         ensures over { OnOk result (IsOver graph.now lattice summaries.now passed.new self.new) }
     {
         let mut next = summaries.newest_from(call.inner);
         while let Some(at) = next {
             let last = summaries.row(at).to;
             self.follow_leaves(
-                passed, graph, crossings, summaries, lattice, origin, call, last,
+                passed, graph, crossings, summaries, lattice, front, call, last,
             )?;
             next = summaries.before_from(at);
         }
@@ -299,21 +339,21 @@ impl Search {
         crossings: &Crossings,
         summaries: &Summaries,
         lattice: LatticeNo,
-        origin: &Origin,
+        front: &Front,
         call: &Call,
         last: VarId,
     ) -> Result<(), NoMemory>
         requires crossings { AreCrossings graph.now crossings.now }
         requires lattice { lattice < 16 }
         requires below { AllBelow graph.now (size_of self.old.marks) }
-        requires origin { StandsAt self.old origin.now.place origin.now.phase origin.now.at }
+        requires front { StandsAt self.old front.now.place front.now.phase front.now.at }
         requires call { Stands graph.now lattice call.now.enter
-            (Enter call.now.site origin.now.at call.now.inner) }
+            (Enter call.now.site front.now.at call.now.inner) }
         requires over { IsOver graph.now lattice summaries.now passed.old self.old }
         ensures good { OnOk result (StaysGood graph.now lattice summaries.now self.old self.new) }
         ensures grows { OnOk result (Grows self.old self.new) }
         ensures done { OnOk result ((m : ℕ) → IsRoundedFrom graph.now
-            lattice summaries.now self.new origin.now.phase call.now.site call.now.inner last m) }
+            lattice summaries.now self.new front.now.phase call.now.site call.now.inner last m) }
         ensures over { OnOk result (IsOver graph.now lattice summaries.now passed.new self.new) }
     {
         if !summaries.leads(call.inner, last) {
@@ -327,11 +367,11 @@ impl Search {
         let Some(exit) = crossings.newest(graph, &end) else {
             return Ok(());
         };
-        if passed.has(origin.phase, exit) {
+        if passed.has(front.phase, exit) {
             return Ok(());
         }
-        self.follow_all(graph, crossings, summaries, lattice, origin, call, last)?;
-        passed.add(origin.phase, exit);
+        self.follow_all(graph, crossings, summaries, lattice, front, call, last)?;
+        passed.add(front.phase, exit);
         Ok(())
     }
 
@@ -342,20 +382,20 @@ impl Search {
         crossings: &Crossings,
         summaries: &Summaries,
         lattice: LatticeNo,
-        origin: &Origin,
+        front: &Front,
         call: &Call,
         last: VarId,
     ) -> Result<(), NoMemory>
         requires crossings { AreCrossings graph.now crossings.now }
         requires lattice { lattice < 16 }
         requires below { AllBelow graph.now (size_of self.old.marks) }
-        requires origin { StandsAt self.old origin.now.place origin.now.phase origin.now.at }
+        requires front { StandsAt self.old front.now.place front.now.phase front.now.at }
         requires call { Stands graph.now lattice call.now.enter
-            (Enter call.now.site origin.now.at call.now.inner) }
+            (Enter call.now.site front.now.at call.now.inner) }
         ensures good { OnOk result (StaysGood graph.now lattice summaries.now self.old self.new) }
         ensures grows { OnOk result (Grows self.old self.new) }
         ensures done { OnOk result ((m : ℕ) → IsRoundedFrom graph.now
-            lattice summaries.now self.new origin.now.phase call.now.site call.now.inner last m) }
+            lattice summaries.now self.new front.now.phase call.now.site call.now.inner last m) }
     {
         let end = InnerEnd {
             way: Way::Out,
@@ -364,7 +404,7 @@ impl Search {
         };
         let mut next = crossings.newest(graph, &end);
         while let Some(leave) = next {
-            self.follow_group(graph, summaries, lattice, origin, call, leave)?;
+            self.follow_group(graph, summaries, lattice, front, call, leave)?;
             next = crossings.before(graph, &end, leave);
         }
         Ok(())
@@ -377,20 +417,20 @@ impl Search {
         graph: &FlowGraph,
         summaries: &Summaries,
         lattice: LatticeNo,
-        origin: &Origin,
+        front: &Front,
         call: &Call,
         leave: EdgeId,
     ) -> Result<(), NoMemory>
         requires site { IsKeyed graph.now link_site call.now.site leave }
         requires lattice { lattice < 16 }
         requires below { AllBelow graph.now (size_of self.old.marks) }
-        requires origin { StandsAt self.old origin.now.place origin.now.phase origin.now.at }
+        requires front { StandsAt self.old front.now.place front.now.phase front.now.at }
         requires call { Stands graph.now lattice call.now.enter
-            (Enter call.now.site origin.now.at call.now.inner) }
+            (Enter call.now.site front.now.at call.now.inner) }
         ensures good { OnOk result (StaysGood graph.now lattice summaries.now self.old self.new) }
         ensures grows { OnOk result (Grows self.old self.new) }
         ensures done { OnOk result (IsRounded graph.now
-            lattice summaries.now self.new origin.now.phase call.now.site call.now.inner leave) }
+            lattice summaries.now self.new front.now.phase call.now.site call.now.inner leave) }
     {
         let back = graph.constraint(leave);
         if !back.is_in(lattice) {
@@ -403,11 +443,11 @@ impl Search {
                     return Ok(());
                 }
                 let cause = Cause::Group {
-                    from: origin.place,
+                    from: front.place,
                     enter: call.enter,
                     leave,
                 };
-                self.note(graph, to, origin.phase, cause)
+                self.note(graph, to, front.phase, cause)
             }
             _ => Ok(()),
         }
@@ -422,34 +462,34 @@ impl Search {
         crossings: &Crossings,
         summaries: &Summaries,
         lattice: LatticeNo,
-        origin: &Origin,
+        front: &Front,
     ) -> Result<(), NoMemory>
         requires index { IsIndexOf graph.now index.now }
         requires crossings { AreCrossings graph.now crossings.now }
         requires lattice { lattice < 16 }
         requires below { AllBelow graph.now (size_of self.old.marks) }
-        requires origin { StandsAt self.old origin.now.place origin.now.phase origin.now.at }
+        requires front { StandsAt self.old front.now.place front.now.phase front.now.at }
         requires over { IsOver graph.now lattice summaries.now passed.old self.old }
         ensures good { OnOk result (StaysGood graph.now lattice summaries.now self.old self.new) }
         ensures grows { OnOk result (Grows self.old self.new) }
         ensures done { OnOk result ((n : ℕ) →
-            IsFollowed graph.now lattice summaries.now self.new origin.now.phase origin.now.at n) }
+            IsFollowed graph.now lattice summaries.now self.new front.now.phase front.now.at n) }
         ensures over { OnOk result (IsOver graph.now lattice summaries.now passed.new self.new) }
     {
-        for edge in index.out(origin.at) {
-            self.follow(passed, graph, crossings, summaries, lattice, origin, *edge)?;
+        for edge in index.out(front.at) {
+            self.follow(passed, graph, crossings, summaries, lattice, front, *edge)?;
         }
         Ok(())
     }
 
     /// A place of the queue with its variable and phase.
-    fn origin_at(&self, place: usize) -> Origin
+    fn front_at(&self, place: usize) -> Front
         requires { place < length self.now.queue.items }
         ensures place { result.place ≡ place }
         ensures stands { StandsAt self.now place result.phase result.at }
     {
         let reached = self.queue[place];
-        Origin {
+        Front {
             place,
             at: reached.at,
             phase: reached.phase,
@@ -478,8 +518,8 @@ impl Search {
     {
         let mut place = 0;
         while place < self.queue.len() {
-            let origin = self.origin_at(place);
-            self.visit(passed, graph, index, crossings, summaries, lattice, &origin)?;
+            let front = self.front_at(place);
+            self.visit(passed, graph, index, crossings, summaries, lattice, &front)?;
             place += 1;
         }
         Ok(())
@@ -507,12 +547,14 @@ fn settled(graph: &FlowGraph, at: VarId, phase: Phase) -> Phase
     }
 }
 
-/// All that the constants of an element lead to, in the order in which a breadth-first search comes to it.
+/// All that the constants of an element or a variable lead to, in the order in which a breadth-first search comes to it. A
+/// variable leads to itself.
 ///
 /// It takes each variable once in each phase, with a step for each constraint that begins there. The groups of a site that
 /// begin at one variable are followed once in each phase, with a step for each pair from that variable, and the `Leave`s of
-/// the site from one variable once; before that it goes once over all constraints. 2 bytes for each variable and for each
-/// constraint while it goes on, and an item of the queue for each variable and phase that it reaches.
+/// the site from one variable once; from an element it goes once over all constraints before that. 2 bytes for each variable
+/// below the number and for each constraint while it goes on, and an item of the queue for each variable and phase that it
+/// reaches.
 pub fn search_from(
     alloc: Global,
     graph: &FlowGraph,
@@ -520,18 +562,21 @@ pub fn search_from(
     crossings: &Crossings,
     summaries: &Summaries,
     lattice: LatticeNo,
-    elem: Elem,
+    origin: &Origin,
+    vars: u32,
 ) -> Result<Vec<Reached>, NoMemory>
     requires index { IsIndexOf graph.now index.now }
     requires crossings { AreCrossings graph.now crossings.now }
     requires lattice { lattice < 16 }
+    requires below { AllBelow graph.now vars }
+    requires room { HasRoom origin.now vars }
     ensures sound { IfOk result
-        (λ queue. AreSound graph.now lattice elem summaries.now queue.items) }
+        (λ queue. AreSound graph.now lattice origin.now summaries.now queue.items) }
     ensures whole { IfOk result (λ queue. Summarises graph.now lattice summaries.now →
-        HasAll graph.now lattice elem queue.items) }
+        HasAll graph.now lattice origin.now queue.items) }
 {
-    let mut search = Search::new(alloc, graph)?;
-    search.start(graph, lattice, elem)?;
+    let mut search = Search::new(alloc, vars)?;
+    search.start(graph, lattice, origin)?;
     let mut passed = Passed::new(alloc, graph.len())?;
     search.run(&mut passed, graph, index, crossings, summaries, lattice)?;
     Ok(search.queue)

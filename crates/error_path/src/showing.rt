@@ -1,134 +1,29 @@
 //! The path proof of an exceeded bound.
 
-ghost use Rattle.std.specs.Prelude.{◌≡◌, ℕ, ◌<◌, List, length, slice_get, IfOk, IfSome, OnOk};
-ghost use Rattle.std.specs.Prelude.{MatchOption, Some, reverse};
+ghost use Rattle.std.specs.Prelude.{◌≡◌, ℕ, ◌<◌, length, IfOk};
 ghost use Rattle.lattice_core.specs.View.{orders_of};
 ghost use Rattle.flow_graph.specs.declared.constraint.Link.TheVariants.{Bound};
 ghost use Rattle.flow_graph.specs.System.{IsWellOwned, Stands};
 ghost use Rattle.flow_graph.specs.Unfolding.{NamesElementsIn};
 ghost use Rattle.flow_graph.specs.Paths.{Lead};
 ghost use Rattle.flow_graph.specs.PathProofs.{steps_of, Holds, AreApart};
-ghost use Rattle.flow_graph.specs.declared.phase.Phase.{Phase};
 ghost use Rattle.lattice_solver.specs.Solution.{Exceeds, IsSolved};
-ghost use Rattle.match_summary.specs.Summary.{Leads, Summarises};
-ghost use Rattle.error_path.specs.declared.search.Reached.{Reached};
-ghost use Rattle.flow_graph.specs.Parts.{IsPath, Onward};
-ghost use Rattle.error_path.specs.Made.{subs_in, Extends, IsMade};
+ghost use Rattle.match_summary.specs.Summary.{Summarises};
+ghost use Rattle.error_path.specs.declared.search.Origin.TheVariants.{Element};
 ghost use Rattle.error_path.specs.Reaches.{AreReaches, IsReach};
-ghost use Rattle.error_path.specs.Reaching.{AreSound, ComesBy, Earlier};
 ghost use Rattle.error_path.specs.Shown.{BeginsOver, EndsWith, HasNoLines, InLattice};
-ghost use Rattle.error_path.specs.Shown.{IsExceededBySome, IsJoinedBy, IsShown};
+ghost use Rattle.error_path.specs.Shown.{IsExceededBySome, IsShown};
 
 use crate::reaches::{Reach, Reaches};
-use crate::search::{Cause, Reached};
-use crate::steps::{Pair, inner_ends, push_group, push_take};
+use crate::steps::push_take;
 use crate::sub_paths::SubPaths;
-use flow_graph::{FlowGraph, PathProof, PathStep};
+use crate::traces::trace;
+use flow_graph::{FlowGraph, PathProof};
 use lattice_core::Lattices;
 use lattice_solver::Solver;
 use match_summary::Summaries;
 use qual_base::{EdgeId, Elem, LatticeNo, NoMemory, VarId};
 use std::alloc::Global;
-
-/// The number of a group's sub-path, which is made where it is not there. None where the group is empty.
-fn number_of(
-    alloc: Global,
-    graph: &FlowGraph,
-    summaries: &Summaries,
-    subs: &mut SubPaths,
-    inner: &Pair,
-) -> Result<Option<u32>, NoMemory>
-    requires made { IsMade graph.now subs.old }
-    requires summaries { Summarises graph.now subs.old.lattice summaries.now }
-    requires joined { Leads summaries.now inner.now.from inner.now.to }
-    ensures made { OnOk result (IsMade graph.now subs.new) }
-    ensures extends { OnOk result (Extends subs.old subs.new) }
-    ensures number { IfOk result
-        (λ number. IsJoinedBy graph.now (subs_in subs.new) number inner.now.from inner.now.to) }
-{
-    if inner.from == inner.to {
-        return Ok(None);
-    }
-    let number = subs.make(alloc, graph, summaries, inner)?;
-    Ok(Some(number))
-}
-
-/// Writes the steps that lead to a variable by their cause. Answers the place of the queue where they begin, and none where
-/// that is the constant.
-fn trace_step(
-    alloc: Global,
-    graph: &FlowGraph,
-    summaries: &Summaries,
-    cause: &Cause,
-    subs: &mut SubPaths,
-    steps: &mut Vec<PathStep>,
-) -> Result<Option<usize>, NoMemory>
-    requires made { IsMade graph.now subs.old }
-    requires summaries { Summarises graph.now subs.old.lattice summaries.now }
-    requires comes { (elem : ℕ) × (queue : List Reached) × (place : ℕ) × (q : Phase) × (v : ℕ)
-        × ComesBy graph.now subs.old.lattice elem summaries.now queue place q v cause.now }
-    ensures made { OnOk result (IsMade graph.now subs.new) }
-    ensures extends { OnOk result (Extends subs.old subs.new) }
-    ensures earlier { IfOk result (λ next. (elem : ℕ) (queue : List Reached) (place : ℕ) (q : Phase)
-        (v : ℕ) → ComesBy graph.now subs.old.lattice elem summaries.now queue place q v cause.now →
-        IfSome next (λ from. Earlier queue from place)) }
-    ensures traced { IfOk result
-        (λ next. (elem bound : ℕ) (queue : List Reached) (place : ℕ) (q : Phase) (v : ℕ) →
-        ComesBy graph.now subs.old.lattice elem summaries.now queue place q v cause.now →
-        Onward graph.now subs.old.lattice (subs_in subs.old) bound q v (reverse steps.old.items) →
-        MatchOption next (IsPath graph.now subs.old.lattice (subs_in subs.new) elem bound
-        (reverse steps.new.items)) (λ from. (e : Earlier queue from place) × Onward graph.now
-        subs.old.lattice (subs_in subs.new) bound e.it.phase e.it.at (reverse steps.new.items))) }
-{
-    match cause {
-        Cause::Start(edge) => {
-            push_take(steps, *edge)?;
-            Ok(None)
-        }
-        Cause::Step { from, edge } => {
-            push_take(steps, *edge)?;
-            Ok(Some(*from))
-        }
-        Cause::Group { from, enter, leave } => {
-            let inner = inner_ends(graph, *enter, *leave);
-            let number = number_of(alloc, graph, summaries, subs, &inner)?;
-            push_group(steps, *enter, number, *leave)?;
-            Ok(Some(*from))
-        }
-    }
-}
-
-/// Writes the steps from a place of a search back to its constant.
-fn trace(
-    alloc: Global,
-    graph: &FlowGraph,
-    summaries: &Summaries,
-    reached: &[Reached],
-    place: usize,
-    subs: &mut SubPaths,
-    steps: &mut Vec<PathStep>,
-) -> Result<(), NoMemory>
-    requires made { IsMade graph.now subs.old }
-    requires summaries { Summarises graph.now subs.old.lattice summaries.now }
-    requires place { place < length reached.now }
-    requires sound { (elem : ℕ)
-        × AreSound graph.now subs.old.lattice elem summaries.now reached.now }
-    ensures made { OnOk result (IsMade graph.now subs.new) }
-    ensures lattice { OnOk result (subs.new.lattice ≡ subs.old.lattice) }
-    ensures path { OnOk result ((elem bound : ℕ) (r : Reached) → AreSound graph.now subs.old.lattice
-        elem summaries.now reached.now → slice_get reached.now place ≡ Some r → Onward
-        graph.now subs.old.lattice (subs_in subs.old) bound r.phase r.at (reverse steps.old.items) →
-        IsPath graph.now subs.old.lattice (subs_in subs.new) elem bound (reverse steps.new.items)) }
-{
-    let mut place = place;
-    loop {
-        let cause = reached[place].cause;
-        match trace_step(alloc, graph, summaries, &cause, subs, steps)? {
-            Some(from) => place = from,
-            None => return Ok(()),
-        }
-    }
-}
 
 /// A bound of a lattice with its variable, and an element that leads to the variable.
 #[derive(Clone, Copy)]
@@ -150,7 +45,7 @@ fn show_from(
     requires summaries { Summarises graph.now target.now.lattice summaries.now }
     requires reach { IsReach graph.now reach.now }
     requires lattice { reach.now.lattice ≡ target.now.lattice }
-    requires elem { reach.now.elem ≡ target.now.elem }
+    requires origin { reach.now.origin ≡ Element target.now.elem }
     requires bound { (e : ℕ) × Stands graph.now target.now.lattice target.now.bound
         (Bound target.now.at target.now.lattice e) }
     requires lead { Lead graph.now target.now.lattice target.now.elem target.now.at }

@@ -9,7 +9,8 @@ use Rattle.flow_graph.specs.Paths.{Lead}
 use Rattle.flow_graph.specs.PathProofs.{steps_of}
 use Rattle.match_summary.specs.Summary.{Summarises}
 use Rattle.error_path.specs.Shown.{IsShown}
-use Rattle.error_path.proofs.Holding.{path_first, path_holds, path_last, path_lines, subs_lines}
+use Rattle.flow_laws.proofs.Showing.{path_last}
+use Rattle.error_path.proofs.Holding.{path_first, path_holds, path_lines, subs_lines}
 use Rattle.error_path.proofs.Tracing.{bound_over, order_there, view_at}
 use Rattle.error_path.proofs.showing.show.Goals as goal
 
@@ -54,7 +55,7 @@ returns-clause-holds c =
     IfOk-weaker c.show_from.result _ _
     (λ proof is owned.
     let path = shown c proof is in
-    path_holds c.args.graph.now c.args.solver.now.lattice (steps_of proof.subs.items) c.args.bound orders order elem there owned path.subs
+    path_holds c.args.graph.now c.args.solver.now.lattice (steps_of proof.subs.items) elem c.args.bound orders order there path.subs
     (bound_over c.args.graph.now c.args.solver.now order c.args.bound elem (c.target_of-target.ensures.exceeds view.0 view.1)) proof.main.items proof.end path.path)
     c.show_from.ensures
 
@@ -78,7 +79,7 @@ returns-clause-begins c =
       number = path.start;
       var = path.from;
       constant = path.constant;
-      first = path_first c.args.graph.now c.args.solver.now.lattice (steps_of proof.subs.items) c.args.bound elem proof.main.items path;
+      first = path_first c.args.graph.now c.args.solver.now.lattice (steps_of proof.subs.items) elem c.args.bound proof.main.items path;
     })
     c.show_from.ensures
 

@@ -4,25 +4,28 @@ use Rattle.flow_graph.specs.declared.constraint.Link.TheVariants.{Bound}
 use Rattle.flow_graph.specs.declared.proof.PathStep.{PathStep}
 use Rattle.flow_graph.specs.declared.proof.PathStep.TheVariants.{Take}
 use Rattle.flow_graph.specs.System.{Stands}
-use Rattle.flow_graph.specs.Paths.{Lead}
 use Rattle.flow_graph.specs.PathProofs.{steps_of, AreApart}
+use Rattle.flow_graph.specs.Parts.{AreSubs, Goal, ToBound, Ends, Onward}
+use Rattle.error_path.specs.declared.search.Origin.{Origin}
+use Rattle.error_path.specs.declared.search.Origin.TheVariants.{Element}
 use Rattle.error_path.specs.declared.search.Reached.{Reached}
-use Rattle.flow_graph.specs.Parts.{AreSubs, IsPath, Ends, Onward}
 use Rattle.error_path.specs.Made.{place_of, subs_in}
+use Rattle.error_path.specs.Reaches.{LedBy}
 use Rattle.error_path.specs.Reaching.{AreSound}
+use Rattle.error_path.specs.Traced.{IsTraced}
 use Rattle.error_path.proofs.Found.{reach_sound}
 use Rattle.error_path.proofs.Making.{made_apart}
-use Rattle.error_path.proofs.Tracing.{some_given, some_if}
+use Rattle.error_path.proofs.Tracing.{path_of, some_given, some_if}
 use Rattle.error_path.proofs.showing.show_from.Goals as goal
 
 pub unwrap-place-requires : goal.unwrap-place-requires
 unwrap-place-requires c =
     let reach = c.args.reach.now in
     let target = c.args.target.now in
-    let Lat : ℕ → Type 0 = λ l. Lead c.args.graph.now l reach.elem target.at in
-    let Elem : ℕ → Type 0 = λ e. Lead c.args.graph.now target.lattice e target.at in
-    let lead = subst Lat (sym c.requires.lattice) (subst Elem (sym c.requires.elem) c.requires.lead) in
-    some_if c.place_of.result _ c.place_of.ensures.none (λ missed. missed (c.requires.reach.whole target.at lead))
+    let From : Origin → Type 0 = λ o. LedBy c.args.graph.now reach.lattice o target.at in
+    let Lat : ℕ → Type 0 = λ l. LedBy c.args.graph.now l (Element target.elem) target.at in
+    let led = subst From (sym c.requires.origin) (subst Lat (sym c.requires.lattice) c.requires.lead) in
+    some_if c.place_of.result _ c.place_of.ensures.none (λ missed. missed (c.requires.reach.whole target.at led))
 
 pub trace-requires-clause-made : goal.trace-requires-clause-made
 trace-requires-clause-made c = c.new-subs.ensures.made c.args.graph.now
@@ -34,38 +37,49 @@ trace-requires-clause-place c =
 
 pub trace-requires-clause-sound : goal.trace-requires-clause-sound
 trace-requires-clause-sound c =
-    let Of : ℕ → Type 0 = λ l. AreSound c.args.graph.now l c.args.target.now.elem c.args.summaries.now c.args.reach.now.queue.items in
-    let At : List Reached → Type 0 = λ xs. AreSound c.args.graph.now c.new-subs.result.lattice c.args.target.now.elem c.args.summaries.now xs in
-    (c.args.target.now.elem, subst At (sym c.queue.ensures) (subst Of (sym c.new-subs.ensures.lattice) (reach_sound c.args.graph.now c.args.reach.now c.args.target.now.lattice c.args.target.now.elem c.args.summaries.now c.requires.reach c.requires.lattice c.requires.elem c.requires.summaries)))
+    let origin : Origin = Element c.args.target.now.elem in
+    let Of : ℕ → Type 0 = λ l. AreSound c.args.graph.now l origin c.args.summaries.now c.args.reach.now.queue.items in
+    let At : List Reached → Type 0 = λ xs. AreSound c.args.graph.now c.new-subs.result.lattice origin c.args.summaries.now xs in (
+      origin,
+      subst At (sym c.queue.ensures)
+          (subst Of (sym c.new-subs.ensures.lattice)
+          (reach_sound c.args.graph.now c.args.reach.now c.args.target.now.lattice origin c.args.summaries.now c.requires.reach c.requires.lattice c.requires.origin c.requires.summaries)),
+    )
 
 pub returns : goal.returns
 returns c =
     let sys = c.args.graph.now in
     let to = c.args.target.now.lattice in
     let from = c.new-subs.result.lattice in
+    let bound = c.args.target.now.bound in
+    let elem = c.args.target.now.elem in
+    let origin : Origin = Element elem in
+    let end : Goal = ToBound bound in
     let at = some_given _ c.place_of.result c.unwrap-place.result c.unwrap-place.ensures c.place_of.ensures.found in
-    let Of : ℕ → Type 0 = λ l. AreSound sys l c.args.target.now.elem c.args.summaries.now c.args.reach.now.queue.items in
-    let At : List Reached → Type 0 = λ xs. AreSound sys from c.args.target.now.elem c.args.summaries.now xs in
-    let found = subst At (sym c.queue.ensures) (subst Of (sym c.new-subs.ensures.lattice) (reach_sound c.args.graph.now c.args.reach.now c.args.target.now.lattice c.args.target.now.elem c.args.summaries.now c.requires.reach c.requires.lattice c.requires.elem c.requires.summaries)) in
+    let Of : ℕ → Type 0 = λ l. AreSound sys l origin c.args.summaries.now c.args.reach.now.queue.items in
+    let At : List Reached → Type 0 = λ xs. AreSound sys from origin c.args.summaries.now xs in
+    let found = subst At (sym c.queue.ensures)
+    (subst Of (sym c.new-subs.ensures.lattice) (reach_sound sys c.args.reach.now to origin c.args.summaries.now c.requires.reach c.requires.lattice c.requires.origin c.requires.summaries)) in
     let there = ap (λ xs. slice_get xs c.unwrap-place.result) c.queue.ensures ∙ at.1 in
-    let Var : ℕ → Type 0 = λ v. Stands sys to c.args.target.now.bound (Bound v to c.requires.bound.0) in
-    let first : Onward sys to (subs_in c.new-subs.result) c.args.target.now.bound at.0.phase at.0.at (Take c.args.target.now.bound 0 ∷ []) = Ends at.0.phase at.0.at c.requires.bound.0 (subst Var (sym at.2) c.requires.bound.1) in
-    let steps : reverse c.push_take.new.steps.items ≡ Take c.args.target.now.bound 0 ∷ [] = c.in_ok-push_take.ensures ∙ ap (λ xs. Take c.args.target.now.bound 0 ∷ reverse xs) c.new-steps.ensures.items in
-    let In : ℕ → Type 0 = λ l. Onward sys l (subs_in c.new-subs.result) c.args.target.now.bound at.0.phase at.0.at (Take c.args.target.now.bound 0 ∷ []) in
-    let Steps : List PathStep → Type 0 = λ xs. Onward sys from (subs_in c.new-subs.result) c.args.target.now.bound at.0.phase at.0.at xs in
+    let Var : ℕ → Type 0 = λ v. Stands sys to bound (Bound v to c.requires.bound.0) in
+    let first : Onward sys to (subs_in c.new-subs.result) end at.0.phase at.0.at (Take bound 0 ∷ []) =
+    Ends bound at.0.phase at.0.at c.requires.bound.0 (subst Var (sym at.2) c.requires.bound.1) in
+    let steps : reverse c.push_take.new.steps.items ≡ Take bound 0 ∷ [] = c.in_ok-push_take.ensures ∙ ap (λ xs. Take bound 0 ∷ reverse xs) c.new-steps.ensures.items in
+    let In : ℕ → Type 0 = λ l. Onward sys l (subs_in c.new-subs.result) end at.0.phase at.0.at (Take bound 0 ∷ []) in
+    let Steps : List PathStep → Type 0 = λ xs. Onward sys from (subs_in c.new-subs.result) end at.0.phase at.0.at xs in
     let on = subst Steps (sym steps) (subst In (sym c.new-subs.ensures.lattice) first) in
-    let path = c.in_ok-trace.ensures.path c.args.target.now.elem c.args.target.now.bound at.0 found there on in
+    let path = c.in_ok-trace.ensures.path origin end at.0 found there on in
     let made = c.in_ok-trace.ensures.made in
     let same : steps_of c.into_paths.result.items ≡ subs_in c.trace.new.subs = ap steps_of c.into_paths.ensures in
     let Good : ℕ → Type 0 = λ l. AreSubs sys l (subs_in c.trace.new.subs) in
     let Subs : List (List PathStep) → Type 0 = λ xs. AreSubs sys to xs in
     let Apart : List (List PathStep) → Type 0 = λ xs. AreApart sys xs in
-    let Lat : ℕ → Type 0 = λ l. IsPath sys l (subs_in c.trace.new.subs) c.args.target.now.elem c.args.target.now.bound (reverse c.trace.new.steps.items) in
-    let Over : List (List PathStep) → Type 0 = λ xs. IsPath sys to xs c.args.target.now.elem c.args.target.now.bound (reverse c.trace.new.steps.items) in
-    let Main : List PathStep → Type 0 = λ xs. IsPath sys to (steps_of c.into_paths.result.items) c.args.target.now.elem c.args.target.now.bound xs in
+    let Lat : ℕ → Type 0 = λ l. IsTraced sys l (subs_in c.trace.new.subs) origin end (reverse c.trace.new.steps.items) in
+    let Over : List (List PathStep) → Type 0 = λ xs. IsTraced sys to xs origin end (reverse c.trace.new.steps.items) in
+    let Main : List PathStep → Type 0 = λ xs. IsTraced sys to (steps_of c.into_paths.result.items) origin end xs in
     record {
       subs = subst Subs (sym same) (subst Good (c.in_ok-trace.ensures.lattice ∙ c.new-subs.ensures.lattice) made.good);
-      path = subst Main (sym c.reverse.ensures.items) (subst Over (sym same) (subst Lat c.new-subs.ensures.lattice path));
+      path = path_of sys to (steps_of c.into_paths.result.items) elem bound _ (subst Main (sym c.reverse.ensures.items) (subst Over (sym same) (subst Lat c.new-subs.ensures.lattice path)));
       apart = subst Apart (sym same) (made_apart sys c.trace.new.subs.lattice (subs_in c.trace.new.subs) (place_of c.trace.new.subs) made);
       end = refl;
     }

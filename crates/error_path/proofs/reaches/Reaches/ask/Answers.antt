@@ -5,5 +5,5 @@ use Rattle.error_path.proofs.reaches.Reaches.ask.Goals as goal
 pub returns-clause-place : goal.returns-clause-place
 returns-clause-place c =
     IfOk-weaker c.keep.result _ _
-    (λ place is. (is.0, is.1, is.2 ∙ c.in_ok-reach.ensures.lattice, is.3 ∙ c.in_ok-reach.ensures.elem))
+    (λ place is. (is.0, is.1, is.2 ∙ c.in_ok-reach.ensures.lattice, is.3 ∙ c.in_ok-reach.ensures.origin))
     c.keep.ensures.place

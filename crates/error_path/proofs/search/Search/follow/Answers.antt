@@ -33,48 +33,48 @@ note-requires-in-Enter c =
 pub follow_groups-requires-clause-below : goal.follow_groups-requires-clause-below
 follow_groups-requires-clause-below c = below_on c.args.graph.now c.args.self.now c.note-in-Enter.new.self c.in_ok-note-in-Enter.ensures.grows c.requires.below
 
-pub follow_groups-requires-clause-origin : goal.follow_groups-requires-clause-origin
-follow_groups-requires-clause-origin c =
-    stands_on c.args.self.now c.note-in-Enter.new.self c.args.origin.now.place c.args.origin.now.phase c.args.origin.now.at c.in_ok-note-in-Enter.ensures.grows c.requires.origin
+pub follow_groups-requires-clause-front : goal.follow_groups-requires-clause-front
+follow_groups-requires-clause-front c =
+    stands_on c.args.self.now c.note-in-Enter.new.self c.args.front.now.place c.args.front.now.phase c.args.front.now.at c.in_ok-note-in-Enter.ensures.grows c.requires.front
 
 pub returns-in-Le-clause-good : goal.returns-in-Le-clause-good
 returns-in-Le-clause-good c =
-    let from : c.in-Le.field-0 ≡ c.args.origin.now.at = some_number (key_of_link c.args.graph.now c.args.lattice c.args.edge c.constraint-constraint.result (Le c.in-Le.field-0 c.in-Le.to) c.constraint-constraint.ensures.there c.in-Le.is link_begins c.args.origin.now.at c.requires.begins) in
+    let from : c.in-Le.field-0 ≡ c.args.front.now.at = some_number (key_of_link c.args.graph.now c.args.lattice c.args.edge c.constraint-constraint.result (Le c.in-Le.field-0 c.in-Le.to) c.constraint-constraint.ensures.there c.in-Le.is link_begins c.args.front.now.at c.requires.begins) in
     let At : ℕ → Type 0 = λ u. Stands c.args.graph.now c.args.lattice c.args.edge (Le u c.in-Le.to) in
     let st = subst At from (stands_in c.args.graph.now c.args.lattice c.args.edge c.constraint-constraint.result (Le c.in-Le.field-0 c.in-Le.to) c.constraint-constraint.ensures.there c.in-Le.is (c.if-not-is_in.ensures.0 refl)) in
     on_ok_weaker c.note.result
-    (λ on elem good. on c.args.graph.now c.args.lattice elem c.args.summaries.now
-    (comes_step c.args.graph.now c.args.lattice elem c.args.summaries.now c.args.self.now c.args.origin.now.place c.args.origin.now.phase c.args.origin.now.at c.requires.origin
-    c.args.edge _ c.in-Le.to (ByFlow c.args.edge c.args.origin.now.at c.in-Le.to c.args.origin.now.phase _ st refl)) good)
+    (λ on origin good. on c.args.graph.now c.args.lattice origin c.args.summaries.now
+    (comes_step c.args.graph.now c.args.lattice origin c.args.summaries.now c.args.self.now c.args.front.now.place c.args.front.now.phase c.args.front.now.at c.requires.front
+    c.args.edge _ c.in-Le.to (ByFlow c.args.edge c.args.front.now.at c.in-Le.to c.args.front.now.phase _ st refl)) good)
     c.note.ensures.good
 
 pub returns-else-not-is_returning-clause-good : goal.returns-else-not-is_returning-clause-good
 returns-else-not-is_returning-clause-good c =
-    let from : c.in-Leave.field-1 ≡ c.args.origin.now.at = some_number (key_of_link c.args.graph.now c.args.lattice c.args.edge c.constraint-constraint.result (Leave c.in-Leave.field-0 c.in-Leave.field-1 c.in-Leave.to) c.constraint-constraint.ensures.there c.in-Leave.is link_begins c.args.origin.now.at c.requires.begins) in
+    let from : c.in-Leave.field-1 ≡ c.args.front.now.at = some_number (key_of_link c.args.graph.now c.args.lattice c.args.edge c.constraint-constraint.result (Leave c.in-Leave.field-0 c.in-Leave.field-1 c.in-Leave.to) c.constraint-constraint.ensures.there c.in-Leave.is link_begins c.args.front.now.at c.requires.begins) in
     let At : ℕ → Type 0 = λ u. Stands c.args.graph.now c.args.lattice c.args.edge (Leave c.in-Leave.field-0 u c.in-Leave.to) in
     let st = subst At from (stands_in c.args.graph.now c.args.lattice c.args.edge c.constraint-constraint.result (Leave c.in-Leave.field-0 c.in-Leave.field-1 c.in-Leave.to) c.constraint-constraint.ensures.there c.in-Leave.is (c.if-not-is_in.ensures.0 refl)) in
     let first = c.if-not-is_returning.ensures.0 refl in
-    let In : Phase → Type 0 = λ p. LeadsBy c.args.graph.now c.args.lattice c.args.edge p c.args.origin.now.at (settled (owner_of c.args.graph.now c.in-Leave.to) First) c.in-Leave.to in
+    let In : Phase → Type 0 = λ p. LeadsBy c.args.graph.now c.args.lattice c.args.edge p c.args.front.now.at (settled (owner_of c.args.graph.now c.in-Leave.to) First) c.in-Leave.to in
     on_ok_weaker c.note-in-Leave.result
-    (λ on elem good. on c.args.graph.now c.args.lattice elem c.args.summaries.now
-    (comes_step c.args.graph.now c.args.lattice elem c.args.summaries.now c.args.self.now c.args.origin.now.place c.args.origin.now.phase c.args.origin.now.at c.requires.origin
-    c.args.edge _ c.in-Leave.to (subst In (sym first) (ByLeave c.args.edge c.in-Leave.field-0 c.args.origin.now.at c.in-Leave.to _ st refl))) good)
+    (λ on origin good. on c.args.graph.now c.args.lattice origin c.args.summaries.now
+    (comes_step c.args.graph.now c.args.lattice origin c.args.summaries.now c.args.self.now c.args.front.now.place c.args.front.now.phase c.args.front.now.at c.requires.front
+    c.args.edge _ c.in-Leave.to (subst In (sym first) (ByLeave c.args.edge c.in-Leave.field-0 c.args.front.now.at c.in-Leave.to _ st refl))) good)
     c.note-in-Leave.ensures.good
 
 pub returns-in_ok-follow_groups-in-Enter-clause-good : goal.returns-in_ok-follow_groups-in-Enter-clause-good
 returns-in_ok-follow_groups-in-Enter-clause-good c =
-    let from : c.in-Enter.field-1 ≡ c.args.origin.now.at = some_number (key_of_link c.args.graph.now c.args.lattice c.args.edge c.constraint-constraint.result (Enter c.in-Enter.site c.in-Enter.field-1 c.in-Enter.inner) c.constraint-constraint.ensures.there c.in-Enter.is link_begins c.args.origin.now.at c.requires.begins) in
+    let from : c.in-Enter.field-1 ≡ c.args.front.now.at = some_number (key_of_link c.args.graph.now c.args.lattice c.args.edge c.constraint-constraint.result (Enter c.in-Enter.site c.in-Enter.field-1 c.in-Enter.inner) c.constraint-constraint.ensures.there c.in-Enter.is link_begins c.args.front.now.at c.requires.begins) in
     let At : ℕ → Type 0 = λ u. Stands c.args.graph.now c.args.lattice c.args.edge (Enter c.in-Enter.site u c.in-Enter.inner) in
     let st = subst At from (stands_in c.args.graph.now c.args.lattice c.args.edge c.constraint-constraint.result (Enter c.in-Enter.site c.in-Enter.field-1 c.in-Enter.inner) c.constraint-constraint.ensures.there c.in-Enter.is (c.if-not-is_in.ensures.0 refl)) in
-    λ elem good. c.in_ok-follow_groups-in-Enter.ensures.good elem
-    (c.in_ok-note-in-Enter.ensures.good c.args.graph.now c.args.lattice elem c.args.summaries.now
-    (comes_step c.args.graph.now c.args.lattice elem c.args.summaries.now c.args.self.now c.args.origin.now.place c.args.origin.now.phase c.args.origin.now.at c.requires.origin
-    c.args.edge _ c.in-Enter.inner (ByEnter c.args.edge c.in-Enter.site c.args.origin.now.at c.in-Enter.inner c.args.origin.now.phase _ st refl)) good)
+    λ origin good. c.in_ok-follow_groups-in-Enter.ensures.good origin
+    (c.in_ok-note-in-Enter.ensures.good c.args.graph.now c.args.lattice origin c.args.summaries.now
+    (comes_step c.args.graph.now c.args.lattice origin c.args.summaries.now c.args.self.now c.args.front.now.place c.args.front.now.phase c.args.front.now.at c.requires.front
+    c.args.edge _ c.in-Enter.inner (ByEnter c.args.edge c.in-Enter.site c.args.front.now.at c.in-Enter.inner c.args.front.now.phase _ st refl)) good)
 
 pub returns-in_ok-follow_groups-in-Enter-clause-done : goal.returns-in_ok-follow_groups-in-Enter-clause-done
 returns-in_ok-follow_groups-in-Enter-clause-done c =
-    enter_followed c.args.graph.now c.args.lattice c.args.summaries.now c.follow_groups.new.self c.args.origin.now.phase c.args.edge c.constraint-constraint.result c.in-Enter.site c.in-Enter.field-1 c.in-Enter.inner
-    c.args.origin.now.at c.constraint-constraint.ensures.there c.in-Enter.is (c.in_ok-follow_groups-in-Enter.ensures.grows.kept _ c.in-Enter.inner c.in_ok-note-in-Enter.ensures.there) c.in_ok-follow_groups-in-Enter.ensures.done
+    enter_followed c.args.graph.now c.args.lattice c.args.summaries.now c.follow_groups.new.self c.args.front.now.phase c.args.edge c.constraint-constraint.result c.in-Enter.site c.in-Enter.field-1 c.in-Enter.inner
+    c.args.front.now.at c.constraint-constraint.ensures.there c.in-Enter.is (c.in_ok-follow_groups-in-Enter.ensures.grows.kept _ c.in-Enter.inner c.in_ok-note-in-Enter.ensures.there) c.in_ok-follow_groups-in-Enter.ensures.done
 
 pub follow_groups-requires-clause-over : goal.follow_groups-requires-clause-over
 follow_groups-requires-clause-over c =

@@ -8,11 +8,11 @@ use Rattle.error_path.proofs.search.Search.follow_all.Goals as goal
 
 pub loop-next-init : goal.loop-next-init
 loop-next-init c = record {
-  good = λ elem good. good;
+  good = λ origin good. good;
   grows = grows_same _;
   there = c.newest-next.ensures.there;
   done = crossed_first c.args.graph.now _
-      (IsRoundedFrom c.args.graph.now c.args.lattice c.args.summaries.now c.args.self.now c.args.origin.now.phase c.args.call.now.site c.args.call.now.inner c.args.last)
+      (IsRoundedFrom c.args.graph.now c.args.lattice c.args.summaries.now c.args.self.now c.args.front.now.phase c.args.call.now.site c.args.call.now.inner c.args.last)
       _ c.newest-next.ensures (λ n elsewhere v st. absurd (elsewhere (leave_crosses c.args.graph.now c.args.lattice n c.args.call.now.site c.args.last v st)));
 }
 
@@ -23,9 +23,9 @@ follow_group-requires-clause-site c =
 pub follow_group-requires-clause-below : goal.follow_group-requires-clause-below
 follow_group-requires-clause-below c = below_on c.args.graph.now c.args.self.now c.loop-next.self c.loop-next.invariant.grows c.requires.below
 
-pub follow_group-requires-clause-origin : goal.follow_group-requires-clause-origin
-follow_group-requires-clause-origin c =
-    stands_on c.args.self.now c.loop-next.self c.args.origin.now.place c.args.origin.now.phase c.args.origin.now.at c.loop-next.invariant.grows c.requires.origin
+pub follow_group-requires-clause-front : goal.follow_group-requires-clause-front
+follow_group-requires-clause-front c =
+    stands_on c.args.self.now c.loop-next.self c.args.front.now.place c.args.front.now.phase c.args.front.now.at c.loop-next.invariant.grows c.requires.front
 
 pub loop-next-preserved : goal.loop-next-preserved
 loop-next-preserved c =
@@ -35,12 +35,12 @@ loop-next-preserved c =
     let sys = c.args.graph.now in
     let lattice = c.args.lattice in
     let rows = c.args.summaries.now in
-    let phase = c.args.origin.now.phase in
+    let phase = c.args.front.now.phase in
     let site = c.args.call.now.site in
     let inner = c.args.call.now.inner in
     let last = c.args.last in
     record {
-      good = λ elem good. step.good elem (so_far.good elem good);
+      good = λ origin good. step.good origin (so_far.good origin good);
       grows = grows_then c.args.self.now c.loop-next.self c.follow_group.new.self so_far.grows step.grows;
       there = c.before-next.ensures.there;
       done = crossed_more sys _ (IsRoundedFrom sys lattice rows c.follow_group.new.self phase site inner last) c.in-Some.leave _ c.before-next.ensures

@@ -19,7 +19,7 @@ returns-else-not-leads-clause-good c =
     let At : ℕ → Type 0 = λ s. Stands c.args.graph.now c.args.lattice c.args.leave (Leave s c.in-Leave.last c.in-Leave.to) in
     let leaves = subst At site (stands_in c.args.graph.now c.args.lattice c.args.leave c.constraint-back.result (Leave c.in-Leave.field-0 c.in-Leave.last c.in-Leave.to) c.constraint-back.ensures.there c.in-Leave.is (c.if-not-is_in.ensures.0 refl)) in
     on_ok_weaker c.note.result
-    (λ on elem good. on c.args.graph.now c.args.lattice elem c.args.summaries.now
-    (comes_around c.args.graph.now c.args.lattice elem c.args.summaries.now c.args.self.now c.args.origin.now.place c.args.origin.now.phase c.args.origin.now.at c.requires.origin
+    (λ on origin good. on c.args.graph.now c.args.lattice origin c.args.summaries.now
+    (comes_around c.args.graph.now c.args.lattice origin c.args.summaries.now c.args.self.now c.args.front.now.place c.args.front.now.phase c.args.front.now.at c.requires.front
     c.args.call.now.enter c.args.leave c.args.call.now.site c.args.call.now.inner c.in-Leave.last c.in-Leave.to c.requires.call leaves (c.if-not-leads.ensures.0 refl)) good)
     c.note.ensures.good

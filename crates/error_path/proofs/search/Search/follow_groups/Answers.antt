@@ -9,20 +9,20 @@ use Rattle.error_path.proofs.search.Search.follow_groups.Goals as goal
 pub follow_pairs-requires-clause-below : goal.follow_pairs-requires-clause-below
 follow_pairs-requires-clause-below c = below_on c.args.graph.now c.args.self.now c.follow_leaves.new.self c.in_ok-follow_leaves.ensures.grows c.requires.below
 
-pub follow_pairs-requires-clause-origin : goal.follow_pairs-requires-clause-origin
-follow_pairs-requires-clause-origin c =
-    stands_on c.args.self.now c.follow_leaves.new.self c.args.origin.now.place c.args.origin.now.phase c.args.origin.now.at c.in_ok-follow_leaves.ensures.grows c.requires.origin
+pub follow_pairs-requires-clause-front : goal.follow_pairs-requires-clause-front
+follow_pairs-requires-clause-front c =
+    stands_on c.args.self.now c.follow_leaves.new.self c.args.front.now.place c.args.front.now.phase c.args.front.now.at c.in_ok-follow_leaves.ensures.grows c.requires.front
 
 pub returns-in_default-clause-done : goal.returns-in_default-clause-done
 returns-in_default-clause-done c =
     let none : link_of c.newest.result ≡ 0 = ap link_of c.in_default.is in
     let n = c.args.call.now.enter in
-    let crosses = enter_crosses c.args.graph.now c.args.lattice n c.args.call.now.site c.args.origin.now.at c.args.call.now.inner c.requires.call in
+    let crosses = enter_crosses c.args.graph.now c.args.lattice n c.args.call.now.site c.args.front.now.at c.args.call.now.inner c.requires.call in
     absurd (c.newest.ensures.last n (omega (arith, none)) (crosses_within c.args.graph.now _ n crosses) crosses)
 
 pub returns-then-has-clause-done : goal.returns-then-has-clause-done
 returns-then-has-clause-done c =
-    enter_covered c.args.graph.now c.args.lattice c.args.summaries.now c.args.passed.now c.args.self.now c.requires.over c.args.origin.now.phase
+    enter_covered c.args.graph.now c.args.lattice c.args.summaries.now c.args.passed.now c.args.self.now c.requires.over c.args.front.now.phase
     c.in-Some.entry (c.if-has.ensures.0 refl) c.args.call.now.site c.args.call.now.inner (c.newest.ensures.there c.in-Some.entry (ap link_of c.in-Some.is))
 
 pub returns-clause-done : goal.returns-clause-done
@@ -30,7 +30,7 @@ returns-clause-done c =
     let sys = c.args.graph.now in
     let lattice = c.args.lattice in
     let rows = c.args.summaries.now in
-    let phase = c.args.origin.now.phase in
+    let phase = c.args.front.now.phase in
     let site = c.args.call.now.site in
     let inner = c.args.call.now.inner in
     let Done : ℕ → ℕ → Type 0 = λ x k. IsRoundedFrom sys lattice rows c.follow_pairs.new.self phase site inner x k in
@@ -50,7 +50,7 @@ returns-clause-over c =
     let sys = c.args.graph.now in
     let lattice = c.args.lattice in
     let rows = c.args.summaries.now in
-    let phase = c.args.origin.now.phase in
+    let phase = c.args.front.now.phase in
     let site = c.args.call.now.site in
     let inner = c.args.call.now.inner in
     let Done : ℕ → ℕ → Type 0 = λ x k. IsRoundedFrom sys lattice rows c.follow_pairs.new.self phase site inner x k in
@@ -70,4 +70,4 @@ pub returns-clause-grows : goal.returns-clause-grows
 returns-clause-grows c = grows_then c.args.self.now c.follow_leaves.new.self c.follow_pairs.new.self c.in_ok-follow_leaves.ensures.grows c.in_ok-follow_pairs.ensures.grows
 
 pub returns-clause-good : goal.returns-clause-good
-returns-clause-good c = λ elem good. c.in_ok-follow_pairs.ensures.good elem (c.in_ok-follow_leaves.ensures.good elem good)
+returns-clause-good c = λ origin good. c.in_ok-follow_pairs.ensures.good origin (c.in_ok-follow_leaves.ensures.good origin good)

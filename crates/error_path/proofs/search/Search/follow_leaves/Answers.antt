@@ -12,7 +12,7 @@ returns-in_default-clause-done c = λ m v st.
 
 pub returns-then-has-clause-done : goal.returns-then-has-clause-done
 returns-then-has-clause-done c = λ m v st leads.
-    leave_covered c.args.graph.now c.args.lattice c.args.summaries.now c.args.passed.now c.args.self.now c.requires.over c.args.origin.now.phase
+    leave_covered c.args.graph.now c.args.lattice c.args.summaries.now c.args.passed.now c.args.self.now c.requires.over c.args.front.now.phase
     c.in-Some.exit (c.if-has.ensures.0 refl) c.args.call.now.site c.args.last (c.newest.ensures.there c.in-Some.exit (ap link_of c.in-Some.is)) m v st
 
 pub returns-clause-over : goal.returns-clause-over
@@ -20,6 +20,6 @@ returns-clause-over c =
     let sys = c.args.graph.now in
     let lattice = c.args.lattice in
     let rows = c.args.summaries.now in
-    leave_over sys lattice rows c.args.passed.now c.add.new.self c.follow_all.new.self c.args.origin.now.phase c.in-Some.exit c.add.ensures.only c.add.ensures.size
+    leave_over sys lattice rows c.args.passed.now c.add.new.self c.follow_all.new.self c.args.front.now.phase c.in-Some.exit c.add.ensures.only c.add.ensures.size
     (over_on sys lattice rows c.args.passed.now c.args.self.now c.follow_all.new.self c.in_ok-follow_all.ensures.grows c.requires.over)
     c.args.call.now.site c.args.last (c.newest.ensures.there c.in-Some.exit (ap link_of c.in-Some.is)) (λ m v st. c.in_ok-follow_all.ensures.done m v st (c.if-not-leads.ensures.0 refl))

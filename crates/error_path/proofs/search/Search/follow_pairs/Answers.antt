@@ -11,7 +11,7 @@ use Rattle.error_path.proofs.search.Search.follow_pairs.Goals as goal
 
 pub loop-next-init : goal.loop-next-init
 loop-next-init c = record {
-  good = λ elem good. good;
+  good = λ origin good. good;
   grows = grows_same _;
   over = c.requires.over;
   there = c.newest_from-next.ensures.there;
@@ -27,9 +27,9 @@ row-last-requires c =
 pub follow_leaves-requires-clause-below : goal.follow_leaves-requires-clause-below
 follow_leaves-requires-clause-below c = below_on c.args.graph.now c.args.self.now c.loop-next.self c.loop-next.invariant.grows c.requires.below
 
-pub follow_leaves-requires-clause-origin : goal.follow_leaves-requires-clause-origin
-follow_leaves-requires-clause-origin c =
-    stands_on c.args.self.now c.loop-next.self c.args.origin.now.place c.args.origin.now.phase c.args.origin.now.at c.loop-next.invariant.grows c.requires.origin
+pub follow_leaves-requires-clause-front : goal.follow_leaves-requires-clause-front
+follow_leaves-requires-clause-front c =
+    stands_on c.args.self.now c.loop-next.self c.args.front.now.place c.args.front.now.phase c.args.front.now.at c.loop-next.invariant.grows c.requires.front
 
 pub loop-next-smaller : goal.loop-next-smaller
 loop-next-smaller c =
@@ -46,13 +46,13 @@ loop-next-preserved c =
     let sys = c.args.graph.now in
     let lattice = c.args.lattice in
     let rows = c.args.summaries.now in
-    let phase = c.args.origin.now.phase in
+    let phase = c.args.front.now.phase in
     let site = c.args.call.now.site in
     let inner = c.args.call.now.inner in
     let link = c.before_from-next.ensures inner (so_far.there c.in-Some.at (ap link_of c.in-Some.is)) in
     let is : link_of c.loop-next.next ≡ c.in-Some.at + 1 = ap link_of c.in-Some.is in
     record {
-      good = λ elem good. step.good elem (so_far.good elem good);
+      good = λ origin good. step.good origin (so_far.good origin good);
       grows = grows_then c.args.self.now c.loop-next.self c.follow_leaves.new.self so_far.grows step.grows;
       over = step.over;
       there = link.there;

@@ -9,8 +9,8 @@ use Rattle.error_path.proofs.Searching.{sound_push, listed_push, mark_cases, mar
 use Rattle.error_path.proofs.search.Search.note.Goals as goal
 
 pub returns-then-not-mark-clause-good : goal.returns-then-not-mark-clause-good
-returns-then-not-mark-clause-good c = λ sys lattice elem rows comes good.
-    let Of : PhaseMarks → Type 0 = λ m. IsGood sys lattice elem rows (record { queue = c.args.self.now.queue; marks = m }) in
+returns-then-not-mark-clause-good c = λ sys lattice origin rows comes good.
+    let Of : PhaseMarks → Type 0 = λ m. IsGood sys lattice origin rows (record { queue = c.args.self.now.queue; marks = m }) in
     subst Of (sym c.if-not-mark.ensures.marking.same) good
 
 pub returns-then-not-mark-clause-there : goal.returns-then-not-mark-clause-there
@@ -19,15 +19,15 @@ returns-then-not-mark-clause-there c =
     subst Of c.settled-phase.ensures c.mark.ensures.here
 
 pub returns-in-Ok-clause-good : goal.returns-in-Ok-clause-good
-returns-in-Ok-clause-good c = λ sys lattice elem rows comes good.
+returns-in-Ok-clause-good c = λ sys lattice origin rows comes good.
     let r : Reached = record { at = c.args.at; phase = c.settled-phase.result; cause = c.args.cause } in
     let queue = c.args.self.now.queue.items in
-    let By : Phase → Type 0 = λ p. ComesBy sys lattice elem rows queue (length queue) p c.args.at c.args.cause in
-    let Sound : List Reached → Type 0 = λ xs. AreSound sys lattice elem rows xs in
+    let By : Phase → Type 0 = λ p. ComesBy sys lattice origin rows queue (length queue) p c.args.at c.args.cause in
+    let Sound : List Reached → Type 0 = λ xs. AreSound sys lattice origin rows xs in
     let Listed : List Reached → Type 0 = λ xs. (p : Phase) (v : ℕ) → mark_of c.mark.new.self p v ≡ true → IsListed xs p v in
     let Below : ℕ → Type 0 = λ k. AllBelow sys k in
     record {
-      sound = subst Sound (sym c.in-Ok.ensures.items) (sound_push sys lattice elem rows queue r good.sound (subst By (sym c.settled-phase.ensures) comes));
+      sound = subst Sound (sym c.in-Ok.ensures.items) (sound_push sys lattice origin rows queue r good.sound (subst By (sym c.settled-phase.ensures) comes));
       listed = subst Listed (sym c.in-Ok.ensures.items) (listed_push c.args.self.now.marks c.mark.new.self queue r
           (mark_cases c.args.self.now.marks c.mark.new.self c.settled-phase.result c.args.at c.mark.ensures.others) good.listed);
       below = subst Below (sym c.mark.ensures.marking.size) good.below;

@@ -8,10 +8,10 @@ use Rattle.error_path.proofs.search.Search.run.Goals as goal
 pub visit-requires-clause-below : goal.visit-requires-clause-below
 visit-requires-clause-below c = below_on c.args.graph.now c.args.self.now c.loop-place.self c.loop-place.invariant.grows c.requires.below
 
-pub visit-requires-clause-origin : goal.visit-requires-clause-origin
-visit-requires-clause-origin c =
-    let At : ℕ → Type 0 = λ k. StandsAt c.loop-place.self k c.origin_at-origin.result.phase c.origin_at-origin.result.at in
-    subst At (sym c.origin_at-origin.ensures.place) c.origin_at-origin.ensures.stands
+pub visit-requires-clause-front : goal.visit-requires-clause-front
+visit-requires-clause-front c =
+    let At : ℕ → Type 0 = λ k. StandsAt c.loop-place.self k c.front_at-front.result.phase c.front_at-front.result.at in
+    subst At (sym c.front_at-front.ensures.place) c.front_at-front.ensures.stands
 
 pub loop-place-preserved : goal.loop-place-preserved
 loop-place-preserved c =
@@ -19,19 +19,19 @@ loop-place-preserved c =
     let step = c.in_ok-visit.ensures in
     let old = c.loop-place.self in
     let new = c.visit.new.self in
-    let origin = c.origin_at-origin.result in
+    let front = c.front_at-front.result in
     let low = so_far.low in
     let more = grows_length old new step.grows in
     let here = c.loop-place-test.true in
     record {
-      good = λ elem good. step.good elem (so_far.good elem good);
+      good = λ origin good. step.good origin (so_far.good origin good);
       grows = grows_then c.args.self.now old new so_far.grows step.grows;
       visited = λ k lt. elim (cases_lt k c.loop-place.place) [
         | inl before ↦ visited_on c.args.graph.now c.args.lattice c.args.summaries.now old new k step.grows (omega (arith, before, low)) (so_far.visited k before)
         | inr last ↦
             let is : c.loop-place.place ≡ k = omega (arith, lt, last) in
             let At : ℕ → Type 0 = λ m. IsVisited c.args.graph.now c.args.lattice c.args.summaries.now new m in
-            subst At is (visited_here c.args.graph.now c.args.lattice c.args.summaries.now old new c.loop-place.place origin.phase origin.at step.grows c.origin_at-origin.ensures.stands step.done)
+            subst At is (visited_here c.args.graph.now c.args.lattice c.args.summaries.now old new c.loop-place.place front.phase front.at step.grows c.front_at-front.ensures.stands step.done)
       ];
       over = step.over;
       low = omega (arith, here, more);

@@ -1,32 +1,16 @@
-use Rattle.std.proofs.Common.{◌≡◌, ℕ, inl, inr, subst, arith}
-use Rattle.std.proofs.lemmas.Bool.{cases_lt}
-use Rattle.std.proofs.lemmas.Option.{slice_get_within}
-use Rattle.flow_graph.specs.declared.constraint.Link.TheVariants.{Const}
-use Rattle.flow_graph.specs.System.{Stands}
-use Rattle.error_path.proofs.Searching.{below_on, grows_then}
+use Rattle.std.proofs.Common.{List, refl, sym, subst}
+use Rattle.std.proofs.lemmas.Result.{on_ok_weaker}
+use Rattle.match_summary.specs.declared.reason.Summary.{Summary}
+use Rattle.error_path.specs.declared.search.Origin.{Origin}
+use Rattle.error_path.specs.Reaching.{IsGood}
 use Rattle.error_path.proofs.search.Search.start.Goals as goal
 
-pub loop-n-preserved : goal.loop-n-preserved
-loop-n-preserved c =
-    let so_far = c.loop-n.invariant in
-    let step = c.in_ok-start_at.ensures in
-    let at : c.new.result ≡ c.loop-n.n = c.new.ensures in
-    record {
-      good = λ rows good. step.good rows (so_far.good rows good);
-      grows = grows_then c.args.self.now c.loop-n.self c.start_at.new.self so_far.grows step.grows;
-      done = λ k v lt st. elim (cases_lt k c.loop-n.n) [
-        | inl before ↦ step.grows.kept _ v (so_far.done k v before st)
-        | inr last ↦
-            let is : k ≡ c.new.result = omega arith in
-            let At : ℕ → Type 0 = λ m. Stands c.args.graph.now c.args.lattice m (Const c.args.lattice c.args.elem v) in
-            step.done v (subst At is st)
-      ];
-    }
+pub returns-in-Element-clause-good : goal.returns-in-Element-clause-good
+returns-in-Element-clause-good c =
+    let Good : Origin → Type 0 = λ o. (rows : List Summary) → IsGood c.args.graph.now c.args.lattice o rows c.args.self.now →
+    IsGood c.args.graph.now c.args.lattice o rows c.start_at_each.new.self in
+    on_ok_weaker c.start_at_each.result (λ on. subst Good (sym c.in-Element.is) on) c.start_at_each.ensures.good
 
-pub returns-clause-started : goal.returns-clause-started
-returns-clause-started c = λ m v st.
-    let within = slice_get_within c.args.graph.now.constraints m st.constraint st.there in
-    c.loop-n.invariant.done m v (omega (arith, within)) st
-
-pub returns-clause-below : goal.returns-clause-below
-returns-clause-below c = below_on c.args.graph.now c.args.self.now c.loop-n.self c.loop-n.invariant.grows c.requires.below
+pub returns-in-Variable-clause-good : goal.returns-in-Variable-clause-good
+returns-in-Variable-clause-good c =
+    on_ok_weaker c.note.result (λ on rows good. on c.args.graph.now c.args.lattice c.args.origin.now rows (c.in-Variable.is, refl) good) c.note.ensures.good

@@ -4,6 +4,7 @@ use Rattle.std.proofs.lemmas.Result.{on_ok_weaker}
 use Rattle.flow_graph.specs.declared.constraint.Link.{Link}
 use Rattle.flow_graph.specs.declared.constraint.Link.TheVariants.{Const}
 use Rattle.flow_graph.specs.System.{vars_of_link}
+use Rattle.error_path.specs.declared.search.Origin.TheVariants.{Element}
 use Rattle.error_path.specs.Marks.{size_of}
 use Rattle.error_path.proofs.Searching.{low_of}
 use Rattle.error_path.proofs.search.Search.start_at.Goals as goal
@@ -21,6 +22,6 @@ returns-then-eq-2-clause-good c =
     let is : c.constraint-link.result.link ≡ Const c.args.lattice c.args.elem c.in-Const.at =
     c.in-Const.is ∙ ap (λ x. let l : Link = Const x c.in-Const.mark c.in-Const.at in l) named ∙ ap (λ x. let l : Link = Const c.args.lattice x c.in-Const.at in l) mark in
     on_ok_weaker c.note.result
-    (λ on rows good. on c.args.graph.now c.args.lattice c.args.elem rows
-    (record { constraint = c.constraint-link.result; there = c.constraint-link.ensures.there; link_is = is; carried = refl }, refl) good)
+    (λ on rows good. on c.args.graph.now c.args.lattice (Element c.args.elem) rows
+    (c.args.elem, refl, record { constraint = c.constraint-link.result; there = c.constraint-link.ensures.there; link_is = is; carried = refl }, refl) good)
     c.note.ensures.good

@@ -1,11 +1,12 @@
 use Rattle.std.proofs.Common.{ℕ, ◌<◌, get_or}
+use Rattle.error_path.specs.declared.search.Origin.{Origin}
 use Rattle.error_path.specs.Reaching.{Grows, IsFollowed, IsGood, IsOver}
 use Rattle.error_path.proofs.search.Search.visit.Given as goal
 
 abbrev pub invariant-loop-edge : goal.invariant-loop-edge
 invariant-loop-edge l = record {
-  good : (elem : ℕ) → IsGood l.graph l.lattice elem l.summaries l.fn.self → IsGood l.graph l.lattice elem l.summaries l.self;
+  good : (origin : Origin) → IsGood l.graph l.lattice origin l.summaries l.fn.self → IsGood l.graph l.lattice origin l.summaries l.self;
   grows : Grows l.fn.self l.self;
-  done : (k : ℕ) → k < l.edge-index → (other : ℕ) → IsFollowed l.graph l.lattice l.summaries l.self l.origin.phase l.origin.at (get_or l.edge-items k other);
+  done : (k : ℕ) → k < l.edge-index → (other : ℕ) → IsFollowed l.graph l.lattice l.summaries l.self l.front.phase l.front.at (get_or l.edge-items k other);
   over : IsOver l.graph l.lattice l.summaries l.passed l.self;
 }
