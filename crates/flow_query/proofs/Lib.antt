@@ -1,4 +1,4 @@
 mod Going
-mod Spelled
 mod Listing
 mod Telling
+mod Walking

@@ -1,4 +1,4 @@
-use Rattle.std.proofs.Common.{ℕ, List, ◌+◌, subst, arith, length, ◌≡◌, sym}
+use Rattle.std.proofs.Common.{◌+◌}
 use Rattle.flow_query.specs.Answers.{EachBelow, NoneBelow, FromText}
 use Rattle.annotate.proofs.Writing.{none_of, then_some}
 use Rattle.flow_query.proofs.Telling.{next_below}
@@ -17,12 +17,9 @@ pub loop-n-preserved : goal.loop-n-preserved
 loop-n-preserved c =
     let section = c.args.section.now in
     record {
-      kept = c.in_ok-put_from.ensures.kept;
+      kept = c.in_ok-kept.ensures.kept;
       text = then_some (λ s text. EachBelow (FromText s section.graph.now section.lattice section.var) (c.loop-n.n + 1) text)
-          c.loop-n.invariant.text c.in_ok-put_from.ensures.text
+          c.loop-n.invariant.text c.in_ok-kept.ensures.text
           (λ s shows text here before next.
           next_below (FromText s section.graph.now section.lattice section.var) c.loop-n.n c.new.result text here c.new.ensures before next);
     }
-
-pub returns : goal.returns
-returns c = ?
