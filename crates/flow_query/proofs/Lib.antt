@@ -1,4 +1,4 @@
 mod Going
-mod Asking
 mod Listing
 mod Telling
+mod Walking

@@ -1,6 +1,7 @@
 -- The constants that lead to a variable and the bounds that it leads to, found by their constraints.
-use Rattle.std.proofs.Common.{◌≡◌, ℕ, List, [], ◌∷◌, ◌++◌, codes, slice_get, Some, None, sym, ◌∙◌, ap, subst, append-nil}
+use Rattle.std.proofs.Common.{◌≡◌, ◌↔◌, ℕ, Bool, true, false, IsTrue, List, ◌∷◌, ◌++◌, codes, slice_get, Some, None, refl, sym, ◌∙◌, ap, subst, append-nil}
 use Rattle.std.specs.Fmt.{decimal}
+use Rattle.std.specs.Int.{bit_at}
 use Rattle.flow_graph.specs.declared.constraint.Constraint.{Constraint}
 use Rattle.flow_graph.specs.declared.constraint.Link.{Link}
 use Rattle.flow_graph.specs.declared.constraint.Link.TheVariants.{Const, Bound}
@@ -10,7 +11,7 @@ use Rattle.flow_graph.specs.declared.proof.Walk.{Walk}
 use Rattle.flow_graph.specs.System.{System, IsNoBound, IsWellOwned, Stands}
 use Rattle.flow_graph.specs.Paths.{Lead}
 use Rattle.flow_graph.specs.PathProofs.{steps_of}
-use Rattle.flow_graph.specs.Leading.{GoesTo, Leads}
+use Rattle.flow_graph.specs.Leading.{GoesTo}
 use Rattle.walk_laws.specs.Laws.{LeadsAreWalks}
 use Rattle.annotate.specs.Texts.{Scene, line, proof_text, walk_text}
 use Rattle.flow_query.specs.Answers.{IsFrom, IsTo, IsWalkTo, FromText, OneFrom, ToText, OneTo}
@@ -25,6 +26,10 @@ const_is e = (cc, cc)
 
 bound_is : {v w l m a b : ℕ} → Bound v l a ≡ Bound w m b → v ≡ w
 bound_is e = cc
+
+-- an element that is not in a set is in no set that is the same
+pub not_in : (is : Bool) (set elem other : ℕ) → (IsTrue is ↔ (bit_at set elem ≡ 1)) → set ≡ other → is ≡ false → bit_at other elem ≡ 1 → ⊥
+not_in is set elem other tells same out has = let in_it : is ≡ true = tells.1 (ap (λ s. bit_at s elem) same ∙ has) in absurd cc
 
 -- what a constraint is
 module _ (sys : System) (lattice number : ℕ) (constraint : Constraint) (there : slice_get sys.constraints number ≡ Some constraint) where
@@ -86,3 +91,10 @@ module _ (sys : System) (lattice var number at : ℕ) (law : LeadsAreWalks) (own
       let to : IsTo sys lattice var number =
       record { elem = bound.0; at = at; bound = bound.1; leads = (law sys lattice var at owned).1 goes } in
       OneTo to walk holds
+
+-- what a search says of a variable
+pub not_led : {A : Type 0} (is : Bool) → (IsTrue is ↔ A) → is ≡ false → A → ⊥
+not_led is tells out has = let led_to : is ≡ true = tells.1 has in absurd cc
+
+pub led : {A : Type 0} (is : Bool) → (IsTrue is ↔ A) → is ≡ true → A
+led is tells known = tells.0 known

@@ -1,19 +1,9 @@
 -- The text of sections, of variables and of the whole.
-use Rattle.std.proofs.Common.{◌≡◌, ℕ, suc, ◌+◌, ◌<◌, List, [], ◌∷◌, ◌++◌, length, take, get_or, codes, refl, sym, ◌∙◌, ap, subst, arith}
-use Rattle.std.specs.Fmt.{decimal}
+use Rattle.std.proofs.Common.{◌≡◌, ℕ, suc, ◌+◌, ◌<◌, Some, None, List, [], ◌∷◌, ◌++◌, length, take, get_or, codes, refl, sym, ◌∙◌, ap, subst, arith}
 use Rattle.std.proofs.Math.Seq.{take-suc}
 use Rattle.flow_graph.specs.System.{System}
-use Rattle.annotate.specs.Texts.{Scene, line, var_text}
-use Rattle.flow_query.specs.Answers.{EachBelow, NextBelow, VarsText, VarText, NextVar, IsWho, Named, NotNamed, asked_in, headed}
-
--- a line stands before what is listed, where that is not nothing
-pub none_headed : (scene : Scene) (lattice var : ℕ) (listed : List ℕ) → listed ≡ [] → [] ≡ headed scene lattice var listed
-none_headed scene lattice var listed none = ap (headed scene lattice var) (sym none)
-
-pub some_headed : (scene : Scene) (lattice var : ℕ) (listed : List ℕ) → (listed ≡ [] → ⊥) →
-    line (codes "at " ++ var_text scene var ++ codes " lattice " ++ decimal (lattice + 1)) ++ listed ≡ headed scene lattice var listed
-some_headed scene lattice var [] some = absurd (some refl)
-some_headed scene lattice var (b ∷ listed) some = refl
+use Rattle.annotate.specs.Texts.{Scene, line}
+use Rattle.flow_query.specs.Answers.{EachBelow, NextBelow, VarsText, VarText, NextVar, IsWho, Named, NotNamed, asked_in}
 
 -- one more of those below a number
 pub next_below : (Is : ℕ → List ℕ → Type 0) (n m : ℕ) (text here : List ℕ) → m ≡ n → EachBelow Is n text → Is m here → EachBelow Is (n + 1) (text ++ here)
@@ -35,3 +25,15 @@ pub named : (scene : Scene) (sys : System) (name vars text : List ℕ) → vars 
 named scene sys name [] text is some told = absurd (some refl)
 named scene sys name (var ∷ vars) text is some told =
     let Of : List ℕ → Type 0 = λ asked. VarsText scene sys asked text in Named var vars text (sym is) (subst Of is told)
+
+-- the variables of a name are none, or some
+pub no_name : (scene : Scene) (sys : System) (name vars : List ℕ) → vars ≡ asked_in scene name → length vars ≡ 0 → IsWho scene sys name None
+no_name scene sys name [] is none = NotNamed (sym is)
+no_name scene sys name (var ∷ vars) is none = absurd (omega (arith, none))
+
+pub named_as : (scene : Scene) (sys : System) (name vars lent begun after told : List ℕ) → vars ≡ asked_in scene name → (vars ≡ [] → ⊥) →
+    lent ≡ vars → VarsText scene sys lent told → begun ≡ line (codes "who") → after ≡ begun ++ told → IsWho scene sys name (Some after)
+named_as scene sys name vars lent begun after told is some same each begins ends =
+    let Of : List ℕ → Type 0 = λ vs. VarsText scene sys vs told in
+    let Is : List ℕ → Type 0 = λ t. IsWho scene sys name (Some t) in
+    subst Is (sym (ends ∙ ap (λ (t : List ℕ). t ++ told) begins)) (named scene sys name vars told is some (subst Of same each))

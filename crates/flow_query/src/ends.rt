@@ -34,7 +34,13 @@ fn constant_in(link: Link, lattice: LatticeNo) -> Option<Constant>
         (λ constant. link ≡ Const lattice constant.elem constant.at) }
 {
     match link {
-        Link::Const(named, elem, at) if named == lattice => Some(Constant { at, elem }),
+        Link::Const(named, elem, at) => {
+            if named == lattice {
+                Some(Constant { at, elem })
+            } else {
+                None
+            }
+        }
         _ => None,
     }
 }

@@ -6,7 +6,5 @@ mod asking;
 mod ends;
 mod searches;
 mod sections;
-#[cfg(test)]
-mod tests;
 
 pub use answers::answer_who;

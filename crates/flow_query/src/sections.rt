@@ -120,12 +120,14 @@ fn put_from(
     ensures text { OnOk result (WritesSome scene.now out.old.items out.new.items (λ s text.
         FromText s section.now.graph.now section.now.lattice section.now.var number text)) }
 {
-    let Some(at) = constant_at(section, number) else {
-        return Ok(kept);
-    };
-    let search = search_at(alloc, section, kept, at)?;
-    put_constant(alloc, out, scene, section, &search, number)?;
-    Ok(Some(search))
+    match constant_at(section, number) {
+        None => Ok(kept),
+        Some(at) => {
+            let search = search_at(alloc, section, kept, at)?;
+            put_constant(alloc, out, scene, section, &search, number)?;
+            Ok(Some(search))
+        }
+    }
 }
 
 /// What is written of a constraint behind the variable that is asked of. Answers the search that is kept from then on.
@@ -144,12 +146,14 @@ fn put_to(
     ensures text { OnOk result (WritesSome scene.now out.old.items out.new.items (λ s text.
         ToText s section.now.graph.now section.now.lattice section.now.var number text)) }
 {
-    let Some(at) = bound_at(section, number) else {
-        return Ok(kept);
-    };
-    let search = search_at(alloc, section, kept, section.var)?;
-    put_bound(alloc, out, scene, section, &search, number, at)?;
-    Ok(Some(search))
+    match bound_at(section, number) {
+        None => Ok(kept),
+        Some(at) => {
+            let search = search_at(alloc, section, kept, section.var)?;
+            put_bound(alloc, out, scene, section, &search, number, at)?;
+            Ok(Some(search))
+        }
+    }
 }
 
 /// The constants that lead to the variable, in order. A search for each variable of a constant whose element leads there, or more

@@ -1,0 +1,7 @@
+use Rattle.std.proofs.Common.{take}
+use Rattle.annotate.specs.Scenes.{WritesSome}
+use Rattle.flow_query.specs.Answers.{VarsText}
+use Rattle.flow_query.proofs.answers.put_vars.Given as goal
+
+abbrev pub invariant-loop-var : goal.invariant-loop-var
+invariant-loop-var l = WritesSome l.scene l.fn.out.items l.out.items (λ s text. VarsText s l.graph (take l.var-index l.vars) text)
