@@ -144,7 +144,6 @@ fn answered(
     graph: &FlowGraph,
     name: &str,
 ) -> Result<Answer, NoMemory>
-    requires named { AllNamed scene.now.lattices.now graph.now }
     requires owned { IsWellOwned graph.now }
     ensures answered { IfOk result (λ answer. (it : Judging) → Shows scene.now it.scene →
         it.system ≡ graph.now → IsAnswered it name.now answer.status answer.text.items) }
@@ -167,7 +166,6 @@ fn who(
     ready: &Ready<'_>,
     name: &str,
 ) -> Result<Answer, NoMemory>
-    requires named { AllNamed lattices.now ready.now.made.graph }
     requires owned { IsWellOwned ready.now.made.graph }
     ensures answered { (units : List UnitRead) (marks : List IndexMark) →
         IsReady (files_in named.now) lattices.now marks units ready.now →
