@@ -41,7 +41,8 @@ use std::alloc::Global;
 
 /// What the answers for a program name, by the texts of its units.
 fn scene_of<'a>(texts: &'a [UnitText<'a>], lattices: &'a Lattices, made: &'a Generated) -> Scene<'a>
-    ensures { (named : FileNames) (units : List UnitRead) (marks : List IndexMark) →
+    ensures lattices { result.lattices.now ≡ lattices.now }
+    ensures shows { (named : FileNames) (units : List UnitRead) (marks : List IndexMark) →
         units_of texts.now ≡ texts_of named (lexed_of units) → UnitsDiffer (sources_in units) →
         IsGenerated units (program_in lattices.now marks units) made.now →
         Shows result (judging_of named lattices.now marks units).scene }

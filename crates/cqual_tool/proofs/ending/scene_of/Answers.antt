@@ -5,8 +5,8 @@ use Rattle.annotate.specs.Scenes as scenes
 use Rattle.cqual_tool.proofs.Joining.{texts_apart}
 use Rattle.cqual_tool.proofs.ending.scene_of.Goals as goal
 
-pub returns : goal.returns
-returns c = λ named units marks same differ made.
+pub returns-clause-shows : goal.returns-clause-shows
+returns-clause-shows c = λ named units marks same differ made.
     record {
       units = sym same;
       apart = subst scenes.AreApart (sym same) (texts_apart named units differ);

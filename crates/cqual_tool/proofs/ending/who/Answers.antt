@@ -14,6 +14,6 @@ returns-clause-answered c = λ units marks is.
     ∙ ap (λ (ls : List Lexed). texts_of named ls) c.deref.ensures.value
     ∙ ap (texts_of named) is.units_are in
     IfOk-weaker c.answered.result _ _
-    (λ answer who. who (judging_of named c.args.lattices.now marks units) (c.scene_of.ensures named units marks same is.differ is.made)
+    (λ answer who. who (judging_of named c.args.lattices.now marks units) (c.scene_of-scene.ensures.shows named units marks same is.differ is.made)
     (sym is.made.system))
     c.answered.ensures.answered
