@@ -10,42 +10,43 @@ use Rattle.flow_graph.specs.Paths.{Lead, Returning, Calling, start, flows, retur
 use Rattle.flow_graph.specs.Parts.{settled}
 use Rattle.flow_graph.specs.Leading.{Goes, Begins, Flows, Returns, Enters, Rounds, GoesTo}
 
--- what leads to a variable in a phase
-abbrev Led : System → ℕ → ℕ → Phase → ℕ → Type 0
-Led sys lattice e First v = Returning sys lattice e v
-Led sys lattice e Second v = Calling sys lattice e v
+module _ (sys : System) (lattice : ℕ) where
+  -- what leads to a variable in a phase
+  abbrev Led : ℕ → Phase → ℕ → Type 0
+  Led e First v = Returning sys lattice e v
+  Led e Second v = Calling sys lattice e v
 
--- the order of calls starts anew at a variable of nobody
-settles : (sys : System) (lattice e v : ℕ) (owner : Owner) (p q : Phase) → owner_of sys v ≡ owner → q ≡ settled owner p → Led sys lattice e p v →
-    Led sys lattice e q v
-settles sys lattice e v Nobody First q is same led = let By : Phase → Type 0 = λ r. Led sys lattice e r v in subst By (sym same) led
-settles sys lattice e v Nobody Second q is same led = let By : Phase → Type 0 = λ r. Led sys lattice e r v in subst By (sym same) (anew v led is)
-settles sys lattice e v (Function f) p q is same led = let By : Phase → Type 0 = λ r. Led sys lattice e r v in subst By (sym same) led
+  -- the order of calls starts anew at a variable of nobody
+  settles : (e v : ℕ) (owner : Owner) (p q : Phase) → owner_of sys v ≡ owner → q ≡ settled owner p → Led e p v → Led e q v
+  settles e v Nobody First q is same led = let By : Phase → Type 0 = λ r. Led e r v in subst By (sym same) led
+  settles e v Nobody Second q is same led = let By : Phase → Type 0 = λ r. Led e r v in subst By (sym same) (anew v led is)
+  settles e v (Function f) p q is same led = let By : Phase → Type 0 = λ r. Led e r v in subst By (sym same) led
 
-flows_in : (sys : System) (lattice e u v n : ℕ) (p : Phase) → Led sys lattice e p u → Stands sys lattice n (Le u v) → Led sys lattice e p v
-flows_in sys lattice e u v n First led stands = flows u v n led stands
-flows_in sys lattice e u v n Second led stands = flows_on u v n led stands
+  flows_in : (e u v n : ℕ) (p : Phase) → Led e p u → Stands sys lattice n (Le u v) → Led e p v
+  flows_in e u v n First led stands = flows u v n led stands
+  flows_in e u v n Second led stands = flows_on u v n led stands
 
-calls_in : (sys : System) (lattice e u v s n : ℕ) (p : Phase) → Led sys lattice e p u → Stands sys lattice n (Enter s u v) → Calling sys lattice e v
-calls_in sys lattice e u v s n First led stands = calls u v s n led stands
-calls_in sys lattice e u v s n Second led stands = calls_on u v s n led stands
+  calls_in : (e u v s n : ℕ) (p : Phase) → Led e p u → Stands sys lattice n (Enter s u v) → Calling sys lattice e v
+  calls_in e u v s n First led stands = calls u v s n led stands
+  calls_in e u v s n Second led stands = calls_on u v s n led stands
 
-led_on : (sys : System) (lattice n e u v : ℕ) (p : Phase) → Stands sys lattice n (Const lattice e u) → Goes sys lattice u p v → Led sys lattice e p v
-led_on sys lattice n e u v p constant Begins = start u n constant
-led_on sys lattice n e u v q constant (Flows p x y m _ same goes stands) =
-    settles sys lattice e y (owner_of sys y) p q refl same (flows_in sys lattice e x y m p (led_on sys lattice n e u x p constant goes) stands)
-led_on sys lattice n e u v p constant (Returns x y s m goes stands) = returns x y s m (led_on sys lattice n e u x First constant goes) stands
-led_on sys lattice n e u v q constant (Enters p x y s m _ same goes stands) =
-    settles sys lattice e y (owner_of sys y) Second q refl same (calls_in sys lattice e x y s m p (led_on sys lattice n e u x p constant goes) stands)
-led_on sys lattice n e u v q constant (Rounds First x a b y s g m k _ same goes enters matches leaves) =
-    settles sys lattice e y (owner_of sys y) First q refl same (grouped x a b y s g m k (led_on sys lattice n e u x First constant goes) enters matches leaves)
-led_on sys lattice n e u v q constant (Rounds Second x a b y s g m k _ same goes enters matches leaves) =
-    settles sys lattice e y (owner_of sys y) Second q refl same (grouped_on x a b y s g m k (led_on sys lattice n e u x Second constant goes) enters matches leaves)
+  -- the element of a constant leads where its variable does
+  module _ (n e u : ℕ) (constant : Stands sys lattice n (Const lattice e u)) where
+    led_on : (v : ℕ) (p : Phase) → Goes sys lattice u p v → Led e p v
+    led_on v p Begins = start u n constant
+    led_on v q (Flows p x y m _ same goes stands) =
+        settles e y (owner_of sys y) p q refl same (flows_in e x y m p (led_on x p goes) stands)
+    led_on v p (Returns x y s m goes stands) = returns x y s m (led_on x First goes) stands
+    led_on v q (Enters p x y s m _ same goes stands) =
+        settles e y (owner_of sys y) Second q refl same (calls_in e x y s m p (led_on x p goes) stands)
+    led_on v q (Rounds First x a b y s g m k _ same goes enters matches leaves) =
+        settles e y (owner_of sys y) First q refl same (grouped x a b y s g m k (led_on x First goes) enters matches leaves)
+    led_on v q (Rounds Second x a b y s g m k _ same goes enters matches leaves) =
+        settles e y (owner_of sys y) Second q refl same (grouped_on x a b y s g m k (led_on x Second goes) enters matches leaves)
 
-either_phase : (sys : System) (lattice e v : ℕ) (p : Phase) → Led sys lattice e p v → Lead sys lattice e v
-either_phase sys lattice e v First led = inl led
-either_phase sys lattice e v Second led = inr led
+    either_phase : (v : ℕ) (p : Phase) → Led e p v → Lead sys lattice e v
+    either_phase v First led = inl led
+    either_phase v Second led = inr led
 
--- what a constant's variable leads to, its element leads to
-pub constants_lead : (sys : System) (lattice n e u v : ℕ) → Stands sys lattice n (Const lattice e u) → GoesTo sys lattice u v → Lead sys lattice e v
-constants_lead sys lattice n e u v constant goes = either_phase sys lattice e v goes.0 (led_on sys lattice n e u v goes.0 constant goes.1)
+    pub constants_lead : (v : ℕ) → GoesTo sys lattice u v → Lead sys lattice e v
+    constants_lead v goes = either_phase v goes.0 (led_on v goes.0 goes.1)

@@ -1,5 +1,6 @@
 -- The constants that lead to a variable and the bounds that it leads to, found by their constraints.
-use Rattle.std.proofs.Common.{◌≡◌, ◌↔◌, ℕ, Bool, true, false, IsTrue, List, ◌∷◌, ◌++◌, codes, slice_get, Some, None, refl, sym, ◌∙◌, ap, subst, append-nil}
+use Rattle.std.proofs.Common.{◌≡◌, ◌↔◌, ℕ, Bool, true, false, IsTrue, List, ◌∷◌, ◌++◌, codes, slice_get, Some, None, refl, sym, ◌∙◌, ap}
+use Rattle.std.proofs.Common.{subst, append-nil}
 use Rattle.std.specs.Fmt.{decimal}
 use Rattle.std.specs.Int.{bit_at}
 use Rattle.flow_graph.specs.declared.constraint.Constraint.{Constraint}
@@ -52,7 +53,7 @@ module _ (sys : System) (lattice number : ℕ) (constraint : Constraint) (there 
       let same = const_is (sym (link_there (Const lattice from.elem from.at) from.constant) ∙ is) in
       let Of : ℕ → Type 0 = λ e. Lead sys lattice e var in
       never (subst Of same.0
-      (constants_lead sys lattice number from.elem from.at var from.constant ((law sys lattice from.at var owned).0 from.leads)))
+      (constants_lead sys lattice number from.elem from.at from.constant var ((law sys lattice from.at var owned).0 from.leads)))
 
   pub no_bound : (var : ℕ) → IsNoBound constraint.link lattice → IsTo sys lattice var number → ⊥
   no_bound var none to = none to.at to.elem (link_there (Bound to.at lattice to.elem) to.bound)

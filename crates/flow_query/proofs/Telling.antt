@@ -1,12 +1,14 @@
 -- The text of sections, of variables and of the whole.
-use Rattle.std.proofs.Common.{◌≡◌, ℕ, suc, ◌+◌, ◌<◌, Some, None, List, [], ◌∷◌, ◌++◌, length, take, get_or, codes, refl, sym, ◌∙◌, ap, subst, arith}
+use Rattle.std.proofs.Common.{◌≡◌, ℕ, suc, ◌+◌, ◌<◌, Some, None, List, [], ◌∷◌, ◌++◌, length, take, get_or, codes, refl, sym, ◌∙◌}
+use Rattle.std.proofs.Common.{ap, subst, arith}
 use Rattle.std.proofs.Math.Seq.{take-suc}
 use Rattle.flow_graph.specs.System.{System}
 use Rattle.annotate.specs.Texts.{Scene, line}
 use Rattle.flow_query.specs.Answers.{EachBelow, NextBelow, VarsText, VarText, NextVar, IsWho, Named, NotNamed, asked_in}
 
 -- one more of those below a number
-pub next_below : (Is : ℕ → List ℕ → Type 0) (n m : ℕ) (text here : List ℕ) → m ≡ n → EachBelow Is n text → Is m here → EachBelow Is (n + 1) (text ++ here)
+pub next_below : (Is : ℕ → List ℕ → Type 0) (n m : ℕ) (text here : List ℕ) → m ≡ n → EachBelow Is n text → Is m here →
+    EachBelow Is (n + 1) (text ++ here)
 next_below Is n m text here same before next =
     let Of : ℕ → Type 0 = λ k. Is k here in NextBelow n text here before (subst Of same next)
 
@@ -20,8 +22,8 @@ next_var scene sys vars n var text here within is before next =
     (NextVar (take n vars) var text here before next)
 
 -- the whole
-pub named : (scene : Scene) (sys : System) (name vars text : List ℕ) → vars ≡ asked_in scene name → (vars ≡ [] → ⊥) → VarsText scene sys vars text →
-    IsWho scene sys name (Some (line (codes "who") ++ text))
+pub named : (scene : Scene) (sys : System) (name vars text : List ℕ) → vars ≡ asked_in scene name → (vars ≡ [] → ⊥) →
+    VarsText scene sys vars text → IsWho scene sys name (Some (line (codes "who") ++ text))
 named scene sys name [] text is some told = absurd (some refl)
 named scene sys name (var ∷ vars) text is some told =
     let Of : List ℕ → Type 0 = λ asked. VarsText scene sys asked text in Named var vars text (sym is) (subst Of is told)
@@ -31,6 +33,7 @@ pub no_name : (scene : Scene) (sys : System) (name vars : List ℕ) → vars ≡
 no_name scene sys name [] is none = NotNamed (sym is)
 no_name scene sys name (var ∷ vars) is none = absurd (omega (arith, none))
 
+-- the same, as the text is written
 pub named_as : (scene : Scene) (sys : System) (name vars lent begun after told : List ℕ) → vars ≡ asked_in scene name → (vars ≡ [] → ⊥) →
     lent ≡ vars → VarsText scene sys lent told → begun ≡ line (codes "who") → after ≡ begun ++ told → IsWho scene sys name (Some after)
 named_as scene sys name vars lent begun after told is some same each begins ends =

@@ -25,7 +25,8 @@ module _ (section : Section) (search : Search) (to : ℕ) (is : IsSection sectio
       subst At (is.solution.lattice_is ∙ sym found.lattice_is) is.solution.summarised
 
   pub reached : GoesTo section.graph.now section.lattice search.start to →
-      (start : ℕ) × IsReachOf section.graph.now search.reach.lattice start search.reach × GoesTo section.graph.now search.reach.lattice start to
+      (start : ℕ) × IsReachOf section.graph.now search.reach.lattice start search.reach
+      × GoesTo section.graph.now search.reach.lattice start to
   reached goes =
       let At : ℕ → Type 0 = λ l. IsReachOf section.graph.now l search.start search.reach in
       let To : ℕ → Type 0 = λ l. GoesTo section.graph.now l search.start to in
@@ -40,6 +41,7 @@ module _ (section : Section) (search : Search) (to : ℕ) (is : IsSection sectio
       let By : ℕ → Type 0 = λ l. IsWalkShown section.graph.now l search.start to walk in
       let here = subst By found.lattice_is (shown search.start (subst At (sym found.lattice_is) found)) in
       record {
-        holds = law section.graph.now section.lattice search.start to walk.end (steps_of walk.subs.items) walk.steps.items here.subs here.walk;
+        holds = law section.graph.now section.lattice search.start to walk.end (steps_of walk.subs.items) walk.steps.items
+            here.subs here.walk;
         apart = here.apart;
       }

@@ -21,5 +21,6 @@ loop-n-preserved c =
       text = then_some (λ s text. EachBelow (FromText s section.graph.now section.lattice section.var) (c.loop-n.n + 1) text)
           c.loop-n.invariant.text c.in_ok-kept.ensures.text
           (λ s shows text here before next.
-          next_below (FromText s section.graph.now section.lattice section.var) c.loop-n.n c.new.result text here c.new.ensures before next);
+          next_below (FromText s section.graph.now section.lattice section.var) c.loop-n.n c.new.result text here c.new.ensures
+          before next);
     }
