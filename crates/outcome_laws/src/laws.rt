@@ -46,8 +46,7 @@ pub fn one_check()
     ensures { OneCheck }
 {}
 
-/// The words and the bytes of the files have one status, and one text where it is neither rejected nor malformed nor who reaches a
-/// name.
+/// The words and the bytes of the files have one status, and one text where it is neither rejected nor malformed.
 pub fn one_outcome()
     ensures { OneOutcome }
 {
