@@ -27,6 +27,7 @@ What is printed:
   --check REPORT     checks the paths of a report (implies --style=plain)
   --certify          the certificate of an accepted source, in place of its report (implies --style=plain)
   --verify CERT      checks a certificate of the source (implies --style=plain)
+  --who NAME         what reaches the declared names of this spelling, and what they reach (implies --style=plain)
 
 For make and CI:
   --baseline FILE    errors that the file lists are known: only others are printed, and make the run fail
@@ -42,7 +43,7 @@ defined as 1.
 Status: that of cqual; 3 where the words have no meaning, 8 where the preprocessor fails, 9 where a file or a program is not there.
 """
 
-VALUES = ("--lattice", "--prelude", "--model", "--include", "--check", "--verify", "--style", "--color", "--baseline")
+VALUES = ("--lattice", "--prelude", "--model", "--include", "--check", "--verify", "--who", "--style", "--color", "--baseline")
 SWITCHES = ("--annotate", "--certify", "--fortify", "--no-fail", "--no-models", "--all", "--update-baseline")
 CHOICES = {"--style": ("gcc", "plain"), "--color": ("auto", "always", "never")}
 
@@ -80,6 +81,7 @@ class Options:
     includes: list = field(default_factory=list)
     check: str = ""
     verify: str = ""
+    who: str = ""
     style: str = ""
     color: str = "auto"
     baseline: str = ""
@@ -106,7 +108,8 @@ def options_of(words):
 def question_of(made):
     """The words of cqual that ask something else than the report."""
     asked = [[name] for name in ("--annotate", "--certify") if made.has(name)]
-    return asked + [[name, file] for name, file in (("--check", made.check), ("--verify", made.verify)) if file]
+    values = (("--check", made.check), ("--verify", made.verify), ("--who", made.who))
+    return asked + [[name, value] for name, value in values if value]
 
 
 def check_question(made):

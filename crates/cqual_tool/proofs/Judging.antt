@@ -1,6 +1,6 @@
 -- Programs that are judged, and reports that are checked.
-use Rattle.std.proofs.Common.{◌≡◌, ℕ, Bool, true, false, List, Some, None, true≢false, refl, sym, ap, subst}
-use Rattle.std.specs.Prelude.{is_some, IfOk, IfSome}
+use Rattle.std.proofs.Common.{◌≡◌, ℕ, Bool, true, false, List, Some, None, refl, sym, subst}
+use Rattle.std.specs.Prelude.{IfOk, IfSome, option_map}
 use Rattle.std.specs.declared.alloc.Global.{Global}
 use Rattle.std.specs.declared.option.Option.{Option}
 use Rattle.std.specs.declared.result.Result.{Result}
@@ -13,21 +13,21 @@ use Rattle.annotate.specs.Reports.{IsJudgedWith, AcceptedWith}
 use Rattle.certificate_maker.specs.Certified.{IsCertificate}
 use Rattle.certificate_checks.specs.declared.judging.Verdict.{Verdict}
 use Rattle.certificate_checks.specs.declared.judging.Verdict.TheVariants.{Holds, Fails, Unread}
-use Rattle.certificate_checks.specs.Checks.{ComesTo as IsProof}
+use Rattle.certificate_checks.specs.Checks.{ComesTo as CertificateComesTo}
 use Rattle.certificate_checks.specs.Texts.{verdict_text}
+use Rattle.flow_query.specs.Answers.{IsWho}
 use Rattle.report_checks.specs.declared.judging.Checked.{Checked}
 use Rattle.report_checks.specs.declared.judging.Checked.TheVariants.{Hold, Bad}
 use Rattle.report_checks.specs.Checks.{ComesTo}
 use Rattle.report_checks.specs.Texts.{checked_text}
-use Rattle.cqual_words.specs.Words.{Question, Infer, Annotate, Check, Certify, Verify}
 use Rattle.cqual_tool.specs.declared.status.Status.{Status}
-use Rattle.cqual_tool.specs.declared.status.Status.TheVariants.{Accepted, Rejected, PathsHold, PathBad, CertificateHolds, CertificateBad, Malformed, BadWords, ReadFault, WriteFault, NoMemory}
+use Rattle.cqual_tool.specs.declared.status.Status.TheVariants.{Accepted, Rejected, PathsHold, PathBad, CertificateHolds, CertificateBad, Answered, NoName, Malformed, BadWords, ReadFault, WriteFault, NoMemory}
 use Rattle.cqual_tool.specs.declared.answer.Answer.{Answer}
 use Rattle.cqual_tool.specs.Statuses.{status_of, checked_status, verdict_status}
 use Rattle.cqual_tool.specs.Programs.{Judging}
-use Rattle.cqual_tool.specs.Words.{saved_of}
+use Rattle.cqual_tool.specs.Texts.{no_name_line}
 use Rattle.cqual_tool.specs.Outcome.{IsReport, IsRight, IsWrong, IsCertified, Certified, Uncertified, IsChecked, Holding, Failing}
-use Rattle.cqual_tool.specs.Outcome.{IsVerified, Proving, Breaking, NoProof, IsAlone, IsOfSaved, IsDecided}
+use Rattle.cqual_tool.specs.Outcome.{IsVerified, Proving, Breaking, NoProof, IsAnswered, Answering, Unnamed, IsDecided}
 use Rattle.cqual_tool.proofs.Outcomes.{at_equal}
 
 judged : (unit : Option ℕ) (it : Judging) (accepted : Bool) (text : List ℕ)
@@ -50,6 +50,8 @@ uncertified it PathsHold text never is = elim is [ ]
 uncertified it PathBad text never is = elim is [ ]
 uncertified it CertificateHolds text never is = elim is [ ]
 uncertified it CertificateBad text never is = elim is [ ]
+uncertified it Answered text never is = elim is [ ]
+uncertified it NoName text never is = elim is [ ]
 uncertified it Malformed text never is = elim is [ ]
 uncertified it BadWords text never is = elim is [ ]
 uncertified it ReadFault text never is = elim is [ ]
@@ -79,25 +81,24 @@ uncertified_as it lattices sys result same system never is =
     (subst (λ (ls : List LatticeView). IsAccepted sys (orders_of ls) → ⊥) (sym same) never) in
     IfOk-weaker result _ _ (λ answer report. uncertified it answer.status answer.text.items refuted report) is
 
--- where no saved file is asked of, the report or the certificate is what is asked for
-pub alone_of : (asked : Question) (it : Judging) (status : Status) (text : List ℕ) → saved_of asked ≡ None → IsReport None it status text
-    → (asked ≡ Annotate → ⊥) → (asked ≡ Certify → ⊥) → IsAlone asked it status text
-alone_of Infer it status text none is not_one not_other = is
-alone_of Annotate it status text none is not_one not_other = absurd (not_one refl)
-alone_of (Check file) it status text none is not_one not_other = absurd (true≢false (ap is_some none))
-alone_of Certify it status text none is not_one not_other = absurd (not_other refl)
-alone_of (Verify file) it status text none is not_one not_other = absurd (true≢false (ap is_some none))
+-- what is written of a name, where there is a text for it, and where there is none
+pub answered_as : (it : Judging) (sys : System) (name : List ℕ) (found : Option (Vec ℕ Global)) (text : Vec ℕ Global)
+    → it.system ≡ sys → found ≡ Some text → IsWho it.scene sys name (option_map (λ (t : Vec ℕ Global). t.items) found)
+    → IsAnswered it name Answered text.items
+answered_as it sys name found text system some is =
+    Answering text.items
+    (subst (λ (s : System). IsWho it.scene s name (Some text.items)) (sym system)
+    (subst (λ (o : Option (Vec ℕ Global)). IsWho it.scene sys name (option_map (λ (t : Vec ℕ Global). t.items) o)) some is))
 
--- where a saved file is asked of, and no certificate, it is a report
-pub of_report : (asked : Question) (file : List ℕ) (it : Judging) (saved : List ℕ) (status : Status) (text : List ℕ) → saved_of asked ≡ Some file
-    → ((other : List ℕ) → asked ≡ Verify other → ⊥) → IsChecked it saved status text → IsOfSaved asked it saved status text
-of_report Infer file it saved status text some never is = absurd (true≢false (sym (ap is_some some)))
-of_report Annotate file it saved status text some never is = absurd (true≢false (sym (ap is_some some)))
-of_report (Check other) file it saved status text some never is = is
-of_report Certify file it saved status text some never is = absurd (true≢false (sym (ap is_some some)))
-of_report (Verify other) file it saved status text some never is = absurd (never other refl)
+pub unnamed_as : (it : Judging) (sys : System) (name : List ℕ) (found : Option (Vec ℕ Global)) (status : Status) (text : List ℕ)
+    → it.system ≡ sys → found ≡ None → status ≡ NoName → text ≡ no_name_line name
+    → IsWho it.scene sys name (option_map (λ (t : Vec ℕ Global). t.items) found) → IsAnswered it name status text
+unnamed_as it sys name found status text system none says spelled is =
+    at_equal (IsAnswered it name) status NoName text (no_name_line name) says spelled
+    (Unnamed (subst (λ (s : System). IsWho it.scene s name None) (sym system)
+    (subst (λ (o : Option (Vec ℕ Global)). IsWho it.scene sys name (option_map (λ (t : Vec ℕ Global). t.items) o)) none is)))
 
-verified : (it : Judging) (bytes : List ℕ) (found : Verdict) → IsProof it.system (orders_of it.scene.lattices) bytes found
+verified : (it : Judging) (bytes : List ℕ) (found : Verdict) → CertificateComesTo it.system (orders_of it.scene.lattices) bytes found
     → (found ≡ Holds → IsAccepted it.system (orders_of it.scene.lattices)) → IsVerified it bytes (verdict_status found) (verdict_text found)
 verified it bytes Holds comes accepted = Proving comes (accepted refl)
 verified it bytes (Fails lattice rule) comes accepted = Breaking lattice rule comes
@@ -105,12 +106,12 @@ verified it bytes (Unread line code) comes accepted = NoProof line code comes
 
 pub verified_as : (it : Judging) (lattices : List LatticeView) (sys : System) (bytes : List ℕ) (found : Verdict) (status : Status) (text : List ℕ)
     → it.scene.lattices ≡ lattices → it.system ≡ sys → status ≡ verdict_status found → text ≡ verdict_text found
-    → IsProof sys (orders_of lattices) bytes found → (found ≡ Holds → IsAccepted sys (orders_of lattices)) → IsVerified it bytes status text
+    → CertificateComesTo sys (orders_of lattices) bytes found → (found ≡ Holds → IsAccepted sys (orders_of lattices)) → IsVerified it bytes status text
 verified_as it lattices sys bytes found status text same system says spelled comes accepted =
     at_equal (IsVerified it bytes) status (verdict_status found) text (verdict_text found) says spelled
     (verified it bytes found
-    (subst (λ (s : System). IsProof s (orders_of it.scene.lattices) bytes found) (sym system)
-    (subst (λ (ls : List LatticeView). IsProof sys (orders_of ls) bytes found) (sym same) comes))
+    (subst (λ (s : System). CertificateComesTo s (orders_of it.scene.lattices) bytes found) (sym system)
+    (subst (λ (ls : List LatticeView). CertificateComesTo sys (orders_of ls) bytes found) (sym same) comes))
     (λ holds. subst (λ (s : System). IsAccepted s (orders_of it.scene.lattices)) (sym system)
     (subst (λ (ls : List LatticeView). IsAccepted sys (orders_of ls)) (sym same) (accepted holds))))
 

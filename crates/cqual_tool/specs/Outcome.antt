@@ -38,16 +38,17 @@ use Rattle.certificate_laws.specs.declared.rule.CertRule.{CertRule}
 use Rattle.certificate_maker.specs.Certified.{IsCertificate}
 use Rattle.certificate_checks.specs.declared.judging.CertCode.{CertCode}
 use Rattle.certificate_checks.specs.declared.judging.Verdict.TheVariants.{Holds, Fails, Unread}
-use Rattle.certificate_checks.specs.Checks.{ComesTo as IsProof}
+use Rattle.certificate_checks.specs.Checks.{ComesTo as CertificateComesTo}
 use Rattle.certificate_checks.specs.Texts.{verdict_text}
+use Rattle.flow_query.specs.Answers.{IsWho}
 use Rattle.cqual_tool.specs.declared.status.Status.{Status}
-use Rattle.cqual_tool.specs.declared.status.Status.TheVariants.{Accepted, Rejected, PathsHold, PathBad, CertificateHolds, CertificateBad, Malformed, BadWords, ReadFault, WriteFault, NoMemory}
-use Rattle.cqual_words.specs.Words.{Question, Infer, Annotate, Check, Certify, Verify, Task, Generate, meaning_of}
+use Rattle.cqual_tool.specs.declared.status.Status.TheVariants.{Accepted, Rejected, PathsHold, PathBad, CertificateHolds, CertificateBad, Answered, NoName, Malformed, BadWords, ReadFault, WriteFault, NoMemory}
+use Rattle.cqual_words.specs.Words.{Question, Infer, Annotate, Check, Certify, Verify, Who, Task, Generate, meaning_of}
 use Rattle.generated_source.specs.Source.{generated_text, lattice_text}
 use Rattle.generated_source.specs.Summary.{summary_text}
 use Rattle.cqual_tool.specs.Words.{FileNames, names_of, saved_in}
 use Rattle.cqual_tool.specs.Inputs.{Inputs, asked, files_with}
-use Rattle.cqual_tool.specs.Texts.{usage_line, malformed_line}
+use Rattle.cqual_tool.specs.Texts.{usage_line, malformed_line, no_name_line}
 use Rattle.cqual_tool.specs.Faults.{lattice_line, lex_line}
 use Rattle.cqual_tool.specs.Syntax.{syntax_line}
 use Rattle.cqual_tool.specs.Shapes.{shape_line}
@@ -186,12 +187,17 @@ pub data IsChecked (it : Judging) (bytes : List ℕ) : Status → List ℕ → T
 -- The status and the whole text for a certificate that is checked over the constraints of a program. Where it holds, the program is
 -- accepted: who trusts that need know neither the rules nor the text of certificates.
 pub data IsVerified (it : Judging) (bytes : List ℕ) : Status → List ℕ → Type 0 where
-  Proving : IsProof it.system (orders_of it.scene.lattices) bytes Holds → IsAccepted it.system (orders_of it.scene.lattices) →
+  Proving : CertificateComesTo it.system (orders_of it.scene.lattices) bytes Holds → IsAccepted it.system (orders_of it.scene.lattices) →
       IsVerified it bytes CertificateHolds (verdict_text Holds)
-  Breaking : (lattice : ℕ) (rule : CertRule) → IsProof it.system (orders_of it.scene.lattices) bytes (Fails lattice rule) →
+  Breaking : (lattice : ℕ) (rule : CertRule) → CertificateComesTo it.system (orders_of it.scene.lattices) bytes (Fails lattice rule) →
       IsVerified it bytes CertificateBad (verdict_text (Fails lattice rule))
-  NoProof : (line : ℕ) (code : CertCode) → IsProof it.system (orders_of it.scene.lattices) bytes (Unread line code) →
+  NoProof : (line : ℕ) (code : CertCode) → CertificateComesTo it.system (orders_of it.scene.lattices) bytes (Unread line code) →
       IsVerified it bytes CertificateBad (verdict_text (Unread line code))
+
+-- The status and the whole text where it is asked who reaches a name, whether or not the program is accepted.
+pub data IsAnswered (it : Judging) (name : List ℕ) : Status → List ℕ → Type 0 where
+  Answering : (text : List ℕ) → IsWho it.scene it.system name (Some text) → IsAnswered it name Answered text
+  Unnamed : IsWho it.scene it.system name None → IsAnswered it name NoName (no_name_line name)
 
 -- The status and the whole text for a program, where no saved file is asked of; the one source is unit 1.
 abbrev pub IsAlone : Question → Judging → Status → List ℕ → Type 0
@@ -200,6 +206,7 @@ IsAlone Annotate it status text = IsReport (Some 1) it status text
 IsAlone (Check file) it status text = ⊥
 IsAlone Certify it status text = IsCertified it status text
 IsAlone (Verify file) it status text = ⊥
+IsAlone (Who name) it status text = IsAnswered it name status text
 
 -- The status and the whole text for a program and the bytes of the saved report or certificate.
 abbrev pub IsOfSaved : Question → Judging → List ℕ → Status → List ℕ → Type 0
@@ -208,6 +215,7 @@ IsOfSaved Annotate it saved status text = ⊥
 IsOfSaved (Check file) it saved status text = IsChecked it saved status text
 IsOfSaved Certify it saved status text = ⊥
 IsOfSaved (Verify file) it saved status text = IsVerified it saved status text
+IsOfSaved (Who name) it saved status text = ⊥
 
 -- The status and the whole text for a program within the limits, by what is asked of it, and by the bytes of the saved file.
 pub data IsEnd (named : FileNames) (saved : List ℕ) (it : Judging) : Status → List ℕ → Type 0 where
@@ -305,6 +313,8 @@ IsAnswer PathsHold = Unit {0}
 IsAnswer PathBad = Unit {0}
 IsAnswer CertificateHolds = Unit {0}
 IsAnswer CertificateBad = Unit {0}
+IsAnswer Answered = Unit {0}
+IsAnswer NoName = Unit {0}
 IsAnswer Malformed = Unit {0}
 IsAnswer BadWords = Unit {0}
 IsAnswer ReadFault = ⊥
@@ -319,6 +329,8 @@ IsDecided PathsHold = Unit {0}
 IsDecided PathBad = Unit {0}
 IsDecided CertificateHolds = Unit {0}
 IsDecided CertificateBad = Unit {0}
+IsDecided Answered = Unit {0}
+IsDecided NoName = Unit {0}
 IsDecided Malformed = Unit {0}
 IsDecided BadWords = ⊥
 IsDecided ReadFault = ⊥

@@ -1,4 +1,4 @@
--- The lines of words without a meaning and of files that do not read.
+-- The lines of words without a meaning, of files that do not read and of names that are not declared.
 use Rattle.std.specs.Prelude.{ℕ, List, ◌++◌, codes}
 use Rattle.annotate.specs.Texts.{line}
 
@@ -8,3 +8,7 @@ usage_line = line (codes "usage: cqual --lattice FILE [--prelude FILE] [--annota
 -- a fault of a whole file, and one at a place
 abbrev pub malformed_line : List ℕ → List ℕ → List ℕ
 malformed_line file code = line (codes "malformed " ++ file ++ codes ": " ++ code)
+
+-- no declared name of the sources has this spelling
+abbrev pub no_name_line : List ℕ → List ℕ
+no_name_line name = line (codes "no name " ++ name)

@@ -1,7 +1,7 @@
 //! A status with the whole text that is to be written.
 
 ghost use Rattle.std.specs.Prelude.{◌≡◌, ℕ, ◌++◌, [], ◌∷◌, IfOk, codes};
-ghost use Rattle.cqual_tool.specs.Texts.{malformed_line};
+ghost use Rattle.cqual_tool.specs.Texts.{malformed_line, no_name_line};
 ghost use Rattle.cqual_tool.specs.Faults.{placed_line};
 ghost use Rattle.cqual_tool.specs.Statuses.{Says};
 
@@ -28,6 +28,20 @@ fn fault_line(alloc: Global, place: &[u8], code: &[u8]) -> Result<Answer, AllocE
     put(&mut text, b"\n")?;
     Ok(Answer {
         status: Status::Malformed,
+        text,
+    })
+}
+
+/// The line of a name that no declared name of the sources has.
+pub fn no_name(alloc: Global, name: &[u8]) -> Result<Answer, AllocError>
+    ensures { IfOk result (Says Status.NoName (no_name_line name.now)) }
+{
+    let mut text = Vec::new(alloc);
+    put(&mut text, b"no name ")?;
+    put(&mut text, name)?;
+    put(&mut text, b"\n")?;
+    Ok(Answer {
+        status: Status::NoName,
         text,
     })
 }

@@ -1,4 +1,5 @@
-//! What is asked of a program whose constraints are there: its report, its certificate, or what a saved one comes to.
+//! What is asked of a program whose constraints are there: its report, its certificate, who reaches a name, or what a saved report
+//! or certificate comes to.
 
 ghost use Rattle.std.specs.Prelude.{◌≡◌, ◌<◌, ◌-◌, ◌^◌, ℕ, List, None, Some, IfOk, length};
 ghost use Rattle.outside.specs.Readings.{stands};
@@ -10,31 +11,49 @@ ghost use Rattle.constraint_gen.specs.Programs.{program_in};
 ghost use Rattle.constraint_gen.specs.Generating.{IsGenerated};
 ghost use Rattle.flow_graph.specs.System.{IsWellOwned};
 ghost use Rattle.flow_graph.specs.Unfolding.{NamesElements};
-ghost use Rattle.annotate.specs.Scenes.{Shows};
+ghost use Rattle.annotate.specs.Scenes.{Shows, units_of};
 ghost use Rattle.annotate.specs.Solutions.{AllNamed};
 ghost use Rattle.cqual_tool.specs.Statuses.{checked_status, status_of, verdict_status};
-ghost use Rattle.cqual_tool.specs.Words.{names_in as files_in, saved_in};
-ghost use Rattle.cqual_tool.specs.Programs.{Judging, judging_of};
+ghost use Rattle.cqual_tool.specs.Words.{FileNames, names_in as files_in, saved_in};
+ghost use Rattle.cqual_tool.specs.Programs.{Judging, judging_of, texts_of};
 ghost use Rattle.cqual_tool.specs.Answering.{EndAnswered};
-ghost use Rattle.cqual_tool.specs.Outcome.{IsAlone, IsCertified, IsChecked, IsDecided, IsOfSaved};
-ghost use Rattle.cqual_tool.specs.Outcome.{IsReport, IsVerified};
+ghost use Rattle.cqual_tool.specs.Outcome.{IsAlone, IsAnswered, IsCertified, IsChecked, IsDecided};
+ghost use Rattle.cqual_tool.specs.Outcome.{IsOfSaved, IsReport, IsVerified};
 ghost use Rattle.cqual_tool.specs.Preparing.{IsReady};
 
-use crate::answer::Answer;
+use crate::answer::{Answer, no_name};
 use crate::preparing::{Ready, texts};
 use crate::status::Status;
 use crate::taking::{SAVED_LIMIT, Stop, taken, too_large};
 use crate::words::Named;
-use annotate::{Judged, Scene, judge_with};
+use annotate::{Judged, Scene, UnitText, judge_with};
 use certificate_checks::{Verdict, judge_certificate, put_verdict};
 use certificate_maker::certified;
+use constraint_gen::Generated;
 use cqual_words::Question;
 use flow_graph::FlowGraph;
+use flow_query::answer_who;
 use lattice_core::Lattices;
 use outside::Files;
 use qual_base::{NoMemory, Numbered, UnitNo};
 use report_checks::{Checked, judge_report, put_checked};
 use std::alloc::Global;
+
+/// What the answers for a program name, by the texts of its units.
+fn scene_of<'a>(texts: &'a [UnitText<'a>], lattices: &'a Lattices, made: &'a Generated) -> Scene<'a>
+    ensures lattices { result.lattices.now ≡ lattices.now }
+    ensures shows { (named : FileNames) (units : List UnitRead) (marks : List IndexMark) →
+        units_of texts.now ≡ texts_of named (lexed_of units) → UnitsDiffer (sources_in units) →
+        IsGenerated units (program_in lattices.now marks units) made.now →
+        Shows result (judging_of named lattices.now marks units).scene }
+{
+    Scene {
+        units: texts,
+        lattices,
+        vars: made.skeletons.vars(),
+        listed: &made.listed,
+    }
+}
 
 /// The answer for a program that was judged.
 fn reported(judged: Judged) -> Answer
@@ -89,12 +108,7 @@ fn inferred(
     ensures decided { IfOk result (λ answer. IsDecided answer.status) }
 {
     let units = texts(alloc, named, &ready.tokens)?;
-    let scene = Scene {
-        units: &units,
-        lattices,
-        vars: ready.made.skeletons.vars(),
-        listed: &ready.made.listed,
-    };
+    let scene = scene_of(&units, lattices, &ready.made);
     report(alloc, &scene, &ready.made.graph, annotated)
 }
 
@@ -124,7 +138,50 @@ fn certificate(
     }
 }
 
-/// The answer for a program, where no saved file is asked of: its report, or its certificate. The one source is unit 1.
+/// The answer for a name, over constraints and what the text names of them.
+fn answered(
+    alloc: Global,
+    scene: &Scene<'_>,
+    graph: &FlowGraph,
+    name: &str,
+) -> Result<Answer, NoMemory>
+    requires owned { IsWellOwned graph.now }
+    ensures answered { IfOk result (λ answer. (it : Judging) → Shows scene.now it.scene →
+        it.system ≡ graph.now → IsAnswered it name.now answer.status answer.text.items) }
+    ensures decided { IfOk result (λ answer. IsDecided answer.status) }
+{
+    match answer_who(alloc, scene, graph, name.as_bytes())? {
+        Some(text) => Ok(Answer {
+            status: Status::Answered,
+            text,
+        }),
+        None => Ok(no_name(alloc, name.as_bytes())?),
+    }
+}
+
+/// Who reaches the declared names of this spelling in a program.
+fn who(
+    alloc: Global,
+    named: &Named<'_>,
+    lattices: &Lattices,
+    ready: &Ready<'_>,
+    name: &str,
+) -> Result<Answer, NoMemory>
+    requires owned { IsWellOwned ready.now.made.graph }
+    ensures answered { (units : List UnitRead) (marks : List IndexMark) →
+        IsReady (files_in named.now) lattices.now marks units ready.now →
+        IfOk result (λ answer. IsAnswered
+        (judging_of (files_in named.now) lattices.now marks units) name.now
+        answer.status answer.text.items) }
+    ensures decided { IfOk result (λ answer. IsDecided answer.status) }
+{
+    let units = texts(alloc, named, &ready.tokens)?;
+    let scene = scene_of(&units, lattices, &ready.made);
+    answered(alloc, &scene, &ready.made.graph, name)
+}
+
+/// The answer for a program, where no saved file is asked of: its report, its certificate, or who reaches a name. The one source is
+/// unit 1.
 fn alone(
     alloc: Global,
     named: &Named<'_>,
@@ -145,6 +202,7 @@ fn alone(
     match named.asked {
         Question::Annotate => inferred(alloc, named, lattices, ready, Some(UnitNo::new(1))),
         Question::Certify => certificate(alloc, named, lattices, ready),
+        Question::Who(name) => who(alloc, named, lattices, ready, name),
         // (the last two are never asked here)
         Question::Infer | Question::Check(_) | Question::Verify(_) => {
             inferred(alloc, named, lattices, ready, None)
@@ -236,14 +294,16 @@ fn of_saved(
 {
     match named.asked {
         Question::Verify(_) => verified(alloc, lattices, graph, text),
-        // (the last three are never asked here)
-        Question::Check(_) | Question::Infer | Question::Annotate | Question::Certify => {
-            checked(alloc, lattices, graph, text)
-        }
+        // (the last four are never asked here)
+        Question::Check(_)
+        | Question::Infer
+        | Question::Annotate
+        | Question::Certify
+        | Question::Who(_) => checked(alloc, lattices, graph, text),
     }
 }
 
-/// The answer for a program: its report or its certificate, or what the report or certificate that is named comes to.
+/// The answer for a program: its report, its certificate, who reaches a name, or what the report or certificate that is named comes to.
 pub fn end<F: Files>(
     alloc: Global,
     named: &Named<'_>,

@@ -1,5 +1,5 @@
-//! The tool as one call: reads a lattice file, a prelude and sources, decides, and writes a report or a certificate; or checks a saved
-//! one.
+//! The tool as one call: reads a lattice file, a prelude and sources, decides, and writes a report, a certificate or who reaches a
+//! name; or checks a saved report or certificate.
 #![tactic(auto)]
 
 mod answer;

@@ -18,6 +18,10 @@ pub enum Status {
     CertificateHolds,
     /// The certificate does not read, or breaks a rule.
     CertificateBad,
+    /// Some declared name has this spelling; who reaches it was written, whether or not the program is accepted.
+    Answered,
+    /// No declared name of the sources has this spelling.
+    NoName,
     /// A file is past its limit or does not read, or the program has too many variables or constraints.
     Malformed,
     /// The words have no meaning.
@@ -42,6 +46,8 @@ impl Status {
             Status::PathBad => 1,
             Status::CertificateHolds => 0,
             Status::CertificateBad => 1,
+            Status::Answered => 0,
+            Status::NoName => 1,
             Status::Malformed => 2,
             Status::BadWords => 3,
             Status::ReadFault => 4,

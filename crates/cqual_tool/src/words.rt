@@ -33,7 +33,7 @@ impl<'a> Named<'a> {
     {
         match self.asked {
             Question::Check(file) | Question::Verify(file) => Some(file),
-            Question::Infer | Question::Annotate | Question::Certify => None,
+            Question::Infer | Question::Annotate | Question::Certify | Question::Who(_) => None,
         }
     }
 }

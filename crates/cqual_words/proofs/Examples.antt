@@ -1,7 +1,8 @@
 -- What some lists of words mean, worked out by hand from the rules.
 use Rattle.std.proofs.Common.{refl, ◌≡◌, ℕ, zero, suc, List, [], ◌∷◌, Some, None}
 use Rattle.std.specs.Prelude.{codes}
-use Rattle.cqual_words.specs.Words.{Text, Annotate, Ask, Certify, Check, Generate, Infer, Verify, files_of, meaning_of, pieces_from}
+use Rattle.cqual_words.specs.Words.{Text, Annotate, Ask, Certify, Check, Generate, Infer, Verify, Who, files_of, meaning_of}
+use Rattle.cqual_words.specs.Words.{pieces_from}
 
 -- options in any order, with the value apart or attached
 apart : meaning_of (codes "--lattice" ∷ codes "l.q" ∷ codes "s.c" ∷ []) ≡ Some (Ask Infer (files_of (codes "l.q") None (codes "s.c" ∷ [])))
@@ -37,6 +38,11 @@ verified : meaning_of (codes "--lattice=l.q" ∷ codes "--verify" ∷ codes "c" 
 unfolding pieces_from
 verified = refl
 
+asked_who : meaning_of (codes "--who" ∷ codes "b" ∷ codes "--lattice=l.q" ∷ codes "s.c" ∷ [])
+    ≡ Some (Ask (Who (codes "b")) (files_of (codes "l.q") None (codes "s.c" ∷ [])))
+unfolding pieces_from
+asked_who = refl
+
 -- sources before, between and behind the options, and behind `--`; one name twice is two sources
 several : meaning_of (codes "s.c" ∷ codes "--lattice" ∷ codes "l.q" ∷ codes "t.c" ∷ codes "--prelude=p.h" ∷ codes "s.c" ∷ codes "--"
     ∷ codes "u.c" ∷ [])
@@ -58,6 +64,12 @@ verified_several : meaning_of (codes "--verify=c" ∷ codes "s.c" ∷ codes "--p
     ≡ Some (Ask (Verify (codes "c")) (files_of (codes "l.q") (Some (codes "p.h")) (codes "s.c" ∷ codes "t.c" ∷ [])))
 unfolding pieces_from
 verified_several = refl
+
+-- the name is any text with a meaning, also one that no identifier has
+who_several : meaning_of (codes "s.c" ∷ codes "--who=a b=" ∷ codes "--prelude=p.h" ∷ codes "--lattice=l.q" ∷ codes "t.c" ∷ [])
+    ≡ Some (Ask (Who (codes "a b=")) (files_of (codes "l.q") (Some (codes "p.h")) (codes "s.c" ∷ codes "t.c" ∷ [])))
+unfolding pieces_from
+who_several = refl
 
 -- one source with no meaning among others
 empty_source : meaning_of (codes "--lattice=l.q" ∷ codes "s.c" ∷ [] ∷ codes "t.c" ∷ []) ≡ None
@@ -157,6 +169,22 @@ checked_and_verified : meaning_of (codes "--lattice=l.q" ∷ codes "s.c" ∷ cod
 unfolding pieces_from
 checked_and_verified = refl
 
+who_and_annotated : meaning_of (codes "--lattice=l.q" ∷ codes "s.c" ∷ codes "--who=b" ∷ codes "--annotate" ∷ []) ≡ None
+unfolding pieces_from
+who_and_annotated = refl
+
+who_and_certified : meaning_of (codes "--lattice=l.q" ∷ codes "s.c" ∷ codes "--who=b" ∷ codes "--certify" ∷ []) ≡ None
+unfolding pieces_from
+who_and_certified = refl
+
+who_and_checked : meaning_of (codes "--lattice=l.q" ∷ codes "s.c" ∷ codes "--who=b" ∷ codes "--check=r" ∷ []) ≡ None
+unfolding pieces_from
+who_and_checked = refl
+
+who_and_verified : meaning_of (codes "--lattice=l.q" ∷ codes "s.c" ∷ codes "--who=b" ∷ codes "--verify=c" ∷ []) ≡ None
+unfolding pieces_from
+who_and_verified = refl
+
 made_and_certified : meaning_of (codes "--generate=1" ∷ codes "--certify" ∷ []) ≡ None
 unfolding pieces_from
 made_and_certified = refl
@@ -165,7 +193,19 @@ made_and_verified : meaning_of (codes "--generate=1" ∷ codes "--verify=c" ∷ 
 unfolding pieces_from
 made_and_verified = refl
 
--- a certificate that is not named, a flag with a value, a flag that stands again
+made_and_who : meaning_of (codes "--generate=1" ∷ codes "--who=b" ∷ []) ≡ None
+unfolding pieces_from
+made_and_who = refl
+
+-- no name, a name that begins with a hyphen, a certificate that is not named, a flag with a value, a flag that stands again
+empty_name : meaning_of (codes "--lattice=l.q" ∷ codes "s.c" ∷ codes "--who=" ∷ []) ≡ None
+unfolding pieces_from
+empty_name = refl
+
+hyphen_name : meaning_of (codes "--lattice=l.q" ∷ codes "s.c" ∷ codes "--who" ∷ codes "-b" ∷ []) ≡ None
+unfolding pieces_from
+hyphen_name = refl
+
 certificate_missing : meaning_of (codes "--lattice=l.q" ∷ codes "s.c" ∷ codes "--verify" ∷ []) ≡ None
 unfolding pieces_from
 certificate_missing = refl

@@ -2,7 +2,7 @@
 use Rattle.std.proofs.Common.{refl, subst, ◌≡◌, ℕ, Bool, true, false, cond, List, [], ◌∷◌, Option, Some, None, option_map}
 use Rattle.std.specs.Prelude.{⊤}
 use Rattle.std.specs.List.{list_all}
-use Rattle.cqual_words.specs.Words.{FileNames, Piece, Question, Task, Text, Ask, Generate, Infer, Annotate, Check, Certify, Verify}
+use Rattle.cqual_words.specs.Words.{FileNames, Piece, Question, Task, Text, Ask, Generate, Infer, Annotate, Check, Certify, Verify, Who}
 use Rattle.cqual_words.specs.Words.{Lattice, Number, Prelude, Source, are_fit, asked_of, files_of, fits, made_of, meaning_of, number_of}
 use Rattle.cqual_words.specs.Words.{parts, pieces_of, stands_among, task_of_parts, task_with, texts_of, value_among}
 
@@ -36,6 +36,7 @@ made_has n None (Some Annotate) sources = tt
 made_has n None (Some (Check r)) sources = tt
 made_has n None (Some Certify) sources = tt
 made_has n None (Some (Verify v)) sources = tt
+made_has n None (Some (Who w)) sources = tt
 
 task_has : (l p n : Option Text) (question : Option Question) (sources : List Text) → AllFit (task_with l p n question sources)
 task_has (Some l) p None question sources = asked_has (files_of l p sources) question

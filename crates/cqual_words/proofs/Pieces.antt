@@ -13,8 +13,8 @@ use Rattle.clap.specs.Walk.{Row, all_of, first_of, has_row, more_values, with_va
 use Rattle.clap.specs.declared.parser.matches.ValueSource.{ValueSource}
 use Rattle.clap.specs.declared.parser.matches.ValueSource.TheVariants.{CommandLine}
 use Rattle.clap.specs.declared.builder.value_parser.Reading.TheVariants.{AsWritten}
-use Rattle.cqual_words.specs.Words.{Part, Piece, Text, Valued, Flagged, Lattice, Prelude, Report, Certificate, Number, Annotation}
-use Rattle.cqual_words.specs.Words.{Certification, Source, are_fit, has_meaning, is_part, most_of, name_of, part_of, parts, stands_among}
+use Rattle.cqual_words.specs.Words.{Part, Piece, Text, Valued, Flagged, Lattice, Prelude, Report, Certificate, Name, Number}
+use Rattle.cqual_words.specs.Words.{Annotation, Certification, Source, are_fit, has_meaning, is_part, most_of, name_of, part_of, parts, stands_among}
 use Rattle.cqual_words.specs.Words.{task_in, task_of_parts, text_of, texts_of, value_among}
 use Rattle.cqual_words.specs.Tool.{plain_texts}
 
@@ -29,6 +29,7 @@ found (Valued Lattice) = refl
 found (Valued Prelude) = refl
 found (Valued Report) = refl
 found (Valued Certificate) = refl
+found (Valued Name) = refl
 found (Valued Number) = refl
 found (Flagged Annotation) = refl
 found (Flagged Certification) = refl

@@ -16,13 +16,14 @@ pub record FileNames : Type 0 where
   pub sources : List Text
 
 -- What is asked of a program: its report, its report with the annotated source behind it, what the report of a file comes to, its
--- certificate, or what the certificate of a file comes to.
+-- certificate, what the certificate of a file comes to, or what reaches the declared names of one spelling and what they reach.
 pub data Question : Type 0 where
   Infer : Question
   Annotate : Question
   Check : Text → Question
   Certify : Question
   Verify : Text → Question
+  Who : Text → Question
 
 -- what is asked: that of the program that files are, or the report of a source that the tool makes itself
 pub data Task : Type 0 where
@@ -37,6 +38,7 @@ pub data Key : Type 0 where
   Prelude : Key
   Report : Key
   Certificate : Key
+  Name : Key
   Number : Key
 
 abbrev pub key_name : Key → Text
@@ -44,6 +46,7 @@ key_name Lattice = codes "lattice"
 key_name Prelude = codes "prelude"
 key_name Report = codes "check"
 key_name Certificate = codes "verify"
+key_name Name = codes "who"
 key_name Number = codes "generate"
 
 -- the options that have none, with their names
@@ -70,7 +73,7 @@ name_of Source = codes "source"
 -- all parts, in the order in which the reader of the command line is given them
 abbrev pub parts : List Part
 parts =
-    Valued Lattice ∷ Valued Prelude ∷ Valued Report ∷ Valued Certificate ∷ Valued Number
+    Valued Lattice ∷ Valued Prelude ∷ Valued Report ∷ Valued Certificate ∷ Valued Name ∷ Valued Number
     ∷ Flagged Annotation ∷ Flagged Certification ∷ Source ∷ []
 
 -- what words give: an option with its value, a flag, or a word that is no option
@@ -209,15 +212,16 @@ files_of lattice prelude sources = record { lattice = lattice; prelude = prelude
 abbrev pub IsSourceCount : ℕ → Type 0
 IsSourceCount count = (1 ≤ count) × (count ≤ 256)
 
--- What is asked of a program, by what is there of a report and of a certificate, and by whether the flags `--annotate` and
--- `--certify` stand: at most one of them.
-abbrev pub question_of : Option Text → Option Text → Bool → Bool → Option Question
-question_of None None false false = Some Infer
-question_of None None true false = Some Annotate
-question_of None None false true = Some Certify
-question_of (Some r) None false false = Some (Check r)
-question_of None (Some v) false false = Some (Verify v)
-question_of r v annotate certify = None
+-- What is asked of a program, by what is there of a report, of a certificate and of a name, and by whether the flags `--annotate`
+-- and `--certify` stand: at most one of them.
+abbrev pub question_of : Option Text → Option Text → Option Text → Bool → Bool → Option Question
+question_of None None None false false = Some Infer
+question_of None None None true false = Some Annotate
+question_of None None None false true = Some Certify
+question_of (Some r) None None false false = Some (Check r)
+question_of None (Some v) None false false = Some (Verify v)
+question_of None None (Some w) false false = Some (Who w)
+question_of r v w annotate certify = None
 
 -- as many sources as a question may have: one where it is annotated
 abbrev pub fits : Question → List Text → Bool
@@ -226,6 +230,7 @@ fits Annotate sources = length sources == 1
 fits (Check r) sources = not (nat_le (length sources) 0)
 fits Certify sources = not (nat_le (length sources) 0)
 fits (Verify v) sources = not (nat_le (length sources) 0)
+fits (Who w) sources = not (nat_le (length sources) 0)
 
 -- with a lattice
 abbrev pub asked_of : FileNames → Option Question → Option Task
@@ -247,7 +252,7 @@ task_with None p None question sources = None
 -- what the parts ask together, by the value of each option, by which flags stand, and by the sources
 abbrev pub task_of_parts : (Key → Option Text) → (Flag → Bool) → List Text → Option Task
 task_of_parts value stands sources = task_with (value Lattice) (value Prelude) (value Number)
-    (question_of (value Report) (value Certificate) (stands Annotation) (stands Certification)) sources
+    (question_of (value Report) (value Certificate) (value Name) (stands Annotation) (stands Certification)) sources
 
 -- the value of an option among the pieces, where it stands once, and whether a flag stands
 abbrev pub value_among : List Piece → Key → Option Text

@@ -21,6 +21,8 @@ pub enum Question<'a> {
     Certify,
     /// What the certificate of the named file comes to.
     Verify(&'a str),
+    /// What reaches the declared names of this spelling, and what they reach.
+    Who(&'a str),
 }
 
 /// What the words ask.

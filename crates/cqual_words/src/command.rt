@@ -50,6 +50,7 @@ pub fn command<'a>(alloc: Global) -> Result<Command<'a>, AllocError>
         .arg(option(alloc, "prelude"))?
         .arg(option(alloc, "check"))?
         .arg(option(alloc, "verify"))?
+        .arg(option(alloc, "who"))?
         .arg(option(alloc, "generate"))?
         .arg(flag(alloc, "annotate"))?
         .arg(flag(alloc, "certify"))?

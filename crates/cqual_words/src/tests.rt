@@ -22,6 +22,7 @@ fn question_text(alloc: Global, question: Question<'_>) -> Result<String, AllocE
         Question::Check(report) => format!(in alloc; "check {report}"),
         Question::Certify => String::from_str(alloc, "certify"),
         Question::Verify(certificate) => format!(in alloc; "verify {certificate}"),
+        Question::Who(name) => format!(in alloc; "who {name}"),
     }
 }
 
@@ -38,7 +39,7 @@ fn asked_text(alloc: Global, asked: Option<Asked<'_>>) -> Result<String, AllocEr
 }
 
 /// Words with a bar between two, and what they ask: the question, the lattice, the prelude or none, and the sources.
-static LISTS: [(&str, &str); 72] = [
+static LISTS: [(&str, &str); 89] = [
     ("--lattice|l.q|s.c", "infer: l.q none s.c"),
     ("--lattice=l.q|s.c", "infer: l.q none s.c"),
     ("s.c|--lattice|l.q", "infer: l.q none s.c"),
@@ -74,6 +75,26 @@ static LISTS: [(&str, &str); 72] = [
         "s.c|t.c|--lattice|l.q|--prelude=p.h|--verify=c.txt",
         "verify c.txt: l.q p.h s.c t.c",
     ),
+    ("--who|b|--lattice|l.q|s.c", "who b: l.q none s.c"),
+    ("--lattice|l.q|s.c|--who=b", "who b: l.q none s.c"),
+    (
+        "s.c|t.c|--lattice|l.q|--prelude=p.h|--who=b",
+        "who b: l.q p.h s.c t.c",
+    ),
+    ("--who==|--lattice|l.q|s.c", "who =: l.q none s.c"),
+    ("--who|a b|--lattice|l.q|s.c", "who a b: l.q none s.c"),
+    ("--who|9.x|--lattice|l.q|s.c", "who 9.x: l.q none s.c"),
+    ("--lattice|l.q|s.c|--who", "nothing"),
+    ("--lattice|l.q|s.c|--who=", "nothing"),
+    ("--lattice|l.q|s.c|--who|", "nothing"),
+    ("--lattice|l.q|s.c|--who|-b", "nothing"),
+    ("--lattice|l.q|s.c|--who|b|--who|b", "nothing"),
+    ("--lattice|l.q|s.c|--who|b|--annotate", "nothing"),
+    ("--lattice|l.q|s.c|--who|b|--check|r.txt", "nothing"),
+    ("--lattice|l.q|s.c|--who|b|--certify", "nothing"),
+    ("--lattice|l.q|s.c|--who|b|--verify|c.txt", "nothing"),
+    ("--generate|1|--who|b", "nothing"),
+    ("--lattice|l.q|--who|b", "nothing"),
     ("--lattice|l.q|s.c|--certify|--certify", "nothing"),
     ("--lattice|l.q|s.c|--certify=x", "nothing"),
     ("--lattice|l.q|s.c|--certify|--annotate", "nothing"),

@@ -76,23 +76,25 @@ fn sources_of<'a>(
     }
 }
 
-/// What is asked of a program, by the report, the certificate and the flags: at most one of them.
+/// What is asked of a program, by the report, the certificate, the name and the flags: at most one of them.
 fn question<'a>(
     report: Option<&'a str>,
     certificate: Option<&'a str>,
+    name: Option<&'a str>,
     annotate: bool,
     certify: bool,
 ) -> Option<Question<'a>>
     ensures { option_map question_in result ≡ rules.question_of
         (option_map (λ s. s.now) report.entry) (option_map (λ s. s.now) certificate.entry)
-        annotate certify }
+        (option_map (λ s. s.now) name.entry) annotate certify }
 {
-    match (report, certificate, annotate, certify) {
-        (None, None, false, false) => Some(Question::Infer),
-        (None, None, true, false) => Some(Question::Annotate),
-        (None, None, false, true) => Some(Question::Certify),
-        (Some(report), None, false, false) => Some(Question::Check(report)),
-        (None, Some(certificate), false, false) => Some(Question::Verify(certificate)),
+    match (report, certificate, name, annotate, certify) {
+        (None, None, None, false, false) => Some(Question::Infer),
+        (None, None, None, true, false) => Some(Question::Annotate),
+        (None, None, None, false, true) => Some(Question::Certify),
+        (Some(report), None, None, false, false) => Some(Question::Check(report)),
+        (None, Some(certificate), None, false, false) => Some(Question::Verify(certificate)),
+        (None, None, Some(name), false, false) => Some(Question::Who(name)),
         _ => None,
     }
 }
@@ -103,9 +105,11 @@ fn fits(question: Question<'_>, sources: &[&str]) -> bool
 {
     match question {
         Question::Annotate => sources.len() == 1,
-        Question::Infer | Question::Check(_) | Question::Certify | Question::Verify(_) => {
-            !sources.is_empty()
-        }
+        Question::Infer
+        | Question::Check(_)
+        | Question::Certify
+        | Question::Verify(_)
+        | Question::Who(_) => !sources.is_empty(),
     }
 }
 
@@ -155,10 +159,12 @@ fn of_parts<'a>(matches: &ArgMatches<'a>, sources: Vec<&'a str>) -> Option<Asked
     let prelude = text_of(matches, "prelude")?;
     let report = text_of(matches, "check")?;
     let certificate = text_of(matches, "verify")?;
+    let name = text_of(matches, "who")?;
     let number = text_of(matches, "generate")?;
     let question = question(
         report,
         certificate,
+        name,
         matches.get_flag("annotate"),
         matches.get_flag("certify"),
     );

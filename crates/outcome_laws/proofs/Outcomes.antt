@@ -15,11 +15,12 @@ use Rattle.certificate_answers.specs.Laws.{OneCertificate, OneVerdict}
 use Rattle.certificate_reader.specs.Laws.{IsBounded}
 use Rattle.certificate_checks.specs.declared.judging.Verdict.{Verdict}
 use Rattle.certificate_checks.specs.declared.judging.Verdict.TheVariants.{Holds, Fails, Unread}
-use Rattle.certificate_checks.specs.Checks.{ComesTo as IsProof}
+use Rattle.certificate_checks.specs.Checks.{ComesTo as CertificateComesTo}
 use Rattle.certificate_checks.specs.Texts.{verdict_text}
+use Rattle.flow_query.specs.Answers.{IsWho, Named, NotNamed}
 use Rattle.generated_source.specs.Source.{generated_text, lattice_text}
 use Rattle.generated_source.specs.Summary.{summary_text}
-use Rattle.cqual_words.specs.Words.{Question, Infer, Annotate, Check, Certify, Verify, Task, Generate}
+use Rattle.cqual_words.specs.Words.{Question, Infer, Annotate, Check, Certify, Verify, Who, Task, Generate}
 use Rattle.cq_prelude.specs.declared.fault.PreludeFault.{PreludeFault}
 use Rattle.cqual_tool.specs.declared.status.Status.{Status}
 use Rattle.cqual_tool.specs.declared.status.Status.TheVariants.{Malformed}
@@ -27,7 +28,7 @@ use Rattle.cqual_tool.specs.Statuses.{verdict_status}
 use Rattle.cqual_tool.specs.Words.{FileNames, names_of}
 use Rattle.cqual_tool.specs.Inputs.{Inputs, files_with}
 use Rattle.cqual_tool.specs.Programs.{Judging, judging_of}
-use Rattle.cqual_tool.specs.Outcome.{source_limit, total_limit, made_names, sources_of, sum_status, LatticesRead, PreludeFails, AreBefore, AreCounted, NoPrelude, OnePrelude, SourcesParse, IsReport, IsRight, IsWrong, IsCertified, Certified, Uncertified, IsChecked, Holding, Failing, IsVerified, Proving, Breaking, NoProof, IsAlone, IsOfSaved, IsEnd, AnsweredAlone, SavedTooLarge, SavedJudged, OfSources, NotParsed, NotCounted, SourcesRead, OfUnits, PreludeTooLarge, PreludeRefused, PreludeRead, OfFiles, LatticeTooLarge, LatticeRefused, LatticeRead, IsSummed, SummedUp, OfMade, MadeLatticesRefused, MadeRead, OfTask, OfProgram, OfGenerated, WithoutMeaning, WithMeaning}
+use Rattle.cqual_tool.specs.Outcome.{source_limit, total_limit, made_names, sources_of, sum_status, LatticesRead, PreludeFails, AreBefore, AreCounted, NoPrelude, OnePrelude, SourcesParse, IsReport, IsRight, IsWrong, IsCertified, Certified, Uncertified, IsChecked, Holding, Failing, IsVerified, Proving, Breaking, NoProof, IsAnswered, Answering, Unnamed, IsAlone, IsOfSaved, IsEnd, AnsweredAlone, SavedTooLarge, SavedJudged, OfSources, NotParsed, NotCounted, SourcesRead, OfUnits, PreludeTooLarge, PreludeRefused, PreludeRead, OfFiles, LatticeTooLarge, LatticeRefused, LatticeRead, IsSummed, SummedUp, OfMade, MadeLatticesRefused, MadeRead, OfTask, OfProgram, OfGenerated, WithoutMeaning, WithMeaning}
 use Rattle.outcome_laws.specs.Outcomes.{HasOneText, OneOutcome}
 use Rattle.outcome_laws.proofs.Bounds.{AreFew, bounded, read_few}
 use Rattle.outcome_laws.proofs.Lattices.{one_reading_of_lattices}
@@ -69,6 +70,17 @@ certified_once law it _ _ _ _ (Certified x accepted h) (Uncertified y k) = absur
 certified_once law it _ _ _ _ (Uncertified x h) (Certified y accepted k) = absurd (never_both it x accepted h)
 certified_once law it _ _ _ _ (Uncertified x h) (Uncertified y k) = (refl, λ text. absurd text)
 
+-- a name is declared or not, and not both
+never_named : (it : Judging) (name text : List ℕ) → IsWho it.scene it.system name (Some text) → IsWho it.scene it.system name None → ⊥
+never_named it name _ (Named var vars text is texts) (NotNamed none) = absurd (let e : var ∷ vars ≡ [] = sym is ∙ none in cc)
+
+-- who reaches a name
+answered_once : (it : Judging) (name : List ℕ) (s t : Status) (x y : List ℕ) → IsAnswered it name s x → IsAnswered it name t y → Same s t x y
+answered_once it name _ _ _ _ (Answering x h) (Answering y k) = (refl, λ text. absurd text)
+answered_once it name _ _ _ _ (Answering x h) (Unnamed k) = absurd (never_named it name x h k)
+answered_once it name _ _ _ _ (Unnamed h) (Answering y k) = absurd (never_named it name y k h)
+answered_once it name _ _ _ _ (Unnamed h) (Unnamed k) = (refl, λ text. refl)
+
 -- a saved report, and a saved certificate
 
 check_once : (it : Judging) (bytes : List ℕ) (s t : Status) (x y : List ℕ) → IsChecked it bytes s x → IsChecked it bytes t y → Same s t x y
@@ -85,7 +97,7 @@ abbrev verdict_said : Verdict → Status → List ℕ → Type 0
 verdict_said found s x = (s ≡ verdict_status found) × (x ≡ verdict_text found)
 
 verdict_of : (it : Judging) (bytes : List ℕ) (s : Status) (x : List ℕ) → IsVerified it bytes s x
-    → (found : Verdict) × IsProof it.system (orders_of it.scene.lattices) bytes found × verdict_said found s x
+    → (found : Verdict) × CertificateComesTo it.system (orders_of it.scene.lattices) bytes found × verdict_said found s x
 verdict_of it bytes _ _ (Proving h accepted) = (Holds, h, (refl, refl))
 verdict_of it bytes _ _ (Breaking lattice rule h) = (Fails lattice rule, h, (refl, refl))
 verdict_of it bytes _ _ (NoProof line code h) = (Unread line code, h, (refl, refl))
@@ -108,6 +120,7 @@ module _ (one_certificate : OneCertificate) (one_verdict : OneVerdict) (it : Jud
   alone_once (Check file) s t x y h k = absurd h
   alone_once Certify s t x y h k = certified_once one_certificate it s t x y h k
   alone_once (Verify file) s t x y h k = absurd h
+  alone_once (Who name) s t x y h k = answered_once it name s t x y h k
 
   saved_once : (asked : Question) (saved : List ℕ) (s t : Status) (x y : List ℕ) → IsOfSaved asked it saved s x → IsOfSaved asked it saved t y
       → Same s t x y
@@ -116,6 +129,7 @@ module _ (one_certificate : OneCertificate) (one_verdict : OneVerdict) (it : Jud
   saved_once (Check file) saved s t x y h k = check_once it saved s t x y h k
   saved_once Certify saved s t x y h k = absurd h
   saved_once (Verify file) saved s t x y h k = verified_once one_verdict it bounds saved s t x y h k
+  saved_once (Who name) saved s t x y h k = absurd h
 
 module _ (one_certificate : OneCertificate) (one_verdict : OneVerdict) (named : FileNames) (saved : List ℕ) (it : Judging)
     (are : AreLattices it.scene.lattices) (bounds : IsBounded it.system (orders_of it.scene.lattices)) where

@@ -1,12 +1,12 @@
 -- What the tool answers for words and files is one.
 use Rattle.std.specs.Prelude.{◌≡◌, ℕ, List}
 use Rattle.cqual_tool.specs.declared.status.Status.{Status}
-use Rattle.cqual_tool.specs.declared.status.Status.TheVariants.{Accepted, Rejected, PathsHold, PathBad, CertificateHolds, CertificateBad, Malformed, BadWords, ReadFault, WriteFault, NoMemory}
+use Rattle.cqual_tool.specs.declared.status.Status.TheVariants.{Accepted, Rejected, PathsHold, PathBad, CertificateHolds, CertificateBad, Answered, NoName, Malformed, BadWords, ReadFault, WriteFault, NoMemory}
 use Rattle.cqual_tool.specs.Inputs.{Inputs}
 use Rattle.cqual_tool.specs.Outcome.{Outcome}
 
--- The text of an answer with this status is one. Of what is rejected the path proofs are free, and of a unit that is not well formed
--- the code. The last three are the status of no outcome: the words and the files alone tell none of them.
+-- The text of an answer with this status is one. Of what is rejected the path proofs are free, of who reaches a name the walks, and of
+-- a unit that is not well formed the code. The last three are the status of no outcome: the words and the files alone tell none of them.
 abbrev pub HasOneText : Status → Type 0
 HasOneText Accepted = Unit {0}
 HasOneText Rejected = ⊥
@@ -14,6 +14,8 @@ HasOneText PathsHold = Unit {0}
 HasOneText PathBad = Unit {0}
 HasOneText CertificateHolds = Unit {0}
 HasOneText CertificateBad = Unit {0}
+HasOneText Answered = ⊥
+HasOneText NoName = Unit {0}
 HasOneText Malformed = ⊥
 HasOneText BadWords = Unit {0}
 HasOneText ReadFault = ⊥

@@ -46,7 +46,8 @@ pub fn one_check()
     ensures { OneCheck }
 {}
 
-/// The words and the bytes of the files have one status, and one text where it is neither rejected nor malformed.
+/// The words and the bytes of the files have one status, and one text where it is neither rejected nor malformed nor who reaches a
+/// name.
 pub fn one_outcome()
     ensures { OneOutcome }
 {

@@ -12,3 +12,9 @@ returns-in-Certify-clause-alone c = λ units marks is.
     let it = judging_of (names_in c.args.named.now) c.args.lattices.now marks units in
     subst (λ (q : Question). IfOk c.certificate.result (λ answer. IsAlone (question_in q) it answer.status answer.text.items))
     (sym c.in-Certify.is) (c.certificate.ensures.certified units marks is)
+
+pub returns-in-Who-clause-alone : goal.returns-in-Who-clause-alone
+returns-in-Who-clause-alone c = λ units marks is.
+    let it = judging_of (names_in c.args.named.now) c.args.lattices.now marks units in
+    subst (λ (q : Question). IfOk c.who.result (λ answer. IsAlone (question_in q) it answer.status answer.text.items))
+    (sym c.in-Who.is) (c.who.ensures.answered units marks is)
