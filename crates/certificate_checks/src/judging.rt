@@ -3,15 +3,15 @@
 ghost use Rattle.std.specs.Prelude.{◌≡◌, ◌<◌, ◌-◌, ◌^◌, ℕ, None, Some, IfOk, IfSome};
 ghost use Rattle.std.specs.Prelude.{MatchOption, length, slice_get};
 ghost use Rattle.lattice_core.specs.View.{orders_of};
-ghost use Rattle.flow_graph.specs.Index.{AreBeginnings};
 ghost use Rattle.flow_graph.specs.Unfolding.{IsAccepted, NamesElements};
+ghost use Rattle.closure_check.specs.Index.{IsIndex};
 ghost use Rattle.certificate_reader.specs.Grammar.{ArePlain};
 ghost use Rattle.certificate_checks.specs.Checks.{ComesTo, FailsFirst, ObeysAt, unread_of};
 
 use certificate_laws::CertRule;
 use certificate_reader::{CertFault, read_certificate};
-use closure_check::{Part, check_part};
-use flow_graph::{Beginnings, FlowGraph};
+use closure_check::{CheckIndex, Part, check_part};
+use flow_graph::FlowGraph;
 use lattice_core::Lattices;
 use qual_base::{LatticeNo, NoMemory, Numbered};
 use std::alloc::Global;
@@ -47,11 +47,11 @@ fn part_of(parts: &[Part], lattice: LatticeNo) -> &Part
 /// The first lattice in which a certificate breaks a rule, and the lowest that it breaks there.
 fn first_failing(
     graph: &FlowGraph,
-    beginnings: &Beginnings,
+    index: &CheckIndex,
     lattices: &Lattices,
     parts: &[Part],
 ) -> Option<(u32, CertRule)>
-    requires index { AreBeginnings graph.now beginnings.now }
+    requires index { IsIndex graph.now index.now }
     requires named { NamesElements graph.now (orders_of lattices.now) }
     requires parts { ArePlain graph.now (orders_of lattices.now) parts.now }
     ensures first { MatchOption result
@@ -64,7 +64,7 @@ fn first_failing(
         let lattice = LatticeNo::new(at);
         if let Err(rule) = check_part(
             graph,
-            beginnings,
+            index,
             lattices.get(lattice),
             lattice,
             part_of(parts, lattice),
@@ -96,7 +96,7 @@ fn unread(fault: CertFault) -> Result<Verdict, NoMemory>
 /// `certificate_reader::read_certificate` says and obeys the rules in each lattice as `closure_check::check_part` says. Where it
 /// holds, the program is accepted, whoever wrote the certificate.
 ///
-/// Takes time and memory as those two do, and the list of the constraints that begin at each variable.
+/// Takes time and memory as those two do, and as `closure_check::CheckIndex::build`, which is made once for all lattices.
 ///
 /// # Errors
 ///
@@ -117,8 +117,8 @@ pub fn judge_certificate(
         Ok(parts) => parts,
         Err(fault) => return unread(fault),
     };
-    let beginnings = Beginnings::build(alloc, graph)?;
-    match first_failing(graph, &beginnings, lattices, &parts) {
+    let index = CheckIndex::build(alloc, graph)?;
+    match first_failing(graph, &index, lattices, &parts) {
         None => Ok(Verdict::Holds),
         Some((before, rule)) => Ok(Verdict::Fails {
             lattice: before + 1,

@@ -5,8 +5,8 @@ ghost use Rattle.flow_graph.specs.System.{IsWithin};
 
 use crate::needed::{Case, NEEDED, Row, Sets};
 use certificate_laws::CertRule;
-use closure_check::{Part, check_part, is_part};
-use flow_graph::{Beginnings, Constraint, FlowGraph, Link, Site, names_elements};
+use closure_check::{CheckIndex, Part, check_part, is_part};
+use flow_graph::{Constraint, FlowGraph, Link, Site, names_elements};
 use lattice_core::{Entry, Lattice, Level, Name, Pair, Sign};
 use qual_base::{
     Elem, ElemSet, FuncId, LatticeNo, Numbered, Owner, SiteId, Span, TokenId, UnitNo, VarId,
@@ -42,13 +42,13 @@ fn judged(
     sets: &Sets,
 ) -> Result<Result<(), CertRule>, Fail> {
     let graph = graph_of(rt, alloc, case, limit)?;
-    let beginnings = Beginnings::build(alloc, &graph)?;
+    let index = CheckIndex::build(alloc, &graph)?;
     let lattice = two(rt, alloc)?;
     let part = part_of(alloc, sets)?;
     let at = LatticeNo::new(0);
     assert!(rt; names_elements(&graph, at, &lattice));
     assert!(rt; is_part(&graph, &lattice, &part));
-    Ok(check_part(&graph, &beginnings, &lattice, at, &part))
+    Ok(check_part(&graph, &index, &lattice, at, &part))
 }
 
 /// A variable, of which there are few.

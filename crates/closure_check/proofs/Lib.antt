@@ -1,4 +1,5 @@
 pub mod Sorted
 pub mod BitSets
 pub mod Turns
+pub mod Returns
 pub mod Asked

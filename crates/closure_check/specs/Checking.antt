@@ -5,13 +5,13 @@ use Rattle.lattice_core.specs.Order.{Order, leq}
 use Rattle.flow_graph.specs.declared.constraint.Link.{Link}
 use Rattle.flow_graph.specs.declared.constraint.Link.TheVariants.{Le, Const, Bound, Enter, Leave}
 use Rattle.flow_graph.specs.System.{owner_of, Stands}
-use Rattle.flow_graph.specs.Index.{AreBeginnings}
 use Rattle.certificate_laws.specs.declared.rule.CertRule.{CertRule}
 use Rattle.certificate_laws.specs.declared.rule.CertRule.TheVariants.{A1, A3, A4, A5, A6, A7, A8, A9}
 use Rattle.certificate_laws.specs.Certificates.{Certificate, Within, ObeysRule, number_of}
 use Rattle.closure_check.specs.declared.claim.Claim.{Claim}
 use Rattle.closure_check.specs.declared.rounds.Going.{Going}
 use Rattle.closure_check.specs.declared.rounds.Going.TheVariants.{First, Pair}
+use Rattle.closure_check.specs.Index.{IsIndex}
 use Rattle.closure_check.specs.Parts.{certificate_of, has, IsPart}
 
 -- each element of a set is in another
@@ -22,9 +22,9 @@ IsSubset one other = Within (has one) (has other)
 abbrev pub AllBelow : Order → ℕ → ℕ → Type 0
 AllBelow order set limit = (e : ℕ) → has set e ≡ true → leq order e limit ≡ true
 
--- the constraints are listed by where they begin, and the lists are a certificate
+-- what is looked up is that of the constraints, and the lists are a certificate
 pub record IsFit (given : Claim) : Type 0 where
-  pub index : AreBeginnings given.graph.now given.beginnings.now
+  pub index : IsIndex given.graph.now given.index.now
   pub part : IsPart given.graph.now given.lattice.now.order given.part.now
 
 abbrev pub claimed : Claim → Certificate
@@ -53,6 +53,10 @@ GoesOn given (Pair z) v = (claimed given).paired z v ≡ true
 -- it does by one constraint, as a return of a site from a variable
 abbrev pub GoesOut : Claim → Going → ℕ → ℕ → ℕ → Type 0
 GoesOut given going s y m = (v : ℕ) → IsLink given m (Leave s y v) → GoesOn given going v
+
+-- it does by one constraint, as a return of a site behind a pair that begins at a variable
+abbrev pub GoesBack : Claim → Going → ℕ → ℕ → ℕ → Type 0
+GoesBack given going s x m = (y : ℕ) → (claimed given).paired x y ≡ true → GoesOut given going s y m
 
 -- it does by each return of a site behind a pair that begins at a variable
 abbrev pub GoesRound : Claim → Going → ℕ → ℕ → Type 0

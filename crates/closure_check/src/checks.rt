@@ -4,37 +4,40 @@ ghost use Rattle.std.specs.Prelude.{◌≡◌, ◌↔◌, IsTrue, IsOk, IfErr, O
 ghost use Rattle.qual_base.specs.declared.places.Owner.TheVariants.{Nobody};
 ghost use Rattle.flow_graph.specs.System.{owner_of};
 ghost use Rattle.flow_graph.specs.PathRules.{link_begins};
-ghost use Rattle.flow_graph.specs.Index.{AreBeginnings, IsKeyed};
+ghost use Rattle.flow_graph.specs.Index.{IsKeyed};
 ghost use Rattle.flow_graph.specs.Unfolding.{IsAcceptedIn, NamesElementsIn};
 ghost use Rattle.certificate_laws.specs.Certificates.{IsLowestFailing, Obeys};
+ghost use Rattle.closure_check.specs.Index.{IsIndex};
 ghost use Rattle.closure_check.specs.Parts.{certificate_of, IsPart};
 ghost use Rattle.closure_check.specs.Checking.{AsksEdge, AsksEdges, AsksLinks, AsksPair, AsksPairs};
 ghost use Rattle.closure_check.specs.Checking.{AsksVar, AsksVars, IsFirstFailing, IsFit, IsObeyed};
 
 use crate::claim::{Claim, is_second_within};
+use crate::index::CheckIndex;
 use crate::links::{all_met, links_met};
 use crate::part::Part;
 use crate::rounds::{Going, goes_on, goes_round};
 use crate::sets::{is_subset, set_at};
 use certificate_laws::{CertRule, certified_is_accepted};
-use flow_graph::{Beginnings, FlowGraph, Link};
+use flow_graph::{FlowGraph, Link};
 use lattice_core::Lattice;
 use qual_base::{EdgeId, LatticeNo, Numbered, Owner, VarId};
 
 /// Whether a certificate of a lattice obeys the rules over the constraints of a graph, or the lowest rule that fails. Where
 /// it obeys them all, the system is accepted in this lattice. Takes no memory.
 ///
-/// Time: 64 steps a constraint, eight times that where it does not hold, and a few a variable; for each pair the constraints that begin at its end; and for each call
-/// to where it leads, once by itself and once for each pair that ends where it begins, the pairs that begin there with the
-/// constraints that begin at their ends. Each of the last is looked up in logarithmic time.
+/// Time: 64 steps a constraint, eight times that where it does not hold, and a few a variable; for each pair the constraints that
+/// begin at its end; and for each `Enter`, once by itself and once for each pair that ends where it begins, the constraints from
+/// the first return of its site to the last, with two look-ups of pairs in logarithmic time each. What a program's C makes of a call stands
+/// together, so these are the returns of that call and little else.
 pub fn check_part(
     graph: &FlowGraph,
-    beginnings: &Beginnings,
+    index: &CheckIndex,
     lattice: &Lattice,
     at: LatticeNo,
     part: &Part,
 ) -> Result<(), CertRule>
-    requires index { AreBeginnings graph.now beginnings.now }
+    requires index { IsIndex graph.now index.now }
     requires named { NamesElementsIn graph.now at lattice.now.order }
     requires part { IsPart graph.now lattice.now.order part.now }
     ensures holds { IsOk result
@@ -47,7 +50,7 @@ pub fn check_part(
     certified_is_accepted();
     let given = Claim {
         graph,
-        beginnings,
+        index,
         lattice,
         at,
         part,
@@ -147,7 +150,7 @@ fn all_edges(given: &Claim, rule: CertRule, from: VarId, to: VarId) -> bool
     requires { IsFit given.now }
     ensures { IsTrue result ↔ AsksEdges given.now rule from to }
 {
-    for edge in given.beginnings.out(to) {
+    for edge in given.index.out(to) {
         if !is_edge_met(given, rule, from, to, *edge) {
             return false;
         }

@@ -3,17 +3,18 @@
 ghost use Rattle.std.specs.Prelude.{◌↔◌, IsTrue};
 ghost use Rattle.closure_check.specs.Checking.{IsFirstWithin, IsSecondWithin};
 
+use crate::index::CheckIndex;
 use crate::part::Part;
 use crate::sets::{is_subset, set_at};
-use flow_graph::{Beginnings, FlowGraph};
+use flow_graph::FlowGraph;
 use lattice_core::Lattice;
 use qual_base::{LatticeNo, VarId};
 
-/// A certificate of a lattice, and the constraints of which it is said to be one, with where they begin.
+/// A certificate of a lattice, and the constraints of which it is said to be one, with what the rules look up of them.
 #[derive(Clone, Copy)]
 pub struct Claim<'a> {
     pub graph: &'a FlowGraph,
-    pub beginnings: &'a Beginnings,
+    pub index: &'a CheckIndex,
     pub lattice: &'a Lattice,
     pub at: LatticeNo,
     pub part: &'a Part,

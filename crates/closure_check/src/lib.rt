@@ -4,6 +4,7 @@
 
 mod checks;
 mod claim;
+mod index;
 mod links;
 mod pairs;
 mod part;
@@ -11,4 +12,5 @@ mod rounds;
 mod sets;
 
 pub use checks::check_part;
+pub use index::CheckIndex;
 pub use part::{Part, is_part};

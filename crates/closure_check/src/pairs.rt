@@ -1,7 +1,6 @@
-//! Pairs of variables that ascend: where one stands, and which begin at a variable.
+//! Pairs of variables that ascend, and whether one is among them.
 
 ghost use Rattle.std.specs.Prelude.{◌≡◌, ◌<◌, ◌≤◌, ℕ, true, false, Some, length, slice_get};
-ghost use Rattle.std.specs.Prelude.{MatchOption};
 ghost use Rattle.closure_check.specs.Parts.{AreAscending, is_among, is_below, is_that};
 
 use qual_base::{Numbered, VarId};
@@ -19,7 +18,7 @@ pub fn has_pair(pairs: &[(VarId, VarId)], from: VarId, to: VarId) -> bool
 }
 
 /// The place of the first pair that does not come before that of two variables. Logarithmic.
-pub fn place_of(pairs: &[(VarId, VarId)], from: VarId, to: VarId) -> usize
+fn place_of(pairs: &[(VarId, VarId)], from: VarId, to: VarId) -> usize
     requires { AreAscending pairs.now }
     ensures within { result ≤ length pairs.now }
     ensures before { (k : ℕ) (p : ℕ × ℕ) → k < result →
@@ -38,18 +37,6 @@ pub fn place_of(pairs: &[(VarId, VarId)], from: VarId, to: VarId) -> usize
         }
     }
     low
-}
-
-/// The second variable of the pair at a place, where there is one and its first is the one that is asked.
-pub fn end_at(pairs: &[(VarId, VarId)], place: usize, from: VarId) -> Option<VarId>
-    ensures { MatchOption result
-        ((to : ℕ) → slice_get pairs.now place ≡ Some (from, to) → ⊥)
-        (λ to. slice_get pairs.now place ≡ Some (from, to)) }
-{
-    match pairs.get(place) {
-        Some(pair) if pair.0 == from => Some(pair.1),
-        _ => None,
-    }
 }
 
 /// Whether a pair comes before that of two variables.

@@ -1,12 +1,12 @@
 //! What goes on by a call, a pair inside and a return.
 
-ghost use Rattle.std.specs.Prelude.{ℕ, ◌↔◌, IsTrue};
-ghost use Rattle.flow_graph.specs.PathRules.{link_begins};
-ghost use Rattle.flow_graph.specs.Index.{IsKeyed};
-ghost use Rattle.closure_check.specs.Checking.{GoesOn, GoesOut, GoesRound, IsFit};
+ghost use Rattle.std.specs.Prelude.{◌≡◌, ◌<◌, ◌↔◌, ℕ, true, IsTrue, Some, length};
+ghost use Rattle.closure_check.specs.Index.{LiesIn};
+ghost use Rattle.closure_check.specs.Checking.{claimed, GoesBack, GoesOn, GoesRound, IsFit};
 
 use crate::claim::{Claim, is_first_within};
-use crate::pairs::{end_at, has_pair, place_of};
+use crate::index::Span;
+use crate::pairs::has_pair;
 use qual_base::{EdgeId, Numbered, SiteId, VarId};
 
 /// What goes on behind a call: the first set of the variable before it, or the pair of a variable with that variable.
@@ -16,50 +16,56 @@ pub enum Going {
     Pair(VarId),
 }
 
-/// Whether it goes on by each return of a site behind a pair that begins where the call leads. Linear in these pairs and in
-/// the constraints that begin at their ends.
+/// Whether it goes on by each return of a site behind a pair that begins where the call leads. Linear in the span of the site's
+/// returns, beside two look-ups of pairs for each of them.
 pub fn goes_round(given: &Claim, going: &Going, site: SiteId, inner: VarId) -> bool
     requires { IsFit given.now }
     ensures { IsTrue result ↔ GoesRound given.now going.now site inner }
 {
-    let pairs = given.part.pairs.as_slice();
-    let mut next = place_of(pairs, inner, VarId::new(0));
-    while let Some(last) = end_at(pairs, next, inner) {
-        if !goes_back(given, going, site, last) {
-            return false;
-        }
-        next += 1;
+    match given.index.returns(site) {
+        Some(span) => goes_through(given, going, site, inner, span),
+        None => true,
     }
-    true
 }
 
-/// Whether it goes on by each return of a site from a variable.
-fn goes_back(given: &Claim, going: &Going, site: SiteId, last: VarId) -> bool
+/// Whether it goes on by each return of a site in a span, behind a pair that begins at a variable.
+fn goes_through(given: &Claim, going: &Going, site: SiteId, inner: VarId, span: Span) -> bool
     requires { IsFit given.now }
-    ensures { IsTrue result ↔ ((m : ℕ) → GoesOut given.now going.now site last m) }
+    ensures { IsTrue result ↔ ((m : ℕ) → LiesIn (Some span) m →
+        GoesBack given.now going.now site inner m) }
 {
-    for edge in given.beginnings.out(last) {
-        if !goes_out(given, going, site, last, *edge) {
+    let end = span.to.min(given.graph.len());
+    for n in span.from..end {
+        if !goes_back(given, going, site, inner, EdgeId::new(n)) {
             return false;
         }
     }
     true
 }
 
-/// Whether it goes on by a constraint, where that is a return of a site from a variable.
-fn goes_out(given: &Claim, going: &Going, site: SiteId, last: VarId, edge: EdgeId) -> bool
+/// Whether it goes on by a constraint, where that is a return of a site behind a pair that begins at a variable.
+fn goes_back(given: &Claim, going: &Going, site: SiteId, inner: VarId, edge: EdgeId) -> bool
     requires fit { IsFit given.now }
-    requires edge { IsKeyed given.now.graph.now link_begins last edge }
-    ensures { IsTrue result ↔ GoesOut given.now going.now site last edge }
+    requires edge { edge < length given.now.graph.now.constraints }
+    ensures { IsTrue result ↔ GoesBack given.now going.now site inner edge }
 {
     let constraint = given.graph.constraint(edge);
     if !constraint.is_in(given.at) {
         return true;
     }
     match constraint.link.as_leave() {
-        Some(back) => back.site != site || goes_on(given, going, back.to),
+        Some(back) => back.site != site || goes_out(given, going, inner, back.from, back.to),
         None => true,
     }
+}
+
+/// Whether it goes on to a variable, where two others are a pair. It mostly does, so that is asked first.
+fn goes_out(given: &Claim, going: &Going, inner: VarId, last: VarId, to: VarId) -> bool
+    requires { IsFit given.now }
+    ensures { IsTrue result
+        ↔ ((claimed given.now).paired inner last ≡ true → GoesOn given.now going.now to) }
+{
+    goes_on(given, going, to) || !has_pair(given.part.pairs.as_slice(), inner, last)
 }
 
 /// Whether it goes on to a variable.
