@@ -1,4 +1,4 @@
-use Rattle.std.proofs.Common.{◌≡◌, ℕ, ◌<◌, inl, inr, Bool, List, length, sym, ◌∙◌, ap, subst}
+use Rattle.std.proofs.Common.{◌≡◌, ℕ, ◌<◌, inl, inr, Bool, List, length, sym, ◌∙◌, subst}
 use Rattle.match_summary.specs.Summary.{IsInnerEnd}
 use Rattle.match_summary.specs.Closing.{AreMarkedToo, IsMarked}
 use Rattle.match_summary.proofs.Done.{done_closed}
