@@ -1,12 +1,12 @@
 //! The certificate of a lattice.
 
-ghost use Rattle.std.specs.Prelude.{◌≡◌, IfOk};
+ghost use Rattle.std.specs.Prelude.{◌≡◌, [], IfOk};
 ghost use Rattle.lattice_core.specs.Order.{IsOrder, Order};
 ghost use Rattle.flow_graph.specs.System.{IsWellOwned};
 ghost use Rattle.flow_graph.specs.Unfolding.{IsAcceptedIn, NamesElementsIn};
 ghost use Rattle.certificate_laws.specs.Certificates.{IsWritten, Obeys};
 ghost use Rattle.closure_check.specs.Parts.{certificate_of, IsPart};
-ghost use Rattle.match_summary.specs.Summary.{Summarises};
+ghost use Rattle.match_summary.specs.Summary.{SummarisesFrom};
 ghost use Rattle.lattice_solver.specs.Solution.{IsSolved};
 
 use crate::pairs::joined_pairs;
@@ -35,7 +35,7 @@ pub fn certificate(
 ) -> Result<Part, NoMemory>
     requires lattice { solver.now.lattice ≡ lattice }
     requires solved { IsSolved graph.now solver.now }
-    requires summaries { Summarises graph.now lattice summaries.now }
+    requires summaries { SummarisesFrom graph.now lattice [] summaries.now }
     ensures written { IfOk result
         (λ part. IsWritten graph.now lattice (certificate_of part)) }
     ensures holds { IfOk result (λ part. (order : Order) → IsWellOwned graph.now →

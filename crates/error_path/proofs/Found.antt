@@ -3,7 +3,7 @@ use Rattle.std.proofs.Common.{◌≡◌, ℕ, ◌<◌, List, inl, inr, arith, su
 use Rattle.flow_graph.specs.System.{System, AllBelow}
 use Rattle.flow_graph.specs.declared.phase.Phase.{Phase}
 use Rattle.match_summary.specs.declared.reason.Summary.{Summary}
-use Rattle.match_summary.specs.Summary.{HasPair, Leads, Summarises}
+use Rattle.match_summary.specs.Summary.{HasPair, Leads, IsInnerEnd, Summarises}
 use Rattle.error_path.specs.declared.search.Cause.{Cause}
 use Rattle.error_path.specs.declared.search.Cause.TheVariants.{Start, Here, Step, Group}
 use Rattle.error_path.specs.declared.search.Origin.{Origin}
@@ -29,14 +29,14 @@ module _ (sys : System) (lattice vars : ℕ) (origin : Origin) (rows : List Summ
   pub sound_below : AreSound sys lattice origin rows queue → AreBelow vars queue
   sound_below sound place r is = comes_below place r.phase r.at r.cause (sound place r is)
 
--- what one list of summaries joins, each list does
+-- what one list of summaries joins to an inner end, each list does
 module _ (sys : System) (lattice : ℕ) (origin : Origin) (rows others : List Summary) (all : Summarises sys lattice rows) (alike : Summarises sys lattice others) where
-  pair_alike : (u v : ℕ) → HasPair rows u v → HasPair others u v
-  pair_alike u v pair = alike.whole u v (all.begins u v pair) (all.sound u v pair)
+  pair_alike : (u v : ℕ) → IsInnerEnd sys lattice u → HasPair rows u v → HasPair others u v
+  pair_alike u v inner pair = alike.whole u v inner (all.sound u v pair)
 
-  leads_alike : (u v : ℕ) → Leads rows u v → Leads others u v
-  leads_alike u v (inl same) = inl same
-  leads_alike u v (inr pair) = inr (pair_alike u v pair)
+  leads_alike : (u v : ℕ) → IsInnerEnd sys lattice u → Leads rows u v → Leads others u v
+  leads_alike u v inner (inl same) = inl same
+  leads_alike u v inner (inr pair) = inr (pair_alike u v inner pair)
 
   around_alike : (enter leave : ℕ) (p : Phase) (u : ℕ) (q : Phase) (v : ℕ) → LeadsAround sys lattice rows enter leave p u q v → LeadsAround sys lattice others enter leave p u q v
   around_alike enter leave p u q v a = record {
@@ -45,7 +45,7 @@ module _ (sys : System) (lattice : ℕ) (origin : Origin) (rows others : List Su
     last = a.last;
     enters = a.enters;
     leaves = a.leaves;
-    joined = leads_alike a.inner a.last a.joined;
+    joined = leads_alike a.inner a.last (enter, a.site, u, a.enters) a.joined;
     phase_is = a.phase_is;
   }
 

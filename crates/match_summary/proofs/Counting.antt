@@ -1,5 +1,5 @@
 -- A good list has at most as many pairs as there are pairs of variables whose owner is known.
-use Rattle.std.proofs.Common.{◌≡◌, ◌≢◌, ℕ, zero, suc, ◌≤◌, ◌<◌, ◌+◌, ◌*◌, ◌/◌, ◌%◌, inl, inr, List, [], ◌∷◌, Some, length, slice_get, eqb, true, refl, sym, ◌∙◌, ap, subst, arith, AllPairs, unwrap_or}
+use Rattle.std.proofs.Common.{◌≡◌, ◌≢◌, ℕ, zero, suc, ◌≤◌, ◌<◌, ◌+◌, ◌*◌, ◌/◌, ◌%◌, inl, inr, Bool, List, [], ◌∷◌, Some, length, slice_get, eqb, true, refl, sym, ◌∙◌, ap, subst, arith, AllPairs, unwrap_or}
 use Rattle.std.specs.List.{list_any}
 use Rattle.std.proofs.lemmas.Bool.{cases_lt, cases_Bool}
 use Rattle.std.proofs.lemmas.Bool.Decides.{nat_tests, Decides-eqb}
@@ -57,7 +57,7 @@ known_owner sys v f is = elim (cases_lt v (length sys.owners)) [
   | inr past ↦ let none : owner_of sys v ≡ Nobody = ap (λ o. unwrap_or o Nobody) (slice_get_past sys.owners v past) in absurd cc
 ]
 
-module _ (sys : System) (lattice : ℕ) (rows : List Summary) (good : IsGood sys lattice rows) where
+module _ (sys : System) (lattice : ℕ) (marks : List Bool) (rows : List Summary) (good : IsGood sys lattice marks rows) where
   from_known : (n : ℕ) (row : Summary) → slice_get rows n ≡ Some row → row.from < length sys.owners
   from_known n row is = let one = (good.grounded n row is).inside in known_owner sys row.from one.0 one.1
 

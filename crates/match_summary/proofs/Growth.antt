@@ -1,5 +1,5 @@
 -- How lists of summaries grow, and what stays true of them.
-use Rattle.std.proofs.Common.{◌≡◌, ℕ, zero, suc, ◌+◌, ◌≤◌, ◌<◌, ◌⊎◌, inl, inr, List, [], ◌∷◌, ◌++◌, Some, length, take, slice_get, refl, sym, ◌∙◌, ap, subst, arith, append_assoc, append-nil}
+use Rattle.std.proofs.Common.{◌≡◌, ℕ, zero, suc, ◌+◌, ◌≤◌, ◌<◌, ◌⊎◌, inl, inr, Bool, List, [], ◌∷◌, ◌++◌, Some, length, take, slice_get, refl, sym, ◌∙◌, ap, subst, arith, append_assoc, append-nil}
 use Rattle.std.specs.List.{Contains}
 use Rattle.std.proofs.lemmas.List.{length-append, take-append-le}
 use Rattle.std.proofs.lemmas.List.Elements.{Contains-append_left, Contains-push_cases}
@@ -9,8 +9,8 @@ use Rattle.flow_graph.specs.System.{System}
 use Rattle.match_summary.specs.declared.reason.Reason.{Reason}
 use Rattle.match_summary.specs.declared.reason.Reason.TheVariants.{Last, Group}
 use Rattle.match_summary.specs.declared.reason.Summary.{Summary}
-use Rattle.match_summary.specs.Summary.{HasPair, Leads, EndsAt, RestsOn, IsInnerEnd}
-use Rattle.match_summary.specs.Closing.{AllFollow, Follows, Grows, IsEntered, IsFollowed, IsGood, IsLeft, IsLeftFrom, targets}
+use Rattle.match_summary.specs.Summary.{HasPair, Leads, EndsAt, RestsOn}
+use Rattle.match_summary.specs.Closing.{AllFollow, Follows, Grows, IsEntered, IsFollowed, IsGood, IsLeft, IsLeftFrom, IsMarked, targets}
 use Rattle.match_summary.specs.Starts.{sources}
 use Rattle.match_summary.proofs.Sources.{source_at, source_row}
 
@@ -85,12 +85,12 @@ ends_grown sys lattice old new (Last edge before) v p h = h
 ends_grown sys lattice old new (Group before enter leave) v p h = (h.0, h.1, h.2, h.3, leads_grown old new h.1 h.2 p h.4, h.5, h.6)
 
 -- a new pair whose reason rests on the list keeps the list good
-pub good_push : (sys : System) (lattice : ℕ) (rows : List Summary) (row : Summary) → IsGood sys lattice rows → RestsOn sys lattice rows row →
-    (HasPair rows row.from row.to → ⊥) → IsInnerEnd sys lattice row.from → IsGood sys lattice (rows ++ row ∷ [])
-good_push sys lattice rows row good rests new inner = record {
+pub good_push : (sys : System) (lattice : ℕ) (marks : List Bool) (rows : List Summary) (row : Summary) → IsGood sys lattice marks rows → RestsOn sys lattice rows row →
+    (HasPair rows row.from row.to → ⊥) → IsMarked marks row.from → IsGood sys lattice marks (rows ++ row ∷ [])
+good_push sys lattice marks rows row good rests new inner = record {
   begins = λ u v pair. elim (Contains-push_cases rows row _ pair.1) [
     | inl old ↦ good.begins u v (pair.0, old)
-    | inr last ↦ subst (λ x. IsInnerEnd sys lattice x) (ap (λ (r : Summary). r.from) last) inner
+    | inr last ↦ subst (λ x. IsMarked marks x) (ap (λ (r : Summary). r.from) last) inner
   ];
   grounded = λ n r is. elim (push_cases rows row n r is) [
     | inl old ↦
@@ -121,30 +121,30 @@ left_on sys lattice first old new u s a m p h = λ b w st leads one. follows_on 
 pub left_from : (sys : System) (lattice : ℕ) (first old new : List Summary) (u s a m : ℕ) → Grows first old → IsLeft sys lattice old new u s a m → IsLeft sys lattice first new u s a m
 left_from sys lattice first old new u s a m p h = λ b w st leads one. h b w st (leads_grown first old a b p leads) one
 
-pub all_on : (sys : System) (lattice : ℕ) (first old new : List Summary) (x w : ℕ) → Grows old new → AllFollow sys lattice first old x w → AllFollow sys lattice first new x w
-all_on sys lattice first old new x w p h = λ t inner leads. follows_on sys old new t w p (h t inner leads)
+pub all_on : (sys : System) (marks : List Bool) (first old new : List Summary) (x w : ℕ) → Grows old new → AllFollow sys marks first old x w → AllFollow sys marks first new x w
+all_on sys marks first old new x w p h = λ t inner leads. follows_on sys old new t w p (h t inner leads)
 
-pub all_from : (sys : System) (lattice : ℕ) (first old new : List Summary) (x w : ℕ) → Grows first old → AllFollow sys lattice old new x w → AllFollow sys lattice first new x w
-all_from sys lattice first old new x w p h = λ t inner leads. h t inner (leads_grown first old t x p leads)
+pub all_from : (sys : System) (marks : List Bool) (first old new : List Summary) (x w : ℕ) → Grows first old → AllFollow sys marks old new x w → AllFollow sys marks first new x w
+all_from sys marks first old new x w p h = λ t inner leads. h t inner (leads_grown first old t x p leads)
 
-pub entered_on : (sys : System) (lattice : ℕ) (first old new : List Summary) (u s w m : ℕ) → Grows old new → IsEntered sys lattice first old u s w m → IsEntered sys lattice first new u s w m
-entered_on sys lattice first old new u s w m p h = λ x st. all_on sys lattice first old new x w p (h x st)
+pub entered_on : (sys : System) (lattice : ℕ) (marks : List Bool) (first old new : List Summary) (u s w m : ℕ) → Grows old new → IsEntered sys lattice marks first old u s w m → IsEntered sys lattice marks first new u s w m
+entered_on sys lattice marks first old new u s w m p h = λ x st. all_on sys marks first old new x w p (h x st)
 
-pub entered_from : (sys : System) (lattice : ℕ) (first old new : List Summary) (u s w m : ℕ) → Grows first old → IsEntered sys lattice old new u s w m → IsEntered sys lattice first new u s w m
-entered_from sys lattice first old new u s w m p h = λ x st. all_from sys lattice first old new x w p (h x st)
+pub entered_from : (sys : System) (lattice : ℕ) (marks : List Bool) (first old new : List Summary) (u s w m : ℕ) → Grows first old → IsEntered sys lattice marks old new u s w m → IsEntered sys lattice marks first new u s w m
+entered_from sys lattice marks first old new u s w m p h = λ x st. all_from sys marks first old new x w p (h x st)
 
-pub followed_on : (sys : System) (lattice : ℕ) (first old new : List Summary) (u v n : ℕ) → Grows old new → IsFollowed sys lattice first old u v n → IsFollowed sys lattice first new u v n
-followed_on sys lattice first old new u v n p h = record {
+pub followed_on : (sys : System) (lattice : ℕ) (marks : List Bool) (first old new : List Summary) (u v n : ℕ) → Grows old new → IsFollowed sys lattice marks first old u v n → IsFollowed sys lattice marks first new u v n
+followed_on sys lattice marks first old new u v n p h = record {
   flow = λ w st. follows_on sys old new u w p (h.flow w st);
   enter = λ s a m st. left_on sys lattice first old new u s a m p (h.enter s a m st);
-  leave = λ s w m st one. entered_on sys lattice first old new u s w m p (h.leave s w m st one);
+  leave = λ s w m st one. entered_on sys lattice marks first old new u s w m p (h.leave s w m st one);
 }
 
-pub followed_from : (sys : System) (lattice : ℕ) (first old new : List Summary) (u v n : ℕ) → Grows first old → IsFollowed sys lattice old new u v n → IsFollowed sys lattice first new u v n
-followed_from sys lattice first old new u v n p h = record {
+pub followed_from : (sys : System) (lattice : ℕ) (marks : List Bool) (first old new : List Summary) (u v n : ℕ) → Grows first old → IsFollowed sys lattice marks old new u v n → IsFollowed sys lattice marks first new u v n
+followed_from sys lattice marks first old new u v n p h = record {
   flow = h.flow;
   enter = λ s a m st. left_from sys lattice first old new u s a m p (h.enter s a m st);
-  leave = λ s w m st one. entered_from sys lattice first old new u s w m p (h.leave s w m st one);
+  leave = λ s w m st one. entered_from sys lattice marks first old new u s w m p (h.leave s w m st one);
 }
 
 -- what the pairs lead to, by their places
@@ -164,11 +164,11 @@ targets_grown old new n to p is =
     target_at new n row.0 (at_grown old new n row.0 p row.1) ∙ ap (λ (x : ℕ). Some x) row.2
 
 -- what follows of a part behind nothing and behind the pairs
-pub all_follow : (sys : System) (lattice : ℕ) (first old new : List Summary) (x w : ℕ) → Grows first old → Grows old new → (IsInnerEnd sys lattice x → Follows sys old x w) →
-    ((t : ℕ) → HasPair old t x → Follows sys new t w) → AllFollow sys lattice first new x w
-all_follow sys lattice first old new x w p q here pairs t inner (inl same) one =
-    has_grown old new t w q (subst (λ y. Follows sys old y w) (sym same) (here (subst (λ y. IsInnerEnd sys lattice y) same inner)) one)
-all_follow sys lattice first old new x w p q here pairs t inner (inr pair) one = pairs t (has_grown first old t x p pair) one
+pub all_follow : (sys : System) (marks : List Bool) (first old new : List Summary) (x w : ℕ) → Grows first old → Grows old new → (IsMarked marks x → Follows sys old x w) →
+    ((t : ℕ) → HasPair old t x → Follows sys new t w) → AllFollow sys marks first new x w
+all_follow sys marks first old new x w p q here pairs t inner (inl same) one =
+    has_grown old new t w q (subst (λ y. Follows sys old y w) (sym same) (here (subst (λ y. IsMarked marks y) same inner)) one)
+all_follow sys marks first old new x w p q here pairs t inner (inr pair) one = pairs t (has_grown first old t x p pair) one
 
 -- what follows of the Leaves from one variable, after the list has grown before and since
 pub left_between : (sys : System) (lattice : ℕ) (first old middle new : List Summary) (u s a b m : ℕ) → Grows first old → Grows middle new → IsLeftFrom sys lattice old middle u s a b m →

@@ -1,17 +1,18 @@
 -- A good list has matched paths alone, and a closed one has all of them.
-use Rattle.std.proofs.Common.{◌≡◌, ℕ, zero, suc, ◌<◌, inl, inr, List, Some, length, take, slice_get, refl, sym, ◌∙◌, ap, subst, arith}
+use Rattle.std.proofs.Common.{◌≡◌, ℕ, zero, suc, ◌<◌, inl, inr, Bool, List, Some, length, take, slice_get, refl, sym, ◌∙◌, ap, subst, arith}
 use Rattle.std.specs.List.{Contains}
 use Rattle.std.proofs.lemmas.List.{length-take, get_or-take}
 use Rattle.std.proofs.lemmas.Option.{slice_get-get_or}
 use Rattle.qual_base.specs.declared.places.Owner.TheVariants.{Function}
-use Rattle.flow_graph.specs.System.{System, owner_of}
+use Rattle.flow_graph.specs.declared.constraint.Link.TheVariants.{Le, Enter}
+use Rattle.flow_graph.specs.System.{System, AllBelow, Stands, owner_of}
 use Rattle.flow_graph.specs.Paths.{Matches, stay, longer, Part, flow, group, Match}
 use Rattle.match_summary.specs.declared.reason.Reason.{Reason}
 use Rattle.match_summary.specs.declared.reason.Reason.TheVariants.{Last, Group}
 use Rattle.match_summary.specs.declared.reason.Summary.{Summary}
 use Rattle.match_summary.specs.Reason.{before_of}
-use Rattle.match_summary.specs.Summary.{HasPair, Leads, EndsAt, IsGrounded, IsInnerEnd, Summarises}
-use Rattle.match_summary.specs.Closing.{IsGood, IsClosed}
+use Rattle.match_summary.specs.Summary.{HasPair, Leads, EndsAt, IsGrounded, IsInnerEnd, IsStart, Summarises, SummarisesFrom}
+use Rattle.match_summary.specs.Closing.{IsGood, IsClosed, IsMarked}
 
 -- a matched path begins and ends in its function
 pub matches_begin : (sys : System) (lattice f u v : ℕ) → Matches sys lattice f u v → owner_of sys u ≡ Function f
@@ -71,32 +72,60 @@ grounded_match sys lattice rows grounded (suc bound) n row lt is =
       part_of sys lattice f row.to (take n rows) row.why early r.inside.2 r.part,
     )
 
-pub good_match : (sys : System) (lattice : ℕ) (rows : List Summary) → IsGood sys lattice rows → (u v : ℕ) → HasPair rows u v → Match sys lattice u v
-good_match sys lattice rows good u v pair =
+pub good_match : (sys : System) (lattice : ℕ) (marks : List Bool) (rows : List Summary) → IsGood sys lattice marks rows → (u v : ℕ) → HasPair rows u v → Match sys lattice u v
+good_match sys lattice marks rows good u v pair =
     let there = pair.1 in
     grounded_match sys lattice rows good.grounded (suc there.0) there.0 (record { from = u; to = v; why = pair.0 }) (omega arith)
     (slice_get-get_or rows there.0 _ there.1 ∙ ap (λ (x : Summary). Some x) there.2)
 
-module _ (sys : System) (lattice : ℕ) (rows : List Summary) (closed : IsClosed sys lattice rows) where
+-- a path to another part begins below each number that the variables of constraints are below
+flow_from : (sys : System) (lattice vars n x v : ℕ) → AllBelow sys vars → Stands sys lattice n (Le x v) → x < vars
+flow_from sys lattice vars n x v below st = let le = below n (Le x v) (record { constraint = st.constraint; there = st.there; link_is = st.link_is }) in omega (arith, le)
+
+enter_from : (sys : System) (lattice vars n s x a : ℕ) → AllBelow sys vars → Stands sys lattice n (Enter s x a) → x < vars
+enter_from sys lattice vars n s x a below st = let le = below n (Enter s x a) (record { constraint = st.constraint; there = st.there; link_is = st.link_is }) in omega (arith, le)
+
+part_from : (sys : System) (lattice vars f x v : ℕ) → AllBelow sys vars → Part sys lattice f x v → x < vars
+part_from sys lattice vars f x v below (flow _ _ _ n st o) = flow_from sys lattice vars n x v below st
+part_from sys lattice vars f x v below (group _ _ a b _ s g n m st p st2 o) = enter_from sys lattice vars n s x a below st
+
+path_from : (sys : System) (lattice vars f u x v : ℕ) → AllBelow sys vars → Matches sys lattice f u x → Part sys lattice f x v → u < vars
+path_from sys lattice vars f u x v below (stay _ _ o) part = part_from sys lattice vars f u v below part
+path_from sys lattice vars f u x v below (longer _ _ y _ m p) part = path_from sys lattice vars f u y x below m p
+
+module _ (sys : System) (lattice : ℕ) (marks : List Bool) (rows : List Summary) (marked : (a : ℕ) → IsInnerEnd sys lattice a → IsMarked marks a)
+    (closed : IsClosed sys lattice marks rows) where
   mutual
-    matches_lead : (f u x : ℕ) → IsInnerEnd sys lattice u → Matches sys lattice f u x → Leads rows u x
-    matches_lead f u x inner (stay _ _ o) = inl refl
-    matches_lead f u x inner (longer _ _ y _ m p) = inr (part_leads f u y x inner (matches_begin sys lattice f u y m) (matches_lead f u y inner m) p)
+    matches_lead : (f u x : ℕ) → IsMarked marks u → Matches sys lattice f u x → Leads rows u x
+    matches_lead f u x begins (stay _ _ o) = inl refl
+    matches_lead f u x begins (longer _ _ y _ m p) = inr (part_leads f u y x begins (matches_begin sys lattice f u y m) (matches_lead f u y begins m) p)
 
-    part_leads : (f u y x : ℕ) → IsInnerEnd sys lattice u → owner_of sys u ≡ Function f → Leads rows u y → Part sys lattice f y x → HasPair rows u x
-    part_leads f u y x inner begins front (flow _ _ _ n st o) = closed.flow n u y x inner front st (f, begins, o)
-    part_leads f u y x inner begins front (group _ _ a b _ s g n m st p st2 o) =
-        closed.group n m s u y a b x inner front st (inr (matches_lead g a b (n, s, y, st) p)) (g, matches_begin sys lattice g a b p, matches_end sys lattice g a b p) st2 (f, begins, o)
+    part_leads : (f u y x : ℕ) → IsMarked marks u → owner_of sys u ≡ Function f → Leads rows u y → Part sys lattice f y x → HasPair rows u x
+    part_leads f u y x begins owned front (flow _ _ _ n st o) = closed.flow n u y x begins front st (f, owned, o)
+    part_leads f u y x begins owned front (group _ _ a b _ s g n m st p st2 o) =
+        closed.group n m s u y a b x begins front st (inr (matches_lead g a b (marked a (n, s, y, st)) p)) (g, matches_begin sys lattice g a b p, matches_end sys lattice g a b p) st2
+        (f, owned, o)
 
-  closed_whole : (u v : ℕ) → IsInnerEnd sys lattice u → Match sys lattice u v → HasPair rows u v
-  closed_whole u v inner path =
-      part_leads path.0 u path.1 v inner (matches_begin sys lattice path.0 u path.1 path.2) (matches_lead path.0 u path.1 inner path.2) path.3
+  closed_whole : (u v : ℕ) → IsMarked marks u → Match sys lattice u v → HasPair rows u v
+  closed_whole u v begins path =
+      part_leads path.0 u path.1 v begins (matches_begin sys lattice path.0 u path.1 path.2) (matches_lead path.0 u path.1 begins path.2) path.3
 
-  pub closed_summarises : IsGood sys lattice rows → Summarises sys lattice rows
+  closed_summarises : IsGood sys lattice marks rows → Summarises sys lattice rows
   closed_summarises good = record {
-    begins = good.begins;
-    sound = good_match sys lattice rows good;
-    whole = closed_whole;
+    sound = good_match sys lattice marks rows good;
+    whole = λ u v inner. closed_whole u v (marked u inner);
     grounded = good.grounded;
     once = good.once;
+  }
+
+  -- from inner ends and the starts, where these are what is marked of the variables of the system
+  pub closed_from : (starts : List ℕ) (vars : ℕ) → AllBelow sys vars → ((a : ℕ) → IsMarked marks a → IsStart sys lattice starts a) →
+      ((a : ℕ) → Contains starts a → a < vars → IsMarked marks a) → IsGood sys lattice marks rows → SummarisesFrom sys lattice starts rows
+  closed_from starts vars below only all good = record {
+    summaries = closed_summarises good;
+    begins = λ u v pair. only u (good.begins u v pair);
+    whole = λ u v start path. elim start [
+      | inl inner ↦ closed_whole u v (marked u inner) path
+      | inr given ↦ closed_whole u v (all u given (path_from sys lattice vars path.0 u path.1 v below path.2 path.3)) path
+    ];
   }

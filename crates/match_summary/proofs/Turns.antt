@@ -1,5 +1,5 @@
 -- The turns of a loop over a list of numbers.
-use Rattle.std.proofs.Common.{◌≡◌, ℕ, ◌+◌, ◌≤◌, ◌<◌, inl, inr, List, Option, length, get_or, sym, ◌∙◌, ap, subst, arith}
+use Rattle.std.proofs.Common.{◌≡◌, ℕ, zero, suc, ◌+◌, ◌≤◌, ◌<◌, inl, inr, List, [], ◌∷◌, Option, length, get_or, sym, ◌∙◌, ap, subst, arith}
 use Rattle.std.specs.List.{Contains}
 use Rattle.std.proofs.lemmas.Bool.{cases_lt}
 use Rattle.std.proofs.lemmas.List.{get_or_read}
@@ -31,3 +31,8 @@ item_keyed sys key_of key row items at item those same within is = those.only it
 pub keyed_item : (sys : System) (key_of : Link → Option ℕ) (key : ℕ) (row items : List ℕ) (n : ℕ) → AreThose (IsKeyed sys key_of key) row → items ≡ row → IsKeyed sys key_of key n →
     Contains items n
 keyed_item sys key_of key row items n those same has = subst (λ xs. Contains xs n) (sym same) (those.all n has)
+
+-- an element of a list of one
+pub only_one : (x a : ℕ) → Contains (x ∷ []) a → x ≡ a
+only_one x a (zero, lt, is) = is
+only_one x a (suc n, lt, is) = absurd (omega (arith, lt))

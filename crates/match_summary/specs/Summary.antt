@@ -47,11 +47,21 @@ StandsOnce rows = (n m : ℕ) (u v : ℕ) (p q : Reason) → slice_get rows n �
 abbrev pub IsInnerEnd : System → ℕ → ℕ → Type 0
 IsInnerEnd sys lattice a = (n s u : ℕ) × Stands sys lattice n (Enter s u a)
 
--- The summaries of a system in a lattice: the pairs are joined by matched paths and begin at inner ends of Enters, all that
--- such a path joins to such an end are there, each once, and each reason rests on pairs that stand earlier.
+-- Summaries of a system in a lattice: the pairs are joined by matched paths, all that such a path joins to an inner end of an
+-- Enter are there, each once, and each reason rests on pairs that stand earlier.
 pub record Summarises (sys : System) (lattice : ℕ) (rows : List Summary) : Type 0 where
-  pub begins : (u v : ℕ) → HasPair rows u v → IsInnerEnd sys lattice u
   pub sound : (u v : ℕ) → HasPair rows u v → Match sys lattice u v
   pub whole : (u v : ℕ) → IsInnerEnd sys lattice u → Match sys lattice u v → HasPair rows u v
   pub grounded : IsGrounded sys lattice rows
   pub once : StandsOnce rows
+
+-- an Enter leads to the variable, or it is one of a list
+abbrev pub IsStart : System → ℕ → List ℕ → ℕ → Type 0
+IsStart sys lattice starts a = IsInnerEnd sys lattice a ⊎ Contains starts a
+
+-- The summaries from inner ends of Enters and from the variables of a list: the pairs begin at these, and all that a matched
+-- path joins to one of these are there.
+pub record SummarisesFrom (sys : System) (lattice : ℕ) (starts : List ℕ) (rows : List Summary) : Type 0 where
+  pub summaries : Summarises sys lattice rows
+  pub begins : (u v : ℕ) → HasPair rows u v → IsStart sys lattice starts u
+  pub whole : (u v : ℕ) → IsStart sys lattice starts u → Match sys lattice u v → HasPair rows u v

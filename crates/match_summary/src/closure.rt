@@ -2,7 +2,7 @@
 //! one function:
 //!
 //! ```text
-//! start:  from an Enter to u                                                     follows u ⇒ u
+//! start:  from an Enter to u, or where u is a start                               follows u ⇒ u
 //! flow:   from u ⇒ v and a flow from v to w                                      follows u ⇒ w
 //! group:  from u ⇒ x, an Enter of s from x to a, a ⇒ b, a Leave of s from b to w  follows u ⇒ w
 //! ```
@@ -10,18 +10,19 @@
 //! Each pair is looked at once, as the first premise of flow and of group and as the third premise of group. Of two pairs
 //! that make a group together, the one that is looked at later finds the other.
 
-ghost use Rattle.std.specs.Prelude.{◌≡◌, ℕ, ◌<◌, ◌≤◌, ◌⊎◌, ◌↔◌, true, false, [], length};
+ghost use Rattle.std.specs.Prelude.{◌≡◌, ℕ, ◌<◌, ◌≤◌, ◌⊎◌, ◌↔◌, true, false, [], ◌∷◌, length};
 ghost use Rattle.std.specs.Prelude.{slice_index_or, IsTrue, IfOk, OnOk};
 ghost use Rattle.flow_graph.specs.declared.constraint.Link.TheVariants.{Enter, Leave};
-ghost use Rattle.flow_graph.specs.System.{AllBelow, Stands};
+ghost use Rattle.flow_graph.specs.System.{AllBelow, Stands, vars_of};
 ghost use Rattle.flow_graph.specs.PathRules.{link_begins};
 ghost use Rattle.flow_graph.specs.Index.{link_site, IsKeyed};
 ghost use Rattle.match_summary.specs.Reason.{before_of};
 ghost use Rattle.match_summary.specs.Summary.{AreOfOne, EndsAt, HasPair, IsInnerEnd, Leads};
-ghost use Rattle.match_summary.specs.Summary.{Summarises};
-ghost use Rattle.match_summary.specs.Closing.{AllFollow, AreDone, AreEnds, AreReady, Follows};
-ghost use Rattle.match_summary.specs.Closing.{Grows, IsEntered, IsFollowed, IsKept, IsLeft};
-ghost use Rattle.match_summary.specs.Closing.{IsLeftFrom, IsLookedAt, Looked};
+ghost use Rattle.match_summary.specs.Summary.{Summarises, SummarisesFrom};
+ghost use Rattle.match_summary.specs.Closing.{AllFollow, AreDone, AreEnds, AreMarkedToo};
+ghost use Rattle.match_summary.specs.Closing.{AreReady, Follows, Grows, IsEntered, IsFollowed};
+ghost use Rattle.match_summary.specs.Closing.{IsKept, IsLeft, IsLeftFrom, IsLookedAt, IsMarked};
+ghost use Rattle.match_summary.specs.Closing.{Looked};
 
 use crate::crossings::{Crossings, InnerEnd, Way};
 use crate::found::Found;
@@ -33,7 +34,7 @@ use qual_base::{EdgeId, LatticeNo, NoMemory, Numbered, VarId};
 use std::alloc::Global;
 
 /// What the rules read: the constraints of one lattice, how many variables there are, where the constraints begin, the
-/// calls and returns by their inner ends, and for each variable whether an `Enter` leads to it.
+/// calls and returns by their inner ends, and for each variable whether pairs may begin there.
 #[derive(Clone, Copy)]
 struct Premises<'a> {
     graph: &'a FlowGraph,
@@ -41,7 +42,7 @@ struct Premises<'a> {
     vars: u32,
     index: &'a Adjacency,
     crossings: &'a Crossings,
-    ends: &'a [bool],
+    marks: &'a [bool],
 }
 
 /// All matched paths of a lattice that begin at the inner end of an `Enter`, as pairs of variables: the summaries of
@@ -58,18 +59,36 @@ pub fn summarise(
     lattice: LatticeNo,
 ) -> Result<Summaries, NoMemory>
     requires { lattice < 16 }
-    ensures { IfOk result (λ summaries. Summarises graph.now lattice summaries) }
+    ensures summaries { IfOk result (λ summaries. Summarises graph.now lattice summaries) }
+    ensures alone { IfOk result (λ summaries. SummarisesFrom graph.now lattice [] summaries) }
+{
+    summarise_from(alloc, graph, lattice, &[])
+}
+
+/// The same with the matched paths that begin at given variables too. A variable past those of the graph has none; one
+/// that is given twice, or is the inner end of an `Enter`, adds nothing. Costs as `summarise` does with the pairs that this
+/// adds, and a step for each variable that is given.
+pub fn summarise_from(
+    alloc: Global,
+    graph: &FlowGraph,
+    lattice: LatticeNo,
+    starts: &[VarId],
+) -> Result<Summaries, NoMemory>
+    requires { lattice < 16 }
+    ensures { IfOk result
+        (λ summaries. SummarisesFrom graph.now lattice starts.now summaries) }
 {
     let index = Adjacency::build(alloc, graph)?;
     let crossings = Crossings::build(alloc, graph)?;
-    let ends = inner_ends(alloc, graph, lattice)?;
+    let mut marks = inner_ends(alloc, graph, lattice)?;
+    mark_starts(starts, &mut marks);
     let given = Premises {
         graph,
         lattice,
         vars: graph.vars(),
         index: &index,
         crossings: &crossings,
-        ends: ends.as_slice(),
+        marks: marks.as_slice(),
     };
     let mut found = Found::new(alloc);
     from_ends(&given, &mut found)?;
@@ -80,7 +99,8 @@ pub fn summarise(
 /// For each variable whether an `Enter` of the lattice leads to it.
 fn inner_ends(alloc: Global, graph: &FlowGraph, lattice: LatticeNo) -> Result<Vec<bool>, NoMemory>
     requires { lattice < 16 }
-    ensures { IfOk result (λ ends. AreEnds graph.now lattice ends.items) }
+    ensures size { IfOk result (λ ends. length ends.items ≡ vars_of graph.now) }
+    ensures ends { IfOk result (λ ends. AreEnds graph.now lattice ends.items) }
 {
     let mut ends = vec![in alloc; false; graph.vars() as usize]?;
     for n in 0..graph.len() {
@@ -111,13 +131,32 @@ fn mark(graph: &FlowGraph, lattice: LatticeNo, at: EdgeId, ends: &mut Vec<bool>)
     }
 }
 
-/// Looks at nothing, as the path from each inner end to itself.
+/// Marks the variables of a list, where there are marks for them.
+fn mark_starts(starts: &[VarId], marks: &mut Vec<bool>)
+    ensures { AreMarkedToo starts.now marks.old.items marks.new.items }
+{
+    for start in starts {
+        mark_start(*start, marks);
+    }
+}
+
+/// Marks a variable, where there is a mark for it.
+fn mark_start(at: VarId, marks: &mut Vec<bool>)
+    ensures { AreMarkedToo (at ∷ []) marks.old.items marks.new.items }
+{
+    let place = at.number() as usize;
+    if place < marks.len() {
+        marks[place] = true;
+    }
+}
+
+/// Looks at nothing, as the path from each marked variable to itself.
 fn from_ends(given: &Premises, found: &mut Found) -> Result<(), NoMemory>
     requires ready { AreReady given.now }
-    requires kept { IsKept given.now.graph.now given.now.lattice found.old }
+    requires kept { IsKept given.now found.old }
     requires none { found.old.known ≡ [] }
-    ensures kept { OnOk result (IsKept given.now.graph.now given.now.lattice found.new) }
-    ensures done { OnOk result (AreDone given.now.graph.now given.now.lattice
+    ensures kept { OnOk result (IsKept given.now found.new) }
+    ensures done { OnOk result (AreDone given.now.graph.now given.now.lattice given.now.marks.now
         (Looked found.new.known given.now.vars 0) found.new.known) }
 {
     for n in 0..given.vars {
@@ -126,16 +165,16 @@ fn from_ends(given: &Premises, found: &mut Found) -> Result<(), NoMemory>
     Ok(())
 }
 
-/// Looks at nothing, as the path from a variable to itself, where an `Enter` leads to it.
+/// Looks at nothing, as the path from a variable to itself, where it is marked.
 fn from_end(given: &Premises, found: &mut Found, at: VarId) -> Result<(), NoMemory>
     requires ready { AreReady given.now }
-    requires kept { IsKept given.now.graph.now given.now.lattice found.old }
-    ensures kept { OnOk result (IsKept given.now.graph.now given.now.lattice found.new) }
+    requires kept { IsKept given.now found.old }
+    ensures kept { OnOk result (IsKept given.now found.new) }
     ensures grows { OnOk result (Grows found.old.known found.new.known) }
-    ensures done { OnOk result (IsInnerEnd given.now.graph.now given.now.lattice at →
-        IsLookedAt given.now.graph.now given.now.lattice found.old.known found.new.known at at) }
+    ensures done { OnOk result (IsMarked given.now.marks.now at →
+        IsLookedAt given.now.graph.now given.now.lattice given.now.marks.now found.old.known found.new.known at at) }
 {
-    if !is_end(given, at) {
+    if !is_marked(given, at) {
         return Ok(());
     }
     look(given, found, at, at)
@@ -144,11 +183,11 @@ fn from_end(given: &Premises, found: &mut Found, at: VarId) -> Result<(), NoMemo
 /// Looks at each pair in turn, and at those that this adds.
 fn from_pairs(given: &Premises, found: &mut Found) -> Result<(), NoMemory>
     requires ready { AreReady given.now }
-    requires kept { IsKept given.now.graph.now given.now.lattice found.old }
-    requires done { AreDone given.now.graph.now given.now.lattice
+    requires kept { IsKept given.now found.old }
+    requires done { AreDone given.now.graph.now given.now.lattice given.now.marks.now
         (Looked found.old.known given.now.vars 0) found.old.known }
-    ensures kept { OnOk result (IsKept given.now.graph.now given.now.lattice found.new) }
-    ensures done { OnOk result (AreDone given.now.graph.now given.now.lattice
+    ensures kept { OnOk result (IsKept given.now found.new) }
+    ensures done { OnOk result (AreDone given.now.graph.now given.now.lattice given.now.marks.now
         (Looked found.new.known given.now.vars (length found.new.known)) found.new.known) }
 {
     let mut at = 0;
@@ -160,13 +199,12 @@ fn from_pairs(given: &Premises, found: &mut Found) -> Result<(), NoMemory>
     Ok(())
 }
 
-/// Whether an `Enter` leads to a variable.
-fn is_end(given: &Premises, at: VarId) -> bool
-    requires { AreReady given.now }
-    ensures { IsTrue result ↔ IsInnerEnd given.now.graph.now given.now.lattice at }
+/// Whether pairs may begin at a variable. Any variable is taken.
+fn is_marked(given: &Premises, at: VarId) -> bool
+    ensures { IsTrue result ↔ IsMarked given.now.marks.now at }
 {
-    match given.ends.get(at.number() as usize) {
-        Some(is_end) => *is_end,
+    match given.marks.get(at.number() as usize) {
+        Some(is_marked) => *is_marked,
         None => false,
     }
 }
@@ -174,13 +212,13 @@ fn is_end(given: &Premises, at: VarId) -> bool
 /// Adds what follows from a path and the constraints that begin where it ends.
 fn look(given: &Premises, found: &mut Found, from: VarId, to: VarId) -> Result<(), NoMemory>
     requires ready { AreReady given.now }
-    requires kept { IsKept given.now.graph.now given.now.lattice found.old }
-    requires begins { IsInnerEnd given.now.graph.now given.now.lattice from }
+    requires kept { IsKept given.now found.old }
+    requires begins { IsMarked given.now.marks.now from }
     requires path { Leads found.old.known from to }
-    ensures kept { OnOk result (IsKept given.now.graph.now given.now.lattice found.new) }
+    ensures kept { OnOk result (IsKept given.now found.new) }
     ensures grows { OnOk result (Grows found.old.known found.new.known) }
     ensures done { OnOk result
-        (IsLookedAt given.now.graph.now given.now.lattice found.old.known found.new.known from to) }
+        (IsLookedAt given.now.graph.now given.now.lattice given.now.marks.now found.old.known found.new.known from to) }
 {
     for edge in given.index.out(to) {
         follow(given, found, from, to, *edge)?;
@@ -197,14 +235,13 @@ fn follow(
     edge: EdgeId,
 ) -> Result<(), NoMemory>
     requires ready { AreReady given.now }
-    requires kept { IsKept given.now.graph.now given.now.lattice found.old }
-    requires begins { IsInnerEnd given.now.graph.now given.now.lattice from }
+    requires kept { IsKept given.now found.old }
+    requires begins { IsMarked given.now.marks.now from }
     requires path { Leads found.old.known from to }
     requires edge { IsKeyed given.now.graph.now link_begins to edge }
-    ensures kept { OnOk result (IsKept given.now.graph.now given.now.lattice found.new) }
+    ensures kept { OnOk result (IsKept given.now found.new) }
     ensures grows { OnOk result (Grows found.old.known found.new.known) }
-    ensures done { OnOk result (IsFollowed given.now.graph.now
-        given.now.lattice found.old.known found.new.known from to edge) }
+    ensures done { OnOk result (IsFollowed given.now.graph.now given.now.lattice given.now.marks.now found.old.known found.new.known from to edge) }
 {
     let constraint = given.graph.constraint(edge);
     if !constraint.is_in(given.lattice) {
@@ -242,12 +279,12 @@ fn enter(
     call: &Crossing,
 ) -> Result<(), NoMemory>
     requires ready { AreReady given.now }
-    requires kept { IsKept given.now.graph.now given.now.lattice found.old }
-    requires begins { IsInnerEnd given.now.graph.now given.now.lattice from }
+    requires kept { IsKept given.now found.old }
+    requires begins { IsMarked given.now.marks.now from }
     requires path { Leads found.old.known from call.now.from }
     requires call { Stands given.now.graph.now given.now.lattice edge
         (Enter call.now.site call.now.from call.now.to) }
-    ensures kept { OnOk result (IsKept given.now.graph.now given.now.lattice found.new) }
+    ensures kept { OnOk result (IsKept given.now found.new) }
     ensures grows { OnOk result (Grows found.old.known found.new.known) }
     ensures done { OnOk result ((m : ℕ) → IsLeft given.now.graph.now
         given.now.lattice found.old.known found.new.known from call.now.site call.now.to m) }
@@ -267,12 +304,12 @@ fn close_pairs(
     call: &Crossing,
 ) -> Result<(), NoMemory>
     requires ready { AreReady given.now }
-    requires kept { IsKept given.now.graph.now given.now.lattice found.old }
-    requires begins { IsInnerEnd given.now.graph.now given.now.lattice from }
+    requires kept { IsKept given.now found.old }
+    requires begins { IsMarked given.now.marks.now from }
     requires path { Leads found.old.known from call.now.from }
     requires call { Stands given.now.graph.now given.now.lattice edge
         (Enter call.now.site call.now.from call.now.to) }
-    ensures kept { OnOk result (IsKept given.now.graph.now given.now.lattice found.new) }
+    ensures kept { OnOk result (IsKept given.now found.new) }
     ensures grows { OnOk result (Grows found.old.known found.new.known) }
     ensures done { OnOk result
         ((b m : ℕ) → HasPair found.old.known call.now.to b → IsLeftFrom given.now.graph.now
@@ -297,12 +334,12 @@ fn close_all(
     last: VarId,
 ) -> Result<(), NoMemory>
     requires ready { AreReady given.now }
-    requires kept { IsKept given.now.graph.now given.now.lattice found.old }
-    requires begins { IsInnerEnd given.now.graph.now given.now.lattice from }
+    requires kept { IsKept given.now found.old }
+    requires begins { IsMarked given.now.marks.now from }
     requires path { Leads found.old.known from call.now.from }
     requires call { Stands given.now.graph.now given.now.lattice edge
         (Enter call.now.site call.now.from call.now.to) }
-    ensures kept { OnOk result (IsKept given.now.graph.now given.now.lattice found.new) }
+    ensures kept { OnOk result (IsKept given.now found.new) }
     ensures grows { OnOk result (Grows found.old.known found.new.known) }
     ensures done { OnOk result ((m : ℕ) → IsLeftFrom given.now.graph.now
         given.now.lattice found.old.known found.new.known from call.now.site call.now.to last m) }
@@ -331,13 +368,13 @@ fn close(
     other: EdgeId,
 ) -> Result<(), NoMemory>
     requires ready { AreReady given.now }
-    requires kept { IsKept given.now.graph.now given.now.lattice found.old }
-    requires begins { IsInnerEnd given.now.graph.now given.now.lattice from }
+    requires kept { IsKept given.now found.old }
+    requires begins { IsMarked given.now.marks.now from }
     requires path { Leads found.old.known from call.now.from }
     requires call { Stands given.now.graph.now given.now.lattice edge
         (Enter call.now.site call.now.from call.now.to) }
     requires other { IsKeyed given.now.graph.now link_site call.now.site other }
-    ensures kept { OnOk result (IsKept given.now.graph.now given.now.lattice found.new) }
+    ensures kept { OnOk result (IsKept given.now found.new) }
     ensures grows { OnOk result (Grows found.old.known found.new.known) }
     ensures done { OnOk result (IsLeft given.now.graph.now
         given.now.lattice found.old.known found.new.known from call.now.site call.now.to other) }
@@ -370,15 +407,14 @@ fn leave(
     back: &Crossing,
 ) -> Result<(), NoMemory>
     requires ready { AreReady given.now }
-    requires kept { IsKept given.now.graph.now given.now.lattice found.old }
+    requires kept { IsKept given.now found.old }
     requires path { Leads found.old.known from back.now.from }
     requires back { Stands given.now.graph.now given.now.lattice edge
         (Leave back.now.site back.now.from back.now.to) }
-    ensures kept { OnOk result (IsKept given.now.graph.now given.now.lattice found.new) }
+    ensures kept { OnOk result (IsKept given.now found.new) }
     ensures grows { OnOk result (Grows found.old.known found.new.known) }
     ensures done { OnOk result
-        (AreOfOne given.now.graph.now from back.now.from → (m : ℕ) → IsEntered given.now.graph.now
-        given.now.lattice found.old.known found.new.known from back.now.site back.now.to m) }
+        (AreOfOne given.now.graph.now from back.now.from → (m : ℕ) → IsEntered given.now.graph.now given.now.lattice given.now.marks.now found.old.known found.new.known from back.now.site back.now.to m) }
 {
     if !are_of_one(given.graph, from, back.from) {
         return Ok(());
@@ -407,16 +443,15 @@ fn open(
     other: EdgeId,
 ) -> Result<(), NoMemory>
     requires ready { AreReady given.now }
-    requires kept { IsKept given.now.graph.now given.now.lattice found.old }
+    requires kept { IsKept given.now found.old }
     requires path { Leads found.old.known from back.now.from }
     requires inside { AreOfOne given.now.graph.now from back.now.from }
     requires back { Stands given.now.graph.now given.now.lattice edge
         (Leave back.now.site back.now.from back.now.to) }
     requires other { IsKeyed given.now.graph.now link_site back.now.site other }
-    ensures kept { OnOk result (IsKept given.now.graph.now given.now.lattice found.new) }
+    ensures kept { OnOk result (IsKept given.now found.new) }
     ensures grows { OnOk result (Grows found.old.known found.new.known) }
-    ensures done { OnOk result (IsEntered given.now.graph.now
-        given.now.lattice found.old.known found.new.known from back.now.site back.now.to other) }
+    ensures done { OnOk result (IsEntered given.now.graph.now given.now.lattice given.now.marks.now found.old.known found.new.known from back.now.site back.now.to other) }
 {
     let constraint = given.graph.constraint(other);
     if !constraint.is_in(given.lattice) {
@@ -439,30 +474,28 @@ fn open(
 /// Adds what follows from a group and each path to where it begins.
 fn behind(given: &Premises, found: &mut Found, to: VarId, why: &Reason) -> Result<(), NoMemory>
     requires ready { AreReady given.now }
-    requires kept { IsKept given.now.graph.now given.now.lattice found.old }
+    requires kept { IsKept given.now found.old }
     requires part { EndsAt given.now.graph.now given.now.lattice found.old.known why.now to }
-    ensures kept { OnOk result (IsKept given.now.graph.now given.now.lattice found.new) }
+    ensures kept { OnOk result (IsKept given.now found.new) }
     ensures grows { OnOk result (Grows found.old.known found.new.known) }
-    ensures done { OnOk result (AllFollow given.now.graph.now
-        given.now.lattice found.old.known found.new.known (before_of why.now) to) }
+    ensures done { OnOk result (AllFollow given.now.graph.now given.now.marks.now found.old.known found.new.known (before_of why.now) to) }
 {
     behind_end(given, found, to, why)?;
     behind_pairs(given, found, to, why)?;
     Ok(())
 }
 
-/// Adds what follows from a group and nothing before it, where an `Enter` leads to where it begins.
+/// Adds what follows from a group and nothing before it, where pairs may begin where it does.
 fn behind_end(given: &Premises, found: &mut Found, to: VarId, why: &Reason) -> Result<(), NoMemory>
     requires ready { AreReady given.now }
-    requires kept { IsKept given.now.graph.now given.now.lattice found.old }
+    requires kept { IsKept given.now found.old }
     requires part { EndsAt given.now.graph.now given.now.lattice found.old.known why.now to }
-    ensures kept { OnOk result (IsKept given.now.graph.now given.now.lattice found.new) }
+    ensures kept { OnOk result (IsKept given.now found.new) }
     ensures grows { OnOk result (Grows found.old.known found.new.known) }
-    ensures done { OnOk result (IsInnerEnd given.now.graph.now given.now.lattice
-        (before_of why.now) → Follows given.now.graph.now found.new.known (before_of why.now) to) }
+    ensures done { OnOk result (IsMarked given.now.marks.now (before_of why.now) → Follows given.now.graph.now found.new.known (before_of why.now) to) }
 {
     let before = why.before();
-    if !is_end(given, before) {
+    if !is_marked(given, before) {
         return Ok(());
     }
     extend(given, found, before, to, why)
@@ -476,9 +509,9 @@ fn behind_pairs(
     why: &Reason,
 ) -> Result<(), NoMemory>
     requires ready { AreReady given.now }
-    requires kept { IsKept given.now.graph.now given.now.lattice found.old }
+    requires kept { IsKept given.now found.old }
     requires part { EndsAt given.now.graph.now given.now.lattice found.old.known why.now to }
-    ensures kept { OnOk result (IsKept given.now.graph.now given.now.lattice found.new) }
+    ensures kept { OnOk result (IsKept given.now found.new) }
     ensures grows { OnOk result (Grows found.old.known found.new.known) }
     ensures done { OnOk result ((t : ℕ) → HasPair found.old.known t (before_of why.now) →
         Follows given.now.graph.now found.new.known t to) }
@@ -501,11 +534,11 @@ fn extend(
     why: &Reason,
 ) -> Result<(), NoMemory>
     requires ready { AreReady given.now }
-    requires kept { IsKept given.now.graph.now given.now.lattice found.old }
-    requires begins { IsInnerEnd given.now.graph.now given.now.lattice from }
+    requires kept { IsKept given.now found.old }
+    requires begins { IsMarked given.now.marks.now from }
     requires front { Leads found.old.known from (before_of why.now) }
     requires part { EndsAt given.now.graph.now given.now.lattice found.old.known why.now to }
-    ensures kept { OnOk result (IsKept given.now.graph.now given.now.lattice found.new) }
+    ensures kept { OnOk result (IsKept given.now found.new) }
     ensures grows { OnOk result (Grows found.old.known found.new.known) }
     ensures done { OnOk result (Follows given.now.graph.now found.new.known from to) }
 {

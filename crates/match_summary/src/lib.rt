@@ -12,7 +12,7 @@ mod summary;
 #[cfg(test)]
 mod tests;
 
-pub use closure::summarise;
+pub use closure::{summarise, summarise_from};
 pub use crossings::{Crossings, InnerEnd, Way};
 pub use inside::joins;
 pub use reason::{Reason, Summary};

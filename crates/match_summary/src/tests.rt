@@ -4,8 +4,8 @@ ghost use Rattle.std.specs.Prelude.{◌≡◌, length};
 ghost use Rattle.flow_graph.specs.System.{IsWithin};
 
 use crate::reason::Reason;
-use crate::summarise;
 use crate::summary::Summaries;
+use crate::{summarise, summarise_from};
 use flow_graph::{Constraint, FlowGraph, Link, Site};
 use qual_base::{EdgeId, FuncId, LatticeNo, Numbered, Owner, SiteId, Span, TokenId, UnitNo, VarId};
 use std::alloc::Global;
@@ -101,6 +101,34 @@ fn a_group_rests_on_the_path_inside(rt: HostRuntime) -> Result<(), Fail> {
     }
     let none = summarise(rt.alloc(), &graph, LatticeNo::new(0))?;
     assert!(rt; !none.holds(VarId::new(2), VarId::new(3)));
+    Ok(())
+}
+
+#[test]
+fn pairs_begin_at_given_variables_too(rt: HostRuntime) -> Result<(), Fail> {
+    let mut graph = two_functions(&rt, rt.alloc())?;
+    graph.set_owner(VarId::new(5), Owner::Function(FuncId::new(0)))?;
+    put(&mut graph, Link::Le(VarId::new(5), VarId::new(0)))?;
+    let starts = [
+        VarId::new(5),
+        VarId::new(4),
+        VarId::new(4_000_000_000),
+        VarId::new(5),
+    ];
+    let of_calls = summarise(rt.alloc(), &graph, LatticeNo::new(1))?;
+    let of_starts = summarise_from(rt.alloc(), &graph, LatticeNo::new(1), &starts)?;
+    let group = Reason::Group {
+        before: VarId::new(0),
+        enter: EdgeId::new(0),
+        leave: EdgeId::new(2),
+    };
+    let last = Reason::Last(EdgeId::new(4), VarId::new(5));
+    for (to, why) in [(0, Some(last)), (1, Some(group)), (2, None), (5, None)] {
+        assert_eq!(rt; of_starts.why(VarId::new(5), VarId::new(to)), why);
+        assert!(rt; !of_calls.holds(VarId::new(5), VarId::new(to)));
+    }
+    assert!(rt; leads(&of_starts, 0, 1) && leads(&of_starts, 2, 3));
+    assert!(rt; !leads(&of_starts, 4, 0) && !leads(&of_starts, 4_000_000_000, 0));
     Ok(())
 }
 

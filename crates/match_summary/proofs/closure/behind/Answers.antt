@@ -11,5 +11,5 @@ returns-clause-grows c = grows_then _ _ _ c.in_ok-behind_end.ensures.grows c.in_
 
 pub returns-clause-done : goal.returns-clause-done
 returns-clause-done c =
-    all_follow c.args.given.now.graph.now c.args.given.now.lattice c.args.found.now.known c.behind_end.new.found.known c.behind_pairs.new.found.known (before_of c.args.why.now) c.args.to
+    all_follow c.args.given.now.graph.now c.args.given.now.marks.now c.args.found.now.known c.behind_end.new.found.known c.behind_pairs.new.found.known (before_of c.args.why.now) c.args.to
     c.in_ok-behind_end.ensures.grows c.in_ok-behind_pairs.ensures.grows c.in_ok-behind_end.ensures.done c.in_ok-behind_pairs.ensures.done

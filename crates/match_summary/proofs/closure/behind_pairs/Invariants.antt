@@ -7,7 +7,7 @@ use Rattle.match_summary.proofs.closure.behind_pairs.Given as goal
 
 abbrev pub invariant-loop-next : goal.invariant-loop-next
 invariant-loop-next l = record {
-  kept : IsKept l.given.graph.now l.given.lattice l.found;
+  kept : IsKept l.given l.found;
   grows : Grows l.initial.found.known l.found.known;
   there : (n : ℕ) → link_of l.next ≡ n + 1 → slice_get (targets l.found.known) n ≡ Some (before_of l.why);
   done : (n : ℕ) (row : Summary) → slice_get l.initial.found.known n ≡ Some row → row.to ≡ before_of l.why → link_of l.next ≤ n → Follows l.given.graph.now l.found.known row.from l.to;

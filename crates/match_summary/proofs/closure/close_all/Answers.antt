@@ -1,4 +1,4 @@
-use Rattle.std.proofs.Common.{◌≡◌, ℕ, ◌+◌, ◌≤◌, ◌<◌, ap, arith}
+use Rattle.std.proofs.Common.{◌≡◌, ◌+◌, ◌≤◌, ◌<◌, ap, arith}
 use Rattle.match_summary.specs.Chained.{link_of}
 use Rattle.match_summary.specs.Closing.{IsLeftFrom}
 use Rattle.match_summary.proofs.Crossing.{crossed_first, crossed_more, crosses_site, leave_crosses}

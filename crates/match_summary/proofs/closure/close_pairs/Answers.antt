@@ -1,10 +1,9 @@
-use Rattle.std.proofs.Common.{◌≡◌, ℕ, ◌+◌, ◌<◌, ◌≤◌, inl, inr, length, Some, slice_get, refl, sym, ◌∙◌, ap, subst, arith}
+use Rattle.std.proofs.Common.{◌≡◌, ℕ, ◌+◌, ◌<◌, ◌≤◌, inl, inr, Some, slice_get, refl, sym, ◌∙◌, ap, subst, arith}
 use Rattle.std.proofs.lemmas.Bool.{cases_lt}
 use Rattle.std.proofs.lemmas.Option.{slice_get_within}
 use Rattle.match_summary.specs.declared.reason.Summary.{Summary}
 use Rattle.match_summary.specs.Chained.{link_of}
 use Rattle.match_summary.specs.Closing.{IsLeftFrom}
-use Rattle.match_summary.specs.Starts.{sources}
 use Rattle.match_summary.proofs.Growth.{at_contains, at_grown, grows_not, grows_then, leads_grown, left_between, sources_grown}
 use Rattle.match_summary.proofs.Sources.{source_at, source_row}
 use Rattle.match_summary.proofs.closure.close_pairs.Goals as goal

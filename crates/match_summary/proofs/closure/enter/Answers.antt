@@ -1,4 +1,4 @@
-use Rattle.std.proofs.Common.{◌≡◌, ℕ, inl, inr, subst}
+use Rattle.std.proofs.Common.{ℕ, inl, inr, subst}
 use Rattle.match_summary.specs.Closing.{IsLeftFrom}
 use Rattle.match_summary.proofs.Growth.{grows_not, grows_then, has_grown, leads_grown, left_between}
 use Rattle.match_summary.proofs.closure.enter.Goals as goal

@@ -9,7 +9,7 @@ pub returns-clause-kept : goal.returns-clause-kept
 returns-clause-kept c =
     let row : Summary = record { from = c.args.from; to = c.args.to; why = c.args.why.now } in
     record {
-      good = rw c.in_ok-push.ensures.known (good_push c.args.given.now.graph.now c.args.given.now.lattice c.args.found.now.known row c.requires.kept.good
+      good = rw c.in_ok-push.ensures.known (good_push c.args.given.now.graph.now c.args.given.now.lattice c.args.given.now.marks.now c.args.found.now.known row c.requires.kept.good
           (record { part = c.requires.part; front = c.requires.front; inside = c.if-not-are_of_one.ensures.0 refl })
           (λ pair. false≢true (c.if-holds.ensures.1 pair)) c.requires.begins);
       chained = c.in_ok-push.ensures.chained;

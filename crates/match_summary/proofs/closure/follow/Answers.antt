@@ -7,7 +7,7 @@ use Rattle.match_summary.proofs.closure.follow.Goals as goal
 
 pub returns-in-Enter-clause-done : goal.returns-in-Enter-clause-done
 returns-in-Enter-clause-done c = on_ok_weaker c.enter.result
-    (enter_followed c.args.given.now.graph.now c.args.given.now.lattice c.args.found.now.known c.enter.new.found.known c.args.from c.args.to c.args.edge c.constraint-constraint.result c.constraint-constraint.ensures.there
+    (enter_followed c.args.given.now.graph.now c.args.given.now.lattice c.args.given.now.marks.now c.args.found.now.known c.enter.new.found.known c.args.from c.args.to c.args.edge c.constraint-constraint.result c.constraint-constraint.ensures.there
     c.in-Enter.site c.in-Enter.before c.in-Enter.inner c.in-Enter.is) c.enter.ensures.done
 
 pub returns-in-Leave-clause-done : goal.returns-in-Leave-clause-done
@@ -16,5 +16,5 @@ returns-in-Leave-clause-done c =
     c.args.to (Leave c.in-Leave.site c.in-Leave.last c.in-Leave.end) c.in-Leave.is c.requires.edge in
     let at : c.in-Leave.last ≡ c.args.to = cc in
     on_ok_weaker c.leave.result
-    (leave_followed c.args.given.now.graph.now c.args.given.now.lattice c.args.found.now.known c.leave.new.found.known c.args.from c.args.to c.args.edge c.constraint-constraint.result c.constraint-constraint.ensures.there
+    (leave_followed c.args.given.now.graph.now c.args.given.now.lattice c.args.given.now.marks.now c.args.found.now.known c.leave.new.found.known c.args.from c.args.to c.args.edge c.constraint-constraint.result c.constraint-constraint.ensures.there
     c.in-Leave.site c.in-Leave.last c.in-Leave.end c.in-Leave.is at) c.leave.ensures.done

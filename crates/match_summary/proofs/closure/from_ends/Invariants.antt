@@ -3,6 +3,6 @@ use Rattle.match_summary.proofs.closure.from_ends.Given as goal
 
 abbrev pub invariant-loop-n : goal.invariant-loop-n
 invariant-loop-n l = record {
-  kept : IsKept l.given.graph.now l.given.lattice l.found;
-  done : AreDone l.given.graph.now l.given.lattice (Looked l.found.known l.n 0) l.found.known;
+  kept : IsKept l.given l.found;
+  done : AreDone l.given.graph.now l.given.lattice l.given.marks.now (Looked l.found.known l.n 0) l.found.known;
 }

@@ -17,7 +17,7 @@ look-requires-clause-path c = inr (c.row-pair.result.why, contains_at c.loop-at.
 
 pub loop-at-smaller : goal.loop-at-smaller
 loop-at-smaller c =
-    let few = few_pairs c.args.given.now.graph.now c.args.given.now.lattice c.loop-at.found.known c.loop-at.invariant.kept.good in
+    let few = few_pairs c.args.given.now.graph.now c.args.given.now.lattice c.args.given.now.marks.now c.loop-at.found.known c.loop-at.invariant.kept.good in
     let within = c.loop-at-test.true in
     let less : c.loop-at.at < length c.args.given.now.graph.now.owners * length c.args.given.now.graph.now.owners =
     omega (arith, few, within, c.len.ensures) in
@@ -32,7 +32,7 @@ loop-at-preserved c =
     record {
       kept = step.kept;
       within = omega (arith, within, longer);
-      done = done_more c.args.given.now.graph.now c.args.given.now.lattice (Looked c.loop-at.found.known c.args.given.now.vars c.loop-at.at) (Looked c.look.new.found.known c.args.given.now.vars (c.loop-at.at + 1)) _ _
+      done = done_more c.args.given.now.graph.now c.args.given.now.lattice c.args.given.now.marks.now c.requires.ready.marked (Looked c.loop-at.found.known c.args.given.now.vars c.loop-at.at) (Looked c.look.new.found.known c.args.given.now.vars (c.loop-at.at + 1)) _ _
           c.row-pair.result.from c.row-pair.result.to so_far.done step.grows (λ inner. step.done)
           (looked_known c.loop-at.found.known c.args.given.now.vars c.loop-at.at)
           (inr (c.row-pair.result.why, contains_at c.loop-at.found.known c.loop-at.at _ c.row-pair.ensures))

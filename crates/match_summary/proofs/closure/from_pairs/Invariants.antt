@@ -4,9 +4,9 @@ use Rattle.match_summary.proofs.closure.from_pairs.Given as goal
 
 abbrev pub invariant-loop-at : goal.invariant-loop-at
 invariant-loop-at l = record {
-  kept : IsKept l.given.graph.now l.given.lattice l.found;
+  kept : IsKept l.given l.found;
   within : l.at ≤ length l.found.known;
-  done : AreDone l.given.graph.now l.given.lattice (Looked l.found.known l.given.vars l.at) l.found.known;
+  done : AreDone l.given.graph.now l.given.lattice l.given.marks.now (Looked l.found.known l.given.vars l.at) l.found.known;
 }
 
 abbrev pub decreases-loop-at : goal.decreases-loop-at

@@ -15,8 +15,10 @@ none_marked n a = elim (cases_lt a n) [
 pub loop-n-init : goal.loop-n-init
 loop-n-init c =
     let same = c.in_ok-ends.ensures.items_if_clones_equal (λ y e. e) in
+    let count : length c.in_ok-ends.ends.items ≡ c.vars.result = ap length same ∙ length-replicate c.vars.result false in
     record {
-      below = subst (λ (k : ℕ). AllBelow c.args.graph.now k) (sym (ap length same ∙ length-replicate c.vars.result false)) c.vars.ensures.above;
+      size = count ∙ c.vars.ensures.value;
+      below = subst (λ (k : ℕ). AllBelow c.args.graph.now k) (sym count) c.vars.ensures.above;
       only = λ a is. absurd (false≢true (sym (none_marked _ a) ∙ ap (λ xs. get_or xs a false) (sym same) ∙ is));
       all = λ k s u a lt st. absurd (omega (arith, lt));
     }
@@ -26,6 +28,7 @@ loop-n-preserved c =
     let step = c.mark.ensures in
     let at : c.new.result ≡ c.loop-n.n = c.new.ensures in
     record {
+      size = step.size ∙ c.loop-n.invariant.size;
       below = subst (λ (k : ℕ). AllBelow c.args.graph.now k) (sym step.size) c.loop-n.invariant.below;
       only = λ a is. elim (step.only a is) [ inl old ↦ c.loop-n.invariant.only a old | inr inner ↦ inner ];
       all = λ k s u a lt st. elim (cases_lt k c.loop-n.n) [
@@ -34,8 +37,8 @@ loop-n-preserved c =
       ];
     }
 
-pub returns : goal.returns
-returns c = λ a. (
+pub returns-clause-ends : goal.returns-clause-ends
+returns-clause-ends c = λ a. (
   c.loop-n.invariant.only a,
   λ inner.
       let lt = slice_get_within c.args.graph.now.constraints inner.0 inner.3.constraint inner.3.there in

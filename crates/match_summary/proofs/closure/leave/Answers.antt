@@ -1,4 +1,4 @@
-use Rattle.std.proofs.Common.{◌≡◌, ℕ, ◌+◌, ◌≤◌, ◌<◌, ap, arith}
+use Rattle.std.proofs.Common.{◌≡◌, ◌+◌, ◌≤◌, ◌<◌, ap, arith}
 use Rattle.match_summary.specs.Chained.{link_of}
 use Rattle.match_summary.specs.Closing.{IsEntered}
 use Rattle.match_summary.proofs.Crossing.{crossed_first, crossed_more, crosses_site, enter_crosses}
@@ -11,7 +11,7 @@ loop-next-init c = record {
   grows = grows_not c.args.found.now.known;
   there = c.newest-next.ensures.there;
   done = crossed_first c.args.given.now.graph.now _
-      (IsEntered c.args.given.now.graph.now c.args.given.now.lattice c.args.found.now.known c.args.found.now.known c.args.from c.args.back.now.site c.args.back.now.to)
+      (IsEntered c.args.given.now.graph.now c.args.given.now.lattice c.args.given.now.marks.now c.args.found.now.known c.args.found.now.known c.args.from c.args.back.now.site c.args.back.now.to)
       _ c.newest-next.ensures (λ n elsewhere x st. absurd (elsewhere (enter_crosses c.args.given.now.graph.now c.args.given.now.lattice n c.args.back.now.site x c.args.from st)));
 }
 
@@ -41,10 +41,10 @@ loop-next-preserved c =
       grows = grows_then _ _ _ so_far.grows step.grows;
       there = c.before-next.ensures.there;
       done = crossed_more c.args.given.now.graph.now _
-          (IsEntered c.args.given.now.graph.now c.args.given.now.lattice c.args.found.now.known c.open.new.found.known c.args.from c.args.back.now.site c.args.back.now.to)
+          (IsEntered c.args.given.now.graph.now c.args.given.now.lattice c.args.given.now.marks.now c.args.found.now.known c.open.new.found.known c.args.from c.args.back.now.site c.args.back.now.to)
           c.in-Some.other _ c.before-next.ensures
-          (λ n after. entered_on _ _ _ _ _ _ _ _ _ step.grows (so_far.done n (omega (arith, after, is))))
-          (entered_from _ _ _ _ _ _ _ _ _ so_far.grows step.done)
+          (λ n after. entered_on _ _ _ _ _ _ _ _ _ _ step.grows (so_far.done n (omega (arith, after, is))))
+          (entered_from _ _ _ _ _ _ _ _ _ _ so_far.grows step.done)
           (λ n elsewhere x st. absurd (elsewhere (enter_crosses c.args.given.now.graph.now c.args.given.now.lattice n c.args.back.now.site x c.args.from st)));
     }
 

@@ -23,15 +23,15 @@ loop-edge-preserved c =
     record {
       kept = step.kept;
       grows = grows_then _ _ _ so_far.grows step.grows;
-      done = turn_more (λ (n : ℕ). IsFollowed c.args.given.now.graph.now c.args.given.now.lattice c.args.found.now.known c.follow.new.found.known c.args.from c.args.to n)
+      done = turn_more (λ (n : ℕ). IsFollowed c.args.given.now.graph.now c.args.given.now.lattice c.args.given.now.marks.now c.args.found.now.known c.follow.new.found.known c.args.from c.args.to n)
           c.out-edge-items.result.now c.loop-edge.edge-index c.edge-item.result c.loop-edge-test.true c.edge-item.is
-          (λ k n lt is. followed_on _ _ _ _ _ _ _ _ step.grows (so_far.done k n lt is)) (followed_from _ _ _ _ _ _ _ _ so_far.grows step.done);
+          (λ k n lt is. followed_on _ _ _ _ _ _ _ _ _ step.grows (so_far.done k n lt is)) (followed_from _ _ _ _ _ _ _ _ _ so_far.grows step.done);
     }
 
 pub returns-clause-done : goal.returns-clause-done
 returns-clause-done c = λ n.
     let listed = λ (has : IsKeyed c.args.given.now.graph.now link_begins c.args.to n).
-    turns_all (λ (n : ℕ). IsFollowed c.args.given.now.graph.now c.args.given.now.lattice c.args.found.now.known c.loop-edge.found.known c.args.from c.args.to n)
+    turns_all (λ (n : ℕ). IsFollowed c.args.given.now.graph.now c.args.given.now.lattice c.args.given.now.marks.now c.args.found.now.known c.loop-edge.found.known c.args.from c.args.to n)
     c.out-edge-items.result.now c.loop-edge.edge-index c.loop-edge-test.false c.loop-edge.invariant.done n
     (keyed_item c.args.given.now.graph.now link_begins c.args.to _ c.out-edge-items.result.now n (c.requires.ready.index.out c.args.to) c.out-edge-items.ensures has) in
     record {

@@ -1,4 +1,4 @@
-use Rattle.std.proofs.Common.{◌≡◌, ℕ, Some, slice_get, sym, ◌∙◌, ap, subst}
+use Rattle.std.proofs.Common.{ℕ, slice_get, ◌∙◌, ap, subst}
 use Rattle.match_summary.specs.Chained.{IsLink, link_of}
 use Rattle.match_summary.specs.Crossings.{bucket_at, buckets_in}
 use Rattle.match_summary.proofs.Crossing.{crosses_bucket}

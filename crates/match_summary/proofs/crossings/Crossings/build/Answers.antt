@@ -1,6 +1,6 @@
 use Rattle.std.proofs.Common.{◌≡◌, ◌+◌, ◌/◌, ℕ, List, [], ◌∷◌, ◌++◌, take, slice_get, sym, ◌∙◌, ap, subst}
 use Rattle.match_summary.specs.Chained.{AreChained}
-use Rattle.match_summary.specs.Crossings.{bucket_in, buckets_in}
+use Rattle.match_summary.specs.Crossings.{buckets_in}
 use Rattle.match_summary.proofs.Crossing.{buckets_more}
 use Rattle.match_summary.proofs.crossings.Crossings.build.Goals as goal
 

@@ -1,4 +1,4 @@
-use Rattle.std.proofs.Common.{◌≡◌, ℕ, length, ap, subst}
+use Rattle.std.proofs.Common.{ℕ, length, subst}
 use Rattle.match_summary.specs.Chained.{IsLink, link_of}
 use Rattle.match_summary.specs.Crossings.{buckets_in}
 use Rattle.match_summary.proofs.Crossing.{buckets_length}

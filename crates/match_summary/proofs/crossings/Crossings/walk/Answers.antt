@@ -1,7 +1,7 @@
-use Rattle.std.proofs.Common.{◌≡◌, ℕ, ◌+◌, ◌≤◌, ◌<◌, inl, inr, Some, slice_get, refl, sym, ◌∙◌, ap, subst, arith}
+use Rattle.std.proofs.Common.{◌≡◌, ◌+◌, ◌≤◌, ◌<◌, inl, inr, slice_get, refl, sym, ◌∙◌, ap, subst, arith}
 use Rattle.std.proofs.lemmas.Bool.{cases_lt, false≢true}
-use Rattle.match_summary.specs.Chained.{IsLink, link_of}
-use Rattle.match_summary.specs.Crossings.{Crosses, bucket_at, buckets_in}
+use Rattle.match_summary.specs.Chained.{link_of}
+use Rattle.match_summary.specs.Crossings.{Crosses, buckets_in}
 use Rattle.match_summary.proofs.Crossing.{crosses_bucket, has_end_at, place_within}
 use Rattle.match_summary.proofs.crossings.Crossings.walk.Goals as goal
 

@@ -1,0 +1,8 @@
+mod Bits
+mod Carried
+mod Gaining
+mod Groups
+mod Items
+mod Links
+mod Reaching
+mod Rooms

@@ -1,0 +1,96 @@
+//! Sets of elements, and the variables from which what they have is still to be carried on.
+
+ghost use Rattle.std.specs.Prelude.{◌≡◌, ◌≢◌, ◌<◌, ◌≤◌, ℕ, [], bit_or, length, IfOk, IfSome};
+ghost use Rattle.std.specs.Prelude.{IfNone, OnOk};
+ghost use Rattle.flow_graph.specs.System.{System};
+ghost use Rattle.bounds_below.specs.Below.{set_at};
+ghost use Rattle.bounds_below.specs.Carrying.{AllReach, AreSound, Gains, Includes, IsTaken};
+
+use qual_base::{NoMemory, Numbered, VarId};
+use std::alloc::Global;
+
+/// For each variable a set of elements, and each variable whose set has grown since what it has was carried on.
+#[derive(Drop)]
+pub struct Work {
+    pub sets: Vec<u64>,
+    waiting: Vec<VarId>,
+}
+
+impl Work {
+    /// An empty set for each variable below a number, 8 bytes each, and none that waits.
+    pub fn new(alloc: Global, vars: u32) -> Result<Work, NoMemory>
+        ensures size { IfOk result (λ work. length work.sets.items ≡ vars) }
+        ensures empty { IfOk result (λ work. (v : ℕ) → set_at work.sets.items v ≡ 0) }
+    {
+        let sets = zeros(alloc, vars)?;
+        Ok(Work {
+            sets,
+            waiting: Vec::new(alloc),
+        })
+    }
+
+    /// The set of a variable; empty for a variable past all. Constant time.
+    pub fn set(&self, at: VarId) -> u64
+        ensures { result ≡ set_at self.now.sets.items at }
+    {
+        read(self.sets.as_slice(), at)
+    }
+
+    /// Adds elements to the set of a variable, and lets the variable wait where the set has grown. Constant time but for
+    /// growth.
+    pub fn gain(&mut self, at: VarId, elems: u64) -> Result<(), NoMemory>
+        requires { at < length self.old.sets.items }
+        ensures gains { OnOk result (Gains self.old self.new) }
+        ensures has { OnOk result (Includes elems self.new.sets.items at) }
+        ensures sound { OnOk result ((sys : System) (lattice : ℕ) →
+            AllReach sys lattice elems at → AreSound sys lattice self.old.sets.items →
+            AreSound sys lattice self.new.sets.items) }
+    {
+        let set = self.set(at);
+        let raised = union(set, elems);
+        if raised == set {
+            return Ok(());
+        }
+        self.sets[at.number() as usize] = raised;
+        self.waiting.push(at)?;
+        Ok(())
+    }
+
+    /// Takes the variable that came last. Constant time.
+    pub fn take(&mut self) -> Option<VarId>
+        ensures taken { IfSome result (IsTaken self.old self.new) }
+        ensures none { IfNone result (self.old.waiting.items ≡ []) }
+        ensures sets { self.new.sets.items ≡ self.old.sets.items }
+    {
+        self.waiting.pop()
+    }
+}
+
+/// So many empty sets.
+fn zeros(alloc: Global, count: u32) -> Result<Vec<u64>, NoMemory>
+    ensures size { IfOk result (λ sets. length sets.items ≡ count) }
+    ensures empty { IfOk result (λ sets. (v : ℕ) → set_at sets.items v ≡ 0) }
+{
+    match vec![in alloc; 0u64; count as usize] {
+        Ok(sets) => Ok(sets),
+        Err(_) => Err(NoMemory),
+    }
+}
+
+/// The set of a variable; empty for a variable past all.
+pub fn read(sets: &[u64], at: VarId) -> u64
+    ensures { result ≡ set_at sets.now at }
+{
+    match sets.get(at.number() as usize) {
+        Some(set) => *set,
+        None => 0,
+    }
+}
+
+/// The elements of both sets.
+fn union(one: u64, other: u64) -> u64
+    ensures value { result ≡ bit_or one other }
+    ensures more { one ≤ result }
+{
+    one | other
+}
