@@ -28,21 +28,22 @@ impl Reach {
         summaries: &Summaries,
         to: VarId,
     ) -> Result<Walk, NoMemory>
-        requires summaries { Summarises graph.now self.now.lattice summaries.now }
-        requires reached { (start : ℕ) × IsReachOf graph.now self.now.lattice start self.now
-            × GoesTo graph.now self.now.lattice start to }
+        requires summaries { Summarises graph.now self.now.found.lattice summaries.now }
+        requires reached { (start : ℕ) × IsReachOf graph.now self.now.found.lattice start self.now
+            × GoesTo graph.now self.now.found.lattice start to }
         ensures { IfOk result (λ walk. (start : ℕ) →
-            IsReachOf graph.now self.now.lattice start self.now →
-            IsWalkShown graph.now self.now.lattice start to walk) }
+            IsReachOf graph.now self.now.found.lattice start self.now →
+            IsWalkShown graph.now self.now.found.lattice start to walk) }
     {
-        let place = self.place_of(to).unwrap();
-        let mut subs = SubPaths::new(alloc, self.lattice());
+        let found = self.found();
+        let place = found.place_of(to).unwrap();
+        let mut subs = SubPaths::new(alloc, found.lattice());
         let mut steps = Vec::new(alloc);
         trace(
             alloc,
             graph,
             summaries,
-            self.queue(),
+            found.queue(),
             place,
             &mut subs,
             &mut steps,
