@@ -38,7 +38,7 @@ pub struct Found {
 /// All that a variable leads to, in the room of the search that found it.
 #[derive(Drop)]
 pub struct Reach {
-    found: Found,
+    pub(crate) found: Found,
     marks: Marks,
     passed: Passed,
 }
@@ -95,13 +95,6 @@ impl Found {
 }
 
 impl Reach {
-    /// What was found.
-    pub(crate) fn found(&self) -> &Found
-        ensures { result.now ≡ self.now.found }
-    {
-        &self.found
-    }
-
     /// Whether a variable is led to. A variable leads to itself. Constant time.
     pub fn reaches(&self, to: VarId) -> bool
         ensures { (sys : System) (lattice start : ℕ) → IsWellOwned sys →

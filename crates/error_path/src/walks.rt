@@ -35,15 +35,14 @@ impl Reach {
             IsReachOf graph.now self.now.found.lattice start self.now →
             IsWalkShown graph.now self.now.found.lattice start to walk) }
     {
-        let found = self.found();
-        let place = found.place_of(to).unwrap();
-        let mut subs = SubPaths::new(alloc, found.lattice());
+        let place = self.found.place_of(to).unwrap();
+        let mut subs = SubPaths::new(alloc, self.found.lattice());
         let mut steps = Vec::new(alloc);
         trace(
             alloc,
             graph,
             summaries,
-            found.queue(),
+            self.found.queue(),
             place,
             &mut subs,
             &mut steps,
