@@ -9,8 +9,8 @@ use Rattle.error_path.specs.declared.search.Cause.TheVariants.{Start, Here, Step
 use Rattle.error_path.specs.declared.search.Origin.{Origin}
 use Rattle.error_path.specs.declared.search.Reached.{Reached}
 use Rattle.error_path.specs.Reaching.{LeadsBy, ByFlow, ByLeave, ByEnter, LeadsAround, ComesBy, AreSound, HasRoom}
-use Rattle.error_path.specs.Reaches.{AreBelow, IsReach}
-use Rattle.error_path.specs.declared.reaches.Reach.{Reach}
+use Rattle.error_path.specs.Reaches.{AreBelow, IsFound}
+use Rattle.error_path.specs.declared.reaches.Found.{Found}
 use Rattle.error_path.proofs.Resting.{has_of}
 
 -- the variables that are reached are below each number that those of the constraints are below
@@ -61,11 +61,11 @@ module _ (sys : System) (lattice : ℕ) (origin : Origin) (rows others : List Su
   sound_alike queue sound place r is = comes_alike queue place r.phase r.at r.cause (sound place r is)
 
 -- what was found is sound for any summaries of the system
-pub reach_sound : (sys : System) (reach : Reach) (lattice : ℕ) (origin : Origin) (rows : List Summary) → IsReach sys reach → reach.lattice ≡ lattice → reach.origin ≡ origin →
-    Summarises sys lattice rows → AreSound sys lattice origin rows reach.queue.items
-reach_sound sys reach lattice origin rows is at named all =
+pub found_sound : (sys : System) (found : Found) (lattice : ℕ) (origin : Origin) (rows : List Summary) → IsFound sys found → found.lattice ≡ lattice → found.origin ≡ origin →
+    Summarises sys lattice rows → AreSound sys lattice origin rows found.queue.items
+found_sound sys found lattice origin rows is at named all =
     let Rows : ℕ → Type 0 = λ l. Summarises sys l rows in
-    let alike = sound_alike sys reach.lattice reach.origin is.rows rows is.summarised (subst Rows (sym at) all) reach.queue.items is.sound in
-    let Lat : ℕ → Type 0 = λ l. AreSound sys l reach.origin rows reach.queue.items in
-    let From : Origin → Type 0 = λ o. AreSound sys lattice o rows reach.queue.items in
+    let alike = sound_alike sys found.lattice found.origin is.rows rows is.summarised (subst Rows (sym at) all) found.queue.items is.sound in
+    let Lat : ℕ → Type 0 = λ l. AreSound sys l found.origin rows found.queue.items in
+    let From : Origin → Type 0 = λ o. AreSound sys lattice o rows found.queue.items in
     subst From named (subst Lat at alike)

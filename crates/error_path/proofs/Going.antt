@@ -76,9 +76,9 @@ module _ (sys : System) (lattice start : ℕ) (rows : List Summary) (well : IsWe
         (at.0.phase, subst (λ x. Goes sys lattice start at.0.phase x) at.2 goes)
 
 -- of what was found from a variable
-pub found_goes : (sys : System) (lattice start : ℕ) (reach : Reach) → IsWellOwned sys → IsReachOf sys lattice start reach → (place v : ℕ) → StandsIn reach.queue.items place v →
+pub found_goes : (sys : System) (lattice start : ℕ) (reach : Reach) → IsWellOwned sys → IsReachOf sys lattice start reach → (place v : ℕ) → StandsIn reach.found.queue.items place v →
     GoesTo sys lattice start v
 found_goes sys lattice start reach well of place v at =
-    let From : Origin → Type 0 = λ o. AreSound sys reach.lattice o of.is.rows reach.queue.items in
-    let goes = reached_goes sys reach.lattice start of.is.rows well of.is.summarised reach.queue.items (subst From of.origin_is of.is.sound) place v at in
+    let From : Origin → Type 0 = λ o. AreSound sys reach.found.lattice o of.is.rows reach.found.queue.items in
+    let goes = reached_goes sys reach.found.lattice start of.is.rows well of.is.summarised reach.found.queue.items (subst From of.origin_is of.is.sound) place v at in
     subst (λ l. GoesTo sys l start v) of.lattice_is goes

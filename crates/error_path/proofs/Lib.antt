@@ -5,6 +5,7 @@ pub mod InLattices
 mod Making
 mod Over
 mod Resting
+mod Rooming
 mod Searching
 mod Tracing
 mod Items

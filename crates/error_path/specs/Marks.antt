@@ -1,6 +1,7 @@
 -- Marks of variables by phases.
 use Rattle.std.specs.Prelude.{◌≡◌, ℕ, ◌+◌, ◌<◌, Bool, true, false, List, [], ◌∷◌, length, slice_index_or}
 use Rattle.std.specs.Bool.{OnTrue, OnFalse}
+use Rattle.std.specs.List.{Contains}
 use Rattle.flow_graph.specs.declared.phase.Phase.{Phase}
 use Rattle.flow_graph.specs.declared.phase.Phase.TheVariants.{First, Second}
 
@@ -29,3 +30,7 @@ pub record Marking (old new : PhaseMarks) (set : Bool) : Type 0 where
   pub less : OnTrue set (free_of new < free_of old)
   pub same : OnFalse set (new ≡ old)
   pub size : size_of new ≡ size_of old
+
+-- what is marked in either phase is in a list
+abbrev pub AreAmong : PhaseMarks → List ℕ → Type 0
+AreAmong marks numbers = (p : Phase) (n : ℕ) → mark_of marks p n ≡ true → Contains numbers n

@@ -6,6 +6,7 @@ mod marks;
 mod passed;
 mod places;
 mod reaches;
+mod room;
 mod search;
 mod showing;
 mod steps;
@@ -14,5 +15,6 @@ mod traces;
 mod walks;
 
 pub use reaches::{Reach, Reaches, reach_from};
+pub use room::Room;
 pub use showing::show;
 pub use walks::sub_paths_for;

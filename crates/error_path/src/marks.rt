@@ -61,6 +61,17 @@ impl Marks {
             Phase::Second => set(&mut self.second, at),
         }
     }
+
+    /// Takes the marks of a variable in both phases away. Any variable is taken. Constant time.
+    pub fn clear(&mut self, at: VarId)
+        ensures here { (p : Phase) → mark_of self.new p at ≡ false }
+        ensures others { (p : Phase) (v : ℕ) →
+            v ≢ at → mark_of self.new p v ≡ mark_of self.old p v }
+        ensures size { size_of self.new ≡ size_of self.old }
+    {
+        clear(&mut self.first, at);
+        clear(&mut self.second, at);
+    }
 }
 
 /// So many marks that are not set.
@@ -100,4 +111,17 @@ fn set(marks: &mut [bool], at: VarId) -> bool
     }
     marks[index] = true;
     true
+}
+
+/// Takes a mark away; nothing happens for a variable past all.
+fn clear(marks: &mut [bool], at: VarId)
+    ensures here { slice_index_or marks.new at false ≡ false }
+    ensures others { (v : ℕ) →
+        v ≢ at → slice_index_or marks.new v false ≡ slice_index_or marks.old v false }
+    ensures length { length marks.new ≡ length marks.old }
+{
+    let index = at.number() as usize;
+    if index < marks.len() {
+        marks[index] = false;
+    }
 }

@@ -1,146 +1,49 @@
 //! All that elements and variables lead to: a search for each. Those of elements that exceed bounds are kept for all bounds
 //! that they exceed.
 
-ghost use Rattle.std.specs.Prelude.{◌≡◌, ◌≢◌, ◌<◌, ◌≤◌, ◌⊎◌, ◌↔◌, ℕ, length, slice_get, Some};
+ghost use Rattle.std.specs.Prelude.{◌≡◌, ◌<◌, ◌↔◌, ℕ, length, slice_get, Some};
 ghost use Rattle.std.specs.Prelude.{slice_index_or, IsTrue};
-ghost use Rattle.std.specs.Prelude.{IfNone, IfOk, IfSome, OnOk};
+ghost use Rattle.std.specs.Prelude.{IfNone, IfOk, IfSome};
 ghost use Rattle.flow_graph.specs.Index.{IsIndexOf};
-ghost use Rattle.flow_graph.specs.System.{System, AllBelow};
+ghost use Rattle.flow_graph.specs.System.{System, IsWellOwned};
 ghost use Rattle.match_summary.specs.Crossings.{AreCrossings};
 ghost use Rattle.match_summary.specs.Summary.{Summarises};
-ghost use Rattle.flow_graph.specs.System.{IsWellOwned};
 ghost use Rattle.flow_graph.specs.Leading.{GoesTo};
+ghost use Rattle.error_path.specs.Marks.{size_of};
 ghost use Rattle.error_path.specs.Reaching.{HasRoom};
-ghost use Rattle.error_path.specs.Reaches.{nowhere, AreBelow, AreFirsts, AreReaches, IsIn};
-ghost use Rattle.error_path.specs.Reaches.{IsOf, IsReach, IsReachOf, StandsIn};
+ghost use Rattle.error_path.specs.Reaches.{AreFirsts, AreReaches, IsIn, IsInRoom};
+ghost use Rattle.error_path.specs.Reaches.{IsFound, IsOf, IsReachOf, StandsIn};
+ghost use Rattle.error_path.specs.Rooms.{nowhere, IsRoom};
 ghost use Rattle.error_path.specs.declared.search.Origin.TheVariants.{Element};
 
+use crate::marks::Marks;
+use crate::passed::Passed;
+use crate::room::{NOWHERE, Room, clear_found, set_firsts};
 use crate::search::{Origin, Reached, search_from};
 use flow_graph::{Adjacency, FlowGraph};
 use match_summary::{Crossings, Summaries};
 use qual_base::{Elem, LatticeNo, NoMemory, Numbered, VarId};
 use std::alloc::Global;
 
-/// What stands for no place.
-const NOWHERE: u32 = 4_294_967_295;
-
 /// All that the constants of an element, or a variable, lead to in a lattice, in the order of a search, and the first place
 /// of each variable in it.
 #[derive(Drop)]
-pub struct Reach {
+pub struct Found {
     lattice: LatticeNo,
     origin: Origin,
     queue: Vec<Reached>,
     firsts: Vec<u32>,
 }
 
-/// Gives a variable a place, where it has none. More places than `NOWHERE` are answered as want of memory. Constant time.
-fn set_first(firsts: &mut [u32], at: VarId, place: usize) -> Result<(), NoMemory>
-    requires { at < length firsts.old }
-    ensures here { OnOk result (slice_index_or firsts.new at nowhere ≢ nowhere) }
-    ensures others { OnOk result
-        ((v : ℕ) → (slice_index_or firsts.new v nowhere ≡ slice_index_or firsts.old v nowhere)
-        ⊎ ((v ≡ at) × (slice_index_or firsts.new v nowhere ≡ place))) }
-    ensures kept { (v : ℕ) → slice_index_or firsts.old v nowhere ≢ nowhere →
-        slice_index_or firsts.new v nowhere ≡ slice_index_or firsts.old v nowhere }
-    ensures length { length firsts.new ≡ length firsts.old }
-{
-    if place >= NOWHERE as usize {
-        return Err(NoMemory);
-    }
-    let index = at.number() as usize;
-    if firsts[index] == NOWHERE {
-        firsts[index] = place as u32;
-    }
-    Ok(())
+/// All that a variable leads to, in the room of the search that found it.
+#[derive(Drop)]
+pub struct Reach {
+    pub(crate) found: Found,
+    marks: Marks,
+    passed: Passed,
 }
 
-/// Places that are not set: 4 bytes for each variable.
-fn unset(alloc: Global, vars: u32) -> Result<Vec<u32>, NoMemory>
-    ensures size { IfOk result (λ firsts. length firsts.items ≡ vars) }
-    ensures none { IfOk result
-        (λ firsts. (v : ℕ) → slice_index_or firsts.items v nowhere ≡ nowhere) }
-{
-    match vec![in alloc; NOWHERE; vars as usize] {
-        Ok(firsts) => Ok(firsts),
-        Err(_) => Err(NoMemory),
-    }
-}
-
-/// The first place of each variable below a number. Linear in the variables and the places.
-fn first_places(alloc: Global, vars: u32, queue: &[Reached]) -> Result<Vec<u32>, NoMemory>
-    requires { AreBelow vars queue.now }
-    ensures { IfOk result (λ firsts. AreFirsts queue.now firsts.items) }
-{
-    let mut firsts = unset(alloc, vars)?;
-    for place in 0..queue.len() {
-        let at = queue[place].at;
-        set_first(&mut firsts, at, place)?;
-    }
-    Ok(firsts)
-}
-
-/// A number above all variables of the constraints and above that of an origin. That of the last variable there is has none,
-/// which is answered as want of memory. Constant time.
-fn vars_for(graph: &FlowGraph, origin: &Origin) -> Result<u32, NoMemory>
-    ensures below { IfOk result (λ vars. AllBelow graph.now vars) }
-    ensures room { IfOk result (λ vars. HasRoom origin.now vars) }
-{
-    let vars = graph.vars();
-    match origin {
-        Origin::Element(_) => Ok(vars),
-        Origin::Variable(at) => above(vars, *at),
-    }
-}
-
-/// A number at or above one, and above a variable.
-fn above(vars: u32, at: VarId) -> Result<u32, NoMemory>
-    ensures least { IfOk result (λ high. vars ≤ high) }
-    ensures room { IfOk result (λ high. at < high) }
-{
-    let number = at.number();
-    if number < vars {
-        return Ok(vars);
-    }
-    if number == NOWHERE {
-        return Err(NoMemory);
-    }
-    Ok(number + 1)
-}
-
-impl Reach {
-    /// What the constants of an element or a variable lead to. Takes the time and the memory of a search, and 4 bytes for each
-    /// variable.
-    fn new(
-        alloc: Global,
-        graph: &FlowGraph,
-        index: &Adjacency,
-        crossings: &Crossings,
-        summaries: &Summaries,
-        lattice: LatticeNo,
-        origin: Origin,
-    ) -> Result<Reach, NoMemory>
-        requires index { IsIndexOf graph.now index.now }
-        requires crossings { AreCrossings graph.now crossings.now }
-        requires lattice { lattice < 16 }
-        requires summaries { Summarises graph.now lattice summaries.now }
-        ensures reach { IfOk result (IsReach graph.now) }
-        ensures lattice { IfOk result (λ reach. reach.lattice ≡ lattice) }
-        ensures origin { IfOk result (λ reach. reach.origin ≡ origin) }
-    {
-        let vars = vars_for(graph, &origin)?;
-        let queue = search_from(
-            alloc, graph, index, crossings, summaries, lattice, &origin, vars,
-        )?;
-        let firsts = first_places(alloc, vars, queue.as_slice())?;
-        Ok(Reach {
-            lattice,
-            origin,
-            queue,
-            firsts,
-        })
-    }
-
+impl Found {
     /// The lattice of the search.
     pub(crate) fn lattice(&self) -> LatticeNo
         ensures { result ≡ self.now.lattice }
@@ -179,14 +82,6 @@ impl Reach {
         }
     }
 
-    /// Whether a variable is led to. A variable leads to itself. Constant time.
-    pub fn reaches(&self, to: VarId) -> bool
-        ensures { (sys : System) (lattice start : ℕ) → IsWellOwned sys →
-            IsReachOf sys lattice start self.now → (IsTrue result ↔ GoesTo sys lattice start to) }
-    {
-        self.first_of(to) != NOWHERE
-    }
-
     /// Whether this is what an element leads to in a lattice.
     fn is_of(&self, lattice: LatticeNo, elem: Elem) -> bool
         ensures { IsTrue result →
@@ -199,16 +94,94 @@ impl Reach {
     }
 }
 
+impl Reach {
+    /// Whether a variable is led to. A variable leads to itself. Constant time.
+    pub fn reaches(&self, to: VarId) -> bool
+        ensures { (sys : System) (lattice start : ℕ) → IsWellOwned sys →
+            IsReachOf sys lattice start self.now → (IsTrue result ↔ GoesTo sys lattice start to) }
+    {
+        self.found.first_of(to) != NOWHERE
+    }
+
+    /// The room of the search, with nothing set in it. Takes time linear in what the search reached and in the groups that it
+    /// followed, and no memory.
+    pub fn into_room(self) -> Room
+        requires { (sys : System) × (lattice : ℕ) × (start : ℕ) × IsReachOf sys lattice start self }
+        ensures { (sys : System) (lattice start : ℕ) →
+            IsReachOf sys lattice start self → IsRoom sys result }
+    {
+        let mut marks = self.marks;
+        let mut passed = self.passed;
+        let mut firsts = self.found.firsts;
+        clear_found(self.found.queue, &mut marks, &mut firsts);
+        passed.clear();
+        Room {
+            marks,
+            passed,
+            firsts,
+        }
+    }
+}
+
+/// What the constants of an element or a variable lead to, in a room that has a place for the variable. Takes the time and the
+/// memory of a search.
+fn reach_in(
+    room: Room,
+    graph: &FlowGraph,
+    index: &Adjacency,
+    crossings: &Crossings,
+    summaries: &Summaries,
+    lattice: LatticeNo,
+    origin: Origin,
+) -> Result<Reach, NoMemory>
+    requires room { IsRoom graph.now room }
+    requires origin { HasRoom origin (size_of room.marks) }
+    requires index { IsIndexOf graph.now index.now }
+    requires crossings { AreCrossings graph.now crossings.now }
+    requires lattice { lattice < 16 }
+    requires summaries { Summarises graph.now lattice summaries.now }
+    ensures found { IfOk result (λ reach. IsFound graph.now reach.found) }
+    ensures room { IfOk result (IsInRoom graph.now) }
+    ensures lattice { IfOk result (λ reach. reach.found.lattice ≡ lattice) }
+    ensures origin { IfOk result (λ reach. reach.found.origin ≡ origin) }
+{
+    let mut passed = room.passed;
+    let mut firsts = room.firsts;
+    let search = search_from(
+        *firsts.allocator(),
+        room.marks,
+        &mut passed,
+        graph,
+        index,
+        crossings,
+        summaries,
+        lattice,
+        &origin,
+    )?;
+    set_firsts(&mut firsts, search.queue.as_slice())?;
+    Ok(Reach {
+        found: Found {
+            lattice,
+            origin,
+            queue: search.queue,
+            firsts,
+        },
+        marks: search.marks,
+        passed,
+    })
+}
+
 /// All that a variable leads to in a lattice: itself, and each variable to which a path leads whose calls and returns match,
 /// as far as it has both; the order of calls starts anew at a variable of nobody. Fails for want of memory alone.
 ///
 /// It takes each variable once in each phase, with a step for each constraint that begins there. The groups of a site that
 /// begin at one variable are followed once in each phase, with a step for each pair from that variable, and the `Leave`s of
-/// the site from one variable once. 2 bytes for each constraint and variable while it goes on; it keeps 4 bytes for each
-/// variable and an item for each variable and phase that it reaches. Any variable may be the first: one past those of the
-/// graph leads to itself alone, and takes the memory of all below it.
+/// the site from one variable once. What it does not reach takes no time. The room is the search's own from then on;
+/// beside it the search takes an item for each variable and phase that it reaches, and 4 bytes for each site whose groups it
+/// follows from a variable in a phase. Any variable may be the first: one for which the room has no place leads to itself
+/// alone, and has a larger room made, for the variables up to it.
 pub fn reach_from(
-    alloc: Global,
+    room: Room,
     graph: &FlowGraph,
     index: &Adjacency,
     crossings: &Crossings,
@@ -216,14 +189,16 @@ pub fn reach_from(
     lattice: LatticeNo,
     start: VarId,
 ) -> Result<Reach, NoMemory>
+    requires room { IsRoom graph.now room }
     requires index { IsIndexOf graph.now index.now }
     requires crossings { AreCrossings graph.now crossings.now }
     requires lattice { lattice < 16 }
     requires summaries { Summarises graph.now lattice summaries.now }
     ensures { IfOk result (IsReachOf graph.now lattice start) }
 {
-    Reach::new(
-        alloc,
+    let room = room.with(graph, start)?;
+    reach_in(
+        room,
         graph,
         index,
         crossings,
@@ -236,7 +211,7 @@ pub fn reach_from(
 /// What was asked for so far, each lattice and element once, so 1,024 at the most.
 #[derive(Drop)]
 pub struct Reaches {
-    found: Vec<Reach>,
+    found: Vec<Found>,
 }
 
 impl Reaches {
@@ -254,8 +229,8 @@ impl Reaches {
         ensures { IfSome result (λ place. IsOf self.now place lattice (Element elem)) }
     {
         for place in 0..self.found.len() {
-            let reach = &self.found[place];
-            if reach.is_of(lattice, elem) {
+            let found = &self.found[place];
+            if found.is_of(lattice, elem) {
                 return Some(place);
             }
         }
@@ -263,13 +238,13 @@ impl Reaches {
     }
 
     /// Keeps what an element leads to, and answers its place.
-    fn keep(&mut self, reach: Reach) -> Result<usize, NoMemory>
-        ensures kept { (sys : System) → AreReaches sys self.old → IsReach sys reach →
+    fn keep(&mut self, found: Found) -> Result<usize, NoMemory>
+        ensures kept { (sys : System) → AreReaches sys self.old → IsFound sys found →
             AreReaches sys self.new }
-        ensures place { IfOk result (λ place. IsOf self.new place reach.lattice reach.origin) }
+        ensures place { IfOk result (λ place. IsOf self.new place found.lattice found.origin) }
     {
         let place = self.found.len();
-        self.found.push(reach)?;
+        self.found.push(found)?;
         Ok(place)
     }
 
@@ -296,8 +271,9 @@ impl Reaches {
         if let Some(place) = self.find(lattice, elem) {
             return Ok(place);
         }
-        let reach = Reach::new(
-            alloc,
+        let room = Room::new(alloc, graph, 0)?;
+        let reach = reach_in(
+            room,
             graph,
             index,
             crossings,
@@ -305,11 +281,11 @@ impl Reaches {
             lattice,
             Origin::Element(elem),
         )?;
-        self.keep(reach)
+        self.keep(reach.found)
     }
 
     /// What is kept at a place.
-    pub fn at(&self, place: usize) -> &Reach
+    pub fn at(&self, place: usize) -> &Found
         requires { place < length self.now.found.items }
         ensures { slice_get self.now.found.items place ≡ Some result.now }
     {

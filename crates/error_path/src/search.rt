@@ -1,14 +1,15 @@
 //! A breadth-first search over pairs of a variable and a phase, forwards from the constants of an element or from a variable.
 
-ghost use Rattle.std.specs.Prelude.{◌≡◌, ◌≢◌, ℕ, ◌<◌, ◌↔◌, List, length, slice_get, Some, IsTrue};
-ghost use Rattle.std.specs.Prelude.{IfOk, OnOk};
+ghost use Rattle.std.specs.Prelude.{◌≡◌, ◌≢◌, ℕ, ◌<◌, ◌≤◌, ◌↔◌, List, length, slice_get, Some};
+ghost use Rattle.std.specs.Prelude.{false, IsTrue, IfOk, OnOk};
 ghost use Rattle.flow_graph.specs.Index.{IsIndexOf, IsKeyed, link_site};
 ghost use Rattle.flow_graph.specs.PathRules.{link_begins};
-ghost use Rattle.error_path.specs.Marks.{size_of};
+ghost use Rattle.error_path.specs.Marks.{mark_of, size_of};
 ghost use Rattle.error_path.specs.declared.search.Origin.{Origin};
 ghost use Rattle.error_path.specs.declared.search.Origin.TheVariants.{Element};
 ghost use Rattle.flow_graph.specs.declared.constraint.Link.TheVariants.{Const, Enter};
 ghost use Rattle.flow_graph.specs.System.{System, AllBelow, Stands, owner_of};
+ghost use Rattle.flow_graph.specs.declared.phase.Phase.{Phase};
 ghost use Rattle.flow_graph.specs.declared.phase.Phase.TheVariants.{First, Second};
 ghost use Rattle.match_summary.specs.declared.reason.Summary.{Summary};
 ghost use Rattle.match_summary.specs.Crossings.{AreCrossings};
@@ -61,8 +62,8 @@ pub struct Reached {
 /// What was reached in its order, and a mark for each variable and phase that is in it.
 #[derive(Drop)]
 pub struct Search {
-    queue: Vec<Reached>,
-    marks: Marks,
+    pub queue: Vec<Reached>,
+    pub marks: Marks,
 }
 
 /// A place of the queue with its variable and phase.
@@ -82,18 +83,17 @@ struct Call {
 }
 
 impl Search {
-    /// A search that has reached nothing, with marks for the variables below a number: 2 bytes for each.
-    fn new(alloc: Global, vars: u32) -> Result<Search, NoMemory>
-        ensures good { IfOk result
-            (λ search. (sys : System) (lattice : ℕ) (origin : Origin) (rows : List Summary) →
-            AllBelow sys vars → IsGood sys lattice origin rows search) }
-        ensures size { IfOk result (λ search. size_of search.marks ≡ vars) }
+    /// A search that has reached nothing, with marks that are not set. Takes no memory.
+    fn new(alloc: Global, marks: Marks) -> Search
+        requires { (p : Phase) (v : ℕ) → mark_of marks p v ≡ false }
+        ensures good { (sys : System) (lattice : ℕ) (origin : Origin) (rows : List Summary) →
+            AllBelow sys (size_of marks) → IsGood sys lattice origin rows result }
+        ensures size { size_of result.marks ≡ size_of marks }
     {
-        let marks = Marks::new(alloc, vars)?;
-        Ok(Search {
+        Search {
             queue: Vec::new(alloc),
             marks,
-        })
+        }
     }
 
     /// Notes that a variable is reached in a phase, if it was not before. At a variable of nobody the first phase starts
@@ -290,7 +290,7 @@ impl Search {
             passed, graph, crossings, summaries, lattice, front, call, inner,
         )?;
         self.follow_pairs(passed, graph, crossings, summaries, lattice, front, call)?;
-        passed.add(front.phase, entry);
+        passed.add(front.phase, entry)?;
         Ok(())
     }
 
@@ -371,7 +371,7 @@ impl Search {
             return Ok(());
         }
         self.follow_all(graph, crossings, summaries, lattice, front, call, last)?;
-        passed.add(front.phase, exit);
+        passed.add(front.phase, exit)?;
         Ok(())
     }
 
@@ -515,6 +515,7 @@ impl Search {
         ensures grows { OnOk result (Grows self.old self.new) }
         ensures visited { OnOk result
             ((place : ℕ) → IsVisited graph.now lattice summaries.now self.new place) }
+        ensures over { OnOk result (IsOver graph.now lattice summaries.now passed.new self.new) }
     {
         let mut place = 0;
         while place < self.queue.len() {
@@ -547,37 +548,40 @@ fn settled(graph: &FlowGraph, at: VarId, phase: Phase) -> Phase
     }
 }
 
-/// All that the constants of an element or a variable lead to, in the order in which a breadth-first search comes to it. A
-/// variable leads to itself.
+/// All that the constants of an element or a variable lead to, in the order in which a breadth-first search comes to it, with
+/// a mark for each of it. A variable leads to itself. No mark may be set before, of a variable or of a constraint.
 ///
 /// It takes each variable once in each phase, with a step for each constraint that begins there. The groups of a site that
 /// begin at one variable are followed once in each phase, with a step for each pair from that variable, and the `Leave`s of
-/// the site from one variable once; from an element it goes once over all constraints before that. 2 bytes for each variable
-/// below the number and for each constraint while it goes on, and an item of the queue for each variable and phase that it
-/// reaches.
+/// the site from one variable once; from an element it goes once over all constraints before that. An item of the queue for
+/// each variable and phase that it reaches, and 4 bytes for each site whose groups it follows from a variable in a phase.
 pub fn search_from(
     alloc: Global,
+    marks: Marks,
+    passed: &mut Passed,
     graph: &FlowGraph,
     index: &Adjacency,
     crossings: &Crossings,
     summaries: &Summaries,
     lattice: LatticeNo,
     origin: &Origin,
-    vars: u32,
-) -> Result<Vec<Reached>, NoMemory>
+) -> Result<Search, NoMemory>
     requires index { IsIndexOf graph.now index.now }
     requires crossings { AreCrossings graph.now crossings.now }
     requires lattice { lattice < 16 }
-    requires below { AllBelow graph.now vars }
-    requires room { HasRoom origin.now vars }
-    ensures sound { IfOk result
-        (λ queue. AreSound graph.now lattice origin.now summaries.now queue.items) }
-    ensures whole { IfOk result (λ queue. Summarises graph.now lattice summaries.now →
-        HasAll graph.now lattice origin.now queue.items) }
+    requires below { AllBelow graph.now (size_of marks) }
+    requires room { HasRoom origin.now (size_of marks) }
+    requires unmarked { (p : Phase) (v : ℕ) → mark_of marks p v ≡ false }
+    requires size { length graph.now.constraints ≤ size_of passed.old }
+    requires none { (p : Phase) (n : ℕ) → mark_of passed.old p n ≡ false }
+    ensures good { IfOk result (IsGood graph.now lattice origin.now summaries.now) }
+    ensures whole { IfOk result (λ search. Summarises graph.now lattice summaries.now →
+        HasAll graph.now lattice origin.now search.queue.items) }
+    ensures marks { IfOk result (λ search. size_of search.marks ≡ size_of marks) }
+    ensures passed { OnOk result (length graph.now.constraints ≤ size_of passed.new) }
 {
-    let mut search = Search::new(alloc, vars)?;
+    let mut search = Search::new(alloc, marks);
     search.start(graph, lattice, origin)?;
-    let mut passed = Passed::new(alloc, graph.len())?;
-    search.run(&mut passed, graph, index, crossings, summaries, lattice)?;
-    Ok(search.queue)
+    search.run(passed, graph, index, crossings, summaries, lattice)?;
+    Ok(search)
 }

@@ -10,11 +10,11 @@ ghost use Rattle.flow_graph.specs.PathProofs.{steps_of, Holds, AreApart};
 ghost use Rattle.lattice_solver.specs.Solution.{Exceeds, IsSolved};
 ghost use Rattle.match_summary.specs.Summary.{Summarises};
 ghost use Rattle.error_path.specs.declared.search.Origin.TheVariants.{Element};
-ghost use Rattle.error_path.specs.Reaches.{AreReaches, IsReach};
+ghost use Rattle.error_path.specs.Reaches.{AreReaches, IsFound};
 ghost use Rattle.error_path.specs.Shown.{BeginsOver, EndsWith, HasNoLines, InLattice};
 ghost use Rattle.error_path.specs.Shown.{IsExceededBySome, IsShown};
 
-use crate::reaches::{Reach, Reaches};
+use crate::reaches::{Found, Reaches};
 use crate::steps::push_take;
 use crate::sub_paths::SubPaths;
 use crate::traces::trace;
@@ -39,20 +39,20 @@ fn show_from(
     alloc: Global,
     graph: &FlowGraph,
     summaries: &Summaries,
-    reach: &Reach,
+    found: &Found,
     target: &Target,
 ) -> Result<PathProof, NoMemory>
     requires summaries { Summarises graph.now target.now.lattice summaries.now }
-    requires reach { IsReach graph.now reach.now }
-    requires lattice { reach.now.lattice ≡ target.now.lattice }
-    requires origin { reach.now.origin ≡ Element target.now.elem }
+    requires found { IsFound graph.now found.now }
+    requires lattice { found.now.lattice ≡ target.now.lattice }
+    requires origin { found.now.origin ≡ Element target.now.elem }
     requires bound { (e : ℕ) × Stands graph.now target.now.lattice target.now.bound
         (Bound target.now.at target.now.lattice e) }
     requires lead { Lead graph.now target.now.lattice target.now.elem target.now.at }
     ensures { IfOk result
         (λ proof. IsShown graph.now target.now.lattice target.now.elem target.now.bound proof) }
 {
-    let place = reach.place_of(target.at).unwrap();
+    let place = found.place_of(target.at).unwrap();
     let mut subs = SubPaths::new(alloc, target.lattice);
     let mut steps = Vec::new(alloc);
     push_take(&mut steps, target.bound)?;
@@ -60,7 +60,7 @@ fn show_from(
         alloc,
         graph,
         summaries,
-        reach.queue(),
+        found.queue(),
         place,
         &mut subs,
         &mut steps,

@@ -28,21 +28,21 @@ impl Reach {
         summaries: &Summaries,
         to: VarId,
     ) -> Result<Walk, NoMemory>
-        requires summaries { Summarises graph.now self.now.lattice summaries.now }
-        requires reached { (start : ℕ) × IsReachOf graph.now self.now.lattice start self.now
-            × GoesTo graph.now self.now.lattice start to }
+        requires summaries { Summarises graph.now self.now.found.lattice summaries.now }
+        requires reached { (start : ℕ) × IsReachOf graph.now self.now.found.lattice start self.now
+            × GoesTo graph.now self.now.found.lattice start to }
         ensures { IfOk result (λ walk. (start : ℕ) →
-            IsReachOf graph.now self.now.lattice start self.now →
-            IsWalkShown graph.now self.now.lattice start to walk) }
+            IsReachOf graph.now self.now.found.lattice start self.now →
+            IsWalkShown graph.now self.now.found.lattice start to walk) }
     {
-        let place = self.place_of(to).unwrap();
-        let mut subs = SubPaths::new(alloc, self.lattice());
+        let place = self.found.place_of(to).unwrap();
+        let mut subs = SubPaths::new(alloc, self.found.lattice());
         let mut steps = Vec::new(alloc);
         trace(
             alloc,
             graph,
             summaries,
-            self.queue(),
+            self.found.queue(),
             place,
             &mut subs,
             &mut steps,

@@ -1,22 +1,49 @@
--- A variable in a lattice, and what a search for it has found.
-use Rattle.std.specs.Prelude.{◌≡◌, ℕ, ◌<◌}
+-- A variable in a lattice, and what searches for it have found.
+use Rattle.std.specs.Prelude.{◌≡◌, ℕ, ◌<◌, List, length}
 use Rattle.flow_graph.specs.declared.constraint.Link.TheVariants.{Const, Bound}
 use Rattle.flow_graph.specs.declared.constraint.Link.{Link}
 use Rattle.flow_graph.specs.System.{System, IsWellOwned, Stands}
-use Rattle.annotate.specs.Solutions.{IsSolution}
+use Rattle.lattice_core.specs.View.{LatticeView}
+use Rattle.annotate.specs.Solutions.{AreSolutions, IsSolution}
 use Rattle.error_path.specs.Reaches.{IsReachOf}
+use Rattle.error_path.specs.Rooms.{IsRoom}
+use Rattle.flow_query.specs.declared.searches.Finder.{Finder}
+use Rattle.flow_query.specs.declared.searches.Finder.TheVariants.{Idle, Kept}
+use Rattle.flow_query.specs.declared.searches.Found.{Found}
 use Rattle.flow_query.specs.declared.searches.Search.{Search}
 use Rattle.flow_query.specs.declared.searches.Section.{Section}
+use Rattle.flow_query.specs.Ends.{AllEnds, AreEnds}
 
--- the graph is well owned, and what was found is of the lattice
+-- the graph is well owned, and what was found and what is listed are of the lattice
 pub record IsSection (section : Section) : Type 0 where
   pub owned : IsWellOwned section.graph.now
   pub low : section.lattice < 16
   pub solution : IsSolution section.graph.now section.lattice section.solved.now
+  pub ends : AreEnds section.graph.now section.lattice section.ends.now
 
--- a search has found all that its variable leads to in the lattice
-abbrev pub IsSearch : Section → Search → Type 0
-IsSearch section search = IsReachOf section.graph.now section.lattice search.start search.reach
+-- what was found and what is listed are of the lattices
+pub record IsFound (sys : System) (lattices : List LatticeView) (found : Found) : Type 0 where
+  pub solutions : AreSolutions sys lattices found.solutions.now
+  pub ends : AllEnds sys (length lattices) found.ends.now
+
+-- a search has found all that its variable leads to in its lattice
+abbrev pub IsSearch : System → Search → Type 0
+IsSearch sys search = IsReachOf sys search.lattice search.start search.reach
+
+-- a search is of the lattice of a section
+pub record IsSearchIn (section : Section) (search : Search) : Type 0 where
+  pub lattice_is : search.lattice ≡ section.lattice
+  pub is : IsSearch section.graph.now search
+
+-- in the room of a finder nothing is set, or only what its search has found
+abbrev pub IsFinder : System → Finder → Type 0
+IsFinder sys (Idle room) = IsRoom sys room
+IsFinder sys (Kept search) = IsSearch sys search
+
+-- it keeps no search but that of a lattice from a variable
+abbrev pub KeepsOnly : ℕ → ℕ → Finder → Type 0
+KeepsOnly lattice start (Idle room) = Unit {0}
+KeepsOnly lattice start (Kept search) = (search.lattice ≡ lattice) × (search.start ≡ start)
 
 -- a constraint is a constant of the lattice in a variable, or a bound of it
 abbrev pub IsConstantAt : System → ℕ → ℕ → ℕ → Type 0

@@ -3,42 +3,49 @@
 ghost use Rattle.std.specs.Prelude.{◌≡◌, IfOk, OnOk, option_map};
 ghost use Rattle.flow_graph.specs.System.{IsWellOwned};
 ghost use Rattle.annotate.specs.Scenes.{Shows, WritesSome};
-ghost use Rattle.annotate.specs.Solutions.{AreSolutions};
 ghost use Rattle.flow_query.specs.Answers.{IsWho, VarText, VarsText};
+ghost use Rattle.flow_query.specs.Searches.{IsFinder, IsFound};
 
 use crate::asking::asked_of;
-use crate::searches::Section;
+use crate::ends::{all_ends, ends_in};
+use crate::searches::{Finder, Found, Section};
 use crate::sections::put_section;
-use annotate::{Scene, Solved, put, solve_all, solved_of};
+use annotate::{Scene, put, solve_all, solved_of};
+use error_path::Room;
 use flow_graph::FlowGraph;
 use qual_base::{LatticeNo, NoMemory, Numbered, VarId};
 use std::alloc::Global;
 
-/// What is written of a variable in all lattices, in order.
+/// What is written of a variable in all lattices, in order. Answers the finder.
 fn put_var_sections(
     alloc: Global,
     out: &mut Vec<u8>,
     scene: &Scene<'_>,
     graph: &FlowGraph,
-    solutions: &[Solved],
+    found: &Found<'_>,
+    finder: Finder,
     var: VarId,
-) -> Result<(), NoMemory>
+) -> Result<Finder, NoMemory>
     requires owned { IsWellOwned graph.now }
-    requires solutions { AreSolutions graph.now scene.now.lattices.now solutions.now }
-    ensures { OnOk result (WritesSome scene.now out.old.items out.new.items
+    requires found { IsFound graph.now scene.now.lattices.now found.now }
+    requires finder { IsFinder graph.now finder }
+    ensures finder { IfOk result (IsFinder graph.now) }
+    ensures text { OnOk result (WritesSome scene.now out.old.items out.new.items
         (λ s text. VarText s graph.now var text)) }
 {
+    let mut finder = finder;
     for n in 0..scene.lattices.len() {
         let lattice = LatticeNo::new(n);
         let section = Section {
             graph,
-            solved: solved_of(solutions, lattice),
+            solved: solved_of(found.solutions, lattice),
+            ends: ends_in(found.ends, lattice),
             lattice,
             var,
         };
-        put_section(alloc, out, scene, &section)?;
+        finder = put_section(alloc, out, scene, &section, finder)?;
     }
-    Ok(())
+    Ok(finder)
 }
 
 /// What is written of variables, in order.
@@ -47,16 +54,19 @@ fn put_vars(
     out: &mut Vec<u8>,
     scene: &Scene<'_>,
     graph: &FlowGraph,
-    solutions: &[Solved],
+    found: &Found<'_>,
+    finder: Finder,
     vars: &[VarId],
 ) -> Result<(), NoMemory>
     requires owned { IsWellOwned graph.now }
-    requires solutions { AreSolutions graph.now scene.now.lattices.now solutions.now }
+    requires found { IsFound graph.now scene.now.lattices.now found.now }
+    requires finder { IsFinder graph.now finder }
     ensures { OnOk result (WritesSome scene.now out.old.items out.new.items
         (λ s text. VarsText s graph.now vars.now text)) }
 {
+    let mut finder = finder;
     for var in vars {
-        put_var_sections(alloc, out, scene, graph, solutions, *var)?;
+        finder = put_var_sections(alloc, out, scene, graph, found, finder, *var)?;
     }
     Ok(())
 }
@@ -65,11 +75,13 @@ fn put_vars(
 /// to it, and the bounds that it leads to, each with a walk. None where no declared name is spelled so, which is known before
 /// anything is solved, by a pass over the variables that the report lists.
 ///
-/// Each lattice is solved once. Then each variable of the name goes in each lattice twice over the constraints. It is searched for
-/// what the variable leads to once, where the lattice has a bound; and for what the variable of a constant leads to, where the
-/// element of the constant is one that reaches the variable of the name. Of the searches that constants ask for one is kept,
-/// so constants of one variable that follow one another share theirs. `error_path::reach_from` says the time and the memory
-/// of a search. Beside that the time is linear in the text, and in the paths of the variables in it.
+/// Each lattice is solved once, and its constants and bounds are listed in one pass over the constraints. Then each variable of
+/// the name takes in each lattice a look at each bound, and at each constant where some constant leads to the variable. It is
+/// searched for what the variable leads to once, where the lattice has a bound; and for what the variable of a constant leads to,
+/// where the element of the constant is one that reaches the variable of the name. Searches share their room, so each takes the
+/// time of what it reaches, as `error_path::reach_from` says, and the memory of one is taken once: 6 bytes for each
+/// variable and 2 for each constraint. The last search is kept, so constants of one variable that follow one another
+/// share theirs. Beside that the time is linear in the text, and in the paths of the variables in it.
 pub fn answer_who(
     alloc: Global,
     scene: &Scene<'_>,
@@ -85,8 +97,14 @@ pub fn answer_who(
         return Ok(None);
     }
     let solutions = solve_all(alloc, graph, scene.lattices)?;
+    let ends = all_ends(alloc, graph, scene.lattices)?;
+    let found = Found {
+        solutions: solutions.as_slice(),
+        ends: ends.as_slice(),
+    };
+    let finder = Finder::Idle(Room::new(alloc, graph, scene.vars.count())?);
     let mut text = Vec::new(alloc);
     put(&mut text, b"who\n")?;
-    put_vars(alloc, &mut text, scene, graph, &solutions, &vars)?;
+    put_vars(alloc, &mut text, scene, graph, &found, finder, &vars)?;
     Ok(Some(text))
 }

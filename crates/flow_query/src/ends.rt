@@ -1,17 +1,27 @@
-//! The constants and the bounds that may have to do with a variable.
+//! The constants and the bounds of lattices, and those that may have to do with a variable.
 
-ghost use Rattle.std.specs.Prelude.{◌≡◌, ◌<◌, ◌↔◌, ℕ, IfNone, IfSome, IsTrue};
-ghost use Rattle.std.specs.Prelude.{MatchOption, length};
+ghost use Rattle.std.specs.Prelude.{◌≡◌, ◌<◌, ◌↔◌, ℕ, IfNone, IfOk, IfSome, IsTrue};
+ghost use Rattle.std.specs.Prelude.{MatchOption, OnOk, Some, false, length, slice_get};
 ghost use Rattle.std.specs.Int.{bit_at};
 ghost use Rattle.flow_graph.specs.declared.constraint.Link.TheVariants.{Const};
 ghost use Rattle.flow_query.specs.Answers.{IsFrom, IsTo};
+ghost use Rattle.flow_query.specs.Ends.{AllEnds, AreEnds, IsBound, IsConstant, Lists};
 ghost use Rattle.flow_query.specs.Searches.{IsBoundAt, IsConstantAt};
 ghost use Rattle.flow_query.specs.Searches.{IsNoConstant, IsSection};
 
 use crate::searches::Section;
-use flow_graph::Link;
-use qual_base::{EdgeId, Elem, ElemSet, LatticeNo, Numbered, VarId};
+use flow_graph::{FlowGraph, Link};
+use lattice_core::Lattices;
+use qual_base::{EdgeId, Elem, ElemSet, LatticeNo, NoMemory, Numbered, VarId};
+use std::alloc::Global;
 use walk_laws::leads_are_walks;
+
+/// The numbers of the constants of a lattice and of its bounds, ascending.
+#[derive(Drop)]
+pub struct Ends {
+    pub constants: Vec<EdgeId>,
+    pub bounds: Vec<EdgeId>,
+}
 
 /// Whether a set has an element.
 fn has_element(set: ElemSet, elem: Elem) -> bool
@@ -43,6 +53,93 @@ fn constant_in(link: Link, lattice: LatticeNo) -> Option<Constant>
         }
         _ => None,
     }
+}
+
+/// Lists a constraint, where it is a constant of a lattice.
+fn list_constant(
+    constants: &mut Vec<EdgeId>,
+    graph: &FlowGraph,
+    lattice: LatticeNo,
+    number: EdgeId,
+) -> Result<(), NoMemory>
+    requires { number < length graph.now.constraints }
+    ensures { OnOk result
+        (Lists (IsConstant graph.now lattice) number constants.old.items constants.new.items) }
+{
+    match constant_in(graph.constraint(number).link, lattice) {
+        None => Ok(()),
+        Some(_) => {
+            constants.push(number)?;
+            Ok(())
+        }
+    }
+}
+
+/// Lists a constraint, where it is a bound of a lattice.
+fn list_bound(
+    bounds: &mut Vec<EdgeId>,
+    graph: &FlowGraph,
+    lattice: LatticeNo,
+    number: EdgeId,
+) -> Result<(), NoMemory>
+    requires { number < length graph.now.constraints }
+    ensures { OnOk result
+        (Lists (IsBound graph.now lattice) number bounds.old.items bounds.new.items) }
+{
+    match graph.constraint(number).bound_in(lattice) {
+        None => Ok(()),
+        Some(_) => {
+            bounds.push(number)?;
+            Ok(())
+        }
+    }
+}
+
+/// The constants and the bounds of a lattice. Linear in the constraints, and 4 bytes for each that is listed.
+fn ends_of(alloc: Global, graph: &FlowGraph, lattice: LatticeNo) -> Result<Ends, NoMemory>
+    ensures { IfOk result (AreEnds graph.now lattice) }
+{
+    let mut constants = Vec::new(alloc);
+    let mut bounds = Vec::new(alloc);
+    for n in 0..graph.len() {
+        let number = EdgeId::new(n);
+        list_constant(&mut constants, graph, lattice, number)?;
+        list_bound(&mut bounds, graph, lattice, number)?;
+    }
+    Ok(Ends { constants, bounds })
+}
+
+/// The constants and the bounds of each lattice, in order. Goes once for each lattice over the constraints.
+pub fn all_ends(
+    alloc: Global,
+    graph: &FlowGraph,
+    lattices: &Lattices,
+) -> Result<Vec<Ends>, NoMemory>
+    ensures { IfOk result (λ ends. AllEnds graph.now (length lattices.now) ends.items) }
+{
+    let mut ends = Vec::new(alloc);
+    for n in 0..lattices.len() {
+        ends.push(ends_of(alloc, graph, LatticeNo::new(n))?)?;
+    }
+    Ok(ends)
+}
+
+/// The constants and the bounds of a lattice.
+pub fn ends_in(ends: &[Ends], lattice: LatticeNo) -> &Ends
+    requires { lattice < length ends.now }
+    ensures { slice_get ends.now lattice ≡ Some result.now }
+{
+    &ends[usize::from(lattice.number())]
+}
+
+/// Whether some constant may lead to the variable that is asked of. Constant time.
+pub fn is_led_to(section: &Section<'_>) -> bool
+    requires { IsSection section.now }
+    ensures { result ≡ false → (number : ℕ) →
+        IsFrom section.now.graph.now section.now.lattice section.now.var number → ⊥ }
+{
+    leads_are_walks();
+    section.solved.solver.reached(section.var).number() != 0
 }
 
 /// The variable of a constraint that is a constant of the lattice, whose element leads to the variable that is asked of: no

@@ -1,15 +1,16 @@
 //! What is written of a variable in a lattice.
 
-ghost use Rattle.std.specs.Prelude.{◌≡◌, ◌<◌, ◌++◌, IfOk, IfSome, OnOk, length, codes};
+ghost use Rattle.std.specs.Prelude.{◌≡◌, ◌<◌, ◌++◌, IfOk, OnOk, length, codes};
 ghost use Rattle.std.specs.Fmt.{decimal};
 ghost use Rattle.annotate.specs.Texts.{line, walk_text};
 ghost use Rattle.annotate.specs.Scenes.{Writes, WritesSome};
 ghost use Rattle.flow_query.specs.Answers.{FromText, FromsText, ToText, TosText, SectionText};
 ghost use Rattle.flow_query.specs.Answers.{headed};
-ghost use Rattle.flow_query.specs.Searches.{IsBoundAt, IsConstantAt, IsSearch, IsSection};
+ghost use Rattle.flow_query.specs.Searches.{IsBoundAt, IsConstantAt, IsFinder, IsSearchIn};
+ghost use Rattle.flow_query.specs.Searches.{IsSection};
 
-use crate::ends::{bound_at, constant_at};
-use crate::searches::{Search, Section, search_at, walk_to};
+use crate::ends::{bound_at, constant_at, is_led_to};
+use crate::searches::{Finder, Search, Section, search_at, walk_to};
 use annotate::{Scene, put, put_decimal, put_var, put_walk};
 use flow_graph::{FlowGraph, Walk};
 use qual_base::{EdgeId, LatticeNo, NoMemory, Numbered, VarId};
@@ -46,7 +47,7 @@ fn put_constant(
     number: EdgeId,
 ) -> Result<(), NoMemory>
     requires section { IsSection section.now }
-    requires search { IsSearch section.now search.now }
+    requires search { IsSearchIn section.now search.now }
     requires constant { IsConstantAt
         section.now.graph.now section.now.lattice number search.now.start }
     ensures { OnOk result (WritesSome scene.now out.old.items out.new.items (λ s text.
@@ -80,7 +81,7 @@ fn put_bound(
     at: VarId,
 ) -> Result<(), NoMemory>
     requires section { IsSection section.now }
-    requires search { IsSearch section.now search.now }
+    requires search { IsSearchIn section.now search.now }
     requires start { search.now.start ≡ section.now.var }
     requires bound { IsBoundAt section.now.graph.now section.now.lattice number at }
     ensures { OnOk result (WritesSome scene.now out.old.items out.new.items (λ s text.
@@ -103,94 +104,122 @@ fn put_bound(
     )
 }
 
-/// What is written of a constraint before the variable that is asked of. Answers the search that is kept from then on: the last
-/// one.
+/// What is written of a constraint before the variable that is asked of. Answers the finder, which keeps the last search.
 fn put_from(
     alloc: Global,
     out: &mut Vec<u8>,
     scene: &Scene<'_>,
     section: &Section<'_>,
-    kept: Option<Search>,
+    finder: Finder,
     number: EdgeId,
-) -> Result<Option<Search>, NoMemory>
+) -> Result<Finder, NoMemory>
     requires section { IsSection section.now }
-    requires kept { IfSome kept (IsSearch section.now) }
+    requires finder { IsFinder section.now.graph.now finder }
     requires number { number < length section.now.graph.now.constraints }
-    ensures kept { IfOk result (λ kept. IfSome kept (IsSearch section.now)) }
+    ensures finder { IfOk result (IsFinder section.now.graph.now) }
     ensures text { OnOk result (WritesSome scene.now out.old.items out.new.items (λ s text.
         FromText s section.now.graph.now section.now.lattice section.now.var number text)) }
 {
     match constant_at(section, number) {
-        None => Ok(kept),
+        None => Ok(finder),
         Some(at) => {
-            let search = search_at(alloc, section, kept, at)?;
+            let search = search_at(section, finder, at)?;
             put_constant(alloc, out, scene, section, &search, number)?;
-            Ok(Some(search))
+            Ok(Finder::Kept(search))
         }
     }
 }
 
-/// What is written of a constraint behind the variable that is asked of. Answers the search that is kept from then on.
+/// What is written of a constraint behind the variable that is asked of. Answers the finder.
 fn put_to(
     alloc: Global,
     out: &mut Vec<u8>,
     scene: &Scene<'_>,
     section: &Section<'_>,
-    kept: Option<Search>,
+    finder: Finder,
     number: EdgeId,
-) -> Result<Option<Search>, NoMemory>
+) -> Result<Finder, NoMemory>
     requires section { IsSection section.now }
-    requires kept { IfSome kept (IsSearch section.now) }
+    requires finder { IsFinder section.now.graph.now finder }
     requires number { number < length section.now.graph.now.constraints }
-    ensures kept { IfOk result (λ kept. IfSome kept (IsSearch section.now)) }
+    ensures finder { IfOk result (IsFinder section.now.graph.now) }
     ensures text { OnOk result (WritesSome scene.now out.old.items out.new.items (λ s text.
         ToText s section.now.graph.now section.now.lattice section.now.var number text)) }
 {
     match bound_at(section, number) {
-        None => Ok(kept),
+        None => Ok(finder),
         Some(at) => {
-            let search = search_at(alloc, section, kept, section.var)?;
+            let search = search_at(section, finder, section.var)?;
             put_bound(alloc, out, scene, section, &search, number, at)?;
-            Ok(Some(search))
+            Ok(Finder::Kept(search))
         }
     }
 }
 
-/// The constants that lead to the variable, in order. A search for each variable of a constant whose element leads there, or more
-/// where such variables alternate; the memory of one.
+/// The constants that lead to the variable, in order. Goes over the constants of the lattice where one leads there. A search for
+/// each variable of a constant whose element leads there, or more where such variables alternate.
 fn put_froms(
     alloc: Global,
     out: &mut Vec<u8>,
     scene: &Scene<'_>,
     section: &Section<'_>,
-) -> Result<(), NoMemory>
-    requires { IsSection section.now }
-    ensures { OnOk result (WritesSome scene.now out.old.items out.new.items (λ s text.
+    finder: Finder,
+) -> Result<Finder, NoMemory>
+    requires section { IsSection section.now }
+    requires finder { IsFinder section.now.graph.now finder }
+    ensures finder { IfOk result (IsFinder section.now.graph.now) }
+    ensures text { OnOk result (WritesSome scene.now out.old.items out.new.items (λ s text.
         FromsText s section.now.graph.now section.now.lattice section.now.var text)) }
 {
-    let mut kept = None;
-    for n in 0..section.graph.len() {
-        kept = put_from(alloc, out, scene, section, kept, EdgeId::new(n))?;
+    if !is_led_to(section) {
+        return Ok(finder);
     }
-    Ok(())
+    put_constants(alloc, out, scene, section, finder)
 }
 
-/// The bounds that the variable leads to, in order. One search, and none where the lattice has no bound.
+/// The same, where constants may lead to the variable.
+fn put_constants(
+    alloc: Global,
+    out: &mut Vec<u8>,
+    scene: &Scene<'_>,
+    section: &Section<'_>,
+    finder: Finder,
+) -> Result<Finder, NoMemory>
+    requires section { IsSection section.now }
+    requires finder { IsFinder section.now.graph.now finder }
+    ensures finder { IfOk result (IsFinder section.now.graph.now) }
+    ensures text { OnOk result (WritesSome scene.now out.old.items out.new.items (λ s text.
+        FromsText s section.now.graph.now section.now.lattice section.now.var text)) }
+{
+    let mut finder = finder;
+    let constants = section.ends.constants.as_slice();
+    for number in constants {
+        finder = put_from(alloc, out, scene, section, finder, *number)?;
+    }
+    Ok(finder)
+}
+
+/// The bounds that the variable leads to, in order. Goes over the bounds of the lattice. One search, and none where the lattice
+/// has no bound.
 fn put_tos(
     alloc: Global,
     out: &mut Vec<u8>,
     scene: &Scene<'_>,
     section: &Section<'_>,
-) -> Result<(), NoMemory>
-    requires { IsSection section.now }
-    ensures { OnOk result (WritesSome scene.now out.old.items out.new.items (λ s text.
+    finder: Finder,
+) -> Result<Finder, NoMemory>
+    requires section { IsSection section.now }
+    requires finder { IsFinder section.now.graph.now finder }
+    ensures finder { IfOk result (IsFinder section.now.graph.now) }
+    ensures text { OnOk result (WritesSome scene.now out.old.items out.new.items (λ s text.
         TosText s section.now.graph.now section.now.lattice section.now.var text)) }
 {
-    let mut kept = None;
-    for n in 0..section.graph.len() {
-        kept = put_to(alloc, out, scene, section, kept, EdgeId::new(n))?;
+    let mut finder = finder;
+    let bounds = section.ends.bounds.as_slice();
+    for number in bounds {
+        finder = put_to(alloc, out, scene, section, finder, *number)?;
     }
-    Ok(())
+    Ok(finder)
 }
 
 /// The line of a variable and a lattice before what is listed there, and nothing where that is nothing.
@@ -216,19 +245,24 @@ fn put_headed(
     Ok(())
 }
 
-/// What is written of a variable in a lattice. Twice the constraints, its searches, and its text.
+/// What is written of a variable in a lattice: a look at the bounds of the lattice, and at its constants where one leads to the
+/// variable; the searches; and the text. Answers the finder, which keeps the last search.
 pub fn put_section(
     alloc: Global,
     out: &mut Vec<u8>,
     scene: &Scene<'_>,
     section: &Section<'_>,
-) -> Result<(), NoMemory>
-    requires { IsSection section.now }
-    ensures { OnOk result (WritesSome scene.now out.old.items out.new.items (λ s text.
+    finder: Finder,
+) -> Result<Finder, NoMemory>
+    requires section { IsSection section.now }
+    requires finder { IsFinder section.now.graph.now finder }
+    ensures finder { IfOk result (IsFinder section.now.graph.now) }
+    ensures text { OnOk result (WritesSome scene.now out.old.items out.new.items (λ s text.
         SectionText s section.now.graph.now section.now.var section.now.lattice text)) }
 {
     let mut listed = Vec::new(alloc);
-    put_froms(alloc, &mut listed, scene, section)?;
-    put_tos(alloc, &mut listed, scene, section)?;
-    put_headed(out, scene, section.lattice, section.var, &listed)
+    let finder = put_froms(alloc, &mut listed, scene, section, finder)?;
+    let finder = put_tos(alloc, &mut listed, scene, section, finder)?;
+    put_headed(out, scene, section.lattice, section.var, &listed)?;
+    Ok(finder)
 }

@@ -13,19 +13,19 @@ use Rattle.error_path.specs.Made.{place_of, subs_in}
 use Rattle.error_path.specs.Reaches.{LedBy}
 use Rattle.error_path.specs.Reaching.{AreSound}
 use Rattle.error_path.specs.Traced.{IsTraced}
-use Rattle.error_path.proofs.Found.{reach_sound}
+use Rattle.error_path.proofs.Found.{found_sound}
 use Rattle.error_path.proofs.Making.{made_apart}
 use Rattle.error_path.proofs.Tracing.{path_of, some_given, some_if}
 use Rattle.error_path.proofs.showing.show_from.Goals as goal
 
 pub unwrap-place-requires : goal.unwrap-place-requires
 unwrap-place-requires c =
-    let reach = c.args.reach.now in
+    let reach = c.args.found.now in
     let target = c.args.target.now in
     let From : Origin → Type 0 = λ o. LedBy c.args.graph.now reach.lattice o target.at in
     let Lat : ℕ → Type 0 = λ l. LedBy c.args.graph.now l (Element target.elem) target.at in
     let led = subst From (sym c.requires.origin) (subst Lat (sym c.requires.lattice) c.requires.lead) in
-    some_if c.place_of.result _ c.place_of.ensures.none (λ missed. missed (c.requires.reach.whole target.at led))
+    some_if c.place_of.result _ c.place_of.ensures.none (λ missed. missed (c.requires.found.whole target.at led))
 
 pub trace-requires-clause-made : goal.trace-requires-clause-made
 trace-requires-clause-made c = c.new-subs.ensures.made c.args.graph.now
@@ -38,12 +38,12 @@ trace-requires-clause-place c =
 pub trace-requires-clause-sound : goal.trace-requires-clause-sound
 trace-requires-clause-sound c =
     let origin : Origin = Element c.args.target.now.elem in
-    let Of : ℕ → Type 0 = λ l. AreSound c.args.graph.now l origin c.args.summaries.now c.args.reach.now.queue.items in
+    let Of : ℕ → Type 0 = λ l. AreSound c.args.graph.now l origin c.args.summaries.now c.args.found.now.queue.items in
     let At : List Reached → Type 0 = λ xs. AreSound c.args.graph.now c.new-subs.result.lattice origin c.args.summaries.now xs in (
       origin,
       subst At (sym c.queue.ensures)
           (subst Of (sym c.new-subs.ensures.lattice)
-          (reach_sound c.args.graph.now c.args.reach.now c.args.target.now.lattice origin c.args.summaries.now c.requires.reach c.requires.lattice c.requires.origin c.requires.summaries)),
+          (found_sound c.args.graph.now c.args.found.now c.args.target.now.lattice origin c.args.summaries.now c.requires.found c.requires.lattice c.requires.origin c.requires.summaries)),
     )
 
 pub returns : goal.returns
@@ -56,10 +56,10 @@ returns c =
     let origin : Origin = Element elem in
     let end : Goal = ToBound bound in
     let at = some_given _ c.place_of.result c.unwrap-place.result c.unwrap-place.ensures c.place_of.ensures.found in
-    let Of : ℕ → Type 0 = λ l. AreSound sys l origin c.args.summaries.now c.args.reach.now.queue.items in
+    let Of : ℕ → Type 0 = λ l. AreSound sys l origin c.args.summaries.now c.args.found.now.queue.items in
     let At : List Reached → Type 0 = λ xs. AreSound sys from origin c.args.summaries.now xs in
     let found = subst At (sym c.queue.ensures)
-    (subst Of (sym c.new-subs.ensures.lattice) (reach_sound sys c.args.reach.now to origin c.args.summaries.now c.requires.reach c.requires.lattice c.requires.origin c.requires.summaries)) in
+    (subst Of (sym c.new-subs.ensures.lattice) (found_sound sys c.args.found.now to origin c.args.summaries.now c.requires.found c.requires.lattice c.requires.origin c.requires.summaries)) in
     let there = ap (λ xs. slice_get xs c.unwrap-place.result) c.queue.ensures ∙ at.1 in
     let Var : ℕ → Type 0 = λ v. Stands sys to bound (Bound v to c.requires.bound.0) in
     let first : Onward sys to (subs_in c.new-subs.result) end at.0.phase at.0.at (Take bound 0 ∷ []) =

@@ -9,7 +9,7 @@ use Rattle.error_path.specs.Made.{place_of, subs_in}
 use Rattle.error_path.specs.Reaches.{LedBy}
 use Rattle.error_path.specs.Reaching.{AreSound}
 use Rattle.error_path.specs.Traced.{IsTraced}
-use Rattle.error_path.proofs.Found.{reach_sound}
+use Rattle.error_path.proofs.Found.{found_sound}
 use Rattle.error_path.proofs.Making.{made_apart}
 use Rattle.error_path.proofs.Tracing.{some_given, some_if}
 use Rattle.error_path.proofs.reaches.Reach.walk.Goals as goal
@@ -19,7 +19,7 @@ place_of-requires c = c.requires.reached.1.is.firsts
 
 pub unwrap-place-requires : goal.unwrap-place-requires
 unwrap-place-requires c =
-    let reach = c.args.self.now in
+    let reach = c.args.self.now.found in
     let From : Origin → Type 0 = λ o. LedBy c.args.graph.now reach.lattice o c.args.to in
     let led = subst From (sym c.requires.reached.1.origin_is) c.requires.reached.2 in
     some_if c.place_of.result _ c.place_of.ensures.none (λ missed. missed (c.requires.reached.1.is.whole c.args.to led))
@@ -34,19 +34,19 @@ trace-requires-clause-place c =
 
 pub trace-requires-clause-sound : goal.trace-requires-clause-sound
 trace-requires-clause-sound c =
-    let reach = c.args.self.now in
+    let reach = c.args.self.now.found in
     let Of : ℕ → Type 0 = λ l. AreSound c.args.graph.now l reach.origin c.args.summaries.now reach.queue.items in
     let At : List Reached → Type 0 = λ xs. AreSound c.args.graph.now c.new-subs.result.lattice reach.origin c.args.summaries.now xs in (
       reach.origin,
       subst At (sym c.queue.ensures)
           (subst Of (sym (c.new-subs.ensures.lattice ∙ c.lattice.ensures))
-          (reach_sound c.args.graph.now reach reach.lattice reach.origin c.args.summaries.now c.requires.reached.1.is refl refl c.requires.summaries)),
+          (found_sound c.args.graph.now reach reach.lattice reach.origin c.args.summaries.now c.requires.reached.1.is refl refl c.requires.summaries)),
     )
 
 pub returns : goal.returns
 returns c = λ start found_from.
     let sys = c.args.graph.now in
-    let reach = c.args.self.now in
+    let reach = c.args.self.now.found in
     let from = c.new-subs.result.lattice in
     let lattice : from ≡ reach.lattice = c.new-subs.ensures.lattice ∙ c.lattice.ensures in
     let end : Goal = ToVariable c.args.to in
@@ -54,7 +54,7 @@ returns c = λ start found_from.
     let Of : ℕ → Type 0 = λ l. AreSound sys l reach.origin c.args.summaries.now reach.queue.items in
     let At : List Reached → Type 0 = λ xs. AreSound sys from reach.origin c.args.summaries.now xs in
     let found = subst At (sym c.queue.ensures)
-    (subst Of (sym lattice) (reach_sound sys reach reach.lattice reach.origin c.args.summaries.now c.requires.reached.1.is refl refl c.requires.summaries)) in
+    (subst Of (sym lattice) (found_sound sys reach reach.lattice reach.origin c.args.summaries.now c.requires.reached.1.is refl refl c.requires.summaries)) in
     let there = ap (λ xs. slice_get xs c.unwrap-place.result) c.queue.ensures ∙ at.1 in
     let none : Onward sys from (subs_in c.new-subs.result) (ToVariable at.0.at) at.0.phase at.0.at [] = There at.0.phase at.0.at in
     let To : ℕ → Type 0 = λ v. Onward sys from (subs_in c.new-subs.result) (ToVariable v) at.0.phase at.0.at [] in

@@ -9,8 +9,8 @@ returns-then-is_of c =
     let test = c.loop-place-test.true in
     let within : place < length found = omega arith in
     let own = c.if-is_of.ensures refl in (
-      c.index-reach.result.now,
-      slice_get-get_or found place c.index-reach.result.now within ∙ ap Some (sym c.index-reach.ensures),
+      c.index-found.result.now,
+      slice_get-get_or found place c.index-found.result.now within ∙ ap Some (sym c.index-found.ensures),
       own.0,
       own.1,
     )

@@ -1,12 +1,12 @@
 use Rattle.std.proofs.Common.{◌≡◌, ℕ, List, Some, length, arith, refl, slice_get, subst, sym}
-use Rattle.error_path.specs.declared.reaches.Reach.{Reach}
+use Rattle.error_path.specs.declared.reaches.Found.{Found}
 use Rattle.error_path.proofs.Making.{push_last}
 use Rattle.error_path.proofs.reaches.Reaches.keep.Goals as goal
 
 pub returns-clause-place : goal.returns-clause-place
 returns-clause-place c =
     let old = c.args.self.now.found.items in
-    let In : List Reach → Type 0 = λ xs. slice_get xs (length old) ≡ Some c.args.reach in
-    let At : ℕ → Type 0 = λ n. slice_get c.push.new.self.items n ≡ Some c.args.reach in
+    let In : List Found → Type 0 = λ xs. slice_get xs (length old) ≡ Some c.args.found in
+    let At : ℕ → Type 0 = λ n. slice_get c.push.new.self.items n ≡ Some c.args.found in
     let size : length old ≡ c.len-place.result = omega arith in
-    (c.args.reach, subst At size (subst In (sym c.in_ok-push.ensures.items) (push_last old c.args.reach)), refl, refl)
+    (c.args.found, subst At size (subst In (sym c.in_ok-push.ensures.items) (push_last old c.args.found)), refl, refl)

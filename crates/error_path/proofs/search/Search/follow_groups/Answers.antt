@@ -63,7 +63,7 @@ returns-clause-over c =
       | inr pair ↦ c.in_ok-follow_pairs.ensures.done b m pair
     ] in
     done v st leads in
-    enter_over sys lattice rows c.follow_pairs.new.passed c.add.new.self c.follow_pairs.new.self phase c.in-Some.entry c.add.ensures.only c.add.ensures.size c.in_ok-follow_pairs.ensures.over
+    enter_over sys lattice rows c.follow_pairs.new.passed c.add.new.self c.follow_pairs.new.self phase c.in-Some.entry c.in_ok-add.ensures.only c.in_ok-add.ensures.size c.in_ok-follow_pairs.ensures.over
     site inner (c.newest.ensures.there c.in-Some.entry (ap link_of c.in-Some.is)) all
 
 pub returns-clause-grows : goal.returns-clause-grows

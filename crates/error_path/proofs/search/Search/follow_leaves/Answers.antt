@@ -20,6 +20,6 @@ returns-clause-over c =
     let sys = c.args.graph.now in
     let lattice = c.args.lattice in
     let rows = c.args.summaries.now in
-    leave_over sys lattice rows c.args.passed.now c.add.new.self c.follow_all.new.self c.args.front.now.phase c.in-Some.exit c.add.ensures.only c.add.ensures.size
+    leave_over sys lattice rows c.args.passed.now c.add.new.self c.follow_all.new.self c.args.front.now.phase c.in-Some.exit c.in_ok-add.ensures.only c.in_ok-add.ensures.size
     (over_on sys lattice rows c.args.passed.now c.args.self.now c.follow_all.new.self c.in_ok-follow_all.ensures.grows c.requires.over)
     c.args.call.now.site c.args.last (c.newest.ensures.there c.in-Some.exit (ap link_of c.in-Some.is)) (λ m v st. c.in_ok-follow_all.ensures.done m v st (c.if-not-leads.ensures.0 refl))
