@@ -9,13 +9,6 @@ use Rattle.flow_query.proofs.Telling.{as_some}
 use Rattle.flow_query.proofs.Those.{all_of, from_place, item_has, next_of}
 use Rattle.flow_query.proofs.sections.put_tos.Goals as goal
 
--- what is gone over
-those : (c : goal.After-as_slice-bounds) → AreThose (IsBound c.args.section.now.graph.now c.args.section.now.lattice) c.as_slice-bounds.result.now
-those c =
-    let section = c.args.section.now in
-    let Of : List ℕ → Type 0 = λ numbers. AreThose (IsBound section.graph.now section.lattice) numbers in
-    subst Of (sym c.as_slice-bounds.ensures.value) c.requires.section.ends.bounds
-
 pub loop-number-init : goal.loop-number-init
 loop-number-init c =
     let section = c.args.section.now in
@@ -31,14 +24,18 @@ put_to-requires-clause-number c =
     let section = c.args.section.now in
     let sys = section.graph.now in
     let items = c.as_slice-bounds.result.now in
+    let Of : List ℕ → Type 0 = λ numbers. AreThose (IsBound sys section.lattice) numbers in
+    let those = subst Of (sym c.as_slice-bounds.ensures.value) c.requires.section.ends.bounds in
     bound_low sys section.lattice c.number-item.result
-    (item_has (IsBound sys section.lattice) items (those c.before) c.loop-number.number-index c.number-item.result (omega arith) c.number-item.is)
+    (item_has (IsBound sys section.lattice) items those c.loop-number.number-index c.number-item.result (omega arith) c.number-item.is)
 
 pub loop-number-preserved : goal.loop-number-preserved
 loop-number-preserved c =
     let section = c.args.section.now in
     let sys = section.graph.now in
     let items = c.as_slice-bounds.result.now in
+    let Of : List ℕ → Type 0 = λ numbers. AreThose (IsBound sys section.lattice) numbers in
+    let those = subst Of (sym c.as_slice-bounds.ensures.value) c.requires.section.ends.bounds in
     let place = c.loop-number.number-index in
     let test = c.loop-number-test.true in
     record {
@@ -47,7 +44,7 @@ loop-number-preserved c =
       text = then_some (λ s text. EachBelow (ToText s sys section.lattice section.var) (from_place items (place + 1)) text)
           c.loop-number.invariant.text c.in_ok-finder.ensures.text
           (λ s shows text here before next.
-          next_of (ToText s sys section.lattice section.var) (IsBound sys section.lattice) items (those c.before)
+          next_of (ToText s sys section.lattice section.var) (IsBound sys section.lattice) items those
           (no_to_text s sys section.lattice section.var) place c.number-item.result text here (omega arith) c.number-item.is before next);
     }
 
@@ -56,11 +53,13 @@ returns-clause-text c =
     let section = c.args.section.now in
     let sys = section.graph.now in
     let items = c.as_slice-bounds.result.now in
+    let Of : List ℕ → Type 0 = λ numbers. AreThose (IsBound sys section.lattice) numbers in
+    let those = subst Of (sym c.as_slice-bounds.ensures.value) c.requires.section.ends.bounds in
     let place = c.loop-number.number-index in
     let past = c.loop-number-test.false in
     let low = c.loop-number.invariant.low in
     let end : place ≡ length items = omega (arith, past, low) in
     as_some (λ s text. TosText s sys section.lattice section.var text) c.loop-number.invariant.text
     (λ s shows text each.
-    all_of (ToText s sys section.lattice section.var) (IsBound sys section.lattice) items (those c.before)
+    all_of (ToText s sys section.lattice section.var) (IsBound sys section.lattice) items those
     (no_to_text s sys section.lattice section.var) place (length sys.constraints) text end (bound_low sys section.lattice) each)
