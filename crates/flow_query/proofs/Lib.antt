@@ -1,4 +1,6 @@
+mod Ending
 mod Going
 mod Listing
 mod Telling
+mod Those
 mod Walking

@@ -1,6 +1,7 @@
 -- The constants that lead to a variable and the bounds that it leads to, found by their constraints.
 use Rattle.std.proofs.Common.{◌≡◌, ◌↔◌, ℕ, Bool, true, false, IsTrue, List, ◌∷◌, ◌++◌, codes, slice_get, Some, None, refl, sym, ◌∙◌, ap}
-use Rattle.std.proofs.Common.{subst, append-nil}
+use Rattle.std.proofs.Common.{[], subst, append-nil, arith}
+use Rattle.std.proofs.lemmas.Nat.Bits.{bit_at-zero}
 use Rattle.std.specs.Fmt.{decimal}
 use Rattle.std.specs.Int.{bit_at}
 use Rattle.flow_graph.specs.declared.constraint.Constraint.{Constraint}
@@ -15,7 +16,8 @@ use Rattle.flow_graph.specs.PathProofs.{steps_of}
 use Rattle.flow_graph.specs.Leading.{GoesTo}
 use Rattle.walk_laws.specs.Laws.{LeadsAreWalks}
 use Rattle.annotate.specs.Texts.{Scene, line, proof_text, walk_text}
-use Rattle.flow_query.specs.Answers.{IsFrom, IsTo, IsWalkTo, FromText, OneFrom, ToText, OneTo}
+use Rattle.flow_query.specs.Answers.{IsFrom, IsTo, IsWalkTo, FromText, NoFrom, OneFrom, ToText, NoTo, OneTo}
+use Rattle.flow_query.specs.Ends.{IsBound, IsConstant}
 use Rattle.flow_query.specs.Searches.{IsBoundAt, IsConstantAt, IsNoConstant}
 use Rattle.flow_query.proofs.Going.{constants_lead}
 
@@ -34,7 +36,7 @@ not_in is set elem other tells same out has = let in_it : is ≡ true = tells.1 
 
 -- what a constraint is
 module _ (sys : System) (lattice number : ℕ) (constraint : Constraint) (there : slice_get sys.constraints number ≡ Some constraint) where
-  link_there : (link : Link) → Stands sys lattice number link → constraint.link ≡ link
+  pub link_there : (link : Link) → Stands sys lattice number link → constraint.link ≡ link
   link_there link stands = ap (λ (c : Constraint). c.link) (some_is (sym there ∙ stands.there)) ∙ stands.link_is
 
   pub constant_stands : (elem at : ℕ) → constraint.link ≡ Const lattice elem at → IsConstantAt sys lattice number at
@@ -99,3 +101,20 @@ not_led is tells out has = let led_to : is ≡ true = tells.1 has in absurd cc
 
 pub led : {A : Type 0} (is : Bool) → (IsTrue is ↔ A) → is ≡ true → A
 led is tells known = tells.0 known
+
+-- ---- where no constraint is one of these
+
+pub no_from_text : (scene : Scene) (sys : System) (lattice var number : ℕ) → (IsConstant sys lattice number → ⊥) → FromText scene sys lattice var number []
+no_from_text scene sys lattice var number none = NoFrom (λ from. none (from.at, from.elem, from.constant))
+
+pub no_to_text : (scene : Scene) (sys : System) (lattice var number : ℕ) → (IsBound sys lattice number → ⊥) → ToText scene sys lattice var number []
+no_to_text scene sys lattice var number none = NoTo (λ to. none (to.at, to.elem, to.bound))
+
+-- where no element leads to a variable, no constant does
+pub nothing_led : (sys : System) (lattice var set : ℕ) → LeadsAreWalks → IsWellOwned sys → ((e : ℕ) → Lead sys lattice e var → bit_at set e ≡ 1) → set ≡ 0 → (number : ℕ) →
+    IsFrom sys lattice var number → ⊥
+nothing_led sys lattice var set law owned bits none number from =
+    let lead = constants_lead sys lattice number from.elem from.at from.constant var ((law sys lattice from.at var owned).0 from.leads) in
+    let zero_is = bit_at-zero from.elem in
+    let same : bit_at 0 from.elem ≡ 1 = ap (λ s. bit_at s from.elem) (sym none) ∙ bits from.elem lead in
+    omega (arith, zero_is, same)

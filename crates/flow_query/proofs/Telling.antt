@@ -3,6 +3,8 @@ use Rattle.std.proofs.Common.{◌≡◌, ℕ, suc, ◌+◌, ◌<◌, Some, None,
 use Rattle.std.proofs.Common.{ap, subst, arith}
 use Rattle.std.proofs.Math.Seq.{take-suc}
 use Rattle.flow_graph.specs.System.{System}
+use Rattle.annotate.specs.declared.scene.Scene.{Scene as Lent}
+use Rattle.annotate.specs.Scenes.{Shows, WritesSome}
 use Rattle.annotate.specs.Texts.{Scene, line}
 use Rattle.flow_query.specs.Answers.{EachBelow, NextBelow, VarsText, VarText, NextVar, IsWho, Named, NotNamed, asked_in}
 
@@ -40,3 +42,10 @@ named_as scene sys name vars lent begun after told is some same each begins ends
     let Of : List ℕ → Type 0 = λ vs. VarsText scene sys vs told in
     let Is : List ℕ → Type 0 = λ t. IsWho scene sys name (Some t) in
     subst Is (sym (ends ∙ ap (λ (t : List ℕ). t ++ told) begins)) (named scene sys name vars told is some (subst Of same each))
+
+-- what is written of a kind is of another kind
+pub as_some : {lent : Lent} {a b : List ℕ} {Is : Scene → List ℕ → Type 0} (Has : Scene → List ℕ → Type 0) → WritesSome lent a b Is →
+    ((s : Scene) → Shows lent s → (text : List ℕ) → Is s text → Has s text) → WritesSome lent a b Has
+as_some Has one has = record {
+  part = λ s shows. let own = one.part s shows in record { text = own.text; added = own.added; is = has s shows own.text own.is };
+}

@@ -6,7 +6,7 @@ use Rattle.std.proofs.lemmas.Bool.{cases_lt}
 use Rattle.std.proofs.lemmas.List.Elements.{Contains-append_cases, Contains-append_left, Contains-append_right}
 use Rattle.std.proofs.lemmas.Option.{slice_get_within, slice_get-get_or}
 use Rattle.flow_graph.specs.Index.{AreThose}
-use Rattle.flow_query.specs.Answers.{EachBelow, NextBelow}
+use Rattle.flow_query.specs.Answers.{EachBelow, NoneBelow, NextBelow}
 use Rattle.flow_query.specs.Ends.{AreThoseBelow}
 
 nothing_in : (n : ℕ) → Contains [] n → ⊥
@@ -126,6 +126,10 @@ module _ (Is : ℕ → List ℕ → Type 0) where
       let same : n + (m - n) ≡ m = omega (arith, most) in
       subst At same (skip_by text n (m - n) (λ k from below. none k from (omega (arith, below, most))) each)
 
+  -- where nothing is written of any
+  pub none_below : (most : ℕ) → ((m : ℕ) → Is m []) → EachBelow Is most []
+  none_below most none = skip_to [] 0 most (omega arith) (λ m from below. none m) NoneBelow
+
   module _ (Has : ℕ → Type 0) (numbers : List ℕ) (those : AreThose Has numbers) (none : (m : ℕ) → (Has m → ⊥) → Is m []) where
     -- a number of the list stands behind those before its place
     behind : (place n : ℕ) → slice_get numbers place ≡ Some n → from_place numbers place ≤ n
@@ -197,3 +201,7 @@ module _ (Is : ℕ → List ℕ → Type 0) where
             let last = slice_get-get_or numbers k 0 (omega (arith, at)) in
             let own = few (get_or numbers k 0) (those.only (get_or numbers k 0) (contains_at numbers k (get_or numbers k 0) last)) in
             omega (arith, own)
+
+-- what each number of a list has
+pub item_has : (Has : ℕ → Type 0) (numbers : List ℕ) → AreThose Has numbers → (place n : ℕ) → place < length numbers → n ≡ get_or numbers place n → Has n
+item_has Has numbers those place n within is = those.only n (place, within, sym is)

@@ -1,7 +1,7 @@
 //! The constants and the bounds of lattices, and those that may have to do with a variable.
 
 ghost use Rattle.std.specs.Prelude.{◌≡◌, ◌<◌, ◌↔◌, ℕ, IfNone, IfOk, IfSome, IsTrue};
-ghost use Rattle.std.specs.Prelude.{MatchOption, OnOk, Some, false, length, slice_get};
+ghost use Rattle.std.specs.Prelude.{MatchOption, OnOk, Some, length, slice_get};
 ghost use Rattle.std.specs.Int.{bit_at};
 ghost use Rattle.flow_graph.specs.declared.constraint.Link.TheVariants.{Const};
 ghost use Rattle.flow_query.specs.Answers.{IsFrom, IsTo};
@@ -132,14 +132,14 @@ pub fn ends_in(ends: &[Ends], lattice: LatticeNo) -> &Ends
     &ends[usize::from(lattice.number())]
 }
 
-/// Whether some constant may lead to the variable that is asked of. Constant time.
-pub fn is_led_to(section: &Section<'_>) -> bool
+/// Whether no element of the lattice reaches the variable that is asked of, so no constant leads there. Constant time.
+pub fn is_unreached(section: &Section<'_>) -> bool
     requires { IsSection section.now }
-    ensures { result ≡ false → (number : ℕ) →
+    ensures { IsTrue result → (number : ℕ) →
         IsFrom section.now.graph.now section.now.lattice section.now.var number → ⊥ }
 {
     leads_are_walks();
-    section.solved.solver.reached(section.var).number() != 0
+    section.solved.solver.reached(section.var).number() == 0
 }
 
 /// The variable of a constraint that is a constant of the lattice, whose element leads to the variable that is asked of: no

@@ -9,7 +9,7 @@ ghost use Rattle.flow_query.specs.Answers.{headed};
 ghost use Rattle.flow_query.specs.Searches.{IsBoundAt, IsConstantAt, IsFinder, IsSearchIn};
 ghost use Rattle.flow_query.specs.Searches.{IsSection};
 
-use crate::ends::{bound_at, constant_at, is_led_to};
+use crate::ends::{bound_at, constant_at, is_unreached};
 use crate::searches::{Finder, Search, Section, search_at, walk_to};
 use annotate::{Scene, put, put_decimal, put_var, put_walk};
 use flow_graph::{FlowGraph, Walk};
@@ -171,7 +171,7 @@ fn put_froms(
     ensures text { OnOk result (WritesSome scene.now out.old.items out.new.items (λ s text.
         FromsText s section.now.graph.now section.now.lattice section.now.var text)) }
 {
-    if !is_led_to(section) {
+    if is_unreached(section) {
         return Ok(finder);
     }
     put_constants(alloc, out, scene, section, finder)

@@ -12,7 +12,7 @@ pub returns : goal.returns
 returns c = λ s shows.
     let told = c.in_ok-put_vars.ensures.part s shows in
     let some : c.in_ok-vars.vars.len ≡ 0 → ⊥ = λ none. grind arith in
-    named_as s c.args.graph.now c.args.name.now c.in_ok-vars.vars.items c.deref-2.result.now c.put.new.out.items
+    named_as s c.args.graph.now c.args.name.now c.in_ok-vars.vars.items c.deref.result.now c.put.new.out.items
     c.put_vars.new.out.items told.text (c.in_ok-vars.ensures s shows)
-    (λ none. some (c.in_ok-vars.vars.ok.0 ∙ ap (λ (vars : List ℕ). length vars) none)) c.deref-2.ensures.value told.is
+    (λ none. some (c.in_ok-vars.vars.ok.0 ∙ ap (λ (vars : List ℕ). length vars) none)) c.deref.ensures.value told.is
     (c.in_ok-put.ensures ∙ ap (λ (t : List ℕ). t ++ line (codes "who")) c.new-text.ensures.items) told.added

@@ -1,6 +1,10 @@
 use Rattle.annotate.specs.Scenes.{WritesSome}
 use Rattle.flow_query.specs.Answers.{EachBelow, SectionText}
+use Rattle.flow_query.specs.Searches.{IsFinder}
 use Rattle.flow_query.proofs.answers.put_var_sections.Given as goal
 
 abbrev pub invariant-loop-n : goal.invariant-loop-n
-invariant-loop-n l = WritesSome l.scene l.fn.out.items l.out.items (λ s text. EachBelow (SectionText s l.graph l.var) l.n text)
+invariant-loop-n l = record {
+  finder : IsFinder l.graph l.finder;
+  text : WritesSome l.scene l.fn.out.items l.out.items (λ s text. EachBelow (SectionText s l.graph l.var) l.n text);
+}

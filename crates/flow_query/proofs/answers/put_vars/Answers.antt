@@ -5,12 +5,16 @@ use Rattle.flow_query.proofs.Telling.{next_var}
 use Rattle.flow_query.proofs.answers.put_vars.Goals as goal
 
 pub loop-var-init : goal.loop-var-init
-loop-var-init c =
-    none_of c.args.scene.now c.args.out.now.items (λ s text. VarsText s c.args.graph.now (take 0 c.args.vars.now) text) (λ s shows. NoVar)
+loop-var-init c = record {
+  finder = c.requires.finder;
+  text = none_of c.args.scene.now c.args.out.now.items (λ s text. VarsText s c.args.graph.now (take 0 c.args.vars.now) text) (λ s shows. NoVar);
+}
 
 pub loop-var-preserved : goal.loop-var-preserved
-loop-var-preserved c =
-    then_some (λ s text. VarsText s c.args.graph.now (take (c.loop-var.var-index + 1) c.args.vars.now) text)
-    c.loop-var.invariant c.in_ok-put_var_sections.ensures
-    (λ s shows text here before next.
-    next_var s c.args.graph.now c.args.vars.now c.loop-var.var-index c.var-item.result text here (omega arith) c.var-item.is before next)
+loop-var-preserved c = record {
+  finder = c.in_ok-finder.ensures.finder;
+  text = then_some (λ s text. VarsText s c.args.graph.now (take (c.loop-var.var-index + 1) c.args.vars.now) text)
+      c.loop-var.invariant.text c.in_ok-finder.ensures.text
+      (λ s shows text here before next.
+      next_var s c.args.graph.now c.args.vars.now c.loop-var.var-index c.var-item.result text here (omega arith) c.var-item.is before next);
+}

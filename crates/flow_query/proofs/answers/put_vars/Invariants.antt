@@ -1,7 +1,11 @@
 use Rattle.std.proofs.Common.{take}
 use Rattle.annotate.specs.Scenes.{WritesSome}
 use Rattle.flow_query.specs.Answers.{VarsText}
+use Rattle.flow_query.specs.Searches.{IsFinder}
 use Rattle.flow_query.proofs.answers.put_vars.Given as goal
 
 abbrev pub invariant-loop-var : goal.invariant-loop-var
-invariant-loop-var l = WritesSome l.scene l.fn.out.items l.out.items (λ s text. VarsText s l.graph (take l.var-index l.vars) text)
+invariant-loop-var l = record {
+  finder : IsFinder l.graph l.finder;
+  text : WritesSome l.scene l.fn.out.items l.out.items (λ s text. VarsText s l.graph (take l.var-index l.vars) text);
+}

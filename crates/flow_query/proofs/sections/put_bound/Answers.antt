@@ -3,13 +3,14 @@ use Rattle.flow_graph.specs.Leading.{GoesTo}
 use Rattle.flow_query.specs.Answers.{IsWalkTo, ToText, NoTo}
 use Rattle.annotate.proofs.Writing.{none_of, on_ok, some_of}
 use Rattle.flow_query.proofs.Listing.{no_to, one_to, not_led, led}
+use Rattle.flow_query.proofs.Walking.{reach_of}
 use Rattle.flow_query.proofs.sections.put_bound.Goals as goal
 
 pub returns-then-not-reaches : goal.returns-then-not-reaches
 returns-then-not-reaches c =
     let section = c.args.section.now in
     let search = c.args.search.now in
-    let tells = c.reaches.ensures section.graph.now section.lattice search.start c.requires.section.owned c.requires.search in
+    let tells = c.reaches.ensures section.graph.now section.lattice search.start c.requires.section.owned (reach_of section search c.requires.search) in
     let From : ℕ → Type 0 = λ u. GoesTo section.graph.now section.lattice u c.args.at → ⊥ in
     none_of c.args.scene.now c.args.out.now.items (λ s text. ToText s section.graph.now section.lattice section.var c.args.number text)
     (λ s shows. NoTo (no_to section.graph.now section.lattice section.var c.args.number c.args.at c.leads_are_walks.ensures
@@ -19,14 +20,14 @@ pub walk_to-requires-clause-goes : goal.walk_to-requires-clause-goes
 walk_to-requires-clause-goes c =
     let section = c.args.section.now in
     let search = c.args.search.now in
-    led c.reaches.result (c.reaches.ensures section.graph.now section.lattice search.start c.requires.section.owned c.requires.search)
+    led c.reaches.result (c.reaches.ensures section.graph.now section.lattice search.start c.requires.section.owned (reach_of section search c.requires.search))
     c.if-not-reaches.false
 
 pub returns : goal.returns
 returns c =
     let section = c.args.section.now in
     let search = c.args.search.now in
-    let tells = c.reaches.ensures section.graph.now section.lattice search.start c.requires.section.owned c.requires.search in
+    let tells = c.reaches.ensures section.graph.now section.lattice search.start c.requires.section.owned (reach_of section search c.requires.search) in
     let From : ℕ → Type 0 = λ u. GoesTo section.graph.now section.lattice u c.args.at in
     let By : ℕ → Type 0 = λ u. IsWalkTo section.graph.now section.lattice u c.args.at c.in_ok-walk.walk in
     on_ok c.put_lines.result c.put_lines.ensures (λ put.
