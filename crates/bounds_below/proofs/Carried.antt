@@ -1,5 +1,5 @@
 -- What was carried stays so, and what was carried from every variable is all.
-use Rattle.std.proofs.Common.{◌≡◌, ℕ, ◌<◌, ◌⊎◌, inl, inr, List, [], ◌∷◌, ◌++◌, Option, Some, refl, sym, ◌∙◌, ap, subst}
+use Rattle.std.proofs.Common.{◌≡◌, ℕ, ◌⊎◌, inl, inr, List, Option, Some, slice_get, refl, sym, ◌∙◌, ap, subst}
 use Rattle.std.specs.Int.{bit_at}
 use Rattle.std.specs.List.{Contains}
 use Rattle.std.proofs.lemmas.List.Elements.{Contains-push_cases}
@@ -13,8 +13,9 @@ use Rattle.match_summary.specs.Summary.{Summarises}
 use Rattle.split_laws.specs.Splits.{Down, here, along, into, round}
 use Rattle.bounds_below.specs.declared.work.Work.{Work}
 use Rattle.bounds_below.specs.Below.{set_at, AreBelow}
-use Rattle.bounds_below.specs.Carrying.{AgreesAt, AreBegun, AreSound, Gains, Has, IsCarried, IsPassed, IsTaken, Waits}
+use Rattle.bounds_below.specs.Carrying.{AgreesAt, AreBegun, AreSound, Gains, Has, Includes, IsCarried, IsPassed, IsTaken, Waits}
 use Rattle.bounds_below.proofs.Bits.{none_in}
+use Rattle.bounds_below.proofs.Links.{one_link}
 use Rattle.bounds_below.proofs.Groups.{matches_leads, matches_one}
 
 keyed_by : (sys : System) (lattice n k : ℕ) (key : Link → Option ℕ) (link : Link) → Stands sys lattice n link → key link ≡ Some k → IsKeyed sys key k n
@@ -53,6 +54,33 @@ module _ (sys : System) (lattice : ℕ) (rows : List Summary) where
       none : (v : ℕ) → set_at sets v ≡ 0 → (e : ℕ) → bit_at (set_at sets v) e ≡ 1 → ⊥
       none v is e has = none_in e (subst (λ (x : ℕ). bit_at x e ≡ 1) is has)
 
+  -- what was carried of a constraint, by its link
+  module _ (had : ℕ) (sets : List ℕ) (v n : ℕ) (constraint : Constraint) (there : slice_get sys.constraints n ≡ Some constraint) where
+    pub flow_carried : (x w : ℕ) → constraint.link ≡ Le x w → Includes had sets x → IsCarried sys lattice rows had sets v n
+    flow_carried x w is done = record {
+      flow = λ u st. let e = one_link sys lattice n constraint (Le x w) there is (Le u v) st in let from : x ≡ u = cc in subst (λ (y : ℕ). Includes had sets y) from done;
+      call = λ s u st. let e = one_link sys lattice n constraint (Le x w) there is (Enter s u v) st in absurd cc;
+      group = λ s b m st. let e = one_link sys lattice n constraint (Le x w) there is (Leave s b v) st in absurd cc;
+    }
+
+    pub call_carried : (s x w : ℕ) → constraint.link ≡ Enter s x w → Includes had sets x → IsCarried sys lattice rows had sets v n
+    call_carried s x w is done = record {
+      flow = λ u st. let e = one_link sys lattice n constraint (Enter s x w) there is (Le u v) st in absurd cc;
+      call = λ t u st. let e = one_link sys lattice n constraint (Enter s x w) there is (Enter t u v) st in let from : x ≡ u = cc in subst (λ (y : ℕ). Includes had sets y) from done;
+      group = λ t b m st. let e = one_link sys lattice n constraint (Enter s x w) there is (Leave t b v) st in absurd cc;
+    }
+
+    pub back_carried : (s x w : ℕ) → constraint.link ≡ Leave s x w → ((m : ℕ) → IsPassed sys lattice rows had sets s x m) → IsCarried sys lattice rows had sets v n
+    back_carried s x w is done = record {
+      flow = λ u st. let e = one_link sys lattice n constraint (Leave s x w) there is (Le u v) st in absurd cc;
+      call = λ t u st. let e = one_link sys lattice n constraint (Leave s x w) there is (Enter t u v) st in absurd cc;
+      group = λ t b m st.
+          let e = one_link sys lattice n constraint (Leave s x w) there is (Leave t b v) st in
+          let site : s ≡ t = cc in
+          let from : x ≡ b = cc in
+          subst (λ (y : ℕ). IsPassed sys lattice rows had sets y b m) site (subst (λ (y : ℕ). IsPassed sys lattice rows had sets s y m) from (done m));
+    }
+
   -- after a turn each variable waits or agrees
   pub turn_agrees : (old middle new : Work) (at : ℕ) → IsTaken old middle at → middle.sets.items ≡ old.sets.items → Gains middle new →
       ((n : ℕ) → IsCarried sys lattice rows (set_at middle.sets.items at) new.sets.items at n) →
@@ -86,4 +114,4 @@ module _ (sys : System) (lattice : ℕ) (rows : List Summary) where
         down_has v y e d ((agree x m).group s b n st2 y a st (matches_leads sys lattice rows all g a b (n, s, y, st) p) (matches_one sys lattice g a b p) e has)
 
     pub agreed_below : AreSound sys lattice sets → AreBegun sys lattice sets → AreBelow sys lattice sets
-    agreed_below sound begun v b = (sound v b, λ r. down_has v r.1 b r.2 (begun r.0 r.1 b r.3))
+    agreed_below sound begun v b = (sound v b, λ r. down_has v r.1.0 b r.1.1 (begun r.0 r.1.0 b r.1.2))

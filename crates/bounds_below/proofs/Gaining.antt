@@ -1,12 +1,15 @@
 -- How sets grow.
-use Rattle.std.proofs.Common.{◌≡◌, ◌≢◌, ℕ, ◌+◌, ◌<◌, ◌≤◌, inl, inr, List, [], ◌∷◌, ◌++◌, length, get_or, set, bit_or, refl, sym, ◌∙◌, ap, subst, arith, get_or-set_same, get_or-set_other}
+use Rattle.std.proofs.Common.{◌≡◌, ◌≢◌, ℕ, ◌+◌, ◌<◌, inl, inr, List, [], ◌∷◌, ◌++◌, length, bit_or, refl, sym, ◌∙◌, ap, subst, arith}
 use Rattle.std.specs.Int.{bit_at}
+use Rattle.std.specs.List.{Contains}
 use Rattle.std.proofs.lemmas.Bool.{cases_eq}
-use Rattle.flow_graph.specs.System.{System}
+use Rattle.std.proofs.lemmas.List.{length-append}
+use Rattle.std.proofs.lemmas.List.Elements.{Contains-append_left, Contains-push}
+use Rattle.flow_graph.specs.System.{System, AllBelow}
 use Rattle.bounds_below.specs.declared.flows.Flows.{Flows}
 use Rattle.bounds_below.specs.declared.work.Work.{Work}
-use Rattle.bounds_below.specs.Below.{set_at}
-use Rattle.bounds_below.specs.Carrying.{AllReach, AreOfSystem, AreSound, Gains, Has, Includes}
+use Rattle.bounds_below.specs.Below.{set_at, Reaches}
+use Rattle.bounds_below.specs.Carrying.{AllReach, AreOfSystem, AreSound, Gains, Has, Includes, IsTaken, left_in, room}
 use Rattle.bounds_below.proofs.Bits.{from_left, from_right, in_union}
 
 pub gains_same : (w : Work) → Gains w w
@@ -27,36 +30,65 @@ gains_then a b c p q = record {
 pub system_same : (flows : Flows) (old new : ℕ) → new ≡ old → AreOfSystem flows old → AreOfSystem flows new
 system_same flows old new same is = subst (λ (n : ℕ). AreOfSystem flows n) (sym same) is
 
--- one set was raised
-module _ (sets : List ℕ) (at elems raised : ℕ) (low : at < length sets) (is : raised ≡ bit_or (set_at sets at) elems) where
-  here_is : set_at (set sets at raised) at ≡ bit_or (set_at sets at) elems
-  here_is = get_or-set_same sets at raised 0 low ∙ is
+pub below_same : (sys : System) (old new : ℕ) → new ≡ old → AllBelow sys old → AllBelow sys new
+below_same sys old new same below = subst (λ k. AllBelow sys k) (sym same) below
 
-  other_is : (v : ℕ) → at ≢ v → set_at (set sets at raised) v ≡ set_at sets v
-  other_is v apart = get_or-set_other sets at v raised 0 apart
+-- the set of a variable was raised
+module _ (old new : List ℕ) (at elems : ℕ) (here : set_at new at ≡ bit_or (set_at old at) elems) (others : (v : ℕ) → v ≢ at → set_at new v ≡ set_at old v) where
+  pub raised_has : Includes elems new at
+  raised_has b has = subst (λ (x : ℕ). bit_at x b ≡ 1) (sym here) (from_right (set_at old at) elems b has)
 
-  pub raised_has : Includes elems (set sets at raised) at
-  raised_has b has = subst (λ (x : ℕ). bit_at x b ≡ 1) (sym here_is) (from_right (set_at sets at) elems b has)
-
-  pub raised_kept : (v b : ℕ) → Has sets v b → Has (set sets at raised) v b
-  raised_kept v b has = elim (cases_eq at v) [
+  pub raised_kept : (v b : ℕ) → Has old v b → Has new v b
+  raised_kept v b has = elim (cases_eq v at) [
     | inl same ↦
-        let old : bit_at (set_at sets at) b ≡ 1 = subst (λ (x : ℕ). Has sets x b) (sym same) has in
-        subst (λ (x : ℕ). Has (set sets at raised) x b) same (subst (λ (x : ℕ). bit_at x b ≡ 1) (sym here_is) (from_left (set_at sets at) elems b old))
-    | inr apart ↦ subst (λ (x : ℕ). bit_at x b ≡ 1) (sym (other_is v apart)) has
+        let before : bit_at (set_at old at) b ≡ 1 = subst (λ (x : ℕ). Has old x b) same has in
+        subst (λ (x : ℕ). Has new x b) (sym same) (subst (λ (x : ℕ). bit_at x b ≡ 1) (sym here) (from_left (set_at old at) elems b before))
+    | inr apart ↦ subst (λ (x : ℕ). bit_at x b ≡ 1) (sym (others v apart)) has
   ]
 
-  pub raised_sound : (sys : System) (lattice : ℕ) → AllReach sys lattice elems at → AreSound sys lattice sets → AreSound sys lattice (set sets at raised)
-  raised_sound sys lattice more sound v b has = elim (cases_eq at v) [
+  pub raised_sound : (sys : System) (lattice : ℕ) → AllReach sys lattice elems at → AreSound sys lattice old → AreSound sys lattice new
+  raised_sound sys lattice more sound v b has = elim (cases_eq v at) [
     | inl same ↦
-        let new : bit_at (bit_or (set_at sets at) elems) b ≡ 1 =
-        subst (λ (x : ℕ). bit_at x b ≡ 1) here_is (subst (λ (x : ℕ). Has (set sets at raised) x b) (sym same) has) in
-        elim (in_union (set_at sets at) elems b new) [
-          | inl old ↦ sound v b (subst (λ (x : ℕ). Has sets x b) same old)
-          | inr gained ↦ let Of : ℕ → Type 0 = λ x. AllReach sys lattice elems x in subst Of same more b gained
+        let both : bit_at (bit_or (set_at old at) elems) b ≡ 1 = subst (λ (x : ℕ). bit_at x b ≡ 1) here (subst (λ (x : ℕ). Has new x b) same has) in
+        elim (in_union (set_at old at) elems b both) [
+          | inl before ↦ sound v b (subst (λ (x : ℕ). Has old x b) (sym same) before)
+          | inr gained ↦ subst (λ (x : ℕ). Reaches sys lattice x b) (sym same) (more b gained)
         ]
-    | inr apart ↦ sound v b (subst (λ (x : ℕ). bit_at x b ≡ 1) (other_is v apart) has)
+    | inr apart ↦ sound v b (subst (λ (x : ℕ). bit_at x b ≡ 1) (others v apart) has)
   ]
 
-  pub raised_still : (v : ℕ) → at ≢ v → set_at (set sets at raised) v ≡ set_at sets v
-  raised_still = other_is
+-- and the variable waits
+pub gained : (old new : Work) (at elems : ℕ) → room new.sets.items < room old.sets.items → length new.sets.items ≡ length old.sets.items →
+    set_at new.sets.items at ≡ bit_or (set_at old.sets.items at) elems → ((v : ℕ) → v ≢ at → set_at new.sets.items v ≡ set_at old.sets.items v) →
+    new.waiting.items ≡ old.waiting.items ++ at ∷ [] → Gains old new
+gained old new at elems less size here others pushed = record {
+  size = size;
+  left =
+      let longer : length new.waiting.items ≡ length old.waiting.items + 1 = ap length pushed ∙ length-append old.waiting.items (at ∷ []) in
+      omega (arith, less, longer);
+  kept = raised_kept old.sets.items new.sets.items at elems here others;
+  waits = λ v waits. subst (λ (xs : List ℕ). Contains xs v) (sym pushed) (Contains-append_left old.waiting.items (at ∷ []) v waits);
+  still = λ v. elim (cases_eq v at) [
+    | inl same ↦
+        let last : Contains (old.waiting.items ++ at ∷ []) at = Contains-push old.waiting.items at in
+        inl (subst (λ (x : ℕ). Contains new.waiting.items x) (sym same) (subst (λ (xs : List ℕ). Contains xs at) (sym pushed) last))
+    | inr apart ↦ inr (others v apart)
+  ];
+}
+
+-- nothing was raised
+pub gains_alike : (old new : Work) → new.sets.items ≡ old.sets.items → new.waiting.items ≡ old.waiting.items → Gains old new
+gains_alike old new sets waiting = record {
+  size = ap length sets;
+  left = let one = ap room sets in let other : length new.waiting.items ≡ length old.waiting.items = ap length waiting in omega (arith, one, other);
+  kept = λ v b has. subst (λ (xs : List ℕ). Has xs v b) (sym sets) has;
+  waits = λ v waits. subst (λ (xs : List ℕ). Contains xs v) (sym waiting) waits;
+  still = λ v. inr (ap (λ (xs : List ℕ). set_at xs v) sets);
+}
+
+-- one that waited was taken
+pub taken_less : (old new : Work) (at : ℕ) → IsTaken old new at → new.sets.items ≡ old.sets.items → left_in new < left_in old
+taken_less old new at taken sets =
+    let longer : length old.waiting.items ≡ length new.waiting.items + 1 = ap length taken ∙ length-append new.waiting.items (at ∷ []) in
+    let same = ap room sets in
+    omega (arith, longer, same)

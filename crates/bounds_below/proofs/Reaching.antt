@@ -14,10 +14,10 @@ module _ (sys : System) (lattice : ℕ) where
   down_then u v x first (round _ y a b _ s g n m d st p st2) = round u y a b x s g n m (down_then u v y first d) st p st2
 
   reach_from : (u v b : ℕ) → Down sys lattice u v → Reaches sys lattice v b → Reaches sys lattice u b
-  reach_from u v b first r = (r.0, r.1, down_then u v r.1 first r.2, r.3)
+  reach_from u v b first r = (r.0, (r.1.0, down_then u v r.1.0 first r.1.1, r.1.2))
 
   pub reach_here : (n v b : ℕ) → Stands sys lattice n (Bound v lattice b) → Reaches sys lattice v b
-  reach_here n v b st = (n, v, here v, st)
+  reach_here n v b st = (n, (v, here v, st))
 
   pub reach_flow : (n u v b : ℕ) → Stands sys lattice n (Le u v) → Reaches sys lattice v b → Reaches sys lattice u b
   reach_flow n u v b st = reach_from u v b (along u u v n (here u) st)

@@ -85,7 +85,7 @@ fn only(elem: Elem) -> u64
 
 /// Carries what a variable has back along each constraint that leads to it.
 fn carry(work: &mut Work, flows: &Flows, at: VarId) -> Result<(), NoMemory>
-    requires ready { AreOfSystem flows.now (length work.old.sets.items) }
+    requires { AreOfSystem flows.now (length work.old.sets.items) }
     ensures gains { OnOk result (Gains work.old work.new) }
     ensures sound { OnOk result
         (AreSound flows.now.graph.now flows.now.lattice work.old.sets.items →
@@ -101,13 +101,7 @@ fn carry(work: &mut Work, flows: &Flows, at: VarId) -> Result<(), NoMemory>
 }
 
 /// Carries what a variable had back along a constraint that leads to it, and round the groups that end with it.
-fn follow(
-    work: &mut Work,
-    flows: &Flows,
-    at: VarId,
-    had: u64,
-    edge: EdgeId,
-) -> Result<(), NoMemory>
+fn follow(work: &mut Work, flows: &Flows, at: VarId, had: u64, edge: EdgeId) -> Result<(), NoMemory>
     requires ready { AreOfSystem flows.now (length work.old.sets.items) }
     requires leads { IsKeyed flows.now.graph.now link_leads_to at edge }
     ensures gains { OnOk result (Gains work.old work.new) }

@@ -2,9 +2,10 @@
 
 ghost use Rattle.std.specs.Prelude.{◌≡◌, ◌≢◌, ◌<◌, ◌≤◌, ℕ, [], bit_or, length, IfOk, IfSome};
 ghost use Rattle.std.specs.Prelude.{IfNone, OnOk};
+ghost use Rattle.std.specs.Bool.{OnTrue, OnFalse};
 ghost use Rattle.flow_graph.specs.System.{System};
 ghost use Rattle.bounds_below.specs.Below.{set_at};
-ghost use Rattle.bounds_below.specs.Carrying.{AllReach, AreSound, Gains, Includes, IsTaken};
+ghost use Rattle.bounds_below.specs.Carrying.{AllReach, AreSound, Gains, Includes, IsTaken, room};
 
 use qual_base::{NoMemory, Numbered, VarId};
 use std::alloc::Global;
@@ -46,12 +47,9 @@ impl Work {
             AllReach sys lattice elems at → AreSound sys lattice self.old.sets.items →
             AreSound sys lattice self.new.sets.items) }
     {
-        let set = self.set(at);
-        let raised = union(set, elems);
-        if raised == set {
+        if !raise(&mut self.sets, at, elems) {
             return Ok(());
         }
-        self.sets[at.number() as usize] = raised;
         self.waiting.push(at)?;
         Ok(())
     }
@@ -85,6 +83,25 @@ pub fn read(sets: &[u64], at: VarId) -> u64
         Some(set) => *set,
         None => 0,
     }
+}
+
+/// Adds elements to the set of a variable, and says whether the set has grown.
+fn raise(sets: &mut Vec<u64>, at: VarId, elems: u64) -> bool
+    requires { at < length sets.old.items }
+    ensures here { set_at sets.new.items at ≡ bit_or (set_at sets.old.items at) elems }
+    ensures others { (v : ℕ) → v ≢ at → set_at sets.new.items v ≡ set_at sets.old.items v }
+    ensures length { length sets.new.items ≡ length sets.old.items }
+    ensures grown { OnTrue result (room sets.new.items < room sets.old.items) }
+    ensures same { OnFalse result (sets.new.items ≡ sets.old.items) }
+{
+    let index = at.number() as usize;
+    let set = sets[index];
+    let raised = union(set, elems);
+    if raised == set {
+        return false;
+    }
+    sets[index] = raised;
+    true
 }
 
 /// The elements of both sets.
