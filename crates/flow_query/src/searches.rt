@@ -68,11 +68,7 @@ fn only_of(section: &Section<'_>, finder: Finder, start: VarId) -> Finder
 
 /// All that a variable leads to: what is kept, where that is of this lattice and variable; else it is searched for, in the room
 /// of what was kept. `error_path::reach_from` says the time and the memory of a search.
-pub fn search_at(
-    section: &Section<'_>,
-    finder: Finder,
-    start: VarId,
-) -> Result<Search, NoMemory>
+pub fn search_at(section: &Section<'_>, finder: Finder, start: VarId) -> Result<Search, NoMemory>
     requires section { IsSection section.now }
     requires finder { IsFinder section.now.graph.now finder }
     ensures search { IfOk result (IsSearchIn section.now) }

@@ -1,4 +1,4 @@
-use Rattle.std.proofs.Common.{ℕ, ◌+◌, ◌<◌, List, length, sym, subst, arith}
+use Rattle.std.proofs.Common.{ℕ, List, sym, subst, arith}
 use Rattle.flow_query.specs.Ends.{AreThoseBelow, IsBound, IsConstant, Lists}
 use Rattle.flow_query.proofs.Ending.{bound_low, constant_low}
 use Rattle.flow_query.proofs.Those.{those_all, those_none}
