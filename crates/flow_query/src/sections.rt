@@ -130,29 +130,25 @@ fn put_from(
     }
 }
 
-/// What is written of a constraint behind the variable that is asked of. Answers the finder.
+/// What is written of a constraint behind the variable that is asked of, by a search from that.
 fn put_to(
     alloc: Global,
     out: &mut Vec<u8>,
     scene: &Scene<'_>,
     section: &Section<'_>,
-    finder: Finder,
+    search: &Search,
     number: EdgeId,
-) -> Result<Finder, NoMemory>
+) -> Result<(), NoMemory>
     requires section { IsSection section.now }
-    requires finder { IsFinder section.now.graph.now finder }
+    requires search { IsSearchIn section.now search.now }
+    requires start { search.now.start ≡ section.now.var }
     requires number { number < length section.now.graph.now.constraints }
-    ensures finder { IfOk result (IsFinder section.now.graph.now) }
-    ensures text { OnOk result (WritesSome scene.now out.old.items out.new.items (λ s text.
+    ensures { OnOk result (WritesSome scene.now out.old.items out.new.items (λ s text.
         ToText s section.now.graph.now section.now.lattice section.now.var number text)) }
 {
     match bound_at(section, number) {
-        None => Ok(finder),
-        Some(at) => {
-            let search = search_at(section, finder, section.var)?;
-            put_bound(alloc, out, scene, section, &search, number, at)?;
-            Ok(Finder::Kept(search))
-        }
+        None => Ok(()),
+        Some(at) => put_bound(alloc, out, scene, section, search, number, at),
     }
 }
 
@@ -214,12 +210,15 @@ fn put_tos(
     ensures text { OnOk result (WritesSome scene.now out.old.items out.new.items (λ s text.
         TosText s section.now.graph.now section.now.lattice section.now.var text)) }
 {
-    let mut finder = finder;
     let bounds = section.ends.bounds.as_slice();
-    for number in bounds {
-        finder = put_to(alloc, out, scene, section, finder, *number)?;
+    if bounds.is_empty() {
+        return Ok(finder);
     }
-    Ok(finder)
+    let search = search_at(section, finder, section.var)?;
+    for number in bounds {
+        put_to(alloc, out, scene, section, &search, *number)?;
+    }
+    Ok(Finder::Kept(search))
 }
 
 /// The line of a variable and a lattice before what is listed there, and nothing where that is nothing.

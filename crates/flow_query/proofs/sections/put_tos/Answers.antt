@@ -1,4 +1,5 @@
-use Rattle.std.proofs.Common.{◌≡◌, ◌+◌, ℕ, List, length, sym, subst, arith}
+use Rattle.std.proofs.Common.{◌≡◌, ◌+◌, ◌∙◌, ℕ, List, length, sym, subst, arith}
+use Rattle.std.proofs.lemmas.Bool.{eqb-true}
 use Rattle.flow_graph.specs.Index.{AreThose}
 use Rattle.flow_query.specs.Answers.{EachBelow, NoneBelow, ToText, TosText}
 use Rattle.flow_query.specs.Ends.{IsBound}
@@ -13,7 +14,6 @@ pub loop-number-init : goal.loop-number-init
 loop-number-init c =
     let section = c.args.section.now in
     record {
-      finder = c.requires.finder;
       low = omega arith;
       text = none_of c.args.scene.now c.args.out.now.items
           (λ s text. EachBelow (ToText s section.graph.now section.lattice section.var) 0 text) (λ s shows. NoneBelow);
@@ -39,10 +39,9 @@ loop-number-preserved c =
     let place = c.loop-number.number-index in
     let test = c.loop-number-test.true in
     record {
-      finder = c.in_ok-finder.ensures.finder;
       low = omega (arith, test);
       text = then_some (λ s text. EachBelow (ToText s sys section.lattice section.var) (from_place items (place + 1)) text)
-          c.loop-number.invariant.text c.in_ok-finder.ensures.text
+          c.loop-number.invariant.text c.in_ok-put_to.ensures
           (λ s shows text here before next.
           next_of (ToText s sys section.lattice section.var) (IsBound sys section.lattice) items those
           (no_to_text s sys section.lattice section.var) place c.number-item.result text here (omega arith) c.number-item.is before next);
@@ -63,3 +62,17 @@ returns-clause-text c =
     (λ s shows text each.
     all_of (ToText s sys section.lattice section.var) (IsBound sys section.lattice) items those
     (no_to_text s sys section.lattice section.var) place (length sys.constraints) text end (bound_low sys section.lattice) each)
+
+pub returns-then-is_empty-clause-text : goal.returns-then-is_empty-clause-text
+returns-then-is_empty-clause-text c =
+    let section = c.args.section.now in
+    let sys = section.graph.now in
+    let items = c.as_slice-bounds.result.now in
+    let Of : List ℕ → Type 0 = λ numbers. AreThose (IsBound sys section.lattice) numbers in
+    let those = subst Of (sym c.as_slice-bounds.ensures.value) c.requires.section.ends.bounds in
+    let end : 0 ≡ length items = sym (eqb-true (length items) 0 (sym c.is_empty.ensures ∙ c.if-is_empty.true)) in
+    as_some (λ s text. TosText s sys section.lattice section.var text)
+    (none_of c.args.scene.now c.args.out.now.items (λ s text. EachBelow (ToText s sys section.lattice section.var) 0 text) (λ s shows. NoneBelow))
+    (λ s shows text each.
+    all_of (ToText s sys section.lattice section.var) (IsBound sys section.lattice) items those
+    (no_to_text s sys section.lattice section.var) 0 (length sys.constraints) text end (bound_low sys section.lattice) each)
