@@ -1,5 +1,6 @@
 mod Ending
 mod Going
+mod Keeping
 mod Listing
 mod Telling
 mod Those

@@ -13,7 +13,7 @@ use Rattle.flow_graph.specs.declared.proof.Walk.{Walk}
 use Rattle.flow_graph.specs.System.{System, IsNoBound, IsWellOwned, Stands}
 use Rattle.flow_graph.specs.Paths.{Lead}
 use Rattle.flow_graph.specs.PathProofs.{steps_of}
-use Rattle.flow_graph.specs.Leading.{GoesTo}
+use Rattle.flow_graph.specs.Leading.{GoesTo, Leads}
 use Rattle.walk_laws.specs.Laws.{LeadsAreWalks}
 use Rattle.annotate.specs.Texts.{Scene, line, proof_text, walk_text}
 use Rattle.flow_query.specs.Answers.{IsFrom, IsTo, IsWalkTo, FromText, NoFrom, OneFrom, ToText, NoTo, OneTo}
@@ -60,16 +60,23 @@ module _ (sys : System) (lattice number : ℕ) (constraint : Constraint) (there 
   pub no_bound : (var : ℕ) → IsNoBound constraint.link lattice → IsTo sys lattice var number → ⊥
   no_bound var none to = none to.at to.elem (link_there (Bound to.at lattice to.elem) to.bound)
 
+-- where the element of a constant does not lead, its variable does not
+pub not_led_from : (sys : System) (lattice var elem at : ℕ) → LeadsAreWalks → IsWellOwned sys → (n : ℕ) → Stands sys lattice n (Const lattice elem at) →
+    (Lead sys lattice elem var → ⊥) → Leads sys lattice at var → ⊥
+not_led_from sys lattice var elem at law owned n stands never leads =
+    never (constants_lead sys lattice n elem at stands var ((law sys lattice at var owned).0 leads))
+
+-- a constant in a variable that does not lead there
+pub no_from_at : (sys : System) (lattice var number at : ℕ) → IsConstantAt sys lattice number at → (Leads sys lattice at var → ⊥) → IsFrom sys lattice var number → ⊥
+no_from_at sys lattice var number at constant never from =
+    let own = constant.1 in
+    let link = link_there sys lattice number own.constraint own.there (Const lattice from.elem from.at) from.constant in
+    let same = const_is (sym link ∙ own.link_is) in
+    let At : ℕ → Type 0 = λ u. Leads sys lattice u var in
+    never (subst At same.1 from.leads)
+
 -- what is written of a constant in a variable, and of a bound of one
 module _ (sys : System) (lattice var number at : ℕ) (law : LeadsAreWalks) (owned : IsWellOwned sys) where
-  pub no_from : IsConstantAt sys lattice number at → (GoesTo sys lattice at var → ⊥) → IsFrom sys lattice var number → ⊥
-  no_from constant never from =
-      let own = constant.1 in
-      let link = link_there sys lattice number own.constraint own.there (Const lattice from.elem from.at) from.constant in
-      let same = const_is (sym link ∙ own.link_is) in
-      let At : ℕ → Type 0 = λ u. GoesTo sys lattice u var in
-      never (subst At same.1 ((law sys lattice from.at var owned).0 from.leads))
-
   pub no_to : IsBoundAt sys lattice number at → (GoesTo sys lattice var at → ⊥) → IsTo sys lattice var number → ⊥
   no_to bound never to =
       let own = bound.1 in
@@ -77,14 +84,14 @@ module _ (sys : System) (lattice var number at : ℕ) (law : LeadsAreWalks) (own
       let At : ℕ → Type 0 = λ v. GoesTo sys lattice var v in
       never (subst At (bound_is (sym link ∙ own.link_is)) ((law sys lattice var to.at owned).0 to.leads))
 
-  pub one_from : (scene : Scene) (walk : Walk) → IsConstantAt sys lattice number at → GoesTo sys lattice at var →
+  pub one_from : (scene : Scene) (walk : Walk) → IsConstantAt sys lattice number at → Leads sys lattice at var →
       IsWalkTo sys lattice at var walk →
       FromText scene sys lattice var number (line (codes "from " ++ decimal number) ++ walk_text scene sys (Some number) None walk)
-  one_from scene walk constant goes holds =
+  one_from scene walk constant leads holds =
       let Is : List PathStep → Type 0 = λ steps. FromText scene sys lattice var number
       (line (codes "from " ++ decimal number) ++ proof_text scene sys (steps_of walk.subs.items) steps) in
       let from : IsFrom sys lattice var number =
-      record { elem = constant.0; at = at; constant = constant.1; leads = (law sys lattice at var owned).1 goes } in
+      record { elem = constant.0; at = at; constant = constant.1; leads = leads } in
       subst Is (sym (append-nil (Take number 0 ∷ walk.steps.items))) (OneFrom from walk holds)
 
   pub one_to : (scene : Scene) (walk : Walk) → IsBoundAt sys lattice number at → GoesTo sys lattice var at →

@@ -3,6 +3,8 @@ use Rattle.std.specs.Prelude.{◌≡◌, ℕ, ◌+◌, ◌<◌, List, length, sl
 use Rattle.flow_graph.specs.Index.{AreThose}
 use Rattle.flow_graph.specs.declared.constraint.Link.TheVariants.{Const, Bound}
 use Rattle.flow_graph.specs.System.{System, Stands}
+use Rattle.std.specs.List.{Contains}
+use Rattle.flow_query.specs.declared.ends.Constant.{Constant}
 use Rattle.flow_query.specs.declared.ends.Ends.{Ends}
 
 -- a constraint is a constant of the lattice, or a bound of it
@@ -20,10 +22,25 @@ AreThoseBelow Has below numbers = AreThose (λ n. (n < below) × Has n) numbers
 abbrev pub Lists : (ℕ → Type 0) → ℕ → List ℕ → List ℕ → Type 0
 Lists Has number old new = AreThoseBelow Has number old → AreThoseBelow Has (number + 1) new
 
--- the constants of a lattice and its bounds
+-- some constraint is this constant
+pub record IsThere (sys : System) (lattice elem at : ℕ) : Type 0 where
+  pub low : elem < 64
+  pub number : ℕ
+  pub stands : Stands sys lattice number (Const lattice elem at)
+
+abbrev pub IsStart : System → ℕ → Constant → Type 0
+IsStart sys lattice start = IsThere sys lattice start.elem start.at
+
+-- constants with the variables of all constants below a number
+pub record AreStartsBelow (sys : System) (lattice below : ℕ) (starts : List Constant) : Type 0 where
+  pub only : (start : Constant) → Contains starts start → IsStart sys lattice start
+  pub all : (n elem at : ℕ) → n < below → Stands sys lattice n (Const lattice elem at) → (start : Constant) × Contains starts start × (start.at ≡ at)
+
+-- the constants of a lattice and its bounds, and its constants by their variables
 pub record AreEnds (sys : System) (lattice : ℕ) (ends : Ends) : Type 0 where
   pub constants : AreThose (IsConstant sys lattice) ends.constants.items
   pub bounds : AreThose (IsBound sys lattice) ends.bounds.items
+  pub starts : AreStartsBelow sys lattice (length sys.constraints) ends.starts.items
 
 -- those of each lattice, in order
 pub record AllEnds (sys : System) (lattices : ℕ) (ends : List Ends) : Type 0 where

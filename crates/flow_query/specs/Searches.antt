@@ -1,10 +1,10 @@
 -- A variable in a lattice, and what searches for it have found.
-use Rattle.std.specs.Prelude.{◌≡◌, ℕ, ◌<◌, List, length}
+use Rattle.std.specs.Prelude.{◌≡◌, ℕ, ◌<◌, length, slice_get, Some}
 use Rattle.flow_graph.specs.declared.constraint.Link.TheVariants.{Const, Bound}
 use Rattle.flow_graph.specs.declared.constraint.Link.{Link}
 use Rattle.flow_graph.specs.System.{System, IsWellOwned, Stands}
-use Rattle.lattice_core.specs.View.{LatticeView}
-use Rattle.annotate.specs.Solutions.{AreSolutions, IsSolution}
+use Rattle.annotate.specs.declared.solving.Solved.{Solved}
+use Rattle.annotate.specs.Solutions.{IsSolution}
 use Rattle.error_path.specs.Reaches.{IsReachOf}
 use Rattle.error_path.specs.Rooms.{IsRoom}
 use Rattle.flow_query.specs.declared.searches.Finder.{Finder}
@@ -21,10 +21,16 @@ pub record IsSection (section : Section) : Type 0 where
   pub solution : IsSolution section.graph.now section.lattice section.solved.now
   pub ends : AreEnds section.graph.now section.lattice section.ends.now
 
--- what was found and what is listed are of the lattices
-pub record IsFound (sys : System) (lattices : List LatticeView) (found : Found) : Type 0 where
-  pub solutions : AreSolutions sys lattices found.solutions.now
-  pub ends : AllEnds sys (length lattices) found.ends.now
+-- the graph is well owned, and what was found and what is listed are of so many lattices
+pub record IsFound (found : Found) : Type 0 where
+  pub owned : IsWellOwned found.graph.now
+  pub each : (n : ℕ) (solution : Solved) → slice_get found.solutions.now n ≡ Some solution → IsSolution found.graph.now n solution
+  pub ends : AllEnds found.graph.now (length found.solutions.now) found.ends.now
+
+-- a lattice is one of them
+pub record IsOf (lattice : ℕ) (found : Found) : Type 0 where
+  pub low : lattice < 16
+  pub there : lattice < length found.solutions.now
 
 -- a search has found all that its variable leads to in its lattice
 abbrev pub IsSearch : System → Search → Type 0

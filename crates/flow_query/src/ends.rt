@@ -1,11 +1,14 @@
 //! The constants and the bounds of lattices, and those that may have to do with a variable.
 
-ghost use Rattle.std.specs.Prelude.{◌≡◌, ◌<◌, ◌↔◌, ℕ, IfNone, IfOk, IfSome, IsTrue};
+ghost use Rattle.std.specs.Prelude.{◌≡◌, ◌<◌, ◌+◌, ◌↔◌, ℕ, false, IfNone, IfOk, IfSome, IsTrue};
 ghost use Rattle.std.specs.Prelude.{MatchOption, OnOk, Some, length, slice_get};
 ghost use Rattle.std.specs.Int.{bit_at};
+ghost use Rattle.std.specs.List.Sorted.{IsPermutation};
+ghost use Rattle.flow_graph.specs.Leading.{Leads};
 ghost use Rattle.flow_graph.specs.declared.constraint.Link.TheVariants.{Const};
 ghost use Rattle.flow_query.specs.Answers.{IsFrom, IsTo};
-ghost use Rattle.flow_query.specs.Ends.{AllEnds, AreEnds, IsBound, IsConstant, Lists};
+ghost use Rattle.flow_query.specs.Ends.{AllEnds, AreEnds, AreStartsBelow, IsBound, IsConstant};
+ghost use Rattle.flow_query.specs.Ends.{IsThere, Lists};
 ghost use Rattle.flow_query.specs.Searches.{IsBoundAt, IsConstantAt};
 ghost use Rattle.flow_query.specs.Searches.{IsNoConstant, IsSection};
 
@@ -16,11 +19,13 @@ use qual_base::{EdgeId, Elem, ElemSet, LatticeNo, NoMemory, Numbered, VarId};
 use std::alloc::Global;
 use walk_laws::leads_are_walks;
 
-/// The numbers of the constants of a lattice and of its bounds, ascending.
+/// The numbers of the constants of a lattice and of its bounds, ascending; and its constants by their variables, so that those of
+/// one variable follow one another.
 #[derive(Drop)]
 pub struct Ends {
     pub constants: Vec<EdgeId>,
     pub bounds: Vec<EdgeId>,
+    pub starts: Vec<Constant>,
 }
 
 /// Whether a set has an element.
@@ -33,9 +38,9 @@ fn has_element(set: ElemSet, elem: Elem) -> bool
 
 /// A constant: its variable and its element.
 #[derive(Clone, Copy)]
-struct Constant {
-    at: VarId,
-    elem: Elem,
+pub struct Constant {
+    pub at: VarId,
+    pub elem: Elem,
 }
 
 /// The constant that a link is in a lattice.
@@ -58,18 +63,22 @@ fn constant_in(link: Link, lattice: LatticeNo) -> Option<Constant>
 /// Lists a constraint, where it is a constant of a lattice.
 fn list_constant(
     constants: &mut Vec<EdgeId>,
+    starts: &mut Vec<Constant>,
     graph: &FlowGraph,
     lattice: LatticeNo,
     number: EdgeId,
 ) -> Result<(), NoMemory>
     requires { number < length graph.now.constraints }
-    ensures { OnOk result
+    ensures constants { OnOk result
         (Lists (IsConstant graph.now lattice) number constants.old.items constants.new.items) }
+    ensures starts { OnOk result (AreStartsBelow graph.now lattice number starts.old.items →
+        AreStartsBelow graph.now lattice (number + 1) starts.new.items) }
 {
     match constant_in(graph.constraint(number).link, lattice) {
         None => Ok(()),
-        Some(_) => {
+        Some(constant) => {
             constants.push(number)?;
+            starts.push(constant)?;
             Ok(())
         }
     }
@@ -95,18 +104,33 @@ fn list_bound(
     }
 }
 
-/// The constants and the bounds of a lattice. Linear in the constraints, and 4 bytes for each that is listed.
+/// Orders constants by their variables.
+fn order(starts: &mut Vec<Constant>) -> Result<(), NoMemory>
+    ensures { OnOk result (IsPermutation starts.old.items starts.new.items) }
+{
+    starts.sort_by_key(|start| start.at.number())?;
+    Ok(())
+}
+
+/// The constants and the bounds of a lattice. Linear in the constraints, but for the order of the constants by their variables, which takes
+/// a factor of a logarithm, and 12 bytes for each constant and 4 for each bound.
 fn ends_of(alloc: Global, graph: &FlowGraph, lattice: LatticeNo) -> Result<Ends, NoMemory>
     ensures { IfOk result (AreEnds graph.now lattice) }
 {
     let mut constants = Vec::new(alloc);
     let mut bounds = Vec::new(alloc);
+    let mut starts = Vec::new(alloc);
     for n in 0..graph.len() {
         let number = EdgeId::new(n);
-        list_constant(&mut constants, graph, lattice, number)?;
+        list_constant(&mut constants, &mut starts, graph, lattice, number)?;
         list_bound(&mut bounds, graph, lattice, number)?;
     }
-    Ok(Ends { constants, bounds })
+    order(&mut starts)?;
+    Ok(Ends {
+        constants,
+        bounds,
+        starts,
+    })
 }
 
 /// The constants and the bounds of each lattice, in order. Goes once for each lattice over the constraints.
@@ -140,6 +164,17 @@ pub fn is_unreached(section: &Section<'_>) -> bool
 {
     leads_are_walks();
     section.solved.solver.reached(section.var).number() == 0
+}
+
+/// Whether the element of a constant leads to the variable that is asked of: where it does not, nor does its variable. Constant time.
+pub fn is_candidate(section: &Section<'_>, at: VarId, elem: Elem) -> bool
+    requires section { IsSection section.now }
+    requires constant { IsThere section.now.graph.now section.now.lattice elem at }
+    ensures { result ≡ false →
+        Leads section.now.graph.now section.now.lattice at section.now.var → ⊥ }
+{
+    leads_are_walks();
+    has_element(section.solved.solver.reached(section.var), elem)
 }
 
 /// The variable of a constraint that is a constant of the lattice, whose element leads to the variable that is asked of: no

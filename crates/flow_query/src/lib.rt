@@ -6,5 +6,6 @@ mod asking;
 mod ends;
 mod searches;
 mod sections;
+mod walks;
 
 pub use answers::answer_who;

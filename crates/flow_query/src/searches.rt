@@ -4,11 +4,11 @@ ghost use Rattle.std.specs.Prelude.{◌≡◌, IfOk};
 ghost use Rattle.flow_graph.specs.Leading.{GoesTo};
 ghost use Rattle.error_path.specs.Rooms.{IsRoom};
 ghost use Rattle.flow_query.specs.Answers.{IsWalkTo};
-ghost use Rattle.flow_query.specs.Searches.{IsFinder, IsSearchIn, IsSection};
+ghost use Rattle.flow_query.specs.Searches.{IsFinder, IsFound, IsOf, IsSearchIn, IsSection};
 ghost use Rattle.flow_query.specs.Searches.{KeepsOnly};
 
-use crate::ends::Ends;
-use annotate::Solved;
+use crate::ends::{Ends, ends_in};
+use annotate::{Solved, solved_of};
 use error_path::{Reach, Room, reach_from};
 use flow_graph::{FlowGraph, Walk};
 use qual_base::{LatticeNo, NoMemory, VarId};
@@ -25,11 +25,30 @@ pub struct Section<'a> {
     pub var: VarId,
 }
 
-/// What was found of each lattice, and its constants and bounds.
+/// What was found of a graph in each lattice, and the constants and bounds of each.
 #[derive(Clone, Copy)]
 pub struct Found<'a> {
+    pub graph: &'a FlowGraph,
     pub solutions: &'a [Solved],
     pub ends: &'a [Ends],
+}
+
+/// A variable in a lattice.
+pub fn section_in<'a>(found: &Found<'a>, lattice: LatticeNo, var: VarId) -> Section<'a>
+    requires found { IsFound found.now }
+    requires lattice { IsOf lattice found.now }
+    ensures section { IsSection result }
+    ensures graph { result.graph.now ≡ found.now.graph.now }
+    ensures lattice { result.lattice ≡ lattice }
+    ensures var { result.var ≡ var }
+{
+    Section {
+        graph: found.graph,
+        solved: solved_of(found.solutions, lattice),
+        ends: ends_in(found.ends, lattice),
+        lattice,
+        var,
+    }
 }
 
 /// All that a variable leads to in a lattice.

@@ -1,16 +1,17 @@
 //! What is written of a variable in a lattice.
 
-ghost use Rattle.std.specs.Prelude.{◌≡◌, ◌<◌, ◌++◌, IfOk, OnOk, length, codes};
+ghost use Rattle.std.specs.Prelude.{◌≡◌, ◌<◌, ◌∷◌, ◌++◌, [], IfOk, OnOk, length, codes};
 ghost use Rattle.std.specs.Fmt.{decimal};
 ghost use Rattle.annotate.specs.Texts.{line, walk_text};
 ghost use Rattle.annotate.specs.Scenes.{Writes, WritesSome};
 ghost use Rattle.flow_query.specs.Answers.{FromText, FromsText, ToText, TosText, SectionText};
 ghost use Rattle.flow_query.specs.Answers.{headed};
-ghost use Rattle.flow_query.specs.Searches.{IsBoundAt, IsConstantAt, IsFinder, IsSearchIn};
-ghost use Rattle.flow_query.specs.Searches.{IsSection};
+ghost use Rattle.flow_query.specs.Searches.{IsBoundAt, IsFinder, IsSearchIn, IsSection};
+ghost use Rattle.flow_query.specs.Walks.{AreWalks};
 
 use crate::ends::{bound_at, constant_at, is_unreached};
 use crate::searches::{Finder, Search, Section, search_at, walk_to};
+use crate::walks::Walks;
 use annotate::{Scene, put, put_decimal, put_var, put_walk};
 use flow_graph::{FlowGraph, Walk};
 use qual_base::{EdgeId, LatticeNo, NoMemory, Numbered, VarId};
@@ -35,39 +36,6 @@ fn put_lines(
     put_decimal(out, u64::from(number.number()))?;
     put(out, b"\n")?;
     put_walk(out, scene, graph, walk, begin, bound)
-}
-
-/// What is written of a constant before the variable that is asked of, by a search from its own variable.
-fn put_constant(
-    alloc: Global,
-    out: &mut Vec<u8>,
-    scene: &Scene<'_>,
-    section: &Section<'_>,
-    search: &Search,
-    number: EdgeId,
-) -> Result<(), NoMemory>
-    requires section { IsSection section.now }
-    requires search { IsSearchIn section.now search.now }
-    requires constant { IsConstantAt
-        section.now.graph.now section.now.lattice number search.now.start }
-    ensures { OnOk result (WritesSome scene.now out.old.items out.new.items (λ s text.
-        FromText s section.now.graph.now section.now.lattice section.now.var number text)) }
-{
-    leads_are_walks();
-    if !search.reach.reaches(section.var) {
-        return Ok(());
-    }
-    let walk = walk_to(alloc, section, search, section.var)?;
-    put_lines(
-        out,
-        scene,
-        section.graph,
-        b"from ",
-        number,
-        &walk,
-        Some(number),
-        None,
-    )
 }
 
 /// What is written of a bound behind the variable that is asked of, by a search from that.
@@ -104,30 +72,38 @@ fn put_bound(
     )
 }
 
-/// What is written of a constraint before the variable that is asked of. Answers the finder, which keeps the last search.
+/// What is written of a constraint before the variable that is asked of, by the walk from its variable.
 fn put_from(
-    alloc: Global,
     out: &mut Vec<u8>,
     scene: &Scene<'_>,
     section: &Section<'_>,
-    finder: Finder,
+    walks: &Walks,
     number: EdgeId,
-) -> Result<Finder, NoMemory>
+) -> Result<(), NoMemory>
     requires section { IsSection section.now }
-    requires finder { IsFinder section.now.graph.now finder }
+    requires walks { AreWalks
+        section.now.graph.now section.now.lattice (section.now.var ∷ []) walks.now }
     requires number { number < length section.now.graph.now.constraints }
-    ensures finder { IfOk result (IsFinder section.now.graph.now) }
-    ensures text { OnOk result (WritesSome scene.now out.old.items out.new.items (λ s text.
+    ensures { OnOk result (WritesSome scene.now out.old.items out.new.items (λ s text.
         FromText s section.now.graph.now section.now.lattice section.now.var number text)) }
 {
-    match constant_at(section, number) {
-        None => Ok(finder),
-        Some(at) => {
-            let search = search_at(section, finder, at)?;
-            put_constant(alloc, out, scene, section, &search, number)?;
-            Ok(Finder::Kept(search))
-        }
-    }
+    leads_are_walks();
+    let Some(at) = constant_at(section, number) else {
+        return Ok(());
+    };
+    let Some(walk) = walks.get(at, section.var) else {
+        return Ok(());
+    };
+    put_lines(
+        out,
+        scene,
+        section.graph,
+        b"from ",
+        number,
+        walk,
+        Some(number),
+        None,
+    )
 }
 
 /// What is written of a constraint behind the variable that is asked of, by a search from that.
@@ -152,47 +128,43 @@ fn put_to(
     }
 }
 
-/// The constants that lead to the variable, in order. Goes over the constants of the lattice where one leads there. A search for
-/// each variable of a constant whose element leads there, or more where such variables alternate.
+/// The constants that lead to the variable, in order. Goes over the constants of the lattice where one leads there.
 fn put_froms(
-    alloc: Global,
     out: &mut Vec<u8>,
     scene: &Scene<'_>,
     section: &Section<'_>,
-    finder: Finder,
-) -> Result<Finder, NoMemory>
+    walks: &Walks,
+) -> Result<(), NoMemory>
     requires section { IsSection section.now }
-    requires finder { IsFinder section.now.graph.now finder }
-    ensures finder { IfOk result (IsFinder section.now.graph.now) }
-    ensures text { OnOk result (WritesSome scene.now out.old.items out.new.items (λ s text.
+    requires walks { AreWalks
+        section.now.graph.now section.now.lattice (section.now.var ∷ []) walks.now }
+    ensures { OnOk result (WritesSome scene.now out.old.items out.new.items (λ s text.
         FromsText s section.now.graph.now section.now.lattice section.now.var text)) }
 {
     if is_unreached(section) {
-        return Ok(finder);
+        return Ok(());
     }
-    put_constants(alloc, out, scene, section, finder)
+    put_constants(out, scene, section, walks)
 }
 
 /// The same, where constants may lead to the variable.
 fn put_constants(
-    alloc: Global,
     out: &mut Vec<u8>,
     scene: &Scene<'_>,
     section: &Section<'_>,
-    finder: Finder,
-) -> Result<Finder, NoMemory>
+    walks: &Walks,
+) -> Result<(), NoMemory>
     requires section { IsSection section.now }
-    requires finder { IsFinder section.now.graph.now finder }
-    ensures finder { IfOk result (IsFinder section.now.graph.now) }
-    ensures text { OnOk result (WritesSome scene.now out.old.items out.new.items (λ s text.
+    requires walks { AreWalks
+        section.now.graph.now section.now.lattice (section.now.var ∷ []) walks.now }
+    ensures { OnOk result (WritesSome scene.now out.old.items out.new.items (λ s text.
         FromsText s section.now.graph.now section.now.lattice section.now.var text)) }
 {
-    let mut finder = finder;
     let constants = section.ends.constants.as_slice();
     for number in constants {
-        finder = put_from(alloc, out, scene, section, finder, *number)?;
+        put_from(out, scene, section, walks, *number)?;
     }
-    Ok(finder)
+    Ok(())
 }
 
 /// The bounds that the variable leads to, in order. Goes over the bounds of the lattice. One search, and none where the lattice
@@ -245,22 +217,25 @@ fn put_headed(
 }
 
 /// What is written of a variable in a lattice: a look at the bounds of the lattice, and at its constants where one leads to the
-/// variable; the searches; and the text. Answers the finder, which keeps the last search.
+/// variable; a search for the bounds; and the text. Answers the finder, which keeps the last search.
 pub fn put_section(
     alloc: Global,
     out: &mut Vec<u8>,
     scene: &Scene<'_>,
     section: &Section<'_>,
+    walks: &Walks,
     finder: Finder,
 ) -> Result<Finder, NoMemory>
     requires section { IsSection section.now }
+    requires walks { AreWalks
+        section.now.graph.now section.now.lattice (section.now.var ∷ []) walks.now }
     requires finder { IsFinder section.now.graph.now finder }
     ensures finder { IfOk result (IsFinder section.now.graph.now) }
     ensures text { OnOk result (WritesSome scene.now out.old.items out.new.items (λ s text.
         SectionText s section.now.graph.now section.now.var section.now.lattice text)) }
 {
     let mut listed = Vec::new(alloc);
-    let finder = put_froms(alloc, &mut listed, scene, section, finder)?;
+    put_froms(&mut listed, scene, section, walks)?;
     let finder = put_tos(alloc, &mut listed, scene, section, finder)?;
     put_headed(out, scene, section.lattice, section.var, &listed)?;
     Ok(finder)

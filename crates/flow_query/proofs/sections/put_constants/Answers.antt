@@ -13,7 +13,6 @@ pub loop-number-init : goal.loop-number-init
 loop-number-init c =
     let section = c.args.section.now in
     record {
-      finder = c.requires.finder;
       low = omega arith;
       text = none_of c.args.scene.now c.args.out.now.items
           (λ s text. EachBelow (FromText s section.graph.now section.lattice section.var) 0 text) (λ s shows. NoneBelow);
@@ -39,17 +38,16 @@ loop-number-preserved c =
     let place = c.loop-number.number-index in
     let test = c.loop-number-test.true in
     record {
-      finder = c.in_ok-finder.ensures.finder;
       low = omega (arith, test);
       text = then_some (λ s text. EachBelow (FromText s sys section.lattice section.var) (from_place items (place + 1)) text)
-          c.loop-number.invariant.text c.in_ok-finder.ensures.text
+          c.loop-number.invariant.text c.in_ok-put_from.ensures
           (λ s shows text here before next.
           next_of (FromText s sys section.lattice section.var) (IsConstant sys section.lattice) items those
           (no_from_text s sys section.lattice section.var) place c.number-item.result text here (omega arith) c.number-item.is before next);
     }
 
-pub returns-clause-text : goal.returns-clause-text
-returns-clause-text c =
+pub returns : goal.returns
+returns c =
     let section = c.args.section.now in
     let sys = section.graph.now in
     let items = c.as_slice-constants.result.now in

@@ -4,8 +4,8 @@ use Rattle.annotate.proofs.Writing.{none_of}
 use Rattle.flow_query.proofs.Those.{none_below}
 use Rattle.flow_query.proofs.sections.put_froms.Goals as goal
 
-pub returns-then-is_unreached-clause-text : goal.returns-then-is_unreached-clause-text
-returns-then-is_unreached-clause-text c =
+pub returns-then-is_unreached : goal.returns-then-is_unreached
+returns-then-is_unreached c =
     let section = c.args.section.now in
     let sys = section.graph.now in
     none_of c.args.scene.now c.args.out.now.items (λ s text. FromsText s sys section.lattice section.var text)
