@@ -121,6 +121,7 @@ known s h = record {
   own = λ n i it e. nobodys s.declared it.at (own_of_found (IsMember s.declared) s.aggregates n i it h.members e);
   links = λ p d e f. let at = declared_place s.declared p d e in
       has_link s h d (ap (declared_at s.declared) at ∙ e) (f ∙ sym at);
+  things = h.things;
 }
 
 pub meanings_are_first : MeaningsAreFirst

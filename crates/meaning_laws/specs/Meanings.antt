@@ -134,6 +134,7 @@ pub record NamesAreFirst (s : Names) : Type 0 where
   pub known : (n name : ℕ) (it : Known) → member_in (body_of s.aggregates n) name ≡ Some it → IsNobodys s.declared it.at
   pub own : (n i : ℕ) (it : Own) → slice_get (own_of s.aggregates n) i ≡ Some it → IsNobodys s.declared it.at
   pub links : (p : Place) (d : Declared) → declared_at s.declared p ≡ Some d → d.first ≡ p → HasLink s d
+  pub things : ThingsAre (IsThing s.declared) s.things
 
 abbrev pub MeaningsAreFirst : Type 0
 MeaningsAreFirst =

@@ -128,7 +128,7 @@ module _ (k : Scene) where
       is_some_function (declared_at s.declared d.first) ≡ is_function_role d.role
   first_is_function p d e first = ap is_some_function (ap (declared_at s.declared) first ∙ e)
 
-  function_there : (p : Place) (d : Declared) → declared_at s.declared p ≡ Some d → d.role ≡ function_role →
+  pub function_there : (p : Place) (d : Declared) → declared_at s.declared p ≡ Some d → d.role ≡ function_role →
       d.first ≡ p → d.owner ≡ Some d.at →
       (there : Start) × (start_at k.starts d.at ≡ Some there) × (there.owner ≡ Some (link_of s d.at))
   function_there p d e role first own = by (start_at k.starts d.at) refl

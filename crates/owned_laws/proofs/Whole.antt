@@ -1,19 +1,23 @@
 -- The constraints of all units of a program.
-use Rattle.std.proofs.Common.{◌≡◌, All, map, true, false, Bool, List, [], ◌∷◌, ◌++◌, Option, None, Some, refl, sym, ◌∙◌, ap, subst, append_assoc, append-nil}
+use Rattle.std.proofs.Common.{◌≡◌, ℕ, zero, suc, All, map, true, false, Bool, List, [], ◌∷◌, ◌++◌, Option, None, Some, refl, sym, ◌∙◌, ap, subst, append_assoc, append-nil, arith}
+use Rattle.std.specs.List.{Contains}
 use Rattle.std.proofs.lemmas.List.Elements.{All-nil, All-cons, All-head, All-tail}
 use Rattle.std.specs.Prelude.{if◌then◌else◌}
 use Rattle.flow_graph.specs.System.{IsWellOwned}
+use Rattle.qual_types.specs.Skel.{nodes}
+use Rattle.flow_rules.specs.Owners.{AllOwned}
 use Rattle.tape_ops.specs.declared.op.Op.{Op}
 use Rattle.c_tree.specs.declared.lexeme.Lexeme.{Lexeme}
 use Rattle.c_tree.specs.Unit.{Item, IsItem}
 use Rattle.c_tape.specs.Tape.{item_tape, tape_of}
 use Rattle.name_rules.specs.Spellings.{Spelling, Place}
-use Rattle.name_rules.specs.Scopes.{Names, is_place}
+use Rattle.name_rules.specs.Scopes.{Role, function_role, Declared, declared_at, Names, is_place}
+use Rattle.name_rules.specs.Linking.{link_of}
 use Rattle.type_rules.specs.Program.{Source, names_of}
 use Rattle.shape_steps.specs.State as shapes
-use Rattle.row_rules.specs.Starting.{Start}
-use Rattle.row_rules.specs.Worlds.{World}
-use Rattle.row_rules.specs.Sites.{AreDifferent, functions_of, has_place}
+use Rattle.row_rules.specs.Starting.{Start, is_function_role}
+use Rattle.row_rules.specs.Worlds.{World, numbered_from, skeleton_among}
+use Rattle.row_rules.specs.Sites.{AreDifferent, first_place, functions_among, functions_of, has_place, is_first_function, owner_by}
 use Rattle.row_steps.specs.Rounds.{file}
 use Rattle.row_steps.specs.State.{nothing}
 use Rattle.row_steps.specs.Found.{unit_rows}
@@ -23,24 +27,27 @@ use Rattle.constraint_rules.specs.Starts.{item_starts, items_starts}
 use Rattle.constraint_rules.specs.Systems.{Program, starts_among, starts_of, world_of, demands_among, system_of}
 use Rattle.row_laws.specs.Laws.{RowsAreFound}
 use Rattle.start_laws.specs.Laws.{StartsAreFound}
-use Rattle.meaning_laws.specs.Meanings.{Differ, NamesAreFirst, MeaningsAreFirst}
+use Rattle.meaning_laws.specs.Meanings.{Differ, IsThing, NamesAreFirst, MeaningsAreFirst, ThingsAre}
 use Rattle.name_laws.specs.NameLaws.{tape_of_source, IsSound, NamesOfTapes}
 use Rattle.key_laws.specs.Keys.{key_places, KeysAreApart}
 use Rattle.key_laws.specs.Differing.{IsRead, UnitsDiffer, keys_among, KeysDiffer}
 use Rattle.scope_laws.specs.Apart.{AllApart, DeclarationsDiffer, NamesAreApart}
 use Rattle.scope_laws.specs.Staying.{AreWithin, ItemsStay, SourcesStay, NamesStay}
-use Rattle.owner_laws.specs.Fitting.{AllFit, FittingIsWellOwned, ListsFit, start_at}
+use Rattle.owner_laws.specs.Fitting.{AllFit, FittingIsWellOwned, ListsFit, SkeletonsAtAreOwned, start_at}
+use Rattle.owner_laws.specs.Laws.{owner_among}
+use Rattle.owned_laws.specs.Functions.{FunctionsOwnTheirs, OwnsIts}
 use Rattle.tape_laws.specs.Marks.{function_token, DeclaresIts, ItemsAreBracketed}
 use Rattle.owned_laws.specs.Around.{Settled}
 use Rattle.owned_laws.specs.Tapes.{TapesFit}
 use Rattle.owned_laws.specs.Programs.{SystemsAreOwned}
-use Rattle.scope_laws.proofs.Places.{has_left, differ_before, differ_apart, differ_right, keys_joined}
+use Rattle.meaning_laws.proofs.Lists.{place_itself, place_is}
+use Rattle.scope_laws.proofs.Places.{declared_place, has_itself, has_left, has_right, differ_before, differ_apart, differ_right, keys_joined}
 use Rattle.owned_laws.proofs.Places.{Kept, none_kept, joined_kept, none_before, none_behind}
 use Rattle.owned_laws.proofs.Begin.{IsPlaced, AllPlaced, placed_at, tape_kept, ExactAlong, exact, regroup}
 use Rattle.owned_laws.proofs.Placed.{tape_placed}
 use Rattle.tape_laws.proofs.Turns.{declares_its}
 use Rattle.owned_laws.proofs.Contexts.{contexts_along}
-use Rattle.owned_laws.proofs.Fits.{Scene, Item as ItemScene, members, along}
+use Rattle.owned_laws.proofs.Fits.{Scene, Item as ItemScene, function_there, members, along}
 use Rattle.owned_laws.proofs.Functions.{functions_begin}
 
 pub record Laws : Type 0 where
@@ -70,6 +77,51 @@ sound_of [] h = All-nil IsSound
 sound_of (it ∷ sources) h =
     let read = All-head IsRead it sources h in
     All-cons IsSound it sources (read.all, read.rules) (sound_of sources (All-tail IsRead it sources h))
+
+found_once : (x y : Declared) → Some x ≡ Some y → x ≡ y
+found_once x y e = cc
+
+nothing_named : (it : ℕ × Place) → Contains (names_of []).things it → ⊥
+nothing_named it (i, within, is) = omega (arith, within)
+
+-- what holds of all things holds of each
+thing_at : (P : Place → Type 0) (things : List (ℕ × Place)) (it : ℕ × Place) → ThingsAre P things → Contains things it → P it.1
+thing_at P [] it h (i, within, is) = absurd (omega (arith, within))
+thing_at P (x ∷ things) it h (zero, within, is) = subst (λ (y : ℕ × Place). P y.1) is h.0
+thing_at P (x ∷ things) it h (suc i, within, is) = thing_at P things it h.1 (i, omega (arith, within), is)
+
+-- what is first declared as a function is one of those that are numbered
+first_is : (bodies : List Place) (d : Declared) → d.at ≡ d.first → d.role ≡ function_role → is_first_function bodies d ≡ true
+first_is bodies d first role =
+    ap (λ (b : Bool). if b then (if is_function_role d.role then true else has_place bodies d.at) else false)
+    (subst (λ (x : Place). is_place d.at x ≡ true) first (place_itself d.at))
+    ∙ ap (λ (r : Role). if is_function_role r then true else has_place bodies d.at) role
+
+one_more : (f : Place → Place) (bodies : List Place) (x : Declared) (ds : List Declared) (q : Place) →
+    has_place (map f (functions_among bodies ds)) (f q) ≡ true → has_place (map f (functions_among bodies (x ∷ ds))) (f q) ≡ true
+one_more f bodies x ds q has = on (is_first_function bodies x)
+  where
+    on : (b : Bool) → has_place (map f (if b then x.at ∷ functions_among bodies ds else functions_among bodies ds)) (f q) ≡ true
+    on true = has_right (f x.at ∷ []) (map f (functions_among bodies ds)) (f q) has
+    on false = has
+
+function_numbered : (f : Place → Place) (bodies : List Place) (ds : List Declared) (q : Place) (d : Declared) → declared_at ds q ≡ Some d →
+    is_first_function bodies d ≡ true → has_place (map f (functions_among bodies ds)) (f q) ≡ true
+function_numbered f bodies [] q d e is = absurd cc
+function_numbered f bodies (x ∷ ds) q d e is =
+    by (is_place x.at q) refl e (λ found. one_more f bodies x ds q (function_numbered f bodies ds q d found is))
+  where
+    by : (b : Bool) → is_place x.at q ≡ b → (if b then Some x else declared_at ds q) ≡ Some d →
+        (declared_at ds q ≡ Some d → has_place (map f (functions_among bodies (x ∷ ds))) (f q) ≡ true) →
+        has_place (map f (functions_among bodies (x ∷ ds))) (f q) ≡ true
+    by true here found later =
+        let same : x ≡ d = cc in
+        let at : x.at ≡ q = place_is x.at q here in
+        let yes : is_first_function bodies x ≡ true = subst (λ (c : Declared). is_first_function bodies c ≡ true) (sym same) is in
+        ap (λ (b : Bool). has_place (map f (if b then x.at ∷ functions_among bodies ds else functions_among bodies ds)) (f q)) yes
+        ∙ subst (λ (y : Place). has_place (f x.at ∷ map f (functions_among bodies ds)) (f y) ≡ true) at
+        (has_itself (f x.at) (map f (functions_among bodies ds)))
+    by false other found later = later found
 
 -- each skeleton is that of some item
 abbrev AllSome : Names → List Start → Type 0
@@ -293,9 +345,38 @@ module _ (law : Laws) where
         (sym (append_assoc ps (key_places it.spelling (tape_of it.items)) (keys_among sources))) d)
         (All-tail IsRead it sources rules) keys_apart.1 stay.1)
 
+    -- a function's own skeleton, where it was first declared
+    own_theirs : SkeletonsAtAreOwned → Source → (name : ℕ) (q : Place) (d : Declared) → Contains s.things (name, q) →
+        declared_at s.declared q ≡ Some d → d.role ≡ function_role → OwnsIts p q
+    own_theirs skeletons it name q d in_it e role =
+        let thing = thing_at (IsThing s.declared) s.things (name, q) first.things in_it in
+        let same : thing.it ≡ d = found_once thing.it d (sym thing.there ∙ e) in
+        let here : d.at ≡ q = declared_place s.declared q d e in
+        let firstly : d.first ≡ q = subst (λ (c : Declared). c.first ≡ q) same thing.is_first in
+        let own : d.owner ≡ Some q =
+        subst (λ (c : Declared). c.owner ≡ Some q) same (thing.is_itself (ap (λ (c : Declared). c.role) same ∙ role)) in
+        let there = function_there (scene it) q d e role firstly (own ∙ ap (λ (x : Place). Some x) (sym here)) in
+        let begins : start_at starts q ≡ Some there.0 =
+        subst (λ (x : Place). start_at starts x ≡ Some there.0) here there.1 in
+        let owner : there.0.owner ≡ Some (link_of s q) = there.2 ∙ ap (λ (x : Place). Some (link_of s x)) here in
+        record {
+          numbered = function_numbered (link_of s) (map first_place s.bodies) s.declared q d e
+              (first_is (map first_place s.bodies) d (here ∙ sym firstly) role);
+          owned = subst (λ (o : Option Place). AllOwned (owner_among functions starts) (owner_by functions o)
+              (nodes (skeleton_among (numbered_from 0 starts) q))) owner (skeletons functions starts q there.0 begins);
+        }
+
     owned : IsWellOwned (system_of p)
     owned = law.whole (system_of p)
         (sources_fit p.sources [] [] none_kept refl differ read apart_all (law.stays p.sources sound differ))
 
   pub systems_are_owned : SystemsAreOwned
   systems_are_owned p read units = owned p read units
+
+  pub functions_own_theirs : SkeletonsAtAreOwned → FunctionsOwnTheirs
+  functions_own_theirs skeletons p read units name q d in_it e role = by p.sources refl
+    where
+      by : (sources : List Source) → p.sources ≡ sources → OwnsIts p q
+      by [] none = absurd (nothing_named (name, q)
+          (subst (λ (sources : List Source). Contains (names_of sources).things (name, q)) none in_it))
+      by (it ∷ sources) some = own_theirs p read units skeletons it name q d in_it e role

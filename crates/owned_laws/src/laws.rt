@@ -1,5 +1,6 @@
 //! Laws of the constraints along tapes.
 
+ghost use Rattle.owned_laws.specs.Functions.{FunctionsOwnTheirs};
 ghost use Rattle.owned_laws.specs.Programs.{SystemsAreOwned};
 ghost use Rattle.owned_laws.specs.Tapes.{TapesFit};
 
@@ -22,6 +23,25 @@ pub fn tapes_fit()
     fitting_is_well_owned();
     parts_stay();
     skeletons_are_owned();
+}
+
+/// Each object or function of such units that was first declared as a function has a skeleton at that place, of which all
+/// variables belong to it.
+pub fn functions_own_theirs()
+    ensures { FunctionsOwnTheirs }
+{
+    tapes_fit();
+    rows_are_found();
+    starts_are_found();
+    fitting_is_well_owned();
+    skeletons_are_owned();
+    names_of_tapes();
+    meanings_are_first();
+    items_are_bracketed();
+    keys_differ();
+    declarations_differ();
+    names_are_apart();
+    names_stay();
 }
 
 /// The system of every program is well owned: no flow joins two functions, and each call of a site and each return leads from its

@@ -3,4 +3,4 @@
 
 mod laws;
 
-pub use laws::{systems_are_owned, tapes_fit};
+pub use laws::{functions_own_theirs, systems_are_owned, tapes_fit};
