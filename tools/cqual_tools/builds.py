@@ -157,6 +157,15 @@ def programs_of(build):
     return made
 
 
+def libraries_of(build):
+    """The archives and shared libraries of a build, each as a program."""
+    made = []
+    for path, parts in build.libraries.items():
+        units, unknown = build.units_in(parts)
+        add_program(made, shown(path), units, unknown)
+    return made
+
+
 def add_program(made, name, units, unknown):
     """Adds a program. What has no C file, or only such as were tried, is none."""
     units = list(dict.fromkeys(units))
@@ -202,12 +211,17 @@ def read_commands(name):
     return [Program("all", list(units))]
 
 
+def wanted_units(program, options):
+    """The units of a program that are not left out."""
+    return [unit for unit in program.units if not any(fnmatch.fnmatchcase(unit.shown, glob) for glob in options.withouts)]
+
+
 def chosen(programs, options):
     """The programs and the sources that are asked for."""
     made = []
     for one in programs:
         if not options.programs or any(fnmatch.fnmatchcase(one.name, glob) for glob in options.programs):
-            units = [unit for unit in one.units if not any(fnmatch.fnmatchcase(unit.shown, glob) for glob in options.withouts)]
+            units = wanted_units(one, options)
             if units or one.unknown:
                 made.append(Program(one.name, units, one.unknown))
     if not made:

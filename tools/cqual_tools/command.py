@@ -6,11 +6,15 @@ from .answers import answered
 from .options import USAGE, is_gcc_style, options_of
 from .running import Run
 from .scripts import run_script
+from .signing import sign
 
 
 def run_with(options):
     """The status of a run, with all that it prints."""
     with tempfile.TemporaryDirectory(prefix="cqual-cc-") as room:
+        if options.has("--signatures"):
+            status = sign(options, room)
+            return 0 if options.has("--no-fail") and status in (1, 2) else status
         run = Run(options, room)
         run.preprocess()
         printing = not is_gcc_style(options) and not options.baseline

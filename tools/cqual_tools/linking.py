@@ -30,6 +30,13 @@ class Linked:
     status: int = 0
     printed: str = ""
     fault: str = ""
+    # the libraries whose signatures stand for their sources
+    libraries: list = field(default_factory=list)
+
+    @property
+    def more(self):
+        """What stands behind the preludes: the signatures of libraries."""
+        return "".join(one.prelude for one in self.libraries)
 
     @property
     def options(self):
@@ -48,7 +55,7 @@ class Linked:
             with open(self.answers.kept.path("texts", ready.sum), "rb") as file:
                 texts.append(Text(latin(ready.unit.shown), file.read().decode("latin-1")))
             names.update({place: list(replaced) for place, replaced in ready.names})
-        return Sources(texts, prelude_of(setting), setting.tool_files, names)
+        return Sources(texts, prelude_of(setting, self.more), setting.tool_files, names)
 
 
 def apart(readies):
@@ -88,7 +95,7 @@ class Answers:
     """Asks cqual, or what is kept of its answers."""
 
     def __init__(self, setting, kept, room):
-        self.setting, self.kept, self.words = setting, kept, setting.words(room)
+        self.setting, self.kept, self.room, self.words = setting, kept, room, setting.words(room)
         self.key = key_of(sum_of_file(self.words[0]), sum_of_file(setting.lattice), setting.prelude_text, os.path.basename(setting.lattice))
 
     def check_setting(self):
@@ -98,13 +105,22 @@ class Answers:
         if linked.status != 0:
             raise Stop(linked.status, linked.fault or linked.printed.rstrip("\n"))
 
+    def ask_with(self, name, readies, libraries):
+        """The answer of a program that has libraries by their signatures."""
+        return self.ask(Linked(self, name, readies, libraries=libraries))
+
+    def words_for(self, linked):
+        """The first words of cqual for a program."""
+        more = linked.more
+        return self.setting.words(self.room, more, f"{key_of(more)}.h") if more else self.words
+
     def ask(self, linked):
         """Fills in the answer of a program."""
         linked.fault = limit_of(linked)
         if linked.fault:
             linked.status = 2
             return linked
-        key = key_of(self.key, [(ready.sum, ready.unit.shown) for ready in linked.readies])
+        key = key_of(self.key, [(ready.sum, ready.unit.shown) for ready in linked.readies], *([linked.more] if linked.libraries else []))
         answer = self.kept.read("answers", key)
         if answer is None or set(answer) != {"status", "printed"}:
             answer = self.asked(linked)
@@ -116,7 +132,7 @@ class Answers:
     def asked(self, linked):
         paths = [self.kept.path("texts", ready.sum) for ready in linked.readies]
         try:
-            ran = subprocess.run([*self.words, *paths], stdout=subprocess.PIPE, check=False)
+            ran = subprocess.run([*self.words_for(linked), *paths], stdout=subprocess.PIPE, check=False)
         except OSError as fault:
             raise Stop(9, f"cannot run {self.words[0]}: {fault.strerror}") from fault
         status = status_of(ran)

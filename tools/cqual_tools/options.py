@@ -6,6 +6,7 @@ from dataclasses import dataclass, field
 from typing import ClassVar
 
 USAGE = """usage: cqual-cc [OPTION]... -- [FLAG]... FILE.c
+       cqual-cc [OPTION]... --signatures -- [FLAG]... FILE.c...
 
 Preprocesses FILE.c with the flags of a compiler and runs cqual on it.
 
@@ -28,6 +29,8 @@ What is printed:
   --certify          the certificate of an accepted source, in place of its report (implies --style=plain)
   --verify CERT      checks a certificate of the source (implies --style=plain)
   --who NAME         what reaches the declared names of this spelling, and what they reach (implies --style=plain)
+  --signatures       the signatures of the functions of these files, which are one library: a prelude that stands for them. What the preludes
+                     say of functions they mention is said of them too; one with index words is refused (implies --style=plain)
 
 For make and CI:
   --baseline FILE    errors that the file lists are known: only others are printed, and make the run fail
@@ -44,7 +47,7 @@ Status: that of cqual; 3 where the words have no meaning, 8 where the preprocess
 """
 
 VALUES = ("--lattice", "--prelude", "--model", "--include", "--check", "--verify", "--who", "--style", "--color", "--baseline")
-SWITCHES = ("--annotate", "--certify", "--fortify", "--no-fail", "--no-models", "--all", "--update-baseline")
+SWITCHES = ("--annotate", "--certify", "--signatures", "--fortify", "--no-fail", "--no-models", "--all", "--update-baseline")
 CHOICES = {"--style": ("gcc", "plain"), "--color": ("auto", "always", "never")}
 
 # flags that say what is made: alone, with the next word, with the rest of the word
@@ -88,6 +91,8 @@ class Options:
     switches: set = field(default_factory=set)
     flags: list = field(default_factory=list)
     source: str = ""
+    # of a library there may be several
+    sources: list = field(default_factory=list)
 
     def has(self, switch):
         return switch in self.switches
@@ -107,7 +112,7 @@ def options_of(words):
 
 def question_of(made):
     """The words of cqual that ask something else than the report."""
-    asked = [[name] for name in ("--annotate", "--certify") if made.has(name)]
+    asked = [[name] for name in ("--annotate", "--certify", "--signatures") if made.has(name)]
     values = (("--check", made.check), ("--verify", made.verify), ("--who", made.who))
     return asked + [[name, value] for name, value in values if value]
 
@@ -179,9 +184,10 @@ def take_flags(made, words):
             made.flags += words[at - 1 : at + 1]
             at += 1
         elif word.endswith((".c", ".i")) and not word.startswith("-"):
-            if made.source:
+            if made.source and not made.has("--signatures"):
                 raise Stop(3, f"two sources, {made.source} and {word}: cqual-cc takes one")
-            made.source = word
+            made.source = made.source or word
+            made.sources.append(word)
         else:
             made.flags.append(word)
     if not made.source:

@@ -9,8 +9,9 @@ from concurrent.futures import ProcessPoolExecutor, ThreadPoolExecutor
 from concurrent.futures.process import BrokenProcessPool
 
 from .answers import answered
-from .builds import chosen, programs_of, read_commands, read_log
+from .builds import chosen, libraries_of, programs_of, read_commands, read_log, wanted_units
 from .kept import Kept, key_of
+from .libraries import Library, Signer, clashing, grouped, replacing
 from .linking import Answers, Linked, apart, refused_code, second_body
 from .options import Stop, is_gcc_style
 from .run_options import USAGE, cache_of, jobs_of, options_of
@@ -63,6 +64,8 @@ class Run:
         self.answers = self.threads = None
         # what could not be read: a line or a program of one file, by its name, or by the checksum of its text
         self.unread = {}
+        # the libraries of the build, where programs are to take their signatures
+        self.libraries = []
 
     def programs(self):
         """The programs that the build makes."""
@@ -72,6 +75,8 @@ class Run:
         for fault in build.faults:
             say(f"not logged: {fault}")
         made = programs_of(build)
+        if self.options.has("--libraries"):
+            self.libraries = libraries_of(build)
         if not made:
             raise Stop(8, "no compile was seen: cqual-run sees compilers that are found by $PATH or $CC, in what is built anew")
         return chosen(made, self.options)
@@ -102,9 +107,11 @@ class Run:
             self.answers, self.threads = Answers(self.setting, self.kept, room), threads
             self.answers.check_setting()
             readies = self.prepared(programs)
+            signed = self.signed(readies)
             made = []
             for program in programs:
                 made += self.split(program, [readies[unit] for unit in program.units])
+            made = self.with_libraries(made, signed)
             self.ask([one for one in made if not one.fault], "linked")
             made = self.without_second_bodies(made)
             self.find_unread(made)
@@ -119,6 +126,56 @@ class Run:
         except BrokenProcessPool as fault:
             raise Stop(6, "a process that makes a text was ended from outside; perhaps there was not enough memory: try -j 1") from fault
         return dict(zip(units, made))
+
+    def signed(self, readies):
+        """The libraries of which programs have units, with their signatures or why they have none."""
+        made = []
+        for one in self.libraries:
+            units = wanted_units(one, self.options)
+            if any(unit in readies for unit in units):
+                made.append(self.library(one, [readies.get(unit) for unit in units]))
+        if made:
+            signer = Signer(self.answers)
+            in_parallel(self.threads, signer.read, made, "read", self.progress)
+            grouped(made)
+            whole = [one for one in made if not any(member.fault for member in one.group)]
+            in_parallel(self.threads, signer.sign, whole, "signed", self.progress)
+            for one in made:
+                first = next((member for member in one.group if member.fault), one)
+                one.fault = one.fault or (first.fault and f"{first.name} has none")
+        return made
+
+    def library(self, one, found):
+        """A library of a build by what is ready of its units."""
+        made = Library(one.name, [ready for ready in found if ready is not None and not ready.fault])
+        if one.unknown or len(made.readies) < len(found):
+            made.fault = "not all of its sources are read"
+        return made
+
+    def with_libraries(self, programs, libraries):
+        """The programs, which take the signatures of libraries in place of their sources, without those that are such a library."""
+        self.print_libraries(libraries)
+        whole = [one.sums for one in libraries if not one.fault]
+        programs = [one for one in programs if {ready.sum for ready in one.readies} not in whole]
+        for one in programs:
+            if one.fault or one.left_out:
+                continue
+            one.libraries = replacing(libraries, one.readies)
+            for library in clashing(libraries, one.readies):
+                say(f"{one.name}: {library.name} is linked whole: it names a function of the program, or both have one")
+            replaced = {ready.sum for library in one.libraries for ready in library.all_readies}
+            one.readies = [ready for ready in one.readies if ready.sum not in replaced]
+        return programs
+
+    def print_libraries(self, libraries):
+        for one in libraries:
+            if one.fault:
+                print(f"library {one.name}: linked whole: {one.fault}", flush=True)
+                continue
+            count = one.count()
+            print(f"library {one.name}: {count} {'signature' if count == 1 else 'signatures'}", flush=True)
+            if self.options.reports:
+                self.keep_file(one.name, ".signatures", one.text)
 
     def split(self, program, readies):
         """The program, or those that it is where functions have two bodies. What is not ready is noted."""
@@ -210,9 +267,10 @@ class Run:
             return one.status if one.status > 2 else 2
         left_out = f", {len(one.left_out)} left out" if one.left_out else ""
         plural = "source" if len(one.readies) == 1 else "sources"
-        print(f"program {one.name}: {len(one.readies)} {plural}{left_out}", flush=True)
+        taken = f", signatures of {', '.join(library.name for library in one.libraries)}" if one.libraries else ""
+        print(f"program {one.name}: {len(one.readies)} {plural}{left_out}{taken}", flush=True)
         if self.options.reports:
-            self.keep_report(one)
+            self.keep_file(one.name, ".report", one.printed)
         return self.print_answer(one)
 
     def print_answer(self, one):
@@ -223,12 +281,12 @@ class Run:
         sys.stdout.flush()
         return one.status
 
-    def keep_report(self, one):
-        path = os.path.join(self.options.reports, one.name.replace(os.sep, "_") + ".report")
+    def keep_file(self, name, ending, text):
+        path = os.path.join(self.options.reports, name.replace(os.sep, "_") + ending)
         try:
             os.makedirs(self.options.reports, exist_ok=True)
             with open(path, "wb") as file:
-                file.write(one.printed.encode("latin-1"))
+                file.write(text.encode("latin-1"))
         except OSError as fault:
             raise Stop(9, f"cannot write {path}: {fault.strerror}") from fault
 

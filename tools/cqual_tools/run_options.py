@@ -16,6 +16,8 @@ What is built:
                      files are one program; of files with a second body of one function each is linked with all that collide with none
   --make CMD         runs CMD in a shell with wrappers before the compilers, `ld` and `ar`, which log what they are called for: a program
                      is what one link takes, through objects and libraries of the build; so is a library that no program takes whole
+  --libraries        with --make: each library that can stand by its signatures is read once, and the programs take these in place of its
+                     sources; what a library is that cannot is said, and it is linked whole, as without this word
   --program GLOB     only programs whose name fits; may stand more than once
   --without GLOB     leaves out sources whose name fits, such as 'tests/*'; may stand more than once
   -j N, --jobs N     so many processes at a time (as many as there are processors)
@@ -26,7 +28,7 @@ What is printed:
   --plain            what cqual prints of each program, behind a line with its name; the default where there is no terminal
   --style=gcc        errors and notes as gcc writes them; the default on a terminal
   --color=WHEN, --all  as cqual-cc has them
-  --reports DIR      leaves the report of each program in DIR, as cqual printed it
+  --reports DIR      leaves the report of each program in DIR, as cqual printed it, and with --libraries the signatures of each library
 
 For make and CI:
   --keep-going       a file that cannot be read is named and left out, and the others are linked
@@ -47,7 +49,9 @@ VALUES = (
     "--lattice", "--prelude", "--model", "--include", "--style", "--color", "--baseline", "--make", "--program", "--without", "--jobs",
     "--cache", "--reports",
 )
-SWITCHES = ("--fortify", "--no-fail", "--no-models", "--all", "--update-baseline", "--keep-going", "--fresh", "--plain")
+SWITCHES = (
+    "--fortify", "--no-fail", "--no-models", "--all", "--update-baseline", "--keep-going", "--fresh", "--plain", "--libraries",
+)
 
 
 @dataclass
@@ -86,6 +90,8 @@ def options_of(words):
     if len(others) > 1 or (others and made.make):
         raise Stop(3, f"one build at a time: {' and '.join([*others, *([f'--make {made.make}'] if made.make else [])])}")
     made.commands = others[0] if others else ""
+    if made.has("--libraries") and not made.make:
+        raise Stop(3, "--libraries wants --make CMD: a compile_commands.json tells of no libraries")
     check_baseline(made)
     if made.has("--plain"):
         if made.style == "gcc":

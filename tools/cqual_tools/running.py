@@ -89,11 +89,11 @@ class Setting:
             made += ["-U_FORTIFY_SOURCE", "-D_FORTIFY_SOURCE=0"]
         return made
 
-    def words(self, room):
-        """The first words of cqual: the program, the lattice, and the preludes, which are written into a folder."""
+    def words(self, room, more="", name="preludes.h"):
+        """The first words of cqual: the program, the lattice, and the preludes, with more behind them, which are written into a folder."""
         made = [found_program(), "--lattice", self.lattice]
-        if self.prelude_parts:
-            made += ["--prelude", write_file(os.path.join(room, "preludes.h"), self.prelude_text)]
+        if self.prelude_parts or more:
+            made += ["--prelude", write_file(os.path.join(room, name), self.prelude_text + more)]
         return made
 
 
@@ -172,5 +172,5 @@ class Run:
         return Sources([text], prelude_of(self.setting), self.setting.tool_files, self.replaced.names)
 
 
-def prelude_of(setting):
-    return Text("preludes.h", setting.prelude_text, whole=True)
+def prelude_of(setting, more=""):
+    return Text("preludes.h", setting.prelude_text + more, whole=True)

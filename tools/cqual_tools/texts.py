@@ -75,6 +75,10 @@ class Text:
         file, line, _ = self.origins[number]
         return Place(file, line, offset - self.starts[number] + 1)
 
+    def is_system_at(self, offset):
+        """Whether a system's header stands there."""
+        return self.origins[bisect.bisect_right(self.starts, offset) - 1][2]
+
     def line_numbered(self, number):
         end = self.starts[number + 1] - 1 if number + 1 < len(self.starts) else len(self.text)
         return self.text[self.starts[number] : end]

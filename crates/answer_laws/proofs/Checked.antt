@@ -14,12 +14,12 @@ use Rattle.report_laws.specs.Scenes.{HasNoFeed, HasNoFeeds, TokensHaveNoFeed}
 use Rattle.report_laws.specs.Laws.{RejectedReadsBack}
 use Rattle.report_checks.specs.declared.judging.Checked.TheVariants.{Hold}
 use Rattle.report_checks.specs.Texts.{checked_text}
-use Rattle.cqual_words.specs.Words.{FileNames as Names, Question, Infer, Annotate, Check, Certify, Verify, Who, Task, Ask, Generate}
+use Rattle.cqual_words.specs.Words.{FileNames as Names, Question, Infer, Annotate, Check, Certify, Verify, Who, Sign, Task, Ask, Generate}
 use Rattle.cqual_tool.specs.declared.status.Status.TheVariants.{Rejected, PathsHold}
 use Rattle.cqual_tool.specs.Inputs.{Inputs}
 use Rattle.cqual_tool.specs.Words.{FileNames, of_files, names_of}
 use Rattle.cqual_tool.specs.Programs.{texts_of}
-use Rattle.cqual_tool.specs.Outcome.{AreBefore, NoPrelude, OnePrelude, NoSource, OneSource, SourcesParse, sources_of, total_limit, ProgramIsRead, AnsweredAlone, SavedJudged, IsAlone, IsOfSaved, IsAnswered, IsChecked, IsVerified, IsWrong, Uncertified, Holding, saved_limit}
+use Rattle.cqual_tool.specs.Outcome.{AreBefore, NoPrelude, OnePrelude, NoSource, OneSource, SourcesParse, sources_of, total_limit, ProgramIsRead, AnsweredAlone, SavedJudged, IsAlone, IsOfSaved, IsAnswered, IsChecked, IsVerified, IsSigned, Unsigned, IsWrong, Uncertified, Holding, saved_limit}
 use Rattle.cqual_tool.specs.Outcome.{SourcesRead, PreludeRead, OfFiles, LatticeRead, OfTask, OfProgram, OfGenerated, Outcome, WithMeaning}
 use Rattle.answer_laws.specs.Laws.{ProgramsAreOwned, RejectedIsChecked, FilesAreFree, judged}
 use Rattle.answer_laws.proofs.Owned.{built_sized, built_lattices}
@@ -107,6 +107,7 @@ module _ (owned : ProgramsAreOwned) (elements : ElementsAreNamed) (back : Reject
     where
       rejects : IsAnswered (judged (of_files names question) inputs it) name Rejected text → ⊥
       rejects it_is = elim it_is [ ]
+  of_end it Sign (Unsigned _ suits (RejectedWith _ is)) = is
 
   saved_not : (it : ProgramIsRead (of_files names question) inputs) (asked : Question)
       → IsOfSaved asked (judged (of_files names question) inputs it) inputs.saved Rejected text → ⊥
@@ -122,6 +123,7 @@ module _ (owned : ProgramsAreOwned) (elements : ElementsAreNamed) (back : Reject
       rejects : IsVerified (judged (of_files names question) inputs it) inputs.saved Rejected text → ⊥
       rejects it_is = elim it_is [ ]
   saved_not it (Who name) is = is
+  saved_not it Sign is = is
 
   of_files_wrong : OfFiles (of_files names question) inputs Rejected text
       → OfFiles (with_saved names report) (record inputs { saved = text }) PathsHold (checked_text Hold)

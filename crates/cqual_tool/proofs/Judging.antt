@@ -21,7 +21,7 @@ use Rattle.report_checks.specs.declared.judging.Checked.TheVariants.{Hold, Bad}
 use Rattle.report_checks.specs.Checks.{ComesTo}
 use Rattle.report_checks.specs.Texts.{checked_text}
 use Rattle.cqual_tool.specs.declared.status.Status.{Status}
-use Rattle.cqual_tool.specs.declared.status.Status.TheVariants.{Accepted, Rejected, PathsHold, PathBad, CertificateHolds, CertificateBad, Answered, NoName, Malformed, BadWords, ReadFault, WriteFault, NoMemory}
+use Rattle.cqual_tool.specs.declared.status.Status.TheVariants.{Accepted, Rejected, PathsHold, PathBad, CertificateHolds, CertificateBad, Answered, NoName, NoSignature, Malformed, BadWords, ReadFault, WriteFault, NoMemory}
 use Rattle.cqual_tool.specs.declared.answer.Answer.{Answer}
 use Rattle.cqual_tool.specs.Statuses.{status_of, checked_status, verdict_status}
 use Rattle.cqual_tool.specs.Programs.{Judging}
@@ -52,6 +52,7 @@ uncertified it CertificateHolds text never is = elim is [ ]
 uncertified it CertificateBad text never is = elim is [ ]
 uncertified it Answered text never is = elim is [ ]
 uncertified it NoName text never is = elim is [ ]
+uncertified it NoSignature text never is = elim is [ ]
 uncertified it Malformed text never is = elim is [ ]
 uncertified it BadWords text never is = elim is [ ]
 uncertified it ReadFault text never is = elim is [ ]

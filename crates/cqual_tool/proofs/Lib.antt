@@ -1,4 +1,5 @@
 pub mod Asking
+pub mod Held
 pub mod Joining
 pub mod Judging
 pub mod Naming
@@ -6,6 +7,7 @@ pub mod Outcomes
 pub mod Pieces
 pub mod Readings
 pub mod Runs
+pub mod Signed
 pub mod Stages
 pub mod Starting
 pub mod Summing

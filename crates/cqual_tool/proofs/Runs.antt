@@ -5,7 +5,7 @@ use Rattle.outside.specs.Readings.{Agrees, MayGive, Reading, ReadsAs, Standing, 
 use Rattle.cqual_words.specs.Words.{Generate, Task, meaning_of}
 use Rattle.cqual_tool.specs.declared.answer.Answer.{Answer}
 use Rattle.cqual_tool.specs.declared.status.Status.{Status}
-use Rattle.cqual_tool.specs.declared.status.Status.TheVariants.{Accepted, Rejected, PathsHold, PathBad, CertificateHolds, CertificateBad, Answered, NoName, Malformed, BadWords, ReadFault, WriteFault, NoMemory}
+use Rattle.cqual_tool.specs.declared.status.Status.TheVariants.{Accepted, Rejected, PathsHold, PathBad, CertificateHolds, CertificateBad, Answered, NoName, NoSignature, Malformed, BadWords, ReadFault, WriteFault, NoMemory}
 use Rattle.cqual_tool.specs.declared.taking.Stop.{Stop}
 use Rattle.cqual_tool.specs.declared.taking.Stop.TheVariants as stops
 use Rattle.cqual_tool.specs.Words.{FileNames, names_of, saved_in}
@@ -26,6 +26,7 @@ decided_answers CertificateHolds is = tt
 decided_answers CertificateBad is = tt
 decided_answers Answered is = tt
 decided_answers NoName is = tt
+decided_answers NoSignature is = tt
 decided_answers Malformed is = tt
 decided_answers BadWords is = absurd is
 decided_answers ReadFault is = absurd is

@@ -8,6 +8,7 @@ pub mod Texts
 pub mod Faults
 pub mod Preludes
 pub mod Programs
+pub mod Signing
 pub mod Outcome
 pub mod Preparing
 pub mod Answering

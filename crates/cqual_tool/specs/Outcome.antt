@@ -1,5 +1,6 @@
 -- What the tool answers and writes, for the words and the bytes of the files.
-use Rattle.std.specs.Prelude.{◌≡◌, ◌≢◌, ℕ, zero, suc, ◌+◌, ◌-◌, nat_le, Bool, true, false, ◌<◌, ◌≤◌, List, [], ◌∷◌, ◌++◌, length, take, Some, None, codes, Option, if◌then◌else◌}
+use Rattle.std.specs.Prelude.{◌≡◌, ◌≢◌, ℕ, zero, suc, ◌+◌, ◌-◌, nat_le, true, false, ◌<◌, ◌≤◌, List, [], ◌∷◌, ◌++◌, length, slice_get, take, Some, None, codes, Option, if◌then◌else◌}
+use Rattle.std.specs.List.{flat_map}
 use Rattle.outside.specs.Readings.{Reading, ReadsAs, names_read}
 use Rattle.qual_base.specs.Words.{MeansTheSame}
 use Rattle.lattice_core.specs.Names.{words_of}
@@ -12,7 +13,6 @@ use Rattle.c_lexer.specs.Tokens.{Lexed, IsMarkedBy}
 use Rattle.c_lexer.specs.Refusals.{IsRefusal}
 use Rattle.c_lexer.specs.declared.lexing.LexFault.{LexFault}
 use Rattle.c_lexer.specs.declared.lexing.LexFault.TheVariants.{NoMemory as NoRoom}
-use Rattle.c_tree.specs.Unit.{Item}
 use Rattle.c_units.specs.Units.{IsWellFormed}
 use Rattle.c_parser.specs.Parsing.{lexemes_of}
 use Rattle.c_parser.specs.Refusing.{IsUnitRefusal}
@@ -29,7 +29,9 @@ use Rattle.cq_prelude.specs.declared.fault.PreludeFault.{PreludeFault}
 use Rattle.cq_prelude.specs.declared.fault.PreludeFault.TheVariants.{NoMemory as OutOfSpace}
 use Rattle.flow_graph.specs.System.{most_constraints, most_variables}
 use Rattle.flow_graph.specs.Unfolding.{IsAccepted}
+use Rattle.flow_graph.specs.declared.constraint.Constraint.{Constraint}
 use Rattle.annotate.specs.Reports.{IsJudgedWith, ErrorCount}
+use Rattle.annotate.specs.Texts.{Scene, place_text}
 use Rattle.report_checks.specs.declared.judging.Checked.TheVariants.{Hold, Bad}
 use Rattle.report_checks.specs.declared.judging.Code.{Code}
 use Rattle.report_checks.specs.Checks.{ComesTo}
@@ -41,14 +43,17 @@ use Rattle.certificate_checks.specs.declared.judging.Verdict.TheVariants.{Holds,
 use Rattle.certificate_checks.specs.Checks.{ComesTo as CertificateComesTo}
 use Rattle.certificate_checks.specs.Texts.{verdict_text}
 use Rattle.flow_query.specs.Answers.{IsWho}
+use Rattle.sig_writer.specs.Signatures.{Found, Refusal, NoPlace, NoWord, first_refusal, lines_of, nodes_of}
+use Rattle.sig_writer.specs.Found.{IsFoundAt}
+use Rattle.sig_writer.specs.Suits.{IsFirstShared, IsOnePlain, Suits}
 use Rattle.cqual_tool.specs.declared.status.Status.{Status}
-use Rattle.cqual_tool.specs.declared.status.Status.TheVariants.{Accepted, Rejected, PathsHold, PathBad, CertificateHolds, CertificateBad, Answered, NoName, Malformed, BadWords, ReadFault, WriteFault, NoMemory}
-use Rattle.cqual_words.specs.Words.{Question, Infer, Annotate, Check, Certify, Verify, Who, Task, Generate, meaning_of}
+use Rattle.cqual_tool.specs.declared.status.Status.TheVariants.{Accepted, Rejected, PathsHold, PathBad, CertificateHolds, CertificateBad, Answered, NoName, NoSignature, Malformed, BadWords, ReadFault, WriteFault, NoMemory}
+use Rattle.cqual_words.specs.Words.{Question, Infer, Annotate, Check, Certify, Verify, Who, Sign, Task, Generate, meaning_of}
 use Rattle.generated_source.specs.Source.{generated_text, lattice_text}
 use Rattle.generated_source.specs.Summary.{summary_text}
 use Rattle.cqual_tool.specs.Words.{FileNames, names_of, saved_in}
 use Rattle.cqual_tool.specs.Inputs.{Inputs, asked, files_with}
-use Rattle.cqual_tool.specs.Texts.{usage_line, malformed_line, no_name_line}
+use Rattle.cqual_tool.specs.Texts.{usage_line, malformed_line, no_name_line, no_signature_at, no_signature_line}
 use Rattle.cqual_tool.specs.Faults.{lattice_line, lex_line}
 use Rattle.cqual_tool.specs.Syntax.{syntax_line}
 use Rattle.cqual_tool.specs.Shapes.{shape_line}
@@ -199,6 +204,31 @@ pub data IsAnswered (it : Judging) (name : List ℕ) : Status → List ℕ → T
   Answering : (text : List ℕ) → IsWho it.scene it.system name (Some text) → IsAnswered it name Answered text
   Unnamed : IsWho it.scene it.system name None → IsAnswered it name NoName (no_name_line name)
 
+-- what is found of the nodes of the external functions of a program, over its one lattice
+abbrev pub IsFoundOf : Judging → LatticeView → Found → Type 0
+IsFoundOf it lattice found = IsFoundAt it.system 0 lattice.order (flat_map nodes_of it.externals) found
+
+-- the line of a library of which a function has no signature
+abbrev pub refusal_line : Scene → Refusal → List ℕ
+refusal_line scene (NoPlace p) = no_signature_at (place_text scene p.0 p.1) (codes "U3")
+refusal_line scene (NoWord p) = no_signature_at (place_text scene p.0 p.1) (codes "U4")
+
+-- The status and the whole text where the signatures of a program as a library are asked for: why it may have none; the report of one
+-- that may and is not accepted; why a function has none; or the lines.
+pub data IsSigned (it : Judging) : Status → List ℕ → Type 0 where
+  NoLattice : (IsOnePlain it.scene.lattices → ⊥) → IsSigned it NoSignature (no_signature_line (codes "U1"))
+  Shared : (n : ℕ) (constraint : Constraint) → IsOnePlain it.scene.lattices → IsFirstShared it.system n →
+      slice_get it.system.constraints n ≡ Some constraint →
+      IsSigned it NoSignature (no_signature_at (place_text it.scene constraint.span.unit constraint.span.from) (codes "U2"))
+  Unsigned : (text : List ℕ) → Suits it.system it.scene.lattices → IsJudgedWith it.scene it.system None false text →
+      IsSigned it Rejected text
+  Unwritable : (lattice : LatticeView) (found : Found) (refusal : Refusal) → Suits it.system it.scene.lattices →
+      it.scene.lattices ≡ lattice ∷ [] → IsAccepted it.system (orders_of it.scene.lattices) → IsFoundOf it lattice found →
+      first_refusal found lattice it.externals ≡ Some refusal → IsSigned it NoSignature (refusal_line it.scene refusal)
+  Signed : (lattice : LatticeView) (found : Found) → Suits it.system it.scene.lattices → it.scene.lattices ≡ lattice ∷ [] →
+      IsAccepted it.system (orders_of it.scene.lattices) → IsFoundOf it lattice found → first_refusal found lattice it.externals ≡ None →
+      IsSigned it Accepted (lines_of found lattice it.externals)
+
 -- The status and the whole text for a program, where no saved file is asked of; the one source is unit 1.
 abbrev pub IsAlone : Question → Judging → Status → List ℕ → Type 0
 IsAlone Infer it status text = IsReport None it status text
@@ -207,6 +237,7 @@ IsAlone (Check file) it status text = ⊥
 IsAlone Certify it status text = IsCertified it status text
 IsAlone (Verify file) it status text = ⊥
 IsAlone (Who name) it status text = IsAnswered it name status text
+IsAlone Sign it status text = IsSigned it status text
 
 -- The status and the whole text for a program and the bytes of the saved report or certificate.
 abbrev pub IsOfSaved : Question → Judging → List ℕ → Status → List ℕ → Type 0
@@ -216,6 +247,7 @@ IsOfSaved (Check file) it saved status text = IsChecked it saved status text
 IsOfSaved Certify it saved status text = ⊥
 IsOfSaved (Verify file) it saved status text = IsVerified it saved status text
 IsOfSaved (Who name) it saved status text = ⊥
+IsOfSaved Sign it saved status text = ⊥
 
 -- The status and the whole text for a program within the limits, by what is asked of it, and by the bytes of the saved file.
 pub data IsEnd (named : FileNames) (saved : List ℕ) (it : Judging) : Status → List ℕ → Type 0 where
@@ -315,6 +347,7 @@ IsAnswer CertificateHolds = Unit {0}
 IsAnswer CertificateBad = Unit {0}
 IsAnswer Answered = Unit {0}
 IsAnswer NoName = Unit {0}
+IsAnswer NoSignature = Unit {0}
 IsAnswer Malformed = Unit {0}
 IsAnswer BadWords = Unit {0}
 IsAnswer ReadFault = ⊥
@@ -331,6 +364,7 @@ IsDecided CertificateHolds = Unit {0}
 IsDecided CertificateBad = Unit {0}
 IsDecided Answered = Unit {0}
 IsDecided NoName = Unit {0}
+IsDecided NoSignature = Unit {0}
 IsDecided Malformed = Unit {0}
 IsDecided BadWords = ⊥
 IsDecided ReadFault = ⊥

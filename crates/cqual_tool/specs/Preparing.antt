@@ -14,6 +14,8 @@ use Rattle.annotate.specs.Solutions.{AllNamed}
 use Rattle.index_words.specs.Marks.{IndexMark}
 use Rattle.constraint_gen.specs.Programs.{program_in}
 use Rattle.constraint_gen.specs.Generating.{IsGenerated}
+use Rattle.annotate.specs.Texts.{UnitText}
+use Rattle.sig_writer.specs.Functions.{externals_in}
 use Rattle.cqual_tool.specs.declared.status.Status.TheVariants.{Malformed}
 use Rattle.cqual_tool.specs.declared.preparing.Earlier.{Earlier}
 use Rattle.cqual_tool.specs.declared.preparing.Joined.{Joined}
@@ -23,6 +25,7 @@ use Rattle.cqual_tool.specs.declared.preparing.Prepared.{Prepared}
 use Rattle.cqual_tool.specs.declared.preparing.Prepared.TheVariants.{Refused, Program}
 use Rattle.cqual_tool.specs.Words.{FileNames, saved_in}
 use Rattle.cqual_tool.specs.Inputs.{Inputs, files_with}
+use Rattle.cqual_tool.specs.Signing.{MaySign, externals_held}
 use Rattle.cqual_tool.specs.Outcome.{AreBefore, AreCounted, SourceParses, SourceRefused, SourcesParse, UnitsRefused, named_one, sources_of, total_limit}
 
 -- its items are well formed of its own tokens
@@ -53,13 +56,15 @@ IsOneMore lattices number file bytes before marks (joined.Refused answer) =
 IsOneMore lattices number file bytes before marks (joined.Units it) =
     (unit : UnitRead) × SourceParses lattices number bytes unit × IsEarlier (number + 1) (before ++ unit ∷ []) it × (it.prelude ≡ marks)
 
--- A program of units, within the limits, with its constraints: no flow leaves a function but by a call, and each constant and bound
--- names a lattice and an element of it.
+-- A program of units, within the limits, with its constraints and its external functions: no flow leaves a function but by a call, and
+-- each constant and bound names a lattice and an element of it.
 pub record IsReady (named : FileNames) (lattices : List LatticeView) (marks : List IndexMark) (units : List UnitRead) (it : Ready) : Type 0 where
   pub counted : AreCounted named lattices marks units
   pub differ : UnitsDiffer (sources_in units)
   pub units_are : it.tokens.items ≡ lexed_of units
   pub made : IsGenerated units (program_in lattices marks units) it.made
+  pub externals : (texts : List UnitText) → externals_in texts (program_in lattices marks units) ≡ externals_held texts it
+  pub signs : MaySign it
   pub owned : IsWellOwned it.made.graph
   pub within : AllNamed lattices it.made.graph
   pub elements : NamesElements it.made.graph (orders_of lattices)

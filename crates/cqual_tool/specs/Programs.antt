@@ -8,6 +8,8 @@ use Rattle.c_lexer.specs.Tokens.{Lexed}
 use Rattle.c_types.specs.Sources.{UnitRead, lexed_of}
 use Rattle.constraint_rules.specs.Systems.{system_of}
 use Rattle.constraint_gen.specs.Programs.{program_in, positions_in, listed_in}
+use Rattle.sig_writer.specs.Signatures.{External}
+use Rattle.sig_writer.specs.Functions.{externals_in}
 use Rattle.cqual_tool.specs.Words.{FileNames}
 
 -- the file of a unit: unit 0 is the prelude, and the sources are units from 1 on; one name twice is two sources
@@ -30,10 +32,11 @@ text_of named lexed = record { file = file_of named lexed.unit; lexed = lexed }
 abbrev pub texts_of : FileNames → List Lexed → List UnitText
 texts_of named units = map (text_of named) units
 
--- what the reports name, and the constraints
+-- what the reports name, the constraints, and the external functions
 pub record Judging : Type 0 where
   pub scene : Scene
   pub system : System
+  pub externals : List External
 
 -- of units in their order, with what the index words of the prelude say, over the lattices
 abbrev pub judging_of : FileNames → List LatticeView → List IndexMark → List UnitRead → Judging
@@ -46,4 +49,5 @@ judging_of named lattices marks units =
         listed = listed_in units p;
       };
       system = system_of p;
+      externals = externals_in (texts_of named (lexed_of units)) p;
     }

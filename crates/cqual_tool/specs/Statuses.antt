@@ -6,7 +6,7 @@ use Rattle.certificate_checks.specs.declared.judging.Verdict.{Verdict}
 use Rattle.certificate_checks.specs.declared.judging.Verdict.TheVariants.{Holds, Fails, Unread}
 use Rattle.cqual_tool.specs.declared.answer.Answer.{Answer}
 use Rattle.cqual_tool.specs.declared.status.Status.{Status}
-use Rattle.cqual_tool.specs.declared.status.Status.TheVariants.{Accepted, Rejected, PathsHold, PathBad, CertificateHolds, CertificateBad, Answered, NoName, Malformed, BadWords, ReadFault, WriteFault, NoMemory}
+use Rattle.cqual_tool.specs.declared.status.Status.TheVariants.{Accepted, Rejected, PathsHold, PathBad, CertificateHolds, CertificateBad, Answered, NoName, NoSignature, Malformed, BadWords, ReadFault, WriteFault, NoMemory}
 
 abbrev pub exit_of : Status → ℕ
 exit_of Accepted = 0
@@ -17,6 +17,7 @@ exit_of CertificateHolds = 0
 exit_of CertificateBad = 1
 exit_of Answered = 0
 exit_of NoName = 1
+exit_of NoSignature = 1
 exit_of Malformed = 2
 exit_of BadWords = 3
 exit_of ReadFault = 4

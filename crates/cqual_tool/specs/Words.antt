@@ -21,6 +21,7 @@ saved_of (words.Check report) = Some report
 saved_of words.Certify = None
 saved_of (words.Verify certificate) = Some certificate
 saved_of (words.Who name) = None
+saved_of words.Sign = None
 
 abbrev pub saved_in : FileNames → Option (List ℕ)
 saved_in named = saved_of named.asked

@@ -2,6 +2,7 @@
 
 ghost use Rattle.std.specs.Prelude.{◌≡◌, ℕ, ◌++◌, [], ◌∷◌, IfOk, codes};
 ghost use Rattle.cqual_tool.specs.Texts.{malformed_line, no_name_line};
+ghost use Rattle.cqual_tool.specs.Texts.{no_signature_at, no_signature_line};
 ghost use Rattle.cqual_tool.specs.Faults.{placed_line};
 ghost use Rattle.cqual_tool.specs.Statuses.{Says};
 
@@ -42,6 +43,36 @@ pub fn no_name(alloc: Global, name: &[u8]) -> Result<Answer, AllocError>
     put(&mut text, b"\n")?;
     Ok(Answer {
         status: Status::NoName,
+        text,
+    })
+}
+
+/// The line of a library that has no signatures.
+pub fn no_signature(alloc: Global, code: &[u8]) -> Result<Answer, AllocError>
+    ensures { IfOk result (Says Status.NoSignature (no_signature_line code.now)) }
+{
+    let mut text = Vec::new(alloc);
+    put(&mut text, b"no signature: ")?;
+    put(&mut text, code)?;
+    put(&mut text, b"\n")?;
+    Ok(Answer {
+        status: Status::NoSignature,
+        text,
+    })
+}
+
+/// The line of a library that has no signatures for what is at a place.
+pub fn no_signature_at(alloc: Global, place: &[u8], code: &[u8]) -> Result<Answer, AllocError>
+    ensures { IfOk result (Says Status.NoSignature (no_signature_at place.now code.now)) }
+{
+    let mut text = Vec::new(alloc);
+    put(&mut text, b"no signature at ")?;
+    put(&mut text, place)?;
+    put(&mut text, b": ")?;
+    put(&mut text, code)?;
+    put(&mut text, b"\n")?;
+    Ok(Answer {
+        status: Status::NoSignature,
         text,
     })
 }

@@ -1,5 +1,5 @@
-//! What is asked of a program whose constraints are there: its report, its certificate, who reaches a name, or what a saved report
-//! or certificate comes to.
+//! What is asked of a program whose constraints are there: its report, its certificate, who reaches a name, its signatures as a
+//! library, or what a saved report or certificate comes to.
 
 ghost use Rattle.std.specs.Prelude.{◌≡◌, ◌<◌, ◌-◌, ◌^◌, ℕ, List, None, Some, IfOk, length};
 ghost use Rattle.outside.specs.Readings.{stands};
@@ -18,11 +18,13 @@ ghost use Rattle.cqual_tool.specs.Words.{FileNames, names_in as files_in, saved_
 ghost use Rattle.cqual_tool.specs.Programs.{Judging, judging_of, texts_of};
 ghost use Rattle.cqual_tool.specs.Answering.{EndAnswered};
 ghost use Rattle.cqual_tool.specs.Outcome.{IsAlone, IsAnswered, IsCertified, IsChecked, IsDecided};
-ghost use Rattle.cqual_tool.specs.Outcome.{IsOfSaved, IsReport, IsVerified};
+ghost use Rattle.cqual_tool.specs.Outcome.{IsOfSaved, IsReport, IsSigned, IsVerified};
 ghost use Rattle.cqual_tool.specs.Preparing.{IsReady};
+ghost use Rattle.cqual_tool.specs.Signing.{MaySign};
 
 use crate::answer::{Answer, no_name};
 use crate::preparing::{Ready, texts};
+use crate::signing::sign;
 use crate::status::Status;
 use crate::taking::{SAVED_LIMIT, Stop, taken, too_large};
 use crate::words::Named;
@@ -37,6 +39,7 @@ use lattice_core::Lattices;
 use outside::Files;
 use qual_base::{NoMemory, Numbered, UnitNo};
 use report_checks::{Checked, judge_report, put_checked};
+use sig_writer::Library;
 use std::alloc::Global;
 
 /// What the answers for a program name, by the texts of its units.
@@ -180,8 +183,38 @@ fn who(
     answered(alloc, &scene, &ready.made.graph, name)
 }
 
-/// The answer for a program, where no saved file is asked of: its report, its certificate, or who reaches a name. The one source is
-/// unit 1.
+/// The signatures of a program as a library, or why it has none, or its report where it is not accepted.
+fn signatures(
+    alloc: Global,
+    named: &Named<'_>,
+    lattices: &Lattices,
+    ready: &Ready<'_>,
+) -> Result<Answer, NoMemory>
+    requires named { AllNamed lattices.now ready.now.made.graph }
+    requires owned { IsWellOwned ready.now.made.graph }
+    requires signs { MaySign ready.now }
+    ensures signed { (units : List UnitRead) (marks : List IndexMark) →
+        IsReady (files_in named.now) lattices.now marks units ready.now →
+        IfOk result (λ answer. IsSigned
+        (judging_of (files_in named.now) lattices.now marks units)
+        answer.status answer.text.items) }
+    ensures decided { IfOk result (λ answer. IsDecided answer.status) }
+{
+    let units = texts(alloc, named, &ready.tokens)?;
+    let scene = scene_of(&units, lattices, &ready.made);
+    let library = Library {
+        functions: &ready.functions,
+        units: &units,
+        skeletons: &ready.made.skeletons,
+    };
+    match sign(alloc, &scene, &ready.made.graph, &library)? {
+        Some(answer) => Ok(answer),
+        None => report(alloc, &scene, &ready.made.graph, None),
+    }
+}
+
+/// The answer for a program, where no saved file is asked of: its report, its certificate, who reaches a name, or its signatures. The one
+/// source is unit 1.
 fn alone(
     alloc: Global,
     named: &Named<'_>,
@@ -192,6 +225,7 @@ fn alone(
     requires named { AllNamed lattices.now ready.now.made.graph }
     requires owned { IsWellOwned ready.now.made.graph }
     requires elements { NamesElements ready.now.made.graph (orders_of lattices.now) }
+    requires signs { MaySign ready.now }
     ensures alone { (units : List UnitRead) (marks : List IndexMark) →
         IsReady (files_in named.now) lattices.now marks units ready.now →
         IfOk result (λ answer. IsAlone (files_in named.now).asked
@@ -203,6 +237,7 @@ fn alone(
         Question::Annotate => inferred(alloc, named, lattices, ready, Some(UnitNo::new(1))),
         Question::Certify => certificate(alloc, named, lattices, ready),
         Question::Who(name) => who(alloc, named, lattices, ready, name),
+        Question::Sign => signatures(alloc, named, lattices, ready),
         // (the last two are never asked here)
         Question::Infer | Question::Check(_) | Question::Verify(_) => {
             inferred(alloc, named, lattices, ready, None)
@@ -294,16 +329,18 @@ fn of_saved(
 {
     match named.asked {
         Question::Verify(_) => verified(alloc, lattices, graph, text),
-        // (the last four are never asked here)
+        // (the last five are never asked here)
         Question::Check(_)
         | Question::Infer
         | Question::Annotate
         | Question::Certify
-        | Question::Who(_) => checked(alloc, lattices, graph, text),
+        | Question::Who(_)
+        | Question::Sign => checked(alloc, lattices, graph, text),
     }
 }
 
-/// The answer for a program: its report, its certificate, who reaches a name, or what the report or certificate that is named comes to.
+/// The answer for a program: its report, its certificate, who reaches a name, its signatures, or what the report or certificate that is
+/// named comes to.
 pub fn end<F: Files>(
     alloc: Global,
     named: &Named<'_>,
@@ -314,6 +351,7 @@ pub fn end<F: Files>(
     requires named { AllNamed lattices.now ready.now.made.graph }
     requires owned { IsWellOwned ready.now.made.graph }
     requires elements { NamesElements ready.now.made.graph (orders_of lattices.now) }
+    requires signs { MaySign ready.now }
     ensures reads { (marks : List IndexMark) (units : List UnitRead) →
         IsReady (files_in named.now) lattices.now marks units ready.now → EndAnswered
         (stands (F.log files.old) (F.failed files.old) (F.contents files.old))

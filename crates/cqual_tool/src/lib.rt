@@ -1,5 +1,5 @@
-//! The tool as one call: reads a lattice file, a prelude and sources, decides, and writes a report, a certificate or who reaches a
-//! name; or checks a saved report or certificate.
+//! The tool as one call: reads a lattice file, a prelude and sources, decides, and writes a report, a certificate, who reaches a
+//! name or the signatures of a library; or checks a saved report or certificate.
 #![tactic(auto)]
 
 mod answer;
@@ -13,6 +13,7 @@ mod reading;
 mod running;
 mod sending;
 mod shapes;
+mod signing;
 mod status;
 mod syntax;
 mod taking;

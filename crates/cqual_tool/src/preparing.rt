@@ -31,7 +31,9 @@ use c_types::{Program as Resolved, ShapeFault, UnitTape, Units, resolve_tapes};
 use constraint_gen::{GenerateFault, Generated, generate};
 use index_words::Prelude;
 use lattice_core::Lattices;
+use name_scopes::Place;
 use qual_base::{NoMemory, Numbered, QualWords, UnitNo};
+use sig_writer::{external_functions, externals_are_held, owned_apart, skeletons_are_in_order};
 use std::alloc::Global;
 use tape_ops::Op;
 
@@ -53,11 +55,13 @@ pub fn nothing_before<'a>(alloc: Global) -> Earlier<'a>
     }
 }
 
-/// A program: the tokens of its units in their order, and its constraints.
+/// A program: the tokens of its units in their order, its constraints, and its external functions.
 #[derive(Drop)]
 pub struct Ready<'a> {
     pub tokens: Vec<Tokens<'a>>,
     pub made: Generated,
+    /// Where its external functions were first declared.
+    pub functions: Vec<Place>,
 }
 
 /// What is made of a source: an answer that refuses it, or a program.
@@ -141,8 +145,18 @@ fn constrain<'a>(
         HasNoFault (sources_in units) → IfOk result
         (IsPrepared (files_in named.now) lattices.now prelude.now units) }
 {
+    skeletons_are_in_order();
+    owned_apart();
+    externals_are_held();
     match generate(alloc, &tokens, program, prelude, lattices) {
-        Ok(made) => Ok(Prepared::Program(Ready { tokens, made })),
+        Ok(made) => {
+            let functions = external_functions(alloc, program)?;
+            Ok(Prepared::Program(Ready {
+                tokens,
+                made,
+                functions,
+            }))
+        }
         Err(GenerateFault::TooManyVariables) => {
             Ok(Prepared::Refused(malformed(alloc, last_file(named), b"Q1")?))
         }

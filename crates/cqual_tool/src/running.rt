@@ -16,8 +16,8 @@ use std::alloc::Global;
 /// Reads the files that the words name, decides, and writes the whole text of the answer.
 ///
 /// The words are those after the program's name, in any order: `--lattice FILE [--prelude FILE] [--annotate | --check REPORT |
-/// --certify | --verify CERT | --who NAME] SOURCE...`, or `--generate N` alone, with N from 1 to 1000. There are 1 to 256 sources,
-/// and one with `--annotate`. Nothing is written before everything is decided.
+/// --certify | --verify CERT | --who NAME | --signatures] SOURCE...`, or `--generate N` alone, with N from 1 to 1000. There are 1 to 256
+/// sources, and one with `--annotate`; with `--signatures` there is no prelude. Nothing is written before everything is decided.
 ///
 /// Its clauses speak of the readings of this call: those that came to the log of the files. So they hold of real files too, of
 /// which nothing is known but the bytes that they gave.

@@ -22,6 +22,8 @@ pub enum Status {
     Answered,
     /// No declared name of the sources has this spelling.
     NoName,
+    /// The program has no signatures as a library.
+    NoSignature,
     /// A file is past its limit or does not read, or the program has too many variables or constraints.
     Malformed,
     /// The words have no meaning.
@@ -48,6 +50,7 @@ impl Status {
             Status::CertificateBad => 1,
             Status::Answered => 0,
             Status::NoName => 1,
+            Status::NoSignature => 1,
             Status::Malformed => 2,
             Status::BadWords => 3,
             Status::ReadFault => 4,

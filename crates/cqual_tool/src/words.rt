@@ -33,7 +33,11 @@ impl<'a> Named<'a> {
     {
         match self.asked {
             Question::Check(file) | Question::Verify(file) => Some(file),
-            Question::Infer | Question::Annotate | Question::Certify | Question::Who(_) => None,
+            Question::Infer
+            | Question::Annotate
+            | Question::Certify
+            | Question::Who(_)
+            | Question::Sign => None,
         }
     }
 }

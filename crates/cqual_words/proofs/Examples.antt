@@ -1,7 +1,7 @@
 -- What some lists of words mean, worked out by hand from the rules.
 use Rattle.std.proofs.Common.{refl, ◌≡◌, ℕ, zero, suc, List, [], ◌∷◌, Some, None}
 use Rattle.std.specs.Prelude.{codes}
-use Rattle.cqual_words.specs.Words.{Text, Annotate, Ask, Certify, Check, Generate, Infer, Verify, Who, files_of, meaning_of}
+use Rattle.cqual_words.specs.Words.{Text, Annotate, Ask, Certify, Check, Generate, Infer, Sign, Verify, Who, files_of, meaning_of}
 use Rattle.cqual_words.specs.Words.{pieces_from}
 
 -- options in any order, with the value apart or attached
@@ -42,6 +42,11 @@ asked_who : meaning_of (codes "--who" ∷ codes "b" ∷ codes "--lattice=l.q" �
     ≡ Some (Ask (Who (codes "b")) (files_of (codes "l.q") None (codes "s.c" ∷ [])))
 unfolding pieces_from
 asked_who = refl
+
+asked_to_sign : meaning_of (codes "s.c" ∷ codes "--signatures" ∷ codes "--lattice=l.q" ∷ codes "t.c" ∷ [])
+    ≡ Some (Ask Sign (files_of (codes "l.q") None (codes "s.c" ∷ codes "t.c" ∷ [])))
+unfolding pieces_from
+asked_to_sign = refl
 
 -- sources before, between and behind the options, and behind `--`; one name twice is two sources
 several : meaning_of (codes "s.c" ∷ codes "--lattice" ∷ codes "l.q" ∷ codes "t.c" ∷ codes "--prelude=p.h" ∷ codes "s.c" ∷ codes "--"
@@ -185,6 +190,19 @@ who_and_verified : meaning_of (codes "--lattice=l.q" ∷ codes "s.c" ∷ codes "
 unfolding pieces_from
 who_and_verified = refl
 
+signed_and_certified : meaning_of (codes "--lattice=l.q" ∷ codes "s.c" ∷ codes "--signatures" ∷ codes "--certify" ∷ []) ≡ None
+unfolding pieces_from
+signed_and_certified = refl
+
+signed_and_who : meaning_of (codes "--lattice=l.q" ∷ codes "s.c" ∷ codes "--signatures" ∷ codes "--who=b" ∷ []) ≡ None
+unfolding pieces_from
+signed_and_who = refl
+
+-- signatures are of sources alone
+signed_with_prelude : meaning_of (codes "--lattice=l.q" ∷ codes "--prelude=p.h" ∷ codes "s.c" ∷ codes "--signatures" ∷ []) ≡ None
+unfolding pieces_from
+signed_with_prelude = refl
+
 made_and_certified : meaning_of (codes "--generate=1" ∷ codes "--certify" ∷ []) ≡ None
 unfolding pieces_from
 made_and_certified = refl
@@ -192,6 +210,10 @@ made_and_certified = refl
 made_and_verified : meaning_of (codes "--generate=1" ∷ codes "--verify=c" ∷ []) ≡ None
 unfolding pieces_from
 made_and_verified = refl
+
+made_and_signed : meaning_of (codes "--generate=1" ∷ codes "--signatures" ∷ []) ≡ None
+unfolding pieces_from
+made_and_signed = refl
 
 made_and_who : meaning_of (codes "--generate=1" ∷ codes "--who=b" ∷ []) ≡ None
 unfolding pieces_from

@@ -1,9 +1,9 @@
 -- What holds of all words that ask something, for crates above.
 use Rattle.std.proofs.Common.{refl, subst, ◌≡◌, ℕ, Bool, true, false, cond, List, [], ◌∷◌, Option, Some, None, option_map}
-use Rattle.std.specs.Prelude.{⊤}
+use Rattle.std.specs.Prelude.{⊤, ◌&&◌}
 use Rattle.std.specs.List.{list_all}
-use Rattle.cqual_words.specs.Words.{FileNames, Piece, Question, Task, Text, Ask, Generate, Infer, Annotate, Check, Certify, Verify, Who}
-use Rattle.cqual_words.specs.Words.{Lattice, Number, Prelude, Source, are_fit, asked_of, files_of, fits, made_of, meaning_of, number_of}
+use Rattle.cqual_words.specs.Words.{FileNames, Piece, Question, Task, Text, Ask, Generate, Infer, Annotate, Check, Certify, Verify, Who, Sign}
+use Rattle.cqual_words.specs.Words.{Lattice, Number, Prelude, Source, are_fit, asked_of, files_of, fits, goes_with, made_of, meaning_of, number_of}
 use Rattle.cqual_words.specs.Words.{parts, pieces_of, stands_among, task_of_parts, task_with, texts_of, value_among}
 
 -- a task's question has as many sources as it may have
@@ -17,11 +17,12 @@ AllFit (Some task) = HasFit task
 
 asked_has : (files : FileNames) (question : Option Question) → AllFit (asked_of files question)
 asked_has files None = tt
-asked_has files (Some question) = go (fits question files.sources) refl
+asked_has files (Some question) = go (fits question files.sources) (goes_with question files.prelude) refl
   where
-    go : (b : Bool) → fits question files.sources ≡ b → AllFit (cond b (Some (Ask question files)) None)
-    go true e = e
-    go false e = tt
+    go : (b c : Bool) → fits question files.sources ≡ b → AllFit (cond (b && c) (Some (Ask question files)) None)
+    go true true e = e
+    go true false e = tt
+    go false c e = tt
 
 made_has : (n : Text) (p : Option Text) (question : Option Question) (sources : List Text) → AllFit (made_of n p question sources)
 made_has n (Some p) question sources = tt
@@ -37,6 +38,7 @@ made_has n None (Some (Check r)) sources = tt
 made_has n None (Some Certify) sources = tt
 made_has n None (Some (Verify v)) sources = tt
 made_has n None (Some (Who w)) sources = tt
+made_has n None (Some Sign) sources = tt
 
 task_has : (l p n : Option Text) (question : Option Question) (sources : List Text) → AllFit (task_with l p n question sources)
 task_has (Some l) p None question sources = asked_has (files_of l p sources) question

@@ -14,7 +14,7 @@ use Rattle.clap.specs.declared.parser.matches.ValueSource.{ValueSource}
 use Rattle.clap.specs.declared.parser.matches.ValueSource.TheVariants.{CommandLine}
 use Rattle.clap.specs.declared.builder.value_parser.Reading.TheVariants.{AsWritten}
 use Rattle.cqual_words.specs.Words.{Part, Piece, Text, Valued, Flagged, Lattice, Prelude, Report, Certificate, Name, Number}
-use Rattle.cqual_words.specs.Words.{Annotation, Certification, Source, are_fit, has_meaning, is_part, most_of, name_of, part_of, parts, stands_among}
+use Rattle.cqual_words.specs.Words.{Annotation, Certification, Signing, Source, are_fit, has_meaning, is_part, most_of, name_of, part_of, parts, stands_among}
 use Rattle.cqual_words.specs.Words.{task_in, task_of_parts, text_of, texts_of, value_among}
 use Rattle.cqual_words.specs.Tool.{plain_texts}
 
@@ -33,6 +33,7 @@ found (Valued Name) = refl
 found (Valued Number) = refl
 found (Flagged Annotation) = refl
 found (Flagged Certification) = refl
+found (Flagged Signing) = refl
 found Source = refl
 
 -- so two parts of one name are the same

@@ -24,6 +24,7 @@ question_in (questions.Check report) = words.Check report.now
 question_in questions.Certify = words.Certify
 question_in (questions.Verify certificate) = words.Verify certificate.now
 question_in (questions.Who name) = words.Who name.now
+question_in questions.Sign = words.Sign
 
 abbrev pub task_of : Asked → Task
 task_of (asked.Ask question files) = words.Ask (question_in question) (names_in files)

@@ -16,7 +16,8 @@ pub record FileNames : Type 0 where
   pub sources : List Text
 
 -- What is asked of a program: its report, its report with the annotated source behind it, what the report of a file comes to, its
--- certificate, what the certificate of a file comes to, or what reaches the declared names of one spelling and what they reach.
+-- certificate, what the certificate of a file comes to, what reaches the declared names of one spelling and what they reach, or its
+-- signatures as a library.
 pub data Question : Type 0 where
   Infer : Question
   Annotate : Question
@@ -24,6 +25,7 @@ pub data Question : Type 0 where
   Certify : Question
   Verify : Text → Question
   Who : Text → Question
+  Sign : Question
 
 -- what is asked: that of the program that files are, or the report of a source that the tool makes itself
 pub data Task : Type 0 where
@@ -53,10 +55,12 @@ key_name Number = codes "generate"
 pub data Flag : Type 0 where
   Annotation : Flag
   Certification : Flag
+  Signing : Flag
 
 abbrev pub flag_name : Flag → Text
 flag_name Annotation = codes "annotate"
 flag_name Certification = codes "certify"
+flag_name Signing = codes "signatures"
 
 -- the parts of a command line: the options with a value, the flags, and the words that are no options
 pub data Part : Type 0 where
@@ -74,7 +78,7 @@ name_of Source = codes "source"
 abbrev pub parts : List Part
 parts =
     Valued Lattice ∷ Valued Prelude ∷ Valued Report ∷ Valued Certificate ∷ Valued Name ∷ Valued Number
-    ∷ Flagged Annotation ∷ Flagged Certification ∷ Source ∷ []
+    ∷ Flagged Annotation ∷ Flagged Certification ∷ Flagged Signing ∷ Source ∷ []
 
 -- what words give: an option with its value, a flag, or a word that is no option
 pub data Piece : Type 0 where
@@ -212,16 +216,17 @@ files_of lattice prelude sources = record { lattice = lattice; prelude = prelude
 abbrev pub IsSourceCount : ℕ → Type 0
 IsSourceCount count = (1 ≤ count) × (count ≤ 256)
 
--- What is asked of a program, by what is there of a report, of a certificate and of a name, and by whether the flags `--annotate`
--- and `--certify` stand: at most one of them.
-abbrev pub question_of : Option Text → Option Text → Option Text → Bool → Bool → Option Question
-question_of None None None false false = Some Infer
-question_of None None None true false = Some Annotate
-question_of None None None false true = Some Certify
-question_of (Some r) None None false false = Some (Check r)
-question_of None (Some v) None false false = Some (Verify v)
-question_of None None (Some w) false false = Some (Who w)
-question_of r v w annotate certify = None
+-- What is asked of a program, by what is there of a report, of a certificate and of a name, and by whether the flags `--annotate`,
+-- `--certify` and `--signatures` stand: at most one of them.
+abbrev pub question_of : Option Text → Option Text → Option Text → Bool → Bool → Bool → Option Question
+question_of None None None false false false = Some Infer
+question_of None None None true false false = Some Annotate
+question_of None None None false true false = Some Certify
+question_of None None None false false true = Some Sign
+question_of (Some r) None None false false false = Some (Check r)
+question_of None (Some v) None false false false = Some (Verify v)
+question_of None None (Some w) false false false = Some (Who w)
+question_of r v w annotate certify sign = None
 
 -- as many sources as a question may have: one where it is annotated
 abbrev pub fits : Question → List Text → Bool
@@ -231,11 +236,23 @@ fits (Check r) sources = not (nat_le (length sources) 0)
 fits Certify sources = not (nat_le (length sources) 0)
 fits (Verify v) sources = not (nat_le (length sources) 0)
 fits (Who w) sources = not (nat_le (length sources) 0)
+fits Sign sources = not (nat_le (length sources) 0)
+
+-- beside a prelude, where there is one: signatures are of sources alone
+abbrev pub goes_with : Question → Option Text → Bool
+goes_with Infer prelude = true
+goes_with Annotate prelude = true
+goes_with (Check r) prelude = true
+goes_with Certify prelude = true
+goes_with (Verify v) prelude = true
+goes_with (Who w) prelude = true
+goes_with Sign prelude = not (is_some prelude)
 
 -- with a lattice
 abbrev pub asked_of : FileNames → Option Question → Option Task
 asked_of files None = None
-asked_of files (Some question) = if fits question files.sources then Some (Ask question files) else None
+asked_of files (Some question) =
+    if fits question files.sources && goes_with question files.prelude then Some (Ask question files) else None
 
 -- the report of a made source stands alone
 abbrev pub made_of : Text → Option Text → Option Question → List Text → Option Task
@@ -252,7 +269,8 @@ task_with None p None question sources = None
 -- what the parts ask together, by the value of each option, by which flags stand, and by the sources
 abbrev pub task_of_parts : (Key → Option Text) → (Flag → Bool) → List Text → Option Task
 task_of_parts value stands sources = task_with (value Lattice) (value Prelude) (value Number)
-    (question_of (value Report) (value Certificate) (value Name) (stands Annotation) (stands Certification)) sources
+    (question_of (value Report) (value Certificate) (value Name) (stands Annotation) (stands Certification) (stands Signing))
+    sources
 
 -- the value of an option among the pieces, where it stands once, and whether a flag stands
 abbrev pub value_among : List Piece → Key → Option Text

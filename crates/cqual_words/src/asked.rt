@@ -23,6 +23,8 @@ pub enum Question<'a> {
     Verify(&'a str),
     /// What reaches the declared names of this spelling, and what they reach.
     Who(&'a str),
+    /// Its signatures as a library, or its report where it is not accepted.
+    Sign,
 }
 
 /// What the words ask.

@@ -54,5 +54,6 @@ pub fn command<'a>(alloc: Global) -> Result<Command<'a>, AllocError>
         .arg(option(alloc, "generate"))?
         .arg(flag(alloc, "annotate"))?
         .arg(flag(alloc, "certify"))?
+        .arg(flag(alloc, "signatures"))?
         .arg(source(alloc))
 }

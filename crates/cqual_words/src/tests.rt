@@ -23,6 +23,7 @@ fn question_text(alloc: Global, question: Question<'_>) -> Result<String, AllocE
         Question::Certify => String::from_str(alloc, "certify"),
         Question::Verify(certificate) => format!(in alloc; "verify {certificate}"),
         Question::Who(name) => format!(in alloc; "who {name}"),
+        Question::Sign => String::from_str(alloc, "sign"),
     }
 }
 
@@ -39,7 +40,7 @@ fn asked_text(alloc: Global, asked: Option<Asked<'_>>) -> Result<String, AllocEr
 }
 
 /// Words with a bar between two, and what they ask: the question, the lattice, the prelude or none, and the sources.
-static LISTS: [(&str, &str); 89] = [
+static LISTS: [(&str, &str); 101] = [
     ("--lattice|l.q|s.c", "infer: l.q none s.c"),
     ("--lattice=l.q|s.c", "infer: l.q none s.c"),
     ("s.c|--lattice|l.q", "infer: l.q none s.c"),
@@ -95,6 +96,21 @@ static LISTS: [(&str, &str); 89] = [
     ("--lattice|l.q|s.c|--who|b|--verify|c.txt", "nothing"),
     ("--generate|1|--who|b", "nothing"),
     ("--lattice|l.q|--who|b", "nothing"),
+    ("--signatures|--lattice|l.q|s.c", "sign: l.q none s.c"),
+    (
+        "s.c|--lattice=l.q|--signatures|t.c",
+        "sign: l.q none s.c t.c",
+    ),
+    ("--lattice|l.q|--signatures", "nothing"),
+    ("--lattice|l.q|s.c|--signatures=x", "nothing"),
+    ("--lattice|l.q|s.c|--signatures|--signatures", "nothing"),
+    ("--lattice|l.q|--prelude|p.h|s.c|--signatures", "nothing"),
+    ("--lattice|l.q|s.c|--signatures|--annotate", "nothing"),
+    ("--lattice|l.q|s.c|--signatures|--check|r.txt", "nothing"),
+    ("--lattice|l.q|s.c|--signatures|--certify", "nothing"),
+    ("--lattice|l.q|s.c|--signatures|--verify|c.txt", "nothing"),
+    ("--lattice|l.q|s.c|--signatures|--who|b", "nothing"),
+    ("--generate|1|--signatures", "nothing"),
     ("--lattice|l.q|s.c|--certify|--certify", "nothing"),
     ("--lattice|l.q|s.c|--certify=x", "nothing"),
     ("--lattice|l.q|s.c|--certify|--annotate", "nothing"),

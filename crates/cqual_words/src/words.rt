@@ -83,18 +83,20 @@ fn question<'a>(
     name: Option<&'a str>,
     annotate: bool,
     certify: bool,
+    sign: bool,
 ) -> Option<Question<'a>>
     ensures { option_map question_in result ≡ rules.question_of
         (option_map (λ s. s.now) report.entry) (option_map (λ s. s.now) certificate.entry)
-        (option_map (λ s. s.now) name.entry) annotate certify }
+        (option_map (λ s. s.now) name.entry) annotate certify sign }
 {
-    match (report, certificate, name, annotate, certify) {
-        (None, None, None, false, false) => Some(Question::Infer),
-        (None, None, None, true, false) => Some(Question::Annotate),
-        (None, None, None, false, true) => Some(Question::Certify),
-        (Some(report), None, None, false, false) => Some(Question::Check(report)),
-        (None, Some(certificate), None, false, false) => Some(Question::Verify(certificate)),
-        (None, None, Some(name), false, false) => Some(Question::Who(name)),
+    match (report, certificate, name, annotate, certify, sign) {
+        (None, None, None, false, false, false) => Some(Question::Infer),
+        (None, None, None, true, false, false) => Some(Question::Annotate),
+        (None, None, None, false, true, false) => Some(Question::Certify),
+        (None, None, None, false, false, true) => Some(Question::Sign),
+        (Some(report), None, None, false, false, false) => Some(Question::Check(report)),
+        (None, Some(certificate), None, false, false, false) => Some(Question::Verify(certificate)),
+        (None, None, Some(name), false, false, false) => Some(Question::Who(name)),
         _ => None,
     }
 }
@@ -109,7 +111,24 @@ fn fits(question: Question<'_>, sources: &[&str]) -> bool
         | Question::Check(_)
         | Question::Certify
         | Question::Verify(_)
-        | Question::Who(_) => !sources.is_empty(),
+        | Question::Who(_)
+        | Question::Sign => !sources.is_empty(),
+    }
+}
+
+/// Whether a question goes beside a prelude, where there is one: signatures are of sources alone.
+fn goes_with(question: Question<'_>, prelude: Option<&str>) -> bool
+    ensures { result
+        ≡ rules.goes_with (question_in question.entry) (option_map (λ s. s.now) prelude.entry) }
+{
+    match question {
+        Question::Sign => prelude.is_none(),
+        Question::Infer
+        | Question::Annotate
+        | Question::Check(_)
+        | Question::Certify
+        | Question::Verify(_)
+        | Question::Who(_) => true,
     }
 }
 
@@ -121,7 +140,7 @@ fn of_files<'a>(files: FileWords<'a>, question: Option<Question<'a>>) -> Option<
     ensures sources { length files.entry.sources.items ≤ 256 → IfSome result NamesSources }
 {
     let question = question?;
-    if fits(question, &files.sources) {
+    if fits(question, &files.sources) && goes_with(question, files.prelude) {
         Some(Asked::Ask(question, files))
     } else {
         None
@@ -167,6 +186,7 @@ fn of_parts<'a>(matches: &ArgMatches<'a>, sources: Vec<&'a str>) -> Option<Asked
         name,
         matches.get_flag("annotate"),
         matches.get_flag("certify"),
+        matches.get_flag("signatures"),
     );
     match (lattice, number) {
         (Some(lattice), None) => {

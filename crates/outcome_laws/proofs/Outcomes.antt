@@ -1,5 +1,6 @@
 -- The outcome is one.
-use Rattle.std.proofs.Common.{◌≡◌, ℕ, ◌<◌, true, false, List, [], ◌∷◌, ◌++◌, length, Option, Some, None, refl, sym, ◌∙◌, ap, subst, arith, zero, suc}
+use Rattle.std.proofs.Common.{◌≡◌, ◌⊎◌, ℕ, ◌<◌, inl, inr, slice_get, true, false, List, [], ◌∷◌, ◌++◌, length, Option, Some, None, refl, sym, ◌∙◌, ap, subst, arith, zero, suc}
+use Rattle.std.specs.Prelude.{codes}
 use Rattle.lattice_core.specs.Order.{IsLattice}
 use Rattle.lattice_core.specs.View.{LatticeView, AreLattices, orders_of}
 use Rattle.lattice_core.specs.Names.{words_of}
@@ -18,17 +19,24 @@ use Rattle.certificate_checks.specs.declared.judging.Verdict.TheVariants.{Holds,
 use Rattle.certificate_checks.specs.Checks.{ComesTo as CertificateComesTo}
 use Rattle.certificate_checks.specs.Texts.{verdict_text}
 use Rattle.flow_query.specs.Answers.{IsWho, Named, NotNamed}
+use Rattle.flow_graph.specs.declared.constraint.Constraint.{Constraint}
+use Rattle.flow_graph.specs.System.{System}
+use Rattle.sig_writer.specs.Laws.{OneText}
+use Rattle.sig_writer.specs.Signatures.{Refusal, first_refusal, lines_of}
+use Rattle.sig_writer.specs.Suits.{IsFirstShared}
 use Rattle.generated_source.specs.Source.{generated_text, lattice_text}
 use Rattle.generated_source.specs.Summary.{summary_text}
-use Rattle.cqual_words.specs.Words.{Question, Infer, Annotate, Check, Certify, Verify, Who, Task, Generate}
+use Rattle.cqual_words.specs.Words.{Question, Infer, Annotate, Check, Certify, Verify, Who, Sign, Task, Generate}
 use Rattle.cq_prelude.specs.declared.fault.PreludeFault.{PreludeFault}
 use Rattle.cqual_tool.specs.declared.status.Status.{Status}
 use Rattle.cqual_tool.specs.declared.status.Status.TheVariants.{Malformed}
 use Rattle.cqual_tool.specs.Statuses.{verdict_status}
 use Rattle.cqual_tool.specs.Words.{FileNames, names_of}
+use Rattle.cqual_tool.specs.Texts.{no_signature_at}
+use Rattle.annotate.specs.Texts.{place_text}
 use Rattle.cqual_tool.specs.Inputs.{Inputs, files_with}
 use Rattle.cqual_tool.specs.Programs.{Judging, judging_of}
-use Rattle.cqual_tool.specs.Outcome.{source_limit, total_limit, made_names, sources_of, sum_status, LatticesRead, PreludeFails, AreBefore, AreCounted, NoPrelude, OnePrelude, SourcesParse, IsReport, IsRight, IsWrong, IsCertified, Certified, Uncertified, IsChecked, Holding, Failing, IsVerified, Proving, Breaking, NoProof, IsAnswered, Answering, Unnamed, IsAlone, IsOfSaved, IsEnd, AnsweredAlone, SavedTooLarge, SavedJudged, OfSources, NotParsed, NotCounted, SourcesRead, OfUnits, PreludeTooLarge, PreludeRefused, PreludeRead, OfFiles, LatticeTooLarge, LatticeRefused, LatticeRead, IsSummed, SummedUp, OfMade, MadeLatticesRefused, MadeRead, OfTask, OfProgram, OfGenerated, WithoutMeaning, WithMeaning}
+use Rattle.cqual_tool.specs.Outcome.{source_limit, total_limit, made_names, sources_of, sum_status, LatticesRead, PreludeFails, AreBefore, AreCounted, NoPrelude, OnePrelude, SourcesParse, IsReport, IsRight, IsWrong, IsCertified, Certified, Uncertified, IsChecked, Holding, Failing, IsVerified, Proving, Breaking, NoProof, IsAnswered, Answering, Unnamed, IsSigned, NoLattice, Shared, Unsigned, Unwritable, Signed, IsFoundOf, refusal_line, IsAlone, IsOfSaved, IsEnd, AnsweredAlone, SavedTooLarge, SavedJudged, OfSources, NotParsed, NotCounted, SourcesRead, OfUnits, PreludeTooLarge, PreludeRefused, PreludeRead, OfFiles, LatticeTooLarge, LatticeRefused, LatticeRead, IsSummed, SummedUp, OfMade, MadeLatticesRefused, MadeRead, OfTask, OfProgram, OfGenerated, WithoutMeaning, WithMeaning}
 use Rattle.outcome_laws.specs.Outcomes.{HasOneText, OneOutcome}
 use Rattle.outcome_laws.proofs.Bounds.{AreFew, bounded, read_few}
 use Rattle.outcome_laws.proofs.Lattices.{one_reading_of_lattices}
@@ -81,6 +89,90 @@ answered_once it name _ _ _ _ (Answering x h) (Unnamed k) = absurd (never_named 
 answered_once it name _ _ _ _ (Unnamed h) (Answering y k) = absurd (never_named it name y k h)
 answered_once it name _ _ _ _ (Unnamed h) (Unnamed k) = (refl, λ text. refl)
 
+-- the signatures, or why there are none
+
+in_order : (n m : ℕ) → (n < m) ⊎ ((n ≡ m) ⊎ (m < n))
+in_order zero zero = inr (inl refl)
+in_order zero (suc m) = inl (omega arith)
+in_order (suc n) zero = inr (inr (omega arith))
+in_order (suc n) (suc m) = elim (in_order n m) [
+  | inl lt ↦ inl (omega (arith, lt))
+  | inr other ↦ elim other [
+    | inl e ↦ inr (inl (ap suc e))
+    | inr lt ↦ inr (inr (omega (arith, lt)))
+  ]
+]
+
+-- the first constraint with a variable of nobody is one
+first_shared_once : (sys : System) (n m : ℕ) → IsFirstShared sys n → IsFirstShared sys m → n ≡ m
+first_shared_once sys n m one other = elim (in_order n m) [
+  | inl lt ↦ absurd (other.first n one.link lt one.there one.shared)
+  | inr more ↦ elim more [
+    | inl e ↦ e
+    | inr lt ↦ absurd (one.first m other.link lt other.there other.shared)
+  ]
+]
+
+module _ (one_text : OneText) (it : Judging) (are : AreLattices it.scene.lattices) where
+  lattice_is : (lattice : LatticeView) → it.scene.lattices ≡ lattice ∷ [] → IsLattice lattice.order
+  lattice_is lattice is = are 0 lattice (ap (λ (ls : List LatticeView). slice_get ls 0) is)
+
+  signed_once : (s t : Status) (x y : List ℕ) → IsSigned it s x → IsSigned it t y → Same s t x y
+  signed_once _ _ _ _ (NoLattice none) (NoLattice none_too) = (refl, λ text. refl)
+  signed_once _ _ _ _ (NoLattice none) (Shared m d one first there) = absurd (none one)
+  signed_once _ _ _ _ (NoLattice none) (Unsigned y suits is) = absurd (none suits.one)
+  signed_once _ _ _ _ (NoLattice none) (Unwritable l found refusal suits is accepted of some) = absurd (none suits.one)
+  signed_once _ _ _ _ (NoLattice none) (Signed l found suits is accepted of whole) = absurd (none suits.one)
+  signed_once _ _ _ _ (Shared n c one first there) (NoLattice none) = absurd (none one)
+  signed_once _ _ _ _ (Shared n c one first there) (Shared m d one_too first_too there_too) =
+      let same = first_shared_once it.system n m first first_too in
+      let both : Some c ≡ Some d = sym there ∙ ap (λ (k : ℕ). slice_get it.system.constraints k) same ∙ there_too in
+      let equal : c ≡ d = cc in
+      (refl, λ text. ap (λ (k : Constraint). no_signature_at (place_text it.scene k.span.unit k.span.from) (codes "U2")) equal)
+  signed_once _ _ _ _ (Shared n c one first there) (Unsigned y suits is) = absurd (suits.own n first.link first.there first.shared)
+  signed_once _ _ _ _ (Shared n c one first there) (Unwritable l found refusal suits is accepted of some) =
+      absurd (suits.own n first.link first.there first.shared)
+  signed_once _ _ _ _ (Shared n c one first there) (Signed l found suits is accepted of whole) = absurd (suits.own n first.link first.there first.shared)
+  signed_once _ _ _ _ (Unsigned x suits is) (NoLattice none) = absurd (none suits.one)
+  signed_once _ _ _ _ (Unsigned x suits is) (Shared m d one first there) = absurd (suits.own m first.link first.there first.shared)
+  signed_once _ _ _ _ (Unsigned x suits is) (Unsigned y suits_too is_too) = (refl, λ text. absurd text)
+  signed_once _ _ _ _ (Unsigned x suits is) (Unwritable l found refusal suits_too names accepted of some) = absurd (never_both it x accepted is)
+  signed_once _ _ _ _ (Unsigned x suits is) (Signed l found suits_too names accepted of whole) = absurd (never_both it x accepted is)
+  signed_once _ _ _ _ (Unwritable l found refusal suits is accepted of some) (NoLattice none) = absurd (none suits.one)
+  signed_once _ _ _ _ (Unwritable l found refusal suits is accepted of some) (Shared m d one first there) =
+      absurd (suits.own m first.link first.there first.shared)
+  signed_once _ _ _ _ (Unwritable l found refusal suits is accepted of some) (Unsigned y suits_too rejected) = absurd (never_both it y accepted rejected)
+  signed_once _ _ _ _ (Unwritable l found refusal suits is accepted of some) (Unwritable k other reason suits_too is_too accepted_too of_too some_too) =
+      let lists : l ∷ [] ≡ k ∷ [] = sym is ∙ is_too in
+      let same : l ≡ k = cc in
+      let both = one_text it.system k it.externals found other (lattice_is k is_too) (subst (λ (v : LatticeView). IsFoundOf it v found) same of) of_too in
+      let reasons : Some refusal ≡ Some reason =
+      sym (subst (λ (v : LatticeView). first_refusal found v it.externals ≡ Some refusal) same some) ∙ both.0 ∙ some_too in
+      let equal : refusal ≡ reason = cc in
+      (refl, λ text. ap (refusal_line it.scene) equal)
+  signed_once _ _ _ _ (Unwritable l found refusal suits is accepted of some) (Signed k other suits_too is_too accepted_too of_too whole) =
+      let lists : l ∷ [] ≡ k ∷ [] = sym is ∙ is_too in
+      let same : l ≡ k = cc in
+      let both = one_text it.system k it.externals found other (lattice_is k is_too) (subst (λ (v : LatticeView). IsFoundOf it v found) same of) of_too in
+      let never : Some refusal ≡ None =
+      sym (subst (λ (v : LatticeView). first_refusal found v it.externals ≡ Some refusal) same some) ∙ both.0 ∙ whole in
+      absurd cc
+  signed_once _ _ _ _ (Signed l found suits is accepted of whole) (NoLattice none) = absurd (none suits.one)
+  signed_once _ _ _ _ (Signed l found suits is accepted of whole) (Shared m d one first there) = absurd (suits.own m first.link first.there first.shared)
+  signed_once _ _ _ _ (Signed l found suits is accepted of whole) (Unsigned y suits_too rejected) = absurd (never_both it y accepted rejected)
+  signed_once _ _ _ _ (Signed l found suits is accepted of whole) (Unwritable k other reason suits_too is_too accepted_too of_too some) =
+      let lists : k ∷ [] ≡ l ∷ [] = sym is_too ∙ is in
+      let same : k ≡ l = cc in
+      let both = one_text it.system l it.externals other found (lattice_is l is) (subst (λ (v : LatticeView). IsFoundOf it v other) same of_too) of in
+      let never : Some reason ≡ None =
+      sym (subst (λ (v : LatticeView). first_refusal other v it.externals ≡ Some reason) same some) ∙ both.0 ∙ whole in
+      absurd cc
+  signed_once _ _ _ _ (Signed l found suits is accepted of whole) (Signed k other suits_too is_too accepted_too of_too whole_too) =
+      let lists : l ∷ [] ≡ k ∷ [] = sym is ∙ is_too in
+      let same : l ≡ k = cc in
+      let both = one_text it.system k it.externals found other (lattice_is k is_too) (subst (λ (v : LatticeView). IsFoundOf it v found) same of) of_too in
+      (refl, λ text. ap (λ (v : LatticeView). lines_of found v it.externals) same ∙ both.1)
+
 -- a saved report, and a saved certificate
 
 check_once : (it : Judging) (bytes : List ℕ) (s t : Status) (x y : List ℕ) → IsChecked it bytes s x → IsChecked it bytes t y → Same s t x y
@@ -112,7 +204,7 @@ verified_once law it bounds bytes s t x y h k =
       λ text. one.2.1 ∙ ap verdict_text same ∙ sym other.2.1,
     )
 
-module _ (one_certificate : OneCertificate) (one_verdict : OneVerdict) (it : Judging) (are : AreLattices it.scene.lattices)
+module _ (one_certificate : OneCertificate) (one_verdict : OneVerdict) (one_text : OneText) (it : Judging) (are : AreLattices it.scene.lattices)
     (bounds : IsBounded it.system (orders_of it.scene.lattices)) where
   alone_once : (asked : Question) (s t : Status) (x y : List ℕ) → IsAlone asked it s x → IsAlone asked it t y → Same s t x y
   alone_once Infer s t x y h k = report_once None it are s t x y h k
@@ -121,6 +213,7 @@ module _ (one_certificate : OneCertificate) (one_verdict : OneVerdict) (it : Jud
   alone_once Certify s t x y h k = certified_once one_certificate it s t x y h k
   alone_once (Verify file) s t x y h k = absurd h
   alone_once (Who name) s t x y h k = answered_once it name s t x y h k
+  alone_once Sign s t x y h k = signed_once one_text it are s t x y h k
 
   saved_once : (asked : Question) (saved : List ℕ) (s t : Status) (x y : List ℕ) → IsOfSaved asked it saved s x → IsOfSaved asked it saved t y
       → Same s t x y
@@ -130,12 +223,13 @@ module _ (one_certificate : OneCertificate) (one_verdict : OneVerdict) (it : Jud
   saved_once Certify saved s t x y h k = absurd h
   saved_once (Verify file) saved s t x y h k = verified_once one_verdict it bounds saved s t x y h k
   saved_once (Who name) saved s t x y h k = absurd h
+  saved_once Sign saved s t x y h k = absurd h
 
-module _ (one_certificate : OneCertificate) (one_verdict : OneVerdict) (named : FileNames) (saved : List ℕ) (it : Judging)
+module _ (one_certificate : OneCertificate) (one_verdict : OneVerdict) (one_text : OneText) (named : FileNames) (saved : List ℕ) (it : Judging)
     (are : AreLattices it.scene.lattices) (bounds : IsBounded it.system (orders_of it.scene.lattices)) where
   end_once : (s t : Status) (x y : List ℕ) → IsEnd named saved it s x → IsEnd named saved it t y → Same s t x y
   end_once _ _ _ _ (AnsweredAlone s x none h) (AnsweredAlone t y none_too k) =
-      alone_once one_certificate one_verdict it are bounds named.asked s t x y h k
+      alone_once one_certificate one_verdict one_text it are bounds named.asked s t x y h k
   end_once _ _ _ _ (AnsweredAlone s x none h) (SavedTooLarge file some over) = absurd cc
   end_once _ _ _ _ (AnsweredAlone s x none h) (SavedJudged file t y some within k) = absurd cc
   end_once _ _ _ _ (SavedTooLarge file some over) (AnsweredAlone t y none k) = absurd cc
@@ -144,7 +238,7 @@ module _ (one_certificate : OneCertificate) (one_verdict : OneVerdict) (named : 
   end_once _ _ _ _ (SavedJudged file s x some within h) (AnsweredAlone t y none k) = absurd cc
   end_once _ _ _ _ (SavedJudged file s x some within h) (SavedTooLarge other too over) = absurd (omega (arith, over, within))
   end_once _ _ _ _ (SavedJudged file s x some within h) (SavedJudged other t y too fits k) =
-      saved_once one_certificate one_verdict it are bounds named.asked saved s t x y h k
+      saved_once one_certificate one_verdict one_text it are bounds named.asked saved s t x y h k
 
 -- the sources
 
@@ -180,7 +274,8 @@ module _ (one_unit : OneUnitAtMost) (named : FileNames) (lattices : List Lattice
       (subst (λ (j : Judging). Ends j t y)
       (sym (judged_same named lattices marks said (before ++ units) (before ++ others) same (behind units others parse also))) k)
 
-module _ (one_unit : OneUnitAtMost) (one_certificate : OneCertificate) (one_verdict : OneVerdict) (named : FileNames) (inputs : Inputs)
+module _ (one_unit : OneUnitAtMost) (one_certificate : OneCertificate) (one_verdict : OneVerdict) (one_text : OneText) (named : FileNames)
+    (inputs : Inputs)
     (lattices : List LatticeView) (are : AreLattices lattices) (few : AreFew lattices) where
   -- the prelude
 
@@ -219,7 +314,7 @@ module _ (one_unit : OneUnitAtMost) (one_certificate : OneCertificate) (one_verd
   units_one _ _ _ _ (PreludeRead before marks s x reads h) (PreludeRead ahead said t y also k) =
       let same = before_once before ahead marks said reads also in
       sources_one one_unit named lattices before (IsEnd named inputs.saved) 1 total_limit (sources_of named inputs) marks said same.1
-      (λ units counted. end_once one_certificate one_verdict named inputs.saved (judging_of named lattices marks units) are
+      (λ units counted. end_once one_certificate one_verdict one_text named inputs.saved (judging_of named lattices marks units) are
       (bounded (judging_of named lattices marks units).system lattices few counted.few_constraints)) s t x y h
       (subst (λ (units : List UnitRead).
       OfSources named lattices units said (IsEnd named inputs.saved) 1 total_limit (sources_of named inputs) t y) (sym same.0) k)
@@ -237,7 +332,7 @@ built_lattices (b ∷ bs) (l ∷ ls) h (suc n) view there = built_lattices bs ls
 read_lattices : (bytes : List ℕ) (lattices : List LatticeView) → LatticesRead bytes lattices → AreLattices lattices
 read_lattices bytes lattices h = built_lattices h.read.blocks lattices h.read.built
 
-module _ (one_unit : OneUnitAtMost) (one_certificate : OneCertificate) (one_verdict : OneVerdict) where
+module _ (one_unit : OneUnitAtMost) (one_certificate : OneCertificate) (one_verdict : OneVerdict) (one_text : OneText) where
   files_one : (named : FileNames) (inputs : Inputs) (s t : Status) (x y : List ℕ) → OfFiles named inputs s x → OfFiles named inputs t y → Same s t x y
   files_one named inputs _ _ _ _ (LatticeTooLarge over) (LatticeTooLarge above) = malformed _ _
   files_one named inputs _ _ _ _ (LatticeTooLarge over) (LatticeRefused fault fails) = malformed _ _
@@ -251,7 +346,7 @@ module _ (one_unit : OneUnitAtMost) (one_certificate : OneCertificate) (one_verd
       absurd ((one_reading_of_lattices inputs.lattice lattices read.read).sound fault fails.reason fails.refused)
   files_one named inputs _ _ _ _ (LatticeRead lattices s x read h) (LatticeRead others t y also k) =
       let same : lattices ≡ others = (one_reading_of_lattices inputs.lattice lattices read.read).only others also.read in
-      units_one one_unit one_certificate one_verdict named inputs lattices (read_lattices inputs.lattice lattices read) (read_few inputs.lattice lattices read) s t x y h
+      units_one one_unit one_certificate one_verdict one_text named inputs lattices (read_lattices inputs.lattice lattices read) (read_few inputs.lattice lattices read) s t x y h
       (subst (λ (ls : List LatticeView). OfUnits named inputs ls t y) (sym same) k)
 
   -- a source that the tool makes itself
@@ -298,11 +393,11 @@ module _ (one_unit : OneUnitAtMost) (one_certificate : OneCertificate) (one_verd
       let same : number ≡ other = cc in
       made_one number s t x y h (subst (λ (n : ℕ). OfMade n t y) (sym same) k)
 
-pub one_outcome : OneUnitAtMost → OneCertificate → OneVerdict → OneOutcome
-one_outcome one_unit one_certificate one_verdict words inputs _ _ _ _ (WithoutMeaning none) (WithoutMeaning none_too) = (refl, λ text. refl)
-one_outcome one_unit one_certificate one_verdict words inputs _ _ _ _ (WithoutMeaning none) (WithMeaning task t y means k) = absurd cc
-one_outcome one_unit one_certificate one_verdict words inputs _ _ _ _ (WithMeaning task s x means h) (WithoutMeaning none) = absurd cc
-one_outcome one_unit one_certificate one_verdict words inputs _ _ _ _ (WithMeaning task s x means h) (WithMeaning other t y also k) =
+pub one_outcome : OneUnitAtMost → OneCertificate → OneVerdict → OneText → OneOutcome
+one_outcome one_unit one_certificate one_verdict one_text words inputs _ _ _ _ (WithoutMeaning none) (WithoutMeaning none_too) = (refl, λ text. refl)
+one_outcome one_unit one_certificate one_verdict one_text words inputs _ _ _ _ (WithoutMeaning none) (WithMeaning task t y means k) = absurd cc
+one_outcome one_unit one_certificate one_verdict one_text words inputs _ _ _ _ (WithMeaning task s x means h) (WithoutMeaning none) = absurd cc
+one_outcome one_unit one_certificate one_verdict one_text words inputs _ _ _ _ (WithMeaning task s x means h) (WithMeaning other t y also k) =
     let both : Some task ≡ Some other = sym means ∙ also in
     let same : task ≡ other = cc in
-    task_one one_unit one_certificate one_verdict inputs task s t x y h (subst (λ (it : Task). OfTask inputs it t y) (sym same) k)
+    task_one one_unit one_certificate one_verdict one_text inputs task s t x y h (subst (λ (it : Task). OfTask inputs it t y) (sym same) k)

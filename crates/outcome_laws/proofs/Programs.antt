@@ -6,6 +6,7 @@ use Rattle.source_marks.specs.Marks.{mark_among}
 use Rattle.index_words.specs.Marks.{IndexMark, index_in}
 use Rattle.constraint_rules.specs.Systems.{Program, system_of}
 use Rattle.constraint_gen.specs.Programs.{program_in, positions_in, listed_in}
+use Rattle.sig_writer.specs.Functions.{externals_in}
 use Rattle.cqual_tool.specs.Words.{FileNames}
 use Rattle.cqual_tool.specs.Programs.{Judging, judging_of, texts_of}
 
@@ -31,6 +32,7 @@ module _ (named : FileNames) (lattices : List LatticeView) where
       listed = listed_in units p;
     };
     system = system_of p;
+    externals = externals_in (texts_of named (lexed_of units)) p;
   }
 
   pub judged_same : (marks said : List IndexMark) (units others : List UnitRead) → SameIndices marks said → units ≡ others →

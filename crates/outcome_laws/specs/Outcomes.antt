@@ -1,7 +1,7 @@
 -- What the tool answers for words and files is one.
 use Rattle.std.specs.Prelude.{◌≡◌, ℕ, List}
 use Rattle.cqual_tool.specs.declared.status.Status.{Status}
-use Rattle.cqual_tool.specs.declared.status.Status.TheVariants.{Accepted, Rejected, PathsHold, PathBad, CertificateHolds, CertificateBad, Answered, NoName, Malformed, BadWords, ReadFault, WriteFault, NoMemory}
+use Rattle.cqual_tool.specs.declared.status.Status.TheVariants.{Accepted, Rejected, PathsHold, PathBad, CertificateHolds, CertificateBad, Answered, NoName, NoSignature, Malformed, BadWords, ReadFault, WriteFault, NoMemory}
 use Rattle.cqual_tool.specs.Inputs.{Inputs}
 use Rattle.cqual_tool.specs.Outcome.{Outcome}
 
@@ -16,6 +16,7 @@ HasOneText CertificateHolds = Unit {0}
 HasOneText CertificateBad = Unit {0}
 HasOneText Answered = ⊥
 HasOneText NoName = Unit {0}
+HasOneText NoSignature = Unit {0}
 HasOneText Malformed = ⊥
 HasOneText BadWords = Unit {0}
 HasOneText ReadFault = ⊥

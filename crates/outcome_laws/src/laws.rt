@@ -8,6 +8,7 @@ ghost use Rattle.outcome_laws.specs.Outcomes.{OneOutcome};
 
 use c_reading::one_unit_at_most;
 use certificate_answers::{one_certificate, one_verdict};
+use sig_writer::one_text;
 
 /// Bytes read as one list of lattices at most, and have no fault beside it.
 pub fn one_reading_of_lattices()
@@ -54,4 +55,5 @@ pub fn one_outcome()
     one_unit_at_most();
     one_certificate();
     one_verdict();
+    one_text();
 }

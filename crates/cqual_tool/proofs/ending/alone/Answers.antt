@@ -18,3 +18,9 @@ returns-in-Who-clause-alone c = λ units marks is.
     let it = judging_of (names_in c.args.named.now) c.args.lattices.now marks units in
     subst (λ (q : Question). IfOk c.who.result (λ answer. IsAlone (question_in q) it answer.status answer.text.items))
     (sym c.in-Who.is) (c.who.ensures.answered units marks is)
+
+pub returns-in-Sign-clause-alone : goal.returns-in-Sign-clause-alone
+returns-in-Sign-clause-alone c = λ units marks is.
+    let it = judging_of (names_in c.args.named.now) c.args.lattices.now marks units in
+    subst (λ (q : Question). IfOk c.signatures.result (λ answer. IsAlone (question_in q) it answer.status answer.text.items))
+    (sym c.in-Sign.is) (c.signatures.ensures.signed units marks is)

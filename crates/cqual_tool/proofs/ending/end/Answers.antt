@@ -88,4 +88,5 @@ alone-requires g c = record {
   named = c.requires.named;
   owned = c.requires.owned;
   elements = c.requires.elements;
+  signs = c.requires.signs;
 }

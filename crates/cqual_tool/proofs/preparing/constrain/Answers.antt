@@ -1,25 +1,34 @@
-use Rattle.std.proofs.Common.{List, Err, ap, sym, subst}
+use Rattle.std.proofs.Common.{List, Err, ◌∙◌, ap, sym, subst}
 use Rattle.c_lexer.specs.Tokens.{Lexed}
-use Rattle.c_types.specs.Sources.{UnitRead}
 use Rattle.constraint_gen.specs.Generating.{IsProgramOf}
+use Rattle.cqual_tool.specs.declared.preparing.Ready.{Ready}
 use Rattle.cqual_tool.specs.Words.{names_in}
 use Rattle.cqual_tool.specs.Outcome.{ManyConstraints, ManyVariables, UnitsRefused}
+use Rattle.sig_writer.specs.Functions.{functions_in}
 use Rattle.cqual_tool.proofs.Joining.{refused}
+use Rattle.cqual_tool.proofs.Held.{held, may_sign}
 use Rattle.cqual_tool.proofs.preparing.constrain.Goals as goal
 
 pub returns-in-Ok : goal.returns-in-Ok
 returns-in-Ok c = λ units of shaped.
     let lent : IsProgramOf units c.deref.result.now c.args.program.now =
     subst (λ (lexed : List Lexed). IsProgramOf units lexed c.args.program.now) (sym c.deref.ensures.value) of in
+    let made = c.in-Ok.ensures.made units lent in
+    let few = c.in-Ok.ensures.few_variables units lent in
+    let ready : Ready = record { tokens = c.args.tokens; made = c.in-Ok.made; functions = c.in_ok-functions-in-Ok.functions } in
+    let functions = c.in_ok-functions-in-Ok.ensures ∙ ap functions_in of.named in
     record {
       counted = record {
         shaped = shaped;
-        few_variables = c.in-Ok.ensures.few_variables units lent;
+        few_variables = few;
         few_constraints = c.in-Ok.ensures.few_constraints units lent;
       };
       differ = of.differ;
       units_are = of.lexed;
-      made = c.in-Ok.ensures.made units lent;
+      made = made;
+      externals = held c.args.lattices.now c.args.prelude.now units ready of.lexed functions made few c.externals_are_held.ensures;
+      signs = may_sign c.args.lattices.now c.args.prelude.now units ready of.lexed functions made few of.read of.differ
+          c.skeletons_are_in_order.ensures c.owned_apart.ensures c.externals_are_held.ensures;
       owned = c.in-Ok.ensures.owned units lent;
       within = c.in-Ok.ensures.named units lent;
       elements = c.in-Ok.ensures.elements units lent;

@@ -15,7 +15,7 @@ end-requires g c =
     let units = c.requires.before.1 in
     let is : IsReady named lattices marks units c.in-Program.ready =
     subst (IsPrepared named lattices marks units) c.in-Program.is (c.in_ok-answer.ensures c.requires.before.0 units c.requires.before.2) in
-    record { named = is.within; owned = is.owned; elements = is.elements }
+    record { named = is.within; owned = is.owned; elements = is.elements; signs = is.signs }
 
 pub returns-in_err-answer-clause-reads : goal.returns-in_err-answer-clause-reads
 returns-in_err-answer-clause-reads g c = λ number left units earlier.

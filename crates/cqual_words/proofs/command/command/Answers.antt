@@ -14,4 +14,5 @@ returns c =
     let generate = c.in_ok-arg-6.ensures.shape c.option-6.ensures.local ∙ ap₂ with_rule who c.option-6.ensures.rule in
     let annotate = c.in_ok-arg-7.ensures.shape c.flag.ensures.local ∙ ap₂ with_rule generate c.flag.ensures.rule in
     let certify = c.in_ok-arg-8.ensures.shape c.flag-2.ensures.local ∙ ap₂ with_rule annotate c.flag-2.ensures.rule in
-    IfOk-weaker c.arg-9.result _ _ (λ r h. h.shape c.source.ensures.local ∙ ap₂ with_rule certify c.source.ensures.rule) c.arg-9.ensures
+    let sign = c.in_ok-arg-9.ensures.shape c.flag-3.ensures.local ∙ ap₂ with_rule certify c.flag-3.ensures.rule in
+    IfOk-weaker c.arg-10.result _ _ (λ r h. h.shape c.source.ensures.local ∙ ap₂ with_rule sign c.source.ensures.rule) c.arg-10.ensures

@@ -1,0 +1,9 @@
+use Rattle.std.proofs.Common.{◌≡◌}
+use Rattle.sig_writer.specs.Marking.{AreUpTo, marked_before}
+use Rattle.sig_writer.proofs.marks.indices_of.Given as goal
+
+abbrev pub invariant-loop-n : goal.invariant-loop-n
+invariant-loop-n l = record {
+  numbered : l.numbered ≡ marked_before l.marks.items l.n;
+  lists : AreUpTo l.nodes l.summaries l.marks.items l.n l.lists.items;
+}

@@ -1,0 +1,9 @@
+use Rattle.std.proofs.Common.{◌≡◌, ◌++◌, codes, take}
+use Rattle.std.specs.List.{flat_map}
+use Rattle.std.specs.Fmt.{decimal}
+use Rattle.sig_writer.proofs.types.put_numbers.Given as goal
+
+-- the numbers so far are written
+abbrev pub invariant-loop-number : goal.invariant-loop-number
+invariant-loop-number l =
+    l.out.items ≡ l.initial.out.items ++ flat_map (λ n. codes "_" ++ decimal n) (take l.number-index l.numbers)

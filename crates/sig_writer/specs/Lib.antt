@@ -1,0 +1,15 @@
+pub mod Functions
+pub mod Nodes
+pub mod Signatures
+pub mod Marks
+pub mod Marking
+pub mod Saying
+pub mod Refusing
+pub mod Typing
+pub mod Halves
+pub mod Found
+pub mod Suits
+pub mod Parts
+pub mod Signing
+pub mod Laws
+pub mod Library

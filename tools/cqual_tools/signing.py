@@ -1,0 +1,56 @@
+"""cqual-cc --signatures: preprocesses the files of a library, and prints the library's signatures."""
+
+import os
+import subprocess
+
+from .libraries import PreludeWords, mentioned, own_lines
+from .options import Stop
+from .running import Run, reason_of, status_of, write_file
+from .texts import Text
+from .units import latin
+from .unused import without_unused
+
+
+def texts_of(run, sources):
+    """The texts of the files that are signed, and what their functions mention."""
+    texts, names = [], set()
+    for source in sources:
+        run.options.source = source
+        run.preprocess()
+        text = Text(latin(source), run.text, whole=True)
+        here = mentioned(text)
+        names |= here
+        texts.append(without_unused(text, here))
+    return texts, names
+
+
+def sign(options, room):
+    """The status of a run that prints signatures."""
+    run, sources = Run(options, room), list(options.sources)
+    texts, names = texts_of(run, sources)
+    words = PreludeWords(run.setting.prelude_text)
+    unsaid = sorted(names & words.unsaid)
+    if unsaid:
+        raise Stop(1, f"no signature: {unsaid[0]} is mentioned, of which the preludes have index words or which is no function")
+    paths = [write_file(os.path.join(room, "words.c"), words.text)]
+    for number, (source, text) in enumerate(zip(sources, texts)):
+        folder = os.path.join(room, str(number))
+        os.mkdir(folder)
+        paths.append(write_file(os.path.join(folder, os.path.basename(source)), text))
+    program = run.setting.words(room)[0]
+    try:
+        ran = subprocess.run([program, "--lattice", run.setting.lattice, "--signatures", *paths], stdout=subprocess.PIPE, check=False)
+    except OSError as fault:
+        raise Stop(9, f"cannot run {program}: {fault.strerror}") from fault
+    status, printed = status_of(ran), ran.stdout.decode("latin-1")
+    if status not in (0, 1, 2):
+        raise Stop(status, reason_of(status, program, [run.setting.lattice, *paths]))
+    for source, path in zip(sources, paths[1:]):
+        printed = printed.replace(latin(path), latin(source))
+    print_bytes(own_lines(printed, words.functions) if status == 0 else printed)
+    return status
+
+
+def print_bytes(text):
+    with os.fdopen(os.dup(1), "wb") as out:
+        out.write(text.encode("latin-1"))
