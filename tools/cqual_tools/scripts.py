@@ -1,5 +1,7 @@
 """What the scripts have in common: how they begin and end."""
 
+import contextlib
+import os
 import signal
 import sys
 
@@ -17,12 +19,17 @@ def run_script(name, usage, words, work):
         print(version_text(name), end="")
         return 0
     try:
-        return work()
+        status = work()
+        sys.stdout.flush()
+        return status
     except Stop as stop:
         sys.stdout.flush()
         print(f"{name}: {stop.line}", file=sys.stderr)
         return stop.status
     except BrokenPipeError:
+        # what nobody reads any more would be written once more at the end
+        with contextlib.suppress(OSError, ValueError):
+            os.dup2(os.open(os.devnull, os.O_WRONLY), sys.stdout.fileno())
         return 5
     except KeyboardInterrupt:
         return 130
