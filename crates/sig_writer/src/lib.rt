@@ -11,8 +11,6 @@ mod refusals;
 mod says;
 mod signing;
 mod suiting;
-#[cfg(test)]
-mod tests;
 mod types;
 
 pub use functions::external_functions;
