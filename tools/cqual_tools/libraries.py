@@ -185,7 +185,7 @@ class Signer:
             library.fault = f"it has {len(readies)} sources"
         else:
             answer = self.answer(readies)
-            library.text, library.fault = own_lines(answer["printed"], self.words.functions), answer["fault"]
+            library.text, library.fault = own_lines(answer["printed"], self.words.functions - bodies), answer["fault"]
         return library
 
     def answer(self, readies):

@@ -30,7 +30,7 @@ What is printed:
   --verify CERT      checks a certificate of the source (implies --style=plain)
   --who NAME         what reaches the declared names of this spelling, and what they reach (implies --style=plain)
   --signatures       the signatures of the functions of these files, which are one library: a prelude that stands for them. What the preludes
-                     say of functions they mention is said of them too; one with index words is refused (implies --style=plain)
+                     say of functions they mention is said of them too; one with index words wants a body here (implies --style=plain)
 
 For make and CI:
   --baseline FILE    errors that the file lists are known: only others are printed, and make the run fail

@@ -7,29 +7,30 @@ from .libraries import PreludeWords, mentioned, own_lines
 from .options import Stop
 from .running import Run, reason_of, status_of, write_file
 from .texts import Text
-from .units import latin
+from .units import latin, plain_bodies
 from .unused import without_unused
 
 
 def texts_of(run, sources):
-    """The texts of the files that are signed, and what their functions mention."""
-    texts, names = [], set()
+    """The texts of the files that are signed, what their functions mention, and the functions that have a plain body in them."""
+    texts, names, bodies = [], set(), set()
     for source in sources:
         run.options.source = source
         run.preprocess()
         text = Text(latin(source), run.text, whole=True)
         here = mentioned(text)
         names |= here
+        bodies |= set(plain_bodies(text))
         texts.append(without_unused(text, here))
-    return texts, names
+    return texts, names, bodies
 
 
 def sign(options, room):
     """The status of a run that prints signatures."""
     run, sources = Run(options, room), list(options.sources)
-    texts, names = texts_of(run, sources)
+    texts, names, bodies = texts_of(run, sources)
     words = PreludeWords(run.setting.prelude_text)
-    unsaid = sorted(names & words.unsaid)
+    unsaid = sorted(names & words.unsaid - bodies)
     if unsaid:
         raise Stop(1, f"no signature: {unsaid[0]} is mentioned, of which the preludes have index words or which is no function")
     paths = [write_file(os.path.join(room, "words.c"), words.text)]
@@ -47,7 +48,7 @@ def sign(options, room):
         raise Stop(status, reason_of(status, program, [run.setting.lattice, *paths]))
     for source, path in zip(sources, paths[1:]):
         printed = printed.replace(latin(path), latin(source))
-    print_bytes(own_lines(printed, words.functions) if status == 0 else printed)
+    print_bytes(own_lines(printed, words.functions - bodies) if status == 0 else printed)
     return status
 
 
