@@ -110,11 +110,15 @@ class PreludeWords:
             at = end
         self.text = "".join(pieces) + text[at:]
 
+    def fault(self, mentions, bodies):
+        """Why what mentions these names, and has bodies of these functions, gets no signatures, if it gets none."""
+        unsaid = sorted(mentions & self.unsaid - bodies)
+        return f"{unsaid[0]} is mentioned, of which the preludes have index words or which is no function" if unsaid else None
 
-def own_lines(printed, functions):
-    """Signatures without those of functions that the preludes have."""
-    lines = printed.splitlines(keepends=True)
-    return "".join(line for line in lines if function_in(Text("", line, whole=True).tokens) not in functions)
+    def own_lines(self, printed, bodies):
+        """Signatures without those of functions that the preludes have, but for those with bodies here."""
+        functions, lines = self.functions - bodies, printed.splitlines(keepends=True)
+        return "".join(line for line in lines if function_in(Text("", line, whole=True).tokens) not in functions)
 
 
 def mentioned(text):
@@ -178,14 +182,14 @@ class Signer:
         readies = library.all_readies
         mentions = set().union(*(one.mentions for one in library.group))
         bodies = set().union(*(one.bodies for one in library.group))
-        unsaid = sorted(mentions & self.words.unsaid - bodies)
-        if unsaid:
-            library.fault = f"it mentions {unsaid[0]}, of which the preludes have index words or which is no function"
+        fault = self.words.fault(mentions, bodies)
+        if fault:
+            library.fault = fault
         elif len(readies) + 1 > MOST_SOURCES:
             library.fault = f"it has {len(readies)} sources"
         else:
             answer = self.answer(readies)
-            library.text, library.fault = own_lines(answer["printed"], self.words.functions - bodies), answer["fault"]
+            library.text, library.fault = self.words.own_lines(answer["printed"], bodies), answer["fault"]
         return library
 
     def answer(self, readies):

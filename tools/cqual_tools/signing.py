@@ -3,7 +3,7 @@
 import os
 import subprocess
 
-from .libraries import PreludeWords, mentioned, own_lines
+from .libraries import PreludeWords, mentioned
 from .options import Stop
 from .running import Run, reason_of, status_of, write_file
 from .texts import Text
@@ -30,9 +30,9 @@ def sign(options, room):
     run, sources = Run(options, room), list(options.sources)
     texts, names, bodies = texts_of(run, sources)
     words = PreludeWords(run.setting.prelude_text)
-    unsaid = sorted(names & words.unsaid - bodies)
-    if unsaid:
-        raise Stop(1, f"no signature: {unsaid[0]} is mentioned, of which the preludes have index words or which is no function")
+    fault = words.fault(names, bodies)
+    if fault:
+        raise Stop(1, f"no signature: {fault}")
     paths = [write_file(os.path.join(room, "words.c"), words.text)]
     for number, (source, text) in enumerate(zip(sources, texts)):
         folder = os.path.join(room, str(number))
@@ -48,7 +48,7 @@ def sign(options, room):
         raise Stop(status, reason_of(status, program, [run.setting.lattice, *paths]))
     for source, path in zip(sources, paths[1:]):
         printed = printed.replace(latin(path), latin(source))
-    print_bytes(own_lines(printed, words.functions - bodies) if status == 0 else printed)
+    print_bytes(words.own_lines(printed, bodies) if status == 0 else printed)
     return status
 
 
