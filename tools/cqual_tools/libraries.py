@@ -111,7 +111,7 @@ class PreludeWords:
         self.text = "".join(pieces) + text[at:]
 
     def fault(self, mentions, bodies):
-        """Why what mentions these names, and has bodies of these functions, gets no signatures, if it gets none."""
+        """Why there are no signatures of what mentions these names and has bodies of these functions; None where there are."""
         unsaid = sorted(mentions & self.unsaid - bodies)
         return f"{unsaid[0]} is mentioned, of which the preludes have index words or which is no function" if unsaid else None
 
@@ -119,6 +119,18 @@ class PreludeWords:
         """Signatures without those of functions that the preludes have, but for those with bodies here."""
         functions, lines = self.functions - bodies, printed.splitlines(keepends=True)
         return "".join(line for line in lines if function_in(Text("", line, whole=True).tokens) not in functions)
+
+
+def signatures_of(program, lattice, paths):
+    """The status of cqual, asked for the signatures of these files as one library, and what it prints."""
+    try:
+        ran = subprocess.run([program, "--lattice", lattice, "--signatures", *paths], stdout=subprocess.PIPE, check=False)
+    except OSError as fault:
+        raise Stop(9, f"cannot run {program}: {fault.strerror}") from fault
+    status = status_of(ran)
+    if status not in (0, 1, 2):
+        raise Stop(status, reason_of(status, program, [lattice, *paths]))
+    return status, ran.stdout.decode("latin-1")
 
 
 def mentioned(text):
@@ -202,14 +214,7 @@ class Signer:
 
     def asked(self, readies):
         paths = [self.kept.path("texts", self.texts[ready.sum]) for ready in readies]
-        words = [self.program, "--lattice", self.setting.lattice, "--signatures", self.source, *paths]
-        try:
-            ran = subprocess.run(words, stdout=subprocess.PIPE, check=False)
-        except OSError as fault:
-            raise Stop(9, f"cannot run {self.program}: {fault.strerror}") from fault
-        status, printed = status_of(ran), ran.stdout.decode("latin-1")
-        if status not in (0, 1, 2):
-            raise Stop(status, reason_of(status, self.program, [self.setting.lattice, *paths]))
+        status, printed = signatures_of(self.program, self.setting.lattice, [self.source, *paths])
         if status == 0:
             return {"printed": printed, "fault": self.unread(printed)}
         for ready, path in zip(readies, paths):

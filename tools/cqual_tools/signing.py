@@ -1,11 +1,10 @@
 """cqual-cc --signatures: preprocesses the files of a library, and prints the library's signatures."""
 
 import os
-import subprocess
 
-from .libraries import PreludeWords, mentioned
+from .libraries import PreludeWords, mentioned, signatures_of
 from .options import Stop
-from .running import Run, reason_of, status_of, write_file
+from .running import Run, found_program, write_file
 from .texts import Text
 from .units import latin, plain_bodies
 from .unused import without_unused
@@ -38,14 +37,7 @@ def sign(options, room):
         folder = os.path.join(room, str(number))
         os.mkdir(folder)
         paths.append(write_file(os.path.join(folder, os.path.basename(source)), text))
-    program = run.setting.words(room)[0]
-    try:
-        ran = subprocess.run([program, "--lattice", run.setting.lattice, "--signatures", *paths], stdout=subprocess.PIPE, check=False)
-    except OSError as fault:
-        raise Stop(9, f"cannot run {program}: {fault.strerror}") from fault
-    status, printed = status_of(ran), ran.stdout.decode("latin-1")
-    if status not in (0, 1, 2):
-        raise Stop(status, reason_of(status, program, [run.setting.lattice, *paths]))
+    status, printed = signatures_of(found_program(), run.setting.lattice, paths)
     for source, path in zip(sources, paths[1:]):
         printed = printed.replace(latin(path), latin(source))
     print_bytes(words.own_lines(printed, bodies) if status == 0 else printed)
